@@ -1,0 +1,5 @@
+pub mod Answers
+pub mod Streams
+pub mod Memory
+pub mod Text
+pub mod Path
