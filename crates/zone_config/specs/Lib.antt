@@ -1,0 +1,4 @@
+pub mod Rule
+pub mod Property
+pub mod Sound
+pub mod Export
