@@ -1,6 +1,7 @@
 //! Configurations that are sound.
 ghost use Rattle.std.specs.Prelude.{◌≡◌};
 ghost use Rattle.zone_config.specs.Property.{blank, with_property, Changes};
+ghost use Rattle.zone_config.specs.Settable.{SetsWhereAllowed};
 ghost use Rattle.zone_config.specs.Sound.{IsSound};
 
 use crate::{ConfigFault, Contents};
@@ -72,3 +73,10 @@ impl ZoneConfig {
         self.contents.set_property(alloc, name, value)
     }
 }
+
+/// A law: by its clause, `set_property` succeeds only where there is a property of that name and its rule
+/// allows the value, and there nothing but memory can be wanting. The property then shows the value, and
+/// each other what it showed.
+pub fn sets_where_allowed()
+    ensures { SetsWhereAllowed }
+{}

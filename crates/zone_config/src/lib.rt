@@ -8,6 +8,6 @@ mod properties;
 mod rules;
 mod terms;
 
-pub use config::{ZoneConfig, blank};
+pub use config::{ZoneConfig, blank, sets_where_allowed};
 pub use printing::export;
 pub use terms::{ConfigFault, Contents, Property};
