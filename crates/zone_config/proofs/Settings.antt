@@ -1,5 +1,5 @@
 -- Where a property can be set, and what it then shows.
-use Rattle.std.proofs.Common.{◌≡◌, ◌≢◌, ℕ, Bool, true, false, cond, ◌||◌, List, [], ◌∷◌, Result, Ok, Err, Option, Some, None, IsTrue, IsOkUnless, OnOk, codes, refl, ap, sym, subst, ◌∙◌}
+use Rattle.std.proofs.Common.{◌≡◌, ◌≢◌, ℕ, true, false, cond, ◌||◌, List, Result, Ok, Err, Option, Some, None, codes, refl, sym, subst}
 use Rattle.std.specs.Str.{bytes_eq}
 use Rattle.std.proofs.lemmas.Slice.Eq.{bytes_eq-Decides}
 use Rattle.zone_config.specs.declared.terms.Contents.{Contents}
@@ -9,7 +9,7 @@ use Rattle.zone_config.specs.declared.terms.ConfigFault.{ConfigFault}
 use Rattle.zone_config.specs.declared.terms.ConfigFault.TheVariants.{Memory, UnknownProperty, BadValue}
 use Rattle.zone_config.specs.Rule.{obeys}
 use Rattle.zone_config.specs.Property.{property_rule, property_named, shown, bool_text, with_value, value_set, named_set, with_property, Changes}
-use Rattle.zone_config.specs.Settable.{allows, is_settable, Shows, Sets}
+use Rattle.zone_config.specs.Settable.{allows, Sets}
 
 -- a value that its rule allows shows as it was given
 value_shown : (p : Property) (v : List ℕ) (c : Contents) → obeys (property_rule p) v ≡ true → shown p (with_value p v c) ≡ v
