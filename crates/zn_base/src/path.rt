@@ -148,3 +148,39 @@ impl AbsPath {
         })
     }
 }
+
+#[cfg(test)]
+mod tests {
+    use super::*;
+    use std::test::Fail;
+
+    #[test]
+    fn paths_are_read_and_copied(rt: HostRuntime) -> Result<(), Fail> {
+        for path in [b"/".as_slice(), b"/zones/web", b"/a/...", b"/.a"] {
+            let read = AbsPath::read(rt.alloc(), path)?;
+            assert_eq!(rt; read.bytes(), path);
+            assert_eq!(rt; read.copy(rt.alloc())?.bytes(), path);
+        }
+        Ok(())
+    }
+
+    #[test]
+    fn faults_have_their_place(rt: HostRuntime) {
+        let faults = [
+            (b"".as_slice(), PathFault::NotAbsolute),
+            (b"zones/web", PathFault::NotAbsolute),
+            (b"//", PathFault::BadComponent(1)),
+            (b"/zones/", PathFault::BadComponent(7)),
+            (b"/zones/../web", PathFault::BadComponent(7)),
+            (b"/zones/./web", PathFault::BadComponent(7)),
+            (b"/a b/c", PathFault::BadComponent(1)),
+            (&[b'a'; 1024], PathFault::PathLong),
+        ];
+        for (bytes, fault) in faults {
+            match AbsPath::read(rt.alloc(), bytes) {
+                Ok(_) => panic!(rt; "a path"),
+                Err(found) => assert_eq!(rt; found, fault),
+            }
+        }
+    }
+}

@@ -65,3 +65,57 @@ impl<W: Write + Drop> Sink for StdSink<W> {
         }
     }
 }
+
+#[cfg(test)]
+mod tests {
+    use super::*;
+    use crate::write_all;
+    use std::io;
+
+    // A reader and a writer that always fail.
+    #[derive(Drop)]
+    struct Broken;
+
+    impl Read for Broken {
+        fn read(&mut self, _buf: &mut [u8]) -> io::Result<usize> {
+            Err(io::Error::from(io::ErrorKind::BrokenPipe))
+        }
+    }
+
+    impl Write for Broken {
+        fn write(&mut self, _buf: &[u8]) -> io::Result<usize> {
+            Err(io::Error::from(io::ErrorKind::BrokenPipe))
+        }
+
+        fn flush(&mut self) -> io::Result<()> {
+            Ok(())
+        }
+    }
+
+    #[test]
+    fn a_source_reads_its_reader(rt: HostRuntime) {
+        let mut source = StdSource::new(b"zones".as_slice());
+        let mut piece = [0; 3];
+        assert_eq!(rt; source.read(&mut piece), Ok(3));
+        assert_eq!(rt; piece, *b"zon");
+        assert_eq!(rt; source.read(&mut piece), Ok(2));
+        assert_eq!(rt; source.read(&mut piece), Ok(0));
+        assert_eq!(rt; source.faults, 0);
+
+        let mut broken = StdSource::new(Broken);
+        assert_eq!(rt; broken.read(&mut piece), Err(Failed));
+        assert_eq!(rt; broken.faults, 1);
+    }
+
+    #[test]
+    fn a_sink_writes_its_writer(rt: HostRuntime) {
+        let mut sink = StdSink::new(Vec::new(rt.alloc()));
+        assert_eq!(rt; write_all(&mut sink, b"zones"), Ok(()));
+        assert_eq!(rt; sink.writer.as_slice(), b"zones".as_slice());
+        assert_eq!(rt; sink.faults, 0);
+
+        let mut broken = StdSink::new(Broken);
+        assert_eq!(rt; broken.write(b"zones"), Err(Failed));
+        assert_eq!(rt; broken.faults, 1);
+    }
+}

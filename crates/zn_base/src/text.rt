@@ -102,3 +102,19 @@ impl Text {
         })
     }
 }
+
+#[cfg(test)]
+mod tests {
+    use super::*;
+    use std::test::Fail;
+
+    #[test]
+    fn texts_are_read_and_copied(rt: HostRuntime) -> Result<(), Fail> {
+        let text = Text::read(rt.alloc(), b"web team ~")?;
+        assert_eq!(rt; text.bytes(), b"web team ~".as_slice());
+        assert_eq!(rt; text.copy(rt.alloc())?.bytes(), b"web team ~".as_slice());
+        assert_eq!(rt; Text::empty(rt.alloc()).bytes(), b"".as_slice());
+        assert!(rt; matches!(Text::read(rt.alloc(), b"a\tb"), Err(TextFault::BadText(1))));
+        Ok(())
+    }
+}

@@ -1,0 +1,43 @@
+//! The program `zones`: zone configurations read, checked and written. Its one contract is that of
+//! `run_zones`, over any source and sinks: what a whole input comes to, and what each exit status means.
+#![tactic(auto)]
+
+mod edit;
+mod export;
+mod lines;
+mod outcome;
+mod run;
+mod status;
+#[cfg(test)]
+mod tests;
+mod words;
+
+use run::run_zones;
+use std::process::ExitCode;
+use std::{env, io};
+use zn_base::{StdSink, StdSource};
+
+// The words after the program's name. Words that can't be read, as those that are no UTF-8, are none.
+fn read_words(rt: &HostRuntime) -> io::Result<Vec<String>> {
+    let mut words = Vec::new(rt.alloc());
+    match env::args(rt) {
+        Ok(all) => {
+            for word in all.skip(1) {
+                words.push(word)?;
+            }
+            Ok(words)
+        }
+        Err(fault) if fault.kind() == io::ErrorKind::OutOfMemory => Err(fault),
+        Err(_) => Ok(words),
+    }
+}
+
+fn main(rt: HostRuntime) -> ExitCode {
+    let Ok(words) = read_words(&rt) else {
+        return ExitCode::from(status::NO_MEMORY);
+    };
+    let mut source = StdSource::new(rt.stdin());
+    let mut out = StdSink::new(rt.stdout());
+    let mut err = StdSink::new(rt.stderr());
+    ExitCode::from(run_zones(rt.alloc(), &words, &mut source, &mut out, &mut err))
+}

@@ -1,0 +1,81 @@
+//! What the whole input comes to: a text on standard output, or a line on standard error.
+ghost use Rattle.std.specs.Prelude.{◌≡◌};
+ghost use Rattle.zones_cli.specs.Outcomes.{complaint_status, end_text};
+
+use crate::edit::EditFault;
+use crate::status;
+use std::fmt;
+
+/// Why the end of the input is refused.
+#[derive(Clone, Copy, Debug, PartialEq, Eq)]
+pub enum EndFault {
+    NothingOpen,
+    NoZonepath,
+}
+
+impl EndFault {
+    /// The code and the name, as the program prints them.
+    pub fn text(self) -> &'static str
+        ensures { result.now ≡ end_text self }
+    {
+        match self {
+            EndFault::NothingOpen => "33 NothingOpen",
+            EndFault::NoZonepath => "41 NoZonepath",
+        }
+    }
+}
+
+/// What ends a run with a line on standard error. Lines are numbered from 1.
+#[derive(Clone, Copy, Debug, PartialEq, Eq)]
+pub enum Complaint {
+    /// A line is refused.
+    Line(u64, EditFault),
+    /// The end of the input is refused.
+    End(EndFault),
+    /// A line is past a limit.
+    Limit(u64),
+}
+
+impl fmt::Display for Complaint {
+    ghost use Rattle.std.specs.Prelude.{Some};
+    ghost use Rattle.zones_cli.specs.Outcomes.{complaint_text};
+
+    ghost output = { λ c. Some (complaint_text c) };
+
+    fn fmt<W: fmt::Write>(&self, f: &mut fmt::Formatter<W>) -> fmt::Result {
+        match self {
+            Complaint::Line(number, fault) => {
+                let text = fault.text();
+                writeln!(f, "line {number}: {text}")
+            }
+            Complaint::End(fault) => {
+                let text = fault.text();
+                writeln!(f, "end: {text}")
+            }
+            Complaint::Limit(number) => writeln!(f, "limit at line {number}"),
+        }
+    }
+}
+
+impl Complaint {
+    /// The exit status.
+    pub fn status(self) -> u8
+        ensures { result ≡ complaint_status self }
+    {
+        match self {
+            Complaint::Line(_, _) | Complaint::End(_) => status::REFUSED,
+            Complaint::Limit(_) => status::LIMIT,
+        }
+    }
+}
+
+/// What the whole input comes to.
+#[derive(Drop)]
+pub enum Outcome {
+    /// A text for standard output.
+    Text(Vec<u8>),
+    /// A text for standard output that is always the same.
+    Fixed(&'static [u8]),
+    /// A line for standard error.
+    Complains(Complaint),
+}

@@ -1,0 +1,138 @@
+//! The top call of `zones`.
+ghost use Rattle.std.specs.Prelude.{◌≡◌, ◌≤◌, ◌⊎◌, ◌↔◌, ◌++◌, ◌∷◌, [], map, string_bytes, IfOk, IfSome, IsErrOf, None, Some};
+ghost use Rattle.zn_base.specs.Streams.{Rose, TakesFront, after_known};
+ghost use Rattle.zones_cli.specs.Outcomes.{complaint_status, complaint_text, outcome_of};
+ghost use Rattle.zones_cli.specs.Output.{output_for, output_of};
+ghost use Rattle.zones_cli.specs.Run.{Agrees, HasFront, IsDecided, IsStatus, TakesFronts, memory_line, read_fault_line, write_fault_line};
+ghost use Rattle.zones_cli.specs.Words.{command_of};
+
+use crate::export::export_all;
+use crate::lines::ReadFault;
+use crate::outcome::{Complaint, Outcome};
+use crate::status::{DONE, LIMIT, NO_MEMORY, READ_FAULT, REFUSED, USAGE, WRITE_FAULT};
+use crate::words::{Command, HELP, USAGE_LINE, VERSION, command_of};
+use std::alloc::Global;
+use zn_base::{Sink, Source, write_all};
+
+// Tries a line once; its failure changes nothing but the count of faults.
+fn tell<E: Sink>(err: &mut E, line: &[u8])
+    ensures front { TakesFront (E.holds err.old) (E.holds err.new) (E.faults err.old) (E.faults err.new) line.now }
+    ensures later { E.faults err.old ≤ E.faults err.new }
+{
+    let _ = write_all(err, line);
+}
+
+// Writes a text on standard output.
+#[tactic(auto, using(crate::proofs::Fronts::behind_nothing))]
+fn write_text<K: Sink, E: Sink>(out: &mut K, err: &mut E, text: &[u8]) -> u8
+    ensures statuses { (result ≡ DONE) ⊎ (result ≡ WRITE_FAULT) }
+    ensures all { result ≡ DONE → K.holds out.new ≡ after_known (K.holds out.old) text.now }
+    ensures quiet { result ≡ DONE → E.holds err.new ≡ E.holds err.old }
+    ensures front { result ≡ WRITE_FAULT → HasFront (K.holds out.old) (K.holds out.new) text.now }
+    ensures fault { result ≡ WRITE_FAULT → Rose (K.faults out.old) (K.faults out.new) }
+    ensures told { result ≡ WRITE_FAULT → TakesFronts (E.holds err.old) (E.holds err.new) (E.faults err.old) (E.faults err.new) [] write_fault_line }
+{
+    match write_all(out, text) {
+        Ok(()) => DONE,
+        Err(_) => {
+            tell(err, b"write fault\n");
+            WRITE_FAULT
+        }
+    }
+}
+
+// Writes the line that ends a run. Where a refusal can't be written, that is a write fault.
+fn complain<E: Sink>(alloc: Global, err: &mut E, complaint: Complaint) -> u8
+    ensures statuses { (result ≡ complaint_status complaint) ⊎ (result ≡ WRITE_FAULT) ⊎ (result ≡ NO_MEMORY) }
+    ensures refused { result ≡ REFUSED → E.holds err.new ≡ after_known (E.holds err.old) (complaint_text complaint) }
+    ensures line { IsDecided result → TakesFront (E.holds err.old) (E.holds err.new) (E.faults err.old) (E.faults err.new) (complaint_text complaint) }
+    ensures memory { result ≡ NO_MEMORY → TakesFront (E.holds err.old) (E.holds err.new) (E.faults err.old) (E.faults err.new) memory_line }
+    ensures fault { result ≡ WRITE_FAULT → Rose (E.faults err.old) (E.faults err.new) }
+    ensures told { result ≡ WRITE_FAULT → TakesFronts (E.holds err.old) (E.holds err.new) (E.faults err.old) (E.faults err.new) (complaint_text complaint) write_fault_line }
+{
+    let Ok(line) = complaint.to_string(alloc) else {
+        tell(err, b"no memory\n");
+        return NO_MEMORY;
+    };
+    if complaint.status() == LIMIT {
+        tell(err, line.as_bytes());
+        return LIMIT;
+    }
+    match write_all(err, line.as_bytes()) {
+        Ok(()) => REFUSED,
+        Err(_) => {
+            tell(err, b"write fault\n");
+            WRITE_FAULT
+        }
+    }
+}
+
+// What a command and the whole input come to.
+fn come_to<S: Source>(alloc: Global, command: Command, src: &mut S) -> Result<Outcome, ReadFault>
+    ensures whole { IfOk result (λ outcome. IfSome (output_for (Some command) (S.left src.old)) (λ o. outcome_of outcome ≡ o)) }
+    ensures failed { IsErrOf result ReadFault.Failed → Rose (S.faults src.old) (S.faults src.new) }
+{
+    match command {
+        Command::Export => export_all(alloc, src),
+        Command::Help => Ok(Outcome::Fixed(HELP)),
+        Command::Version => Ok(Outcome::Fixed(VERSION)),
+    }
+}
+
+/// Does what the words say, and answers the exit  `out` and `err` are standard output and
+/// standard error. The input is read line by line, and no further than the first line that is refused
+/// or past a limit.
+pub fn run_zones<S: Source, K: Sink, E: Sink>(
+    alloc: Global,
+    words: &[String],
+    src: &mut S,
+    out: &mut K,
+    err: &mut E,
+) -> u8
+    ensures statuses { IsStatus result }
+
+    // As far as the input is known, status and texts are those of the whole input.
+    ensures decided { IsDecided result → IfSome (output_of (map string_bytes words.now) (S.left src.old)) (λ o.
+        Agrees o result (K.holds out.old) (K.holds out.new)) }
+    ensures line { IsDecided result → IfSome (output_of (map string_bytes words.now) (S.left src.old)) (λ o.
+        TakesFront (E.holds err.old) (E.holds err.new) (E.faults err.old) (E.faults err.new) o.err) }
+    ensures whole_line { result ≤ REFUSED → IfSome (output_of (map string_bytes words.now) (S.left src.old)) (λ o.
+        E.holds err.new ≡ after_known (E.holds err.old) o.err) }
+
+    // Words that are no form of the command line.
+    ensures usage { (result ≡ USAGE) ↔ (command_of (map string_bytes words.now) ≡ None) }
+
+    // The source failed.
+    ensures read_fault { result ≡ READ_FAULT → Rose (S.faults src.old) (S.faults src.new) }
+    ensures read_nothing { result ≡ READ_FAULT → K.holds out.new ≡ K.holds out.old }
+    ensures read_line { result ≡ READ_FAULT → TakesFront (E.holds err.old) (E.holds err.new) (E.faults err.old) (E.faults err.new) read_fault_line }
+
+    // A sink failed.
+    ensures write_fault { result ≡ WRITE_FAULT → Rose (K.faults out.old) (K.faults out.new) ⊎ Rose (E.faults err.old) (E.faults err.new) }
+    ensures write_front { result ≡ WRITE_FAULT → IfSome (output_of (map string_bytes words.now) (S.left src.old)) (λ o.
+        HasFront (K.holds out.old) (K.holds out.new) o.out) }
+    ensures write_line { result ≡ WRITE_FAULT → IfSome (output_of (map string_bytes words.now) (S.left src.old)) (λ o.
+        TakesFronts (E.holds err.old) (E.holds err.new) (E.faults err.old) (E.faults err.new) o.err write_fault_line) }
+
+    // Memory ran out.
+    ensures memory_nothing { result ≡ NO_MEMORY → K.holds out.new ≡ K.holds out.old }
+    ensures memory_line { result ≡ NO_MEMORY → TakesFront (E.holds err.old) (E.holds err.new) (E.faults err.old) (E.faults err.new) memory_line }
+{
+    let Some(command) = command_of(words) else {
+        tell(err, USAGE_LINE);
+        return USAGE;
+    };
+    match come_to(alloc, command, src) {
+        Ok(Outcome::Text(text)) => write_text(out, err, &text),
+        Ok(Outcome::Fixed(text)) => write_text(out, err, text),
+        Ok(Outcome::Complains(complaint)) => complain(alloc, err, complaint),
+        Err(ReadFault::Failed) => {
+            tell(err, b"read fault\n");
+            READ_FAULT
+        }
+        Err(ReadFault::Memory) => {
+            tell(err, b"no memory\n");
+            NO_MEMORY
+        }
+    }
+}

@@ -1,0 +1,22 @@
+//! The exit statuses of `zones`.
+
+/// The input was read to its end and nothing was refused.
+pub const DONE: u8 = 0;
+
+/// A line or the end of the input was refused.
+pub const REFUSED: u8 = 1;
+
+/// The words are no form of the command line.
+pub const USAGE: u8 = 2;
+
+/// The source failed.
+pub const READ_FAULT: u8 = 4;
+
+/// Standard output or standard error failed.
+pub const WRITE_FAULT: u8 = 5;
+
+/// The input has too many lines, or a line has too many bytes.
+pub const LIMIT: u8 = 8;
+
+/// Memory ran out.
+pub const NO_MEMORY: u8 = 9;
