@@ -3,3 +3,11 @@ pub mod Streams
 pub mod Memory
 pub mod Text
 pub mod Path
+pub mod Names
+pub mod Moves
+pub mod Owned_lists
+pub mod Same
+pub mod Disk
+pub mod MemoryDisk
+pub mod MemoryDiskIsSound
+pub mod FileDisk

@@ -1,18 +1,36 @@
 //! What every crate of `zones` stands on: texts and paths of checked form, and the sources and sinks
 //! through which bytes come and go. `read` of a text or a path is exact, with each fault and its place;
-//! a source or a sink answers a fault only where its count of faults rose.
+//! a source, a sink or a disk answers a fault only where its count of faults rose. A disk says what a crash
+//! at any moment may leave.
 #![tactic(auto)]
 
+mod buffers;
+mod disk;
+mod file_disk;
+mod grant;
 mod memory;
+mod memory_disk;
+mod name;
+mod owned;
 mod path;
+mod room;
 mod sink;
 mod source;
 mod standard;
+mod state;
 mod text;
 
+pub use disk::{Disk, put_durably};
+pub use file_disk::FileDisk;
+pub use grant::{Grant, Pool};
 pub use memory::{MemSink, MemSource};
-pub use path::{AbsPath, PathFault};
+pub use memory_disk::MemDisk;
+pub use name::{NameFault, ZoneName};
+pub use owned::Owned;
+pub use path::{AbsPath, PathFault, is_path};
+pub use room::{Fill, Room};
 pub use sink::{Sink, write_all};
 pub use source::{Failed, Source};
 pub use standard::{StdSink, StdSource};
+pub use state::{ZoneState, may_move};
 pub use text::{Text, TextFault};

@@ -1,6 +1,7 @@
 //! Absolute paths.
 ghost use Rattle.std.specs.Prelude.{◌≡◌, ◌+◌, ◌≤◌, ◌<◌, length, IfOk, IsTrue, position, drop};
 ghost use Rattle.std.specs.List.{slice_split, list_all};
+ghost use Rattle.std.specs.Result.{result_and};
 ghost use Rattle.zn_base.specs.declared.path.PathFault.TheVariants.{Memory};
 ghost use Rattle.zn_base.specs.Answers.{AnswersUnless};
 ghost use Rattle.zn_base.specs.Path.{is_slash, is_component_byte, is_component, first_bad, is_path, path_of};
@@ -110,22 +111,37 @@ fn first_bad(components: &[u8]) -> Option<usize>
     }
 }
 
+// Why bytes are no path, where they are none.
+fn check(bytes: &[u8]) -> Result<(), PathFault>
+    ensures { path_of bytes.now ≡ result_and result (Ok bytes.now) }
+{
+    if bytes.len() > PATH_MAX {
+        return Err(PathFault::PathLong);
+    }
+    let [b'/', components @ ..] = bytes else {
+        return Err(PathFault::NotAbsolute);
+    };
+    if !components.is_empty() {
+        if let Some(place) = first_bad(components) {
+            return Err(PathFault::BadComponent(place));
+        }
+    }
+    Ok(())
+}
+
+/// Whether bytes are an absolute path. It takes no memory.
+pub fn is_path(bytes: &[u8]) -> bool
+    ensures { result ≡ is_path bytes.now }
+{
+    check(bytes).is_ok()
+}
+
 impl AbsPath {
     /// The path that the bytes are.
     pub fn read(alloc: Global, bytes: &[u8]) -> Result<AbsPath, PathFault>
         ensures { AnswersUnless PathFault.Memory (path_of bytes.now) result }
     {
-        if bytes.len() > PATH_MAX {
-            return Err(PathFault::PathLong);
-        }
-        let [b'/', components @ ..] = bytes else {
-            return Err(PathFault::NotAbsolute);
-        };
-        if !components.is_empty() {
-            if let Some(place) = first_bad(components) {
-                return Err(PathFault::BadComponent(place));
-            }
-        }
+        check(bytes)?;
         Ok(AbsPath {
             bytes: Vec::from_slice(alloc, bytes)?,
         })
@@ -162,6 +178,12 @@ mod tests {
             assert_eq!(rt; read.copy(rt.alloc())?.bytes(), path);
         }
         Ok(())
+    }
+
+    #[test]
+    fn a_path_is_told_without_memory(rt: HostRuntime) {
+        assert!(rt; is_path(b"/") && is_path(b"/zones/web"));
+        assert!(rt; !is_path(b"zones") && !is_path(b"/zones/../web") && !is_path(b"/a/"));
     }
 
     #[test]

@@ -1,6 +1,6 @@
 //! What the bytes of a line are.
 ghost use Rattle.std.specs.Prelude.{◌≡◌, drop};
-ghost use Rattle.zonecfg_lex.specs.Tokens.{is_blank, is_mark, is_plain_byte, is_plain, is_comment, is_word_byte};
+ghost use Rattle.zonecfg_lex.specs.Tokens.{is_blank, is_mark, is_plain_byte, is_plain, is_comment};
 
 /// Whether a byte is a space or a tab.
 pub fn is_blank(byte: u8) -> bool
@@ -9,7 +9,7 @@ pub fn is_blank(byte: u8) -> bool
     byte == b' ' || byte == b'\t'
 }
 
-fn is_mark(byte: u8) -> bool
+pub(crate) fn is_mark(byte: u8) -> bool
     ensures { result ≡ is_mark byte }
 {
     matches!(byte, b'"' | b';' | b'(' | b')' | b'[' | b']')
@@ -39,11 +39,4 @@ pub fn is_comment(line: &[u8]) -> bool
         }
     }
     false
-}
-
-/// Whether a byte is part of a word.
-pub fn is_word_byte(byte: u8) -> bool
-    ensures { result ≡ is_word_byte byte }
-{
-    !is_blank(byte) && byte != b'='
 }

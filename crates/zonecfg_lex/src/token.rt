@@ -1,15 +1,24 @@
-//! Tokens: what a part of a line is, and where it stands.
+//! Tokens and spans: what a part of a line is, and where it stands.
 ghost use Rattle.std.specs.Prelude.{◌≡◌, ◌≤◌, length};
+ghost use Rattle.zonecfg_lex.specs.Parts.{span_text, IsSpanWithin};
 ghost use Rattle.zonecfg_lex.specs.Tokens.{text_of, IsWithin};
 
-/// What a token is.
+/// What a token is. `Open` and `Close` are round brackets, `ListOpen` and `ListClose` square ones.
 #[derive(Clone, Copy, Debug, PartialEq, Eq)]
 pub enum TokenKind {
     Word,
+    Quoted,
     Equals,
+    Comma,
+    Open,
+    Close,
+    ListOpen,
+    ListClose,
+    Semi,
 }
 
-/// A part of a line, from the place `start` up to the place `end`, which it leaves out.
+/// A part of a line, from the place `start` up to the place `end`, which it leaves out. A quoted token
+/// begins with its opening quote and ends before the closing one.
 #[derive(Clone, Copy, Debug, PartialEq, Eq)]
 pub struct Token {
     pub kind: TokenKind,
@@ -22,6 +31,23 @@ impl Token {
     pub fn text(self, line: &[u8]) -> &[u8]
         requires { IsWithin (length line.now) self }
         ensures { result.now ≡ text_of line.now self }
+    {
+        &line[self.start as usize..self.end as usize]
+    }
+}
+
+/// What stands between two semicolons of a line, or between one and an end of the line.
+#[derive(Clone, Copy, Debug, PartialEq, Eq)]
+pub struct Span {
+    pub start: u32,
+    pub end: u32,
+}
+
+impl Span {
+    /// What the span is in its line.
+    pub fn text(self, line: &[u8]) -> &[u8]
+        requires { IsSpanWithin (length line.now) self }
+        ensures { result.now ≡ span_text line.now self }
     {
         &line[self.start as usize..self.end as usize]
     }

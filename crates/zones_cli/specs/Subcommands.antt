@@ -1,6 +1,7 @@
 -- What a line of `export` asks for, and what becomes of the configuration that is open (zonecfg(8), SUBCOMMANDS).
 use Rattle.std.specs.Prelude.{◌≡◌, ℕ, List, [], ◌∷◌, Bool, true, false, ◌&&◌, Option, Some, None, Result, Ok, Err, codes, if◌then◌else◌}
 use Rattle.std.specs.Str.{bytes_eq}
+use Rattle.zonecfg_lex.specs.declared.fault.LexFault.{LexFault}
 use Rattle.zonecfg_lex.specs.declared.token.Token.{Token}
 use Rattle.zonecfg_lex.specs.declared.token.TokenKind.{TokenKind}
 use Rattle.zonecfg_lex.specs.declared.token.TokenKind.TheVariants.{Equals}
@@ -37,10 +38,14 @@ said_by line (first ∷ name ∷ equals ∷ value ∷ []) =
     then Assign (text_of line name) (text_of line value) else Unknown
 said_by line tokens = Unknown
 
+abbrev pub said_by_read : List ℕ → Result (List Token) LexFault → Subcommand
+said_by_read line (Ok tokens) = said_by line tokens
+said_by_read line (Err fault) = Unknown
+
 -- a comment asks for nothing, and a line with a quote, a bracket, a semicolon or a stray byte for nothing that is known
 abbrev pub subcommand_of : List ℕ → Subcommand
 subcommand_of line =
-    if is_comment line then Nothing else if is_plain line then said_by line (tokens_of line) else Unknown
+    if is_comment line then Nothing else if is_plain line then said_by_read line (tokens_of line) else Unknown
 
 -- a configuration is created once
 abbrev pub created : Option Contents → Result (Option Contents) EditFault

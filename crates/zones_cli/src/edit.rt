@@ -136,5 +136,6 @@ pub fn edit(alloc: Global, zone: &mut Option<ZoneConfig>, line: &[u8]) -> Result
     match tokens(alloc, line) {
         Ok(found) => obey(alloc, zone, line, &found),
         Err(LexFault::Memory) => Err(EditFault::Memory),
+        Err(_) => Err(EditFault::UnknownCommand),
     }
 }

@@ -79,7 +79,7 @@ fn come_to<S: Source>(alloc: Global, command: Command, src: &mut S) -> Result<Ou
     }
 }
 
-/// Does what the words say, and answers the exit  `out` and `err` are standard output and
+/// Does what the words say, and answers the exit status. `out` and `err` are standard output and
 /// standard error. The input is read line by line, and no further than the first line that is refused
 /// or past a limit.
 pub fn run_zones<S: Source, K: Sink, E: Sink>(

@@ -1,0 +1,4 @@
+pub mod Image
+pub mod Bank
+pub mod Format
+pub mod Read
