@@ -1,0 +1,149 @@
+//! Zone names.
+ghost use Rattle.std.specs.Prelude.{◌≡◌, ◌≤◌, IfOk, IsTrue, bytes_eq, codes, length, nat_eq, not, position};
+ghost use Rattle.std.specs.List.{starts_with};
+ghost use Rattle.zn_base.specs.declared.name.NameFault.TheVariants.{Memory};
+ghost use Rattle.zn_base.specs.Answers.{AnswersUnless};
+ghost use Rattle.zn_base.specs.Names.{first_wrong, is_letter_or_digit, is_name, is_name_byte, is_reserved, name_of};
+
+use std::alloc::{AllocError, Global};
+use std::marker::Model;
+use thiserror::Error;
+
+/// The greatest length of a zone's name, in bytes.
+pub const NAME_MAX: usize = 63;
+
+/// Why bytes are no zone's name, in the order in which they are looked at.
+#[derive(Clone, Copy, Debug, PartialEq, Eq, Error)]
+pub enum NameFault {
+    #[error("out of memory")]
+    Memory,
+    #[error("the name is empty")]
+    Empty,
+    #[error("the name is longer than 63 bytes")]
+    TooLong,
+    /// The place of the first byte that doesn't belong there, from 0.
+    #[error("byte {0} doesn't belong into a zone's name")]
+    BadByte(usize),
+    /// The global zone's own name, and the names that begin with `SUNW`.
+    #[error("the name is reserved")]
+    Reserved,
+}
+
+impl From<AllocError> for NameFault {
+    ghost from_gives = { λ _ e. e ≡ Memory };
+
+    fn from(_: AllocError) -> Self {
+        NameFault::Memory
+    }
+}
+
+/// The name of a non-global zone, by zonecfg(8): 1 to 63 letters, digits, `_`, `-` and `.`, of which the
+/// first is a letter or a digit, and neither `global` nor a name that begins with `SUNW`. Contracts see
+/// the list of its bytes.
+#[derive(Drop)]
+pub struct ZoneName {
+    bytes: Vec<u8>,
+}
+
+impl Model for ZoneName {
+    ghost use Rattle.std.specs.Prelude.{List, ℕ, IsTrue};
+    ghost use Rattle.zn_base.specs.Names.{is_name};
+
+    ghost Value = { List ℕ };
+
+    ghost view = { λ n. n.bytes.items };
+
+    ghost invariant = { λ n. IsTrue (is_name n.bytes.items) };
+}
+
+fn is_letter_or_digit(byte: u8) -> bool
+    ensures { result ≡ is_letter_or_digit byte }
+{
+    byte.is_ascii_alphanumeric()
+}
+
+fn is_name_byte(byte: u8) -> bool
+    ensures { result ≡ is_name_byte byte }
+{
+    is_letter_or_digit(byte) || byte == b'_' || byte == b'-' || byte == b'.'
+}
+
+fn first_other(bytes: &[u8]) -> Option<usize>
+    ensures { result ≡ position (λ b. not (is_name_byte b)) bytes.now }
+{
+    bytes.iter().position(|byte| !is_name_byte(*byte))
+}
+
+fn first_wrong(bytes: &[u8]) -> Option<usize>
+    ensures { result ≡ first_wrong bytes.now }
+{
+    match bytes {
+        [] => None,
+        [first, ..] => {
+            if is_letter_or_digit(*first) {
+                first_other(bytes)
+            } else {
+                Some(0)
+            }
+        }
+    }
+}
+
+fn begins_with_sunw(bytes: &[u8]) -> bool
+    ensures { result ≡ starts_with nat_eq bytes.now (codes "SUNW") }
+{
+    bytes.starts_with(b"SUNW")
+}
+
+fn is_reserved(bytes: &[u8]) -> bool
+    ensures { result ≡ is_reserved bytes.now }
+{
+    bytes == b"global".as_slice() || begins_with_sunw(bytes)
+}
+
+impl ZoneName {
+    /// The name that the bytes are.
+    pub fn read(alloc: Global, bytes: &[u8]) -> Result<ZoneName, NameFault>
+        ensures { AnswersUnless NameFault.Memory (name_of bytes.now) result }
+    {
+        if bytes.is_empty() {
+            return Err(NameFault::Empty);
+        }
+        if bytes.len() > NAME_MAX {
+            return Err(NameFault::TooLong);
+        }
+        if let Some(place) = first_wrong(bytes) {
+            return Err(NameFault::BadByte(place));
+        }
+        if is_reserved(bytes) {
+            return Err(NameFault::Reserved);
+        }
+        Ok(ZoneName {
+            bytes: Vec::from_slice(alloc, bytes)?,
+        })
+    }
+
+    /// The bytes of the name.
+    pub fn bytes(&self) -> &[u8]
+        ensures bytes { result.now ≡ self.now }
+        ensures name { IsTrue (is_name result.now) }
+    {
+        &self.bytes
+    }
+
+    /// Whether the two names are one.
+    pub fn same(&self, other: &ZoneName) -> bool
+        ensures { result ≡ bytes_eq self.now other.now }
+    {
+        self.bytes() == other.bytes()
+    }
+
+    /// An equal name.
+    pub fn copy(&self, alloc: Global) -> Result<ZoneName, AllocError>
+        ensures { IfOk result (λ name. name ≡ self.now) }
+    {
+        Ok(ZoneName {
+            bytes: Vec::from_slice(alloc, &self.bytes)?,
+        })
+    }
+}

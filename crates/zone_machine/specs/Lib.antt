@@ -1,0 +1,11 @@
+pub mod State
+pub mod Worlds
+pub mod Edits
+pub mod Decisions
+pub mod Lines
+pub mod Typed
+pub mod Plans
+pub mod Turns
+pub mod Machine
+pub mod Pools
+pub mod Histories

@@ -1,0 +1,61 @@
+-- The machine's state: everything that all zones have, as flat lists and tables.
+use Rattle.std.specs.Prelude.{ℕ, List, [], ◌∷◌, Option, Some, None, Bool, bytes_eq, if◌then◌else◌}
+use Rattle.zn_base.specs.Names.{Name}
+use Rattle.zn_base.specs.Owned_lists.{Owned}
+use Rattle.zn_base.specs.declared.state.ZoneState.{ZoneState}
+use Rattle.zone_machine.specs.declared.daemon.Outcome.{Outcome}
+use Rattle.zone_machine.specs.declared.daemon.RequestKind.{RequestKind}
+use Rattle.zone_machine.specs.declared.daemon.Step.{Step}
+use Rattle.zone_machine.specs.declared.objects.Id.{Id}
+use Rattle.zone_machine.specs.declared.objects.Mount.{Mount}
+use Rattle.zone_machine.specs.declared.objects.Process.{Process}
+use Rattle.zone_machine.specs.declared.records.Commit.{Commit}
+use Rattle.zone_machine.specs.declared.records.Config.{Config}
+use Rattle.zone_machine.specs.declared.records.Record.{Record}
+
+-- what a session does in the zone that it belongs to
+pub data Doing : Type 0 where
+  Awaiting : (ticket : ℕ) → Doing
+
+pub data Session : Type 0 where
+  Idle : Session
+  At : Name → Doing → Session
+
+-- a request under way: the configuration as it began, the steps left, the steps done, the latest first, and, once a
+-- step failed, how it will end; the steps done are then those that are yet to be undone
+pub record Job : Type 0 where
+  pub ticket : ℕ
+  pub config : Config
+  pub left : List Step
+  pub done : List Step
+  pub ending : Option Outcome
+
+-- a zone's desk: the last ticket given, the requests that wait, the one under way, and the zone's state where it is
+-- none of the stored ones
+pub record Desk : Type 0 where
+  pub last : ℕ
+  pub waiting : List (ℕ × RequestKind)
+  pub job : Option Job
+  pub active : Option ZoneState
+
+pub record State : Type 0 where
+  pub processes : List (Owned Process)
+  pub mounts : List (Owned Mount)
+  pub ids : List (Owned Id)
+  pub commits : List Commit
+  pub sessions : ℕ → Session
+  pub desks : Name → Desk
+  pub last_pid : ℕ
+  pub last_zid : ℕ
+  pub started : Bool
+
+abbrev pub empty_desk : Desk
+empty_desk = record { last = 0; waiting = []; job = None; active = None }
+
+-- the stored record of z: what the last commit that names z says
+abbrev pub stored_from : Option Record → Name → List Commit → Option Record
+stored_from row z [] = row
+stored_from row z (c ∷ commits) = stored_from (if bytes_eq z c.zone then c.stored else row) z commits
+
+abbrev pub stored : Name → List Commit → Option Record
+stored z commits = stored_from None z commits
