@@ -6,3 +6,4 @@ pub mod Path
 pub mod Names
 pub mod Moves
 pub mod Owned_lists
+pub mod Same

@@ -1,10 +1,12 @@
 -- Lists of entries, from a state on.
-use Rattle.std.specs.Prelude.{ℕ, List, [], ◌∷◌, ◌++◌, length, drop, map, filter, Bool, true, false, bytes_eq, if◌then◌else◌}
+use Rattle.std.specs.Prelude.{ℕ, List, [], ◌∷◌, ◌++◌, length, drop, map, filter, Bool, true, false, ◌&&◌, bytes_eq, if◌then◌else◌}
 use Rattle.zn_base.specs.Names.{Name}
+use Rattle.zn_base.specs.Same.{same_grant}
 use Rattle.zn_base.specs.declared.grant.Grant.{Grant}
 use Rattle.zone_machine.specs.Decisions.{act_of, acts_world}
 use Rattle.zone_machine.specs.Machine.{decide, one, session_number, subject, whole_world}
 use Rattle.zone_machine.specs.Pools.{allowed}
+use Rattle.zone_machine.specs.Same.{same_reply, same_subject}
 use Rattle.zone_machine.specs.State.{State}
 use Rattle.zone_machine.specs.Worlds.{World, view_of}
 use Rattle.zone_machine.specs.declared.events.Entry.{Entry}
@@ -34,6 +36,25 @@ after_entry S e = (one S e.event e.grant).state
 abbrev pub after : State → List Entry → State
 after S [] = S
 after S (e ∷ h) = after (after_entry S e) h
+
+-- what an entry tells is so
+abbrev pub is_told : State → Entry → Bool
+is_told S e = same_subject e.subject (subject S e.event) && same_reply e.reply (one S e.event e.grant).reply
+
+-- entries that tell what is so, under grants that are permitted
+abbrev pub is_history : (State → Event → Grant → Bool) → State → List Entry → Bool
+is_history permits S [] = true
+is_history permits S (e ∷ h) = is_told S e && permits S e.event e.grant && is_history permits (after_entry S e) h
+
+abbrev pub is_allowed : State → Event → Grant → Bool
+is_allowed S e g = same_grant g (allowed S e)
+
+abbrev pub any_grant : State → Event → Grant → Bool
+any_grant S e g = true
+
+-- a legal history: each entry has the grant that the pools give
+abbrev pub is_legal : State → List Entry → Bool
+is_legal S h = is_history is_allowed S h
 
 -- the commits that entries add
 abbrev pub changes : State → List Entry → List Commit

@@ -7,5 +7,6 @@ pub mod Typed
 pub mod Plans
 pub mod Turns
 pub mod Machine
+pub mod Same
 pub mod Pools
 pub mod Histories

@@ -2,10 +2,11 @@
 use Rattle.std.specs.Prelude.{ℕ, zero, suc, List, [], ◌∷◌, ◌+◌, ◌-◌, ◌++◌, length, filter, Bool, true, false, not, ◌&&◌, ◌==◌, is_some, nat_le, nat_lt, nat_eq, Option, Some, None, bytes_eq, if◌then◌else◌}
 use Rattle.std.specs.List.{list_all, list_any}
 use Rattle.zn_base.specs.Names.{Name}
+use Rattle.zn_base.specs.Same.{same_pool}
 use Rattle.zn_base.specs.declared.grant.Grant.{Grant}
 use Rattle.zn_base.specs.declared.grant.Grant.TheVariants.{Nothing, Number, Yes, Denied}
 use Rattle.zn_base.specs.declared.grant.Pool.{Pool}
-use Rattle.zn_base.specs.declared.grant.Pool.TheVariants.{Pids, Zids, Zones, Paths, Store, Links, Addresses, Datasets, Source}
+use Rattle.zn_base.specs.declared.grant.Pool.TheVariants.{Pids, Zids, Zones, Paths, Store}
 use Rattle.zone_machine.specs.Decisions.{A_path, A_pid, A_serial, A_zid, A_zone, Asked, asked_of, pool_of}
 use Rattle.zone_machine.specs.Machine.{decide, subject}
 use Rattle.zone_machine.specs.State.{State, stored}
@@ -107,19 +108,8 @@ fits_pool S n A_zone = has_place S
 fits_pool S n (A_path path) = true
 fits_pool S n A_serial = nat_le 1 n && has_room S
 
-abbrev pub pool_number : Pool → ℕ
-pool_number Pids = 0
-pool_number Zids = 1
-pool_number Zones = 2
-pool_number Paths = 3
-pool_number Store = 4
-pool_number Links = 5
-pool_number Addresses = 6
-pool_number Datasets = 7
-pool_number Source = 8
-
 abbrev pub is_pool : Pool → Asked → Bool
-is_pool pool a = pool_number pool == pool_number (pool_of a)
+is_pool pool a = same_pool pool (pool_of a)
 
 abbrev pub fits_asked : State → List Asked → Grant → Bool
 fits_asked S [] Nothing = true
