@@ -1,8 +1,7 @@
 -- The tests of `Same` tell what is one.
-use Rattle.std.proofs.Common.{◌≡◌, ◌==◌, ℕ, Bool, true, false, refl, ap}
+use Rattle.std.proofs.Common.{◌≡◌, ◌==◌, ℕ, Bool, true, refl, ap}
 use Rattle.std.specs.Bool.{Decides}
 use Rattle.std.proofs.lemmas.Bool.{eq-eqb, eqb-true, false≢true}
-use Rattle.std.proofs.lemmas.Slice.Eq.{bytes_eq-Decides}
 use Rattle.zn_base.specs.Same.{same_grant, same_name_fault, same_pool, same_state}
 use Rattle.zn_base.specs.contracts.grant.Pool.{the_type as pool_type}
 use Rattle.zn_base.specs.contracts.state.ZoneState.{the_type as state_type}

@@ -1,5 +1,5 @@
 -- Zone names, by zonecfg(8).
-use Rattle.std.specs.Prelude.{ℕ, List, [], ◌∷◌, length, Bool, nat_eq, nat_le, nat_lt, not, ◌&&◌, ◌||◌, ◌==◌, position, Option, Some, None, Result, Ok, Err, is_ok, bytes_eq, codes, if◌then◌else◌}
+use Rattle.std.specs.Prelude.{ℕ, List, [], ◌∷◌, length, Bool, nat_eq, nat_lt, not, ◌||◌, ◌==◌, position, Option, Some, None, Result, Ok, Err, is_ok, bytes_eq, codes, if◌then◌else◌}
 use Rattle.std.specs.Char.{is_ascii_alphanumeric}
 use Rattle.std.specs.List.{starts_with}
 use Rattle.zn_base.specs.declared.name.NameFault.{NameFault}

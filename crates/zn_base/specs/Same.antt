@@ -1,5 +1,5 @@
 -- Whether two values are one, as a test that computes.
-use Rattle.std.specs.Prelude.{ℕ, Bool, true, false, ◌==◌}
+use Rattle.std.specs.Prelude.{Bool, true, false, ◌==◌}
 use Rattle.zn_base.specs.contracts.grant.Pool.{the_type as pool_type}
 use Rattle.zn_base.specs.contracts.state.ZoneState.{the_type as state_type}
 use Rattle.zn_base.specs.declared.grant.Grant.{Grant}

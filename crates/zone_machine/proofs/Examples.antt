@@ -1,12 +1,11 @@
 -- Runs from an empty store, computed by the definitions.
-use Rattle.std.proofs.Common.{◌≡◌, ℕ, List, [], ◌∷◌, ◌++◌, refl, map, Some, None, replicate}
+use Rattle.std.proofs.Common.{◌≡◌, ℕ, List, [], ◌∷◌, ◌++◌, refl, map, Some, replicate}
 use Rattle.std.specs.Prelude.{codes}
 use Rattle.zn_base.specs.declared.grant.Grant.{Grant}
 use Rattle.zn_base.specs.declared.grant.Grant.TheVariants.{Nothing, Number, Denied as Denied_grant}
-use Rattle.zn_base.specs.declared.grant.Pool.TheVariants.{Pids, Zids, Paths, Store}
+use Rattle.zn_base.specs.declared.grant.Pool.TheVariants.{Pids, Zids, Paths}
 use Rattle.zn_base.specs.declared.name.NameFault.TheVariants.{TooLong, BadByte, Reserved}
 use Rattle.zn_base.specs.declared.state.ZoneState.TheVariants.{Configured, Incomplete, Installed, Ready, Running, ShuttingDown, Down}
-use Rattle.zone_machine.specs.Decisions.{says}
 use Rattle.zone_machine.specs.Edits.{comes, edit}
 use Rattle.zone_machine.specs.Histories.{history, run}
 use Rattle.zone_machine.specs.Lines.{line_of}
@@ -21,7 +20,7 @@ use Rattle.zone_machine.specs.declared.daemon.Outcome.TheVariants.{Done, WrongSt
 use Rattle.zone_machine.specs.declared.daemon.RequestKind.TheVariants.{Install, Boot, Halt}
 use Rattle.zone_machine.specs.declared.daemon.Step.{Step}
 use Rattle.zone_machine.specs.declared.daemon.Step.TheVariants.{Record, Copy, Zid, Limits, Devices, Root, State, Init, Kill, Unmount, Clear, ZidBack}
-use Rattle.zone_machine.specs.declared.daemon.TurnReply.TheVariants.{Idle, Began, Stepped, Failed, Undone, Finished}
+use Rattle.zone_machine.specs.declared.daemon.TurnReply.TheVariants.{Idle, Began, Stepped, Failed, Finished}
 use Rattle.zone_machine.specs.declared.events.Entry.{Entry}
 use Rattle.zone_machine.specs.declared.events.Event.{Event}
 use Rattle.zone_machine.specs.declared.events.Event.TheVariants.{Session, Turn}

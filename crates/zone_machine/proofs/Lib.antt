@@ -2,3 +2,4 @@ pub mod Examples
 pub mod Same_laws
 pub mod Laws
 pub mod Own_worlds
+pub mod Folds

@@ -1,6 +1,6 @@
 -- One event, as each zone's world sees it. Nothing here opens a case of the machine.
-use Rattle.std.proofs.Common.{◌≡◌, ◌∷◌, [], Bool, true, false, None, Some, Option, ap, refl, subst, sym, ◌∙◌}
-use Rattle.std.specs.Prelude.{List, filter, bytes_eq, Result, Ok as Right, Err}
+use Rattle.std.proofs.Common.{◌≡◌, Bool, true, false, ap, refl, subst, sym, ◌∙◌}
+use Rattle.std.specs.Prelude.{bytes_eq}
 use Rattle.std.proofs.lemmas.Bool.{true≢false}
 use Rattle.zn_base.proofs.Owned_laws.{mine-filter, same_self, same_true}
 use Rattle.zn_base.specs.Names.{Name}
@@ -11,7 +11,7 @@ use Rattle.zone_machine.specs.Histories.{concerns, world_by}
 use Rattle.zone_machine.specs.Lines.{line_of}
 use Rattle.zone_machine.specs.Machine.{decide, need, one, one_of, session_number, session_subject, subject, whole, whole_world}
 use Rattle.zone_machine.specs.State.{At, Idle, Session as Session_mode, State}
-use Rattle.zone_machine.specs.Worlds.{View, World, first_of, has_pid, view, view_of, world}
+use Rattle.zone_machine.specs.Worlds.{World, first_of, has_pid, view, view_of, world}
 use Rattle.zone_machine.specs.declared.events.Event.{Event}
 use Rattle.zone_machine.specs.declared.events.Event.TheVariants.{Session, Turn}
 use Rattle.zone_machine.specs.declared.events.Subject.{Subject}
@@ -47,7 +47,7 @@ world-one z S e g = at_subject (subject S e) refl
     at_zone : (y : Name) → subject S e ≡ Zone y → (b : Bool) → bytes_eq z y ≡ b → world z (one_of (Zone y) S e g).state ≡ world_by (Zone y) z (world z S) e g
     at_zone y is true t =
         let here : world z (one_of (Zone z) S e g).state ≡ acts_world (session_number e) (act_of (decide (view_of z (world z S)) e) g) (world z S) =
-            own-acts z (session_number e) (act_of (decide (view z S) e) g) S ∙ ap (λ v. acts_world (session_number e) (act_of (decide v e) g) (world z S)) (view-world z S) in
+        own-acts z (session_number e) (act_of (decide (view z S) e) g) S ∙ ap (λ v. acts_world (session_number e) (act_of (decide v e) g) (world z S)) (view-world z S) in
         rw t (subst (λ x. world z (one_of (Zone x) S e g).state ≡ acts_world (session_number e) (act_of (decide (view_of z (world z S)) e) g) (world z S)) (same_true z y t) here)
     at_zone y is false t = rw t (other-acts y z (λ w. true≢false (sym (subst (λ x. bytes_eq z x ≡ true) (sym w) (same_self z)) ∙ t)) (session_number e) (act_of (decide (view y S) e) g) S (own_session S e y is))
 
@@ -56,7 +56,7 @@ world-one z S e g = at_subject (subject S e) refl
     at_subject Global is = refl
     at_subject Whole is = whole-world z S e
 
-world_by-other : (z : Name) (s : Subject) (w : World) (e : Event) (g : Grant) → concerns z s ≡ false → world_by s z w e g ≡ w
+pub world_by-other : (z : Name) (s : Subject) (w : World) (e : Event) (g : Grant) → concerns z s ≡ false → world_by s z w e g ≡ w
 world_by-other z (Zone y) w e g h = simp h
 world_by-other z Global w e g h = refl
 world_by-other z Whole w e g h = absurd (true≢false h)

@@ -1,5 +1,5 @@
 -- What a case of the machine decides: it is done, or it asks pools for something that comes with the grant.
-use Rattle.std.specs.Prelude.{ℕ, List, [], ◌∷◌, Option, Some, None}
+use Rattle.std.specs.Prelude.{ℕ, List, [], Option, Some, None}
 use Rattle.zn_base.specs.Names.{Name}
 use Rattle.zn_base.specs.declared.grant.Grant.{Grant}
 use Rattle.zn_base.specs.declared.grant.Grant.TheVariants.{Nothing, Number, Yes, Denied}
@@ -11,7 +11,7 @@ use Rattle.zone_machine.specs.Worlds.{World}
 use Rattle.zone_machine.specs.declared.daemon.TurnReply.{TurnReply}
 use Rattle.zone_machine.specs.declared.replies.Body.TheVariants.{Nothing as No_body}
 use Rattle.zone_machine.specs.declared.replies.Head.{Head}
-use Rattle.zone_machine.specs.declared.replies.Head.TheVariants.{Ok, Refused, Turned}
+use Rattle.zone_machine.specs.declared.replies.Head.TheVariants.{Refused, Turned}
 use Rattle.zone_machine.specs.declared.replies.Refusal.{Refusal}
 use Rattle.zone_machine.specs.declared.replies.Reply.{Reply}
 

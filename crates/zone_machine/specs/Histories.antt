@@ -1,5 +1,5 @@
 -- Lists of entries, from a state on.
-use Rattle.std.specs.Prelude.{ℕ, List, [], ◌∷◌, ◌++◌, length, drop, map, filter, Bool, true, false, ◌&&◌, bytes_eq, if◌then◌else◌}
+use Rattle.std.specs.Prelude.{List, [], ◌∷◌, ◌++◌, length, drop, map, filter, Bool, true, false, ◌&&◌, bytes_eq, if◌then◌else◌}
 use Rattle.zn_base.specs.Names.{Name}
 use Rattle.zn_base.specs.Same.{same_grant}
 use Rattle.zn_base.specs.declared.grant.Grant.{Grant}

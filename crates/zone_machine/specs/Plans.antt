@@ -3,7 +3,6 @@ use Rattle.std.specs.Prelude.{List, [], ◌∷◌, ◌++◌, filter, Bool, true,
 use Rattle.std.specs.List.{list_any}
 use Rattle.zn_base.specs.declared.state.ZoneState.{ZoneState}
 use Rattle.zn_base.specs.declared.state.ZoneState.TheVariants.{Configured, Incomplete, Installed, Ready, Running, ShuttingDown, Down}
-use Rattle.zone_machine.specs.declared.daemon.Change.{Change}
 use Rattle.zone_machine.specs.declared.daemon.ChangeKind.{ChangeKind}
 use Rattle.zone_machine.specs.declared.daemon.ChangeKind.TheVariants.{Install as Of_install, Ready as Of_ready, Boot as Of_boot, Halt as Of_halt}
 use Rattle.zone_machine.specs.declared.daemon.RequestKind.{RequestKind}

@@ -1,5 +1,5 @@
 -- What the pools that all zones share give, and which grants may be stated.
-use Rattle.std.specs.Prelude.{ℕ, zero, suc, List, [], ◌∷◌, ◌+◌, ◌-◌, ◌++◌, length, filter, Bool, true, false, not, ◌&&◌, ◌==◌, is_some, nat_le, nat_lt, nat_eq, Option, Some, None, bytes_eq, if◌then◌else◌}
+use Rattle.std.specs.Prelude.{ℕ, zero, suc, List, [], ◌∷◌, ◌+◌, ◌-◌, ◌++◌, length, filter, Bool, true, false, not, ◌&&◌, is_some, nat_le, nat_lt, nat_eq, Option, Some, None, bytes_eq, if◌then◌else◌}
 use Rattle.std.specs.List.{list_all, list_any}
 use Rattle.zn_base.specs.Names.{Name}
 use Rattle.zn_base.specs.Same.{same_pool}

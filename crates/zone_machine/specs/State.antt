@@ -1,5 +1,5 @@
 -- The machine's state: everything that all zones have, as flat lists and tables.
-use Rattle.std.specs.Prelude.{ℕ, List, [], ◌∷◌, Option, Some, None, Bool, bytes_eq, if◌then◌else◌}
+use Rattle.std.specs.Prelude.{ℕ, List, [], ◌∷◌, Option, Some, None, Bool, bytes_eq, unwrap_or, if◌then◌else◌}
 use Rattle.zn_base.specs.Names.{Name}
 use Rattle.zn_base.specs.Owned_lists.{Owned}
 use Rattle.zn_base.specs.declared.state.ZoneState.{ZoneState}
@@ -59,3 +59,15 @@ stored_from row z (c ∷ commits) = stored_from (if bytes_eq z c.zone then c.sto
 
 abbrev pub stored : Name → List Commit → Option Record
 stored z commits = stored_from None z commits
+
+-- a stored zone's state: what its desk says, else what is stored
+abbrev pub state_now : Record → Desk → ZoneState
+state_now row d = unwrap_or d.active row.state
+
+-- a zone's state, None where it isn't stored
+abbrev pub state_of : Option Record → Desk → Option ZoneState
+state_of None d = None
+state_of (Some row) d = Some (state_now row d)
+
+abbrev pub zone_state : Name → State → Option ZoneState
+zone_state z S = state_of (stored z S.commits) (S.desks z)

@@ -1,14 +1,13 @@
 -- What a turn of a zone's daemon does.
-use Rattle.std.specs.Prelude.{ℕ, List, [], ◌∷◌, ◌++◌, ◌+◌, length, Bool, true, is_some, Option, Some, None, bytes_eq, codes, nat_eq, unwrap_or, if◌then◌else◌}
+use Rattle.std.specs.Prelude.{ℕ, List, [], ◌∷◌, ◌++◌, ◌+◌, length, Bool, true, is_some, Option, Some, None, bytes_eq, codes, nat_eq, if◌then◌else◌}
 use Rattle.std.specs.Option.{option_map}
 use Rattle.zn_base.specs.Owned_lists.{Come, Go}
-use Rattle.zn_base.specs.declared.grant.Pool.{Pool}
 use Rattle.zn_base.specs.declared.state.ZoneState.{ZoneState}
 use Rattle.zn_base.specs.declared.state.ZoneState.TheVariants.{Installed}
 use Rattle.zone_machine.specs.Decisions.{A_pid, A_serial, A_zid, Ask, Asked, Decision, Effect, Just, turned}
 use Rattle.zone_machine.specs.Edits.{A_process, A_record, An_id, Comes, Edit, Ids_go, Of_mounts, Processes_go, Set_desk, Sweep}
 use Rattle.zone_machine.specs.Plans.{may_begin, plan, to_undo}
-use Rattle.zone_machine.specs.State.{Awaiting, Desk, Doing, Job}
+use Rattle.zone_machine.specs.State.{Awaiting, Desk, Doing, Job, state_now}
 use Rattle.zone_machine.specs.Worlds.{View, first_of}
 use Rattle.zone_machine.specs.declared.daemon.Outcome.{Outcome}
 use Rattle.zone_machine.specs.declared.daemon.Outcome.TheVariants.{Done, WrongState, Denied}
@@ -74,6 +73,11 @@ is_at dir m = bytes_eq dir m.dir
 abbrev pub zid_of : List Id → Option ℕ
 zid_of ids = option_map (λ i. i.zid) (first_of ids)
 
+-- the mount with the greatest directory goes, and the next turn is of what is then left; without one the plan goes on
+abbrev pub unmount : Desk → Job → List Step → Decision → Option Mount → Decision
+unmount d j rest next None = next
+unmount d j rest next (Some m) = Just (advance d j (Unmount None ∷ rest) (Of_mounts (Go (is_at m.dir)) ∷ []) (Unmount (Some m.dir)))
+
 -- the next step of a plan; the unmounts are as many turns as there are mounts, the greatest directory first
 abbrev pub step : View → Desk → Job → Record → List Step → Decision
 step v d j row [] = Just (finish d j.ticket Done)
@@ -87,10 +91,7 @@ step v d j row (Root ∷ rest) = Just (advance d j rest (Of_mounts (Come (root_m
 step v d j row (State_step s ∷ rest) = Just (advance (record d { active = active_after s }) j rest [] (State_step s))
 step v d j row (Init _ ∷ rest) = asking d j rest (A_process init_process) A_pid (λ n. Init (Some n))
 step v d j row (Kill _ ∷ rest) = Just (advance d j rest (Processes_go all_of ∷ []) (Kill (Some (length v.world.processes))))
-step v d j row (Unmount _ ∷ rest) = elim (last_of v.world.mounts) as (λ m. Decision) [
-  | None ↦ step v d j row rest
-  | Some m ↦ Just (advance d j (Unmount None ∷ rest) (Of_mounts (Go (is_at m.dir)) ∷ []) (Unmount (Some m.dir)))
-]
+step v d j row (Unmount _ ∷ rest) = unmount d j rest (step v d j row rest) (last_of v.world.mounts)
 step v d j row (Clear ∷ rest) = Just (advance d j rest [] Clear)
 step v d j row (ZidBack _ ∷ rest) = Just (advance d j rest (Ids_go all_of ∷ []) (ZidBack (zid_of v.world.ids)))
 
@@ -112,7 +113,7 @@ goes_on v d j row (Some outcome) = Just (undo d j outcome j.done)
 -- where none is under way, the next one begins
 abbrev pub next_request : Desk → List (ℕ × RequestKind) → Record → Effect
 next_request d [] row = turned [] Idle
-next_request d (w ∷ ws) row = begin (record d { waiting = ws }) w.0 w.1 (unwrap_or d.active row.state) row.config
+next_request d (w ∷ ws) row = begin (record d { waiting = ws }) w.0 w.1 (state_now row d) row.config
 
 abbrev pub turn_at : View → Desk → Option Job → Record → Decision
 turn_at v d None row = Just (next_request d d.waiting row)

@@ -1,8 +1,7 @@
 -- What a line does that a session types.
 use Rattle.std.specs.Prelude.{ℕ, List, [], ◌∷◌, ◌++◌, ◌+◌, length, Bool, ◌||◌, ◌==◌, nat_lt, Option, Some, None, Result, Ok as Right, Err, bytes_eq, codes, if◌then◌else◌}
-use Rattle.zn_base.specs.Names.{Name, name_of}
+use Rattle.zn_base.specs.Names.{name_of}
 use Rattle.zn_base.specs.Path.{path_of}
-use Rattle.zn_base.specs.declared.name.NameFault.{NameFault}
 use Rattle.zn_base.specs.declared.path.PathFault.{PathFault}
 use Rattle.zn_base.specs.declared.state.ZoneState.TheVariants.{Configured}
 use Rattle.zone_machine.specs.Decisions.{A_path, A_serial, A_zone, Ask, Decision, Effect, Just, done_saying, refused, says}
