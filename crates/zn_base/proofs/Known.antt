@@ -1,7 +1,8 @@
 -- What is known, in two steps.
-use Rattle.std.proofs.Common.{◌≡◌, ◌+◌, ℕ, Option, Some, None, List, ◌++◌, take, drop, refl, ap, sym, ◌∙◌, append_assoc}
+use Rattle.std.proofs.Common.{◌≡◌, ◌+◌, ◌<◌, ◌≤◌, ℕ, Option, Some, None, Result, Ok, Err, OnOk, OnErr, List, ◌++◌, length, take, drop, refl, ap, sym, inl, inr, arith, ◌∙◌, append_assoc}
 use Rattle.std.proofs.Math.Seq.{take-add}
-use Rattle.zn_base.specs.Streams.{after_known}
+use Rattle.std.proofs.lemmas.List.{take_all}
+use Rattle.zn_base.specs.Streams.{TakesFront, after_known, before_known}
 
 after_known-append : (known : Option (List ℕ)) (xs ys : List ℕ) → after_known (after_known known xs) ys ≡ after_known known (xs ++ ys)
 after_known-append None xs ys = refl

@@ -1,5 +1,6 @@
 -- The first part of a list that is cut where a test passes.
 use Rattle.std.proofs.Common.{◌≡◌, ◌+◌, ◌<◌, ◌≤◌, nat_lt, not, ℕ, Bool, Some, None, true, false, cond, List, [], ◌∷◌, length, take, drop, refl, ap, arith}
+use Rattle.std.specs.Prelude.{◌==◌}
 use Rattle.zn_base.specs.Path.{is_slash, is_component, first_bad}
 use Rattle.std.proofs.lemmas.List.{length-take-le}
 use Rattle.std.specs.List.{position, position_or_len, slice_split, onto_first}
