@@ -6,6 +6,7 @@
 mod grant;
 mod memory;
 mod name;
+mod owned;
 mod path;
 mod sink;
 mod source;
@@ -16,6 +17,7 @@ mod text;
 pub use grant::{Grant, Pool};
 pub use memory::{MemSink, MemSource};
 pub use name::{NameFault, ZoneName};
+pub use owned::Owned;
 pub use path::{AbsPath, PathFault};
 pub use sink::{Sink, write_all};
 pub use source::{Failed, Source};

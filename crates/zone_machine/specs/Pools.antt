@@ -1,5 +1,5 @@
 -- What the pools that all zones share give, and which grants may be stated.
-use Rattle.std.specs.Prelude.{ℕ, zero, suc, List, [], ◌∷◌, ◌+◌, ◌-◌, ◌++◌, length, filter, Bool, true, false, not, ◌&&◌, is_some, nat_le, nat_lt, nat_eq, Option, Some, None, bytes_eq, if◌then◌else◌}
+use Rattle.std.specs.Prelude.{ℕ, zero, suc, List, [], ◌∷◌, ◌+◌, ◌-◌, length, Bool, true, false, not, ◌&&◌, nat_le, nat_lt, nat_eq, Option, Some, None, bytes_eq, if◌then◌else◌}
 use Rattle.std.specs.List.{list_all, list_any}
 use Rattle.zn_base.specs.Names.{Name}
 use Rattle.zn_base.specs.Same.{same_pool}
@@ -9,13 +9,11 @@ use Rattle.zn_base.specs.declared.grant.Pool.{Pool}
 use Rattle.zn_base.specs.declared.grant.Pool.TheVariants.{Pids, Zids, Zones, Paths, Store}
 use Rattle.zone_machine.specs.Decisions.{A_path, A_pid, A_serial, A_zid, A_zone, Asked, asked_of, pool_of}
 use Rattle.zone_machine.specs.Machine.{decide, subject}
-use Rattle.zone_machine.specs.State.{State, stored}
+use Rattle.zone_machine.specs.State.{State, rows_of}
 use Rattle.zone_machine.specs.Worlds.{has_pid, view}
 use Rattle.zone_machine.specs.declared.events.Event.{Event}
 use Rattle.zone_machine.specs.declared.events.Subject.{Subject}
 use Rattle.zone_machine.specs.declared.events.Subject.TheVariants.{Zone, Global, Whole}
-use Rattle.zone_machine.specs.declared.records.Commit.{Commit}
-use Rattle.zone_machine.specs.declared.records.Record.{Record}
 use Rattle.zone_machine.specs.declared.objects.Id.{Id}
 
 -- the least number that isn't used among so many from one on
@@ -43,30 +41,12 @@ has_zid n i = nat_eq i.zid n
 abbrev pub zid_used : State → ℕ → Bool
 zid_used S n = list_any (λ o. has_zid n o.it) S.ids
 
--- the stored zones, in the order of their creation
-abbrev pub listed : List Name → Commit → List Name
-listed zs c =
-    if not (is_some c.stored) then filter (λ z. not (bytes_eq z c.zone)) zs
-    else if list_any (bytes_eq c.zone) zs then zs
-    else zs ++ c.zone ∷ []
-
-abbrev pub listed_from : List Name → List Commit → List Name
-listed_from zs [] = zs
-listed_from zs (c ∷ commits) = listed_from (listed zs c) commits
-
-abbrev pub stored_zones : List Commit → List Name
-stored_zones commits = listed_from [] commits
-
-abbrev pub has_path : List ℕ → Option Record → Bool
-has_path path None = false
-has_path path (Some row) = bytes_eq path row.config.zonepath
-
 -- another stored zone has the path
 abbrev pub path_taken : State → Name → List ℕ → Bool
-path_taken S z path = list_any (λ y. not (bytes_eq z y) && has_path path (stored y S.commits)) (stored_zones S.commits)
+path_taken S z path = list_any (λ row. not (bytes_eq z row.zone) && bytes_eq path row.it.config.zonepath) (rows_of S.commits)
 
 abbrev pub has_place : State → Bool
-has_place S = nat_lt (length (stored_zones S.commits)) 256
+has_place S = nat_lt (length (rows_of S.commits)) 256
 
 abbrev pub has_room : State → Bool
 has_room S = nat_lt (length S.commits) 4294967295

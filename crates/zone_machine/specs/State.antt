@@ -1,7 +1,8 @@
 -- The machine's state: everything that all zones have, as flat lists and tables.
-use Rattle.std.specs.Prelude.{ℕ, List, [], ◌∷◌, Option, Some, None, Bool, bytes_eq, unwrap_or, if◌then◌else◌}
+use Rattle.std.specs.Prelude.{ℕ, ◌+◌, ◌-◌, ◌^◌, min, List, [], ◌∷◌, Option, Some, None, Bool, true, false, bytes_eq, unwrap_or, if◌then◌else◌}
 use Rattle.zn_base.specs.Names.{Name}
-use Rattle.zn_base.specs.Owned_lists.{Owned}
+use Rattle.zn_base.specs.Owned_lists.{Change, Come, Go, edit_list, mine}
+use Rattle.zn_base.specs.declared.owned.Owned.{Owned}
 use Rattle.zn_base.specs.declared.state.ZoneState.{ZoneState}
 use Rattle.zone_machine.specs.declared.daemon.Outcome.{Outcome}
 use Rattle.zone_machine.specs.declared.daemon.RequestKind.{RequestKind}
@@ -21,13 +22,14 @@ pub data Session : Type 0 where
   Idle : Session
   At : Name → Doing → Session
 
--- a request under way: the configuration as it began, the steps left, the steps done, the latest first, and, once a
--- step failed, how it will end; the steps done are then those that are yet to be undone
+-- a request under way: the configuration as it began, the steps left and the number of the next one, the steps that a
+-- failure undoes, the latest first, and, once a step failed, how the request will end
 pub record Job : Type 0 where
   pub ticket : ℕ
   pub config : Config
   pub left : List Step
-  pub done : List Step
+  pub place : ℕ
+  pub undo : List Step
   pub ending : Option Outcome
 
 -- a zone's desk: the last ticket given, the requests that wait, the one under way, and the zone's state where it is
@@ -49,8 +51,16 @@ pub record State : Type 0 where
   pub last_zid : ℕ
   pub started : Bool
 
+-- the number of the step after a step, which stands still at the end of its type
+abbrev pub next_place : ℕ → ℕ
+next_place n = min (n + 1) (2 ^ 32 - 1)
+
 abbrev pub empty_desk : Desk
 empty_desk = record { last = 0; waiting = []; job = None; active = None }
+
+abbrev pub is_nil : {A : Type 0} → List A → Bool
+is_nil [] = true
+is_nil (x ∷ xs) = false
 
 -- the stored record of z: what the last commit that names z says
 abbrev pub stored_from : Option Record → Name → List Commit → Option Record
@@ -59,6 +69,18 @@ stored_from row z (c ∷ commits) = stored_from (if bytes_eq z c.zone then c.sto
 
 abbrev pub stored : Name → List Commit → Option Record
 stored z commits = stored_from None z commits
+
+-- all stored zones with their records, in the order of their creation
+abbrev pub with_stored : Name → Option Record → List (Owned Record) → List (Owned Record)
+with_stored z None rows = edit_list z (Go (λ row. true)) rows
+with_stored z (Some new) rows = edit_list z (if is_nil (mine z rows) then Come new else Change (λ row. new)) rows
+
+abbrev pub rows_from : List (Owned Record) → List Commit → List (Owned Record)
+rows_from rows [] = rows
+rows_from rows (c ∷ commits) = rows_from (with_stored c.zone c.stored rows) commits
+
+abbrev pub rows_of : List Commit → List (Owned Record)
+rows_of commits = rows_from [] commits
 
 -- a stored zone's state: what its desk says, else what is stored
 abbrev pub state_now : Record → Desk → ZoneState

@@ -1,13 +1,13 @@
 -- What a turn of a zone's daemon does.
-use Rattle.std.specs.Prelude.{ℕ, List, [], ◌∷◌, ◌++◌, ◌+◌, length, Bool, true, is_some, Option, Some, None, bytes_eq, codes, nat_eq, if◌then◌else◌}
+use Rattle.std.specs.Prelude.{ℕ, List, [], ◌∷◌, ◌++◌, length, Bool, true, is_some, Option, Some, None, bytes_eq, codes, nat_eq, if◌then◌else◌}
 use Rattle.std.specs.Option.{option_map}
 use Rattle.zn_base.specs.Owned_lists.{Come, Go}
 use Rattle.zn_base.specs.declared.state.ZoneState.{ZoneState}
 use Rattle.zn_base.specs.declared.state.ZoneState.TheVariants.{Installed}
 use Rattle.zone_machine.specs.Decisions.{A_pid, A_serial, A_zid, Ask, Asked, Decision, Effect, Just, turned}
 use Rattle.zone_machine.specs.Edits.{A_process, A_record, An_id, Comes, Edit, Ids_go, Of_mounts, Processes_go, Set_desk, Sweep}
-use Rattle.zone_machine.specs.Plans.{may_begin, plan, to_undo}
-use Rattle.zone_machine.specs.State.{Awaiting, Desk, Doing, Job, state_now}
+use Rattle.zone_machine.specs.Plans.{may_begin, plan, undo_after}
+use Rattle.zone_machine.specs.State.{Awaiting, Desk, Doing, Job, next_place, state_now}
 use Rattle.zone_machine.specs.Worlds.{View, first_of}
 use Rattle.zone_machine.specs.declared.daemon.Outcome.{Outcome}
 use Rattle.zone_machine.specs.declared.daemon.Outcome.TheVariants.{Done, WrongState, Denied}
@@ -39,18 +39,18 @@ finish d t outcome = turned (Set_desk (record d { job = None }) ∷ Sweep (ticke
 abbrev pub begin : Desk → ℕ → RequestKind → ZoneState → Config → Effect
 begin d t kind s config =
     if may_begin kind s
-    then turned (Set_desk (record d { job = Some (record { ticket = t; config = config; left = plan kind s; done = []; ending = None }) }) ∷ []) (Began t kind)
+    then turned (Set_desk (record d { job = Some (record { ticket = t; config = config; left = plan kind s; place = 1; undo = []; ending = None }) }) ∷ []) (Began t kind)
     else finish d t (WrongState s)
 
 -- a step is done, with its edits
 abbrev pub advance : Desk → Job → List Step → List Edit → Step → Effect
 advance d j rest edits shown =
-    turned (edits ++ Set_desk (record d { job = Some (record j { left = rest; done = shown ∷ j.done }) }) ∷ []) (Stepped shown)
+    turned (edits ++ Set_desk (record d { job = Some (record j { left = rest; place = next_place j.place; undo = undo_after shown j.undo }) }) ∷ []) (Stepped shown)
 
 -- a step failed, and the request will end so
 abbrev pub failed : Desk → Job → Outcome → Effect
 failed d j outcome =
-    turned (Set_desk (record d { job = Some (record j { left = []; done = to_undo j.done; ending = Some outcome }) }) ∷ []) (Failed (length j.done + 1) outcome)
+    turned (Set_desk (record d { job = Some (record j { left = []; ending = Some outcome }) }) ∷ []) (Failed j.place outcome)
 
 -- a step that asks a pool for what comes
 abbrev pub asking : Desk → Job → List Step → Comes → Asked → (ℕ → Step) → Decision
@@ -97,7 +97,7 @@ step v d j row (ZidBack _ ∷ rest) = Just (advance d j rest (Ids_go all_of ∷ 
 
 -- one step back
 abbrev pub undone : Desk → Job → List Step → List Edit → Step → Effect
-undone d j rest edits shown = turned (edits ++ Set_desk (record d { job = Some (record j { done = rest }) }) ∷ []) (Undone shown)
+undone d j rest edits shown = turned (edits ++ Set_desk (record d { job = Some (record j { undo = rest }) }) ∷ []) (Undone shown)
 
 abbrev pub undo : Desk → Job → Outcome → List Step → Effect
 undo d j outcome [] = finish d j.ticket outcome
@@ -108,7 +108,7 @@ undo d j outcome (s ∷ rest) = undone d j rest [] s
 -- a request under way goes on
 abbrev pub goes_on : View → Desk → Job → Record → Option Outcome → Decision
 goes_on v d j row None = step v d j row j.left
-goes_on v d j row (Some outcome) = Just (undo d j outcome j.done)
+goes_on v d j row (Some outcome) = Just (undo d j outcome j.undo)
 
 -- where none is under way, the next one begins
 abbrev pub next_request : Desk → List (ℕ × RequestKind) → Record → Effect

@@ -1,7 +1,8 @@
 -- What belongs to one zone, and what an event of the zone may look at.
 use Rattle.std.specs.Prelude.{ℕ, List, [], ◌∷◌, Option, Some, None, Bool, bytes_eq, nat_eq, filter, if◌then◌else◌}
 use Rattle.zn_base.specs.Names.{Name}
-use Rattle.zn_base.specs.Owned_lists.{Owned, mine}
+use Rattle.zn_base.specs.Owned_lists.{mine}
+use Rattle.zn_base.specs.declared.owned.Owned.{Owned}
 use Rattle.zone_machine.specs.State.{At, Desk, Doing, Idle, Session, State, stored}
 use Rattle.zone_machine.specs.declared.objects.Id.{Id}
 use Rattle.zone_machine.specs.declared.objects.Mount.{Mount}

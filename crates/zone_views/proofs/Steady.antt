@@ -128,32 +128,32 @@ module _ (ps : List Process) (ms : List Mount) (is : List Id) (sessions : ℕ �
     desk = record { last = last; waiting = waiting; job = job; active = active };
   }
 
-  abbrev J : ℕ → Config → List Step → List Step → Option Outcome → Job
-  J t config left done ending = record { ticket = t; config = config; left = left; done = done; ending = ending }
+  abbrev J : ℕ → Config → List Step → ℕ → List Step → Option Outcome → Job
+  J t config left place undo ending = record { ticket = t; config = config; left = left; place = place; undo = undo; ending = ending }
 
   -- the step of a request under way
-  keeps_step : (z : Name) (row : Record) (waiting : List (ℕ × RequestKind)) (t : ℕ) (config : Config) (left done all : List Step) (active : Option ZoneState)
+  keeps_step : (z : Name) (row : Record) (waiting : List (ℕ × RequestKind)) (t : ℕ) (config : Config) (left all : List Step) (place : ℕ) (undone : List Step) (active : Option ZoneState)
       → fits_stored active row.state ≡ true → leads active row.state left ≡ true
-      → let w = W (Some row) waiting (Some (J t config all done None)) active in KeepsIn w (step (view_of z w) w.desk (J t config all done None) row left)
+      → let w = W (Some row) waiting (Some (J t config all place undone None)) active in KeepsIn w (step (view_of z w) w.desk (J t config all place undone None) row left)
   unfolding view_of
-  keeps_step z row waiting t config [] done all active f l = λ n. record { steady = and_from _ _ f refl; moves = inl refl }
-  keeps_step z row waiting t config (Hook change ∷ rest) done all active f l = λ n. record { steady = and_from _ _ f l; moves = inl refl }
-  keeps_step z row waiting t config (Record_step s ∷ rest) done all active f l =
+  keeps_step z row waiting t config [] all place undone active f l = λ n. record { steady = and_from _ _ f refl; moves = inl refl }
+  keeps_step z row waiting t config (Hook change ∷ rest) all place undone active f l = λ n. record { steady = and_from _ _ f l; moves = inl refl }
+  keeps_step z row waiting t config (Record_step s ∷ rest) all place undone active f l =
       let last_part = and_parts (is_none active && is_stored_state s && may_move (Some row.state) (Some s)) (leads active s rest) l in
       let mid_part = and_parts (is_none active && is_stored_state s) (may_move (Some row.state) (Some s)) last_part.0 in
       let first_part = and_parts (is_none active) (is_stored_state s) mid_part.0 in
       at_active active first_part.0 first_part.1 mid_part.1 last_part.1 f
     where
       at_active : (active : Option ZoneState) → is_none active ≡ true → is_stored_state s ≡ true → may_move (Some row.state) (Some s) ≡ true → leads active s rest ≡ true → fits_stored active row.state ≡ true
-          → let w = W (Some row) waiting (Some (J t config all done None)) active in KeepsIn w (step (view_of z w) w.desk (J t config all done None) row (Record_step s ∷ rest))
+          → let w = W (Some row) waiting (Some (J t config all place undone None)) active in KeepsIn w (step (view_of z w) w.desk (J t config all place undone None) row (Record_step s ∷ rest))
       at_active None i st m r f = (λ n p. record { steady = and_from _ _ f refl; moves = inl refl }, λ n k. record { steady = and_from _ _ st r; moves = inr m })
       at_active (Some a) i st m r f = absurd (false≢true i)
-  keeps_step z row waiting t config (Copy k ∷ rest) done all active f l = λ n. record { steady = and_from _ _ f l; moves = inl refl }
-  keeps_step z row waiting t config (Zid _ ∷ rest) done all active f l = (λ n p. record { steady = and_from _ _ f refl; moves = inl refl }, λ n k. record { steady = and_from _ _ f l; moves = inl refl })
-  keeps_step z row waiting t config (Limits ∷ rest) done all active f l = λ n. record { steady = and_from _ _ f l; moves = inl refl }
-  keeps_step z row waiting t config (Devices _ ∷ rest) done all active f l = λ n. record { steady = and_from _ _ f l; moves = inl refl }
-  keeps_step z row waiting t config (Root ∷ rest) done all active f l = λ n. record { steady = and_from _ _ f l; moves = inl refl }
-  keeps_step z row waiting t config (State_step s ∷ rest) done all active f l =
+  keeps_step z row waiting t config (Copy k ∷ rest) all place undone active f l = λ n. record { steady = and_from _ _ f l; moves = inl refl }
+  keeps_step z row waiting t config (Zid _ ∷ rest) all place undone active f l = (λ n p. record { steady = and_from _ _ f refl; moves = inl refl }, λ n k. record { steady = and_from _ _ f l; moves = inl refl })
+  keeps_step z row waiting t config (Limits ∷ rest) all place undone active f l = λ n. record { steady = and_from _ _ f l; moves = inl refl }
+  keeps_step z row waiting t config (Devices _ ∷ rest) all place undone active f l = λ n. record { steady = and_from _ _ f l; moves = inl refl }
+  keeps_step z row waiting t config (Root ∷ rest) all place undone active f l = λ n. record { steady = and_from _ _ f l; moves = inl refl }
+  keeps_step z row waiting t config (State_step s ∷ rest) all place undone active f l =
       let last_part = and_parts (same_state row.state Installed && fits_stored (active_after s) row.state && may_move (Some (unwrap_or active row.state)) (Some s)) (leads (active_after s) row.state rest) l in
       let mid_part = and_parts (same_state row.state Installed && fits_stored (active_after s) row.state) (may_move (Some (unwrap_or active row.state)) (Some s)) last_part.0 in
       let first_part = and_parts (same_state row.state Installed) (fits_stored (active_after s) row.state) mid_part.0 in
@@ -163,25 +163,25 @@ module _ (ps : List Process) (ms : List Mount) (is : List Id) (sessions : ℕ �
       now_at : (s t : ZoneState) → t ≡ Installed → unwrap_or (active_after s) t ≡ s
       now_at Installed t e = e
       now_at _ t e = refl
-  keeps_step z row waiting t config (Init _ ∷ rest) done all active f l = (λ n p. record { steady = and_from _ _ f refl; moves = inl refl }, λ n k. record { steady = and_from _ _ f l; moves = inl refl })
-  keeps_step z row waiting t config (Kill _ ∷ rest) done all active f l = λ n. record { steady = and_from _ _ f l; moves = inl refl }
-  keeps_step z row waiting t config (Unmount _ ∷ rest) done all active f l = at_mount (last_of ms) (keeps_step z row waiting t config rest done all active f l)
+  keeps_step z row waiting t config (Init _ ∷ rest) all place undone active f l = (λ n p. record { steady = and_from _ _ f refl; moves = inl refl }, λ n k. record { steady = and_from _ _ f l; moves = inl refl })
+  keeps_step z row waiting t config (Kill _ ∷ rest) all place undone active f l = λ n. record { steady = and_from _ _ f l; moves = inl refl }
+  keeps_step z row waiting t config (Unmount _ ∷ rest) all place undone active f l = at_mount (last_of ms) (keeps_step z row waiting t config rest all place undone active f l)
     where
-      at_mount : (m : Option Mount) → (let w = W (Some row) waiting (Some (J t config all done None)) active in KeepsIn w (step (view_of z w) w.desk (J t config all done None) row rest))
-          → let w = W (Some row) waiting (Some (J t config all done None)) active in KeepsIn w (unmount w.desk (J t config all done None) rest (step (view_of z w) w.desk (J t config all done None) row rest) m)
+      at_mount : (m : Option Mount) → (let w = W (Some row) waiting (Some (J t config all place undone None)) active in KeepsIn w (step (view_of z w) w.desk (J t config all place undone None) row rest))
+          → let w = W (Some row) waiting (Some (J t config all place undone None)) active in KeepsIn w (unmount w.desk (J t config all place undone None) rest (step (view_of z w) w.desk (J t config all place undone None) row rest) m)
       at_mount None ih = ih
       at_mount (Some m) ih = λ n. record { steady = and_from _ _ f l; moves = inl refl }
-  keeps_step z row waiting t config (Clear ∷ rest) done all active f l = λ n. record { steady = and_from _ _ f l; moves = inl refl }
-  keeps_step z row waiting t config (ZidBack _ ∷ rest) done all active f l = λ n. record { steady = and_from _ _ f l; moves = inl refl }
+  keeps_step z row waiting t config (Clear ∷ rest) all place undone active f l = λ n. record { steady = and_from _ _ f l; moves = inl refl }
+  keeps_step z row waiting t config (ZidBack _ ∷ rest) all place undone active f l = λ n. record { steady = and_from _ _ f l; moves = inl refl }
 
   -- a step back
-  keeps_undo : (row : Record) (waiting : List (ℕ × RequestKind)) (t : ℕ) (config : Config) (left done all : List Step) (outcome : Outcome) (active : Option ZoneState)
+  keeps_undo : (row : Record) (waiting : List (ℕ × RequestKind)) (t : ℕ) (config : Config) (left : List Step) (place : ℕ) (undone all : List Step) (outcome : Outcome) (active : Option ZoneState)
       → fits_stored active row.state ≡ true
-      → let w = W (Some row) waiting (Some (J t config left all (Some outcome))) active in KeepsIn w (Just (undo w.desk (J t config left all (Some outcome)) outcome done))
-  keeps_undo row waiting t config left [] all outcome active f = λ n. record { steady = and_from _ _ f refl; moves = inl refl }
-  keeps_undo row waiting t config left (Zid k ∷ rest) all outcome active f = λ n. record { steady = and_from _ _ f refl; moves = inl refl }
-  keeps_undo row waiting t config left (Root ∷ rest) all outcome active f = λ n. record { steady = and_from _ _ f refl; moves = inl refl }
-  keeps_undo row waiting t config left (_ ∷ rest) all outcome active f = λ n. record { steady = and_from _ _ f refl; moves = inl refl }
+      → let w = W (Some row) waiting (Some (J t config left place all (Some outcome))) active in KeepsIn w (Just (undo w.desk (J t config left place all (Some outcome)) outcome undone))
+  keeps_undo row waiting t config left place [] all outcome active f = λ n. record { steady = and_from _ _ f refl; moves = inl refl }
+  keeps_undo row waiting t config left place (Zid k ∷ rest) all outcome active f = λ n. record { steady = and_from _ _ f refl; moves = inl refl }
+  keeps_undo row waiting t config left place (Root ∷ rest) all outcome active f = λ n. record { steady = and_from _ _ f refl; moves = inl refl }
+  keeps_undo row waiting t config left place (_ ∷ rest) all outcome active f = λ n. record { steady = and_from _ _ f refl; moves = inl refl }
 
   -- a request begins, or ends at once
   keeps_next : (row : Record) (waiting : List (ℕ × RequestKind)) (active : Option ZoneState) → fits_stored active row.state ≡ true
@@ -193,11 +193,11 @@ module _ (ps : List Process) (ms : List Mount) (is : List Id) (sessions : ℕ �
       at_test true m = simp m (λ n. record { steady = and_from _ _ f (begin_leads r.1 active row.state f m); moves = inl refl })
       at_test false m = simp m (λ n. record { steady = and_from _ _ f refl; moves = inl refl })
 
-  keeps_job : (z : Name) (row : Record) (waiting : List (ℕ × RequestKind)) (t : ℕ) (config : Config) (left done : List Step) (ending : Option Outcome) (active : Option ZoneState)
+  keeps_job : (z : Name) (row : Record) (waiting : List (ℕ × RequestKind)) (t : ℕ) (config : Config) (left : List Step) (place : ℕ) (undone : List Step) (ending : Option Outcome) (active : Option ZoneState)
       → fits_stored active row.state ≡ true → job_leads ending active row.state left ≡ true
-      → let w = W (Some row) waiting (Some (J t config left done ending)) active in KeepsIn w (goes_on (view_of z w) w.desk (J t config left done ending) row ending)
-  keeps_job z row waiting t config left done None active f l = keeps_step z row waiting t config left done left active f l
-  keeps_job z row waiting t config left done (Some outcome) active f l = keeps_undo row waiting t config left done done outcome active f
+      → let w = W (Some row) waiting (Some (J t config left place undone ending)) active in KeepsIn w (goes_on (view_of z w) w.desk (J t config left place undone ending) row ending)
+  keeps_job z row waiting t config left place undone None active f l = keeps_step z row waiting t config left left place undone active f l
+  keeps_job z row waiting t config left place undone (Some outcome) active f l = keeps_undo row waiting t config left place undone undone outcome active f
 
   -- a turn
   keeps_turn : (z : Name) (row : Option Record) (waiting : List (ℕ × RequestKind)) (job : Option Job) (active : Option ZoneState)
@@ -207,7 +207,7 @@ module _ (ps : List Process) (ms : List Mount) (is : List Id) (sessions : ℕ �
   keeps_turn z (Some row) waiting None active h = keeps_next row waiting active (and_parts (fits_stored active row.state) true h).0
   keeps_turn z (Some row) waiting (Some j) active h =
       let parts = and_parts (fits_stored active row.state) (job_leads j.ending active row.state j.left) h in
-      keeps_job z row waiting j.ticket j.config j.left j.done j.ending active parts.0 parts.1
+      keeps_job z row waiting j.ticket j.config j.left j.place j.undo j.ending active parts.0 parts.1
 
   -- a line
   keeps_make : (path : Option (List ℕ)) (waiting : List (ℕ × RequestKind)) (job : Option Job) (active : Option ZoneState)
