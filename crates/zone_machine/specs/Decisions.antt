@@ -5,7 +5,7 @@ use Rattle.zn_base.specs.declared.grant.Grant.{Grant}
 use Rattle.zn_base.specs.declared.grant.Grant.TheVariants.{Nothing, Number, Yes, Denied}
 use Rattle.zn_base.specs.declared.grant.Pool.{Pool}
 use Rattle.zn_base.specs.declared.grant.Pool.TheVariants.{Pids, Zids, Zones, Paths, Store}
-use Rattle.zone_machine.specs.Edits.{Comes, Edit, comes, comes_world, edits, edits_world}
+use Rattle.zone_machine.specs.Edits.{Arrival, Comes, Edit, arrived, comes, comes_world, edits, edits_world}
 use Rattle.zone_machine.specs.State.{State}
 use Rattle.zone_machine.specs.Worlds.{World}
 use Rattle.zone_machine.specs.declared.daemon.TurnReply.{TurnReply}
@@ -44,13 +44,13 @@ asked_of (Ask c asked denied given) = asked
 
 -- what a decision does under a grant: what came, if anything, and then the effect
 pub record Act : Type 0 where
-  pub came : Option (Comes × ℕ)
+  pub came : Option Arrival
   pub effect : Effect
 
 -- a grant that gives neither number nor yes counts as a denial
 abbrev pub granted : Comes → (Pool → Effect) → (ℕ → Effect) → Grant → Act
-granted c denied given (Number n) = record { came = Some (c, n); effect = given n }
-granted c denied given Yes = record { came = Some (c, 0); effect = given 0 }
+granted c denied given (Number n) = record { came = Some (arrived c n); effect = given n }
+granted c denied given Yes = record { came = Some (arrived c 0); effect = given 0 }
 granted c denied given (Denied pool) = record { came = None; effect = denied pool }
 granted c denied given Nothing = record { came = None; effect = denied Store }
 
@@ -58,17 +58,17 @@ abbrev pub act_of : Decision → Grant → Act
 act_of (Just e) g = record { came = None; effect = e }
 act_of (Ask c asked denied given) g = granted c denied given g
 
-abbrev pub after_came : Name → Option (Comes × ℕ) → State → State
+abbrev pub after_came : Name → Option Arrival → State → State
 after_came z None S = S
-after_came z (Some c) S = comes z c.0 c.1 S
+after_came z (Some a) S = comes z a S
 
 -- an act of an event of z, which is typed in the session n or in none
 abbrev pub acts : Name → Option ℕ → Act → State → State
 acts z n a S = edits z n a.effect.edits (after_came z a.came S)
 
-abbrev pub after_came_world : Option (Comes × ℕ) → World → World
+abbrev pub after_came_world : Option Arrival → World → World
 after_came_world None w = w
-after_came_world (Some c) w = comes_world c.0 c.1 w
+after_came_world (Some a) w = comes_world a w
 
 abbrev pub acts_world : Option ℕ → Act → World → World
 acts_world n a w = edits_world n a.effect.edits (after_came_world a.came w)

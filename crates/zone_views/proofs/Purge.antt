@@ -10,7 +10,7 @@ use Rattle.zone_machine.proofs.Laws.{IsOwn, IsOwn-of, IsOwn-swept}
 use Rattle.zone_machine.proofs.Own_worlds.{leaves, reply-whole, reply-world, world-one, world_by-other}
 use Rattle.zone_machine.proofs.Same_laws.{reply-Decides, subject-Decides}
 use Rattle.zone_machine.specs.Decisions.{Act, act_of, acts, after_came}
-use Rattle.zone_machine.specs.Edits.{A_process, Comes, Edit, Here, Set_desk, Sweep, at_session, comes, edit, edits, session_of}
+use Rattle.zone_machine.specs.Edits.{Edit, Here, Set_desk, Sweep, at_session, comes, edit, edits, session_of, Arrival, New_process}
 use Rattle.zone_machine.specs.Histories.{after, after_entry, any_grant, asked, concerns, entry_at, is_history, is_of, is_told, only, replay, replies, run, world_by, world_one}
 use Rattle.zone_machine.specs.Lines.{line_of}
 use Rattle.zone_machine.specs.Machine.{decide, one, one_of, opening, session_number, session_subject, subject}
@@ -48,14 +48,11 @@ IsPurged-edits : (y z : Name) (n : Option ℕ) (es : List Edit) (S : State) → 
 IsPurged-edits y z n [] S same is = is
 IsPurged-edits y z n (e ∷ es) S same is = IsPurged-edits y z n es (edit y n e S) same (IsPurged-edit y z n e S same is)
 
-IsPurged-came : (y z : Name) (c : Option (Comes × ℕ)) (S : State) → IsPurged z S → IsPurged z (after_came y c S)
+IsPurged-came : (y z : Name) (c : Option Arrival) (S : State) → IsPurged z S → IsPurged z (after_came y c S)
 unfolding comes
 IsPurged-came y z None S is = is
-IsPurged-came y z (Some c) S is = at_kind c.0 c.1
-  where
-    at_kind : (c : Comes) (n : ℕ) → IsPurged z (comes y c n S)
-    at_kind (A_process p) n = record { sessions = is.sessions }
-    at_kind _ n = record { sessions = is.sessions }
+IsPurged-came y z (Some (New_process p)) S is = record { sessions = is.sessions }
+IsPurged-came y z (Some _) S is = record { sessions = is.sessions }
 
 IsPurged-one : (z : Name) (S : State) (e : Event) (g : Grant) → concerns z (subject S e) ≡ true → IsPurged z S → IsPurged z (one S e g).state
 unfolding one

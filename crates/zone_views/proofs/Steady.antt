@@ -17,7 +17,7 @@ use Rattle.zn_base.specs.declared.state.ZoneState.TheVariants.{Configured, Insta
 use Rattle.zn_base.proofs.Owned_laws.{same_true}
 use Rattle.zone_machine.proofs.Own_worlds.{world-one}
 use Rattle.zone_machine.specs.Decisions.{Ask, Decision, Just, act_of, acts_world}
-use Rattle.zone_machine.specs.Edits.{comes_world, edits_world}
+use Rattle.zone_machine.specs.Edits.{comes_world, edits_world, arrived}
 use Rattle.zone_machine.specs.Histories.{after, after_entry, world_by}
 use Rattle.zone_machine.specs.Lines.{Blank, Command, Line, Make, Request, Unknown, line_of}
 use Rattle.zone_machine.specs.Machine.{decide, one, opening, session_number, subject}
@@ -84,7 +84,7 @@ pub record Keeps (w v : World) : Type 0 where
 abbrev pub KeepsIn : World → Decision → Type 0
 KeepsIn w (Just e) = (n : Option ℕ) → Keeps w (edits_world n e.edits w)
 KeepsIn w (Ask c asked denied given) =
-    ((n : Option ℕ) (p : Pool) → Keeps w (edits_world n (denied p).edits w)) × ((n : Option ℕ) (k : ℕ) → Keeps w (edits_world n (given k).edits (comes_world c k w)))
+    ((n : Option ℕ) (p : Pool) → Keeps w (edits_world n (denied p).edits w)) × ((n : Option ℕ) (k : ℕ) → Keeps w (edits_world n (given k).edits (comes_world (arrived c k) w)))
 
 keeps-act : (w : World) (d : Decision) (n : Option ℕ) (g : Grant) → KeepsIn w d → Keeps w (acts_world n (act_of d g) w)
 keeps-act w (Just e) n g h = h n
@@ -165,10 +165,10 @@ module _ (ps : List Process) (ms : List Mount) (is : List Id) (sessions : ℕ �
       now_at _ t e = refl
   keeps_step z row waiting t config (Init _ ∷ rest) all place undone active f l = (λ n p. record { steady = and_from _ _ f refl; moves = inl refl }, λ n k. record { steady = and_from _ _ f l; moves = inl refl })
   keeps_step z row waiting t config (Kill _ ∷ rest) all place undone active f l = λ n. record { steady = and_from _ _ f l; moves = inl refl }
-  keeps_step z row waiting t config (Unmount _ ∷ rest) all place undone active f l = at_mount (last_of ms) (keeps_step z row waiting t config rest all place undone active f l)
+  keeps_step z row waiting t config (Unmount dir ∷ rest) all place undone active f l = at_mount (last_of ms) (keeps_step z row waiting t config rest all place undone active f l)
     where
       at_mount : (m : Option Mount) → (let w = W (Some row) waiting (Some (J t config all place undone None)) active in KeepsIn w (step (view_of z w) w.desk (J t config all place undone None) row rest))
-          → let w = W (Some row) waiting (Some (J t config all place undone None)) active in KeepsIn w (unmount w.desk (J t config all place undone None) rest (step (view_of z w) w.desk (J t config all place undone None) row rest) m)
+          → let w = W (Some row) waiting (Some (J t config all place undone None)) active in KeepsIn w (unmount w.desk (J t config all place undone None) (Unmount dir ∷ rest) (step (view_of z w) w.desk (J t config all place undone None) row rest) m)
       at_mount None ih = ih
       at_mount (Some m) ih = λ n. record { steady = and_from _ _ f l; moves = inl refl }
   keeps_step z row waiting t config (Clear ∷ rest) all place undone active f l = λ n. record { steady = and_from _ _ f l; moves = inl refl }
