@@ -1,5 +1,5 @@
 -- How a line of an idle session is read, by the words of zonecfg(8) and zoneadm(8).
-use Rattle.std.specs.Prelude.{ℕ, List, [], ◌∷◌, ◌++◌, length, take, drop, filter, Bool, not, ◌&&◌, ◌||◌, ◌==◌, ◌-◌, Option, Some, None, bytes_eq, codes, if◌then◌else◌}
+use Rattle.std.specs.Prelude.{ℕ, List, [], ◌∷◌, ◌++◌, length, take, drop, filter, Bool, not, ◌&&◌, ◌||◌, ◌==◌, ◌-◌, Option, Some, None, bytes_eq, codes, if◌then◌else◌, unwrap_or}
 use Rattle.std.specs.List.{list_all, slice_split}
 use Rattle.zone_machine.specs.declared.daemon.RequestKind.{RequestKind}
 use Rattle.zone_machine.specs.declared.daemon.RequestKind.TheVariants.{Install, Boot, Halt}
@@ -44,34 +44,69 @@ path_word word =
     let path : List ℕ = take (length word - 10) (drop 9 word) in
     if is_word path && bytes_eq word (codes "zonepath=" ++ path ++ codes ";") then Some path else None
 
-abbrev pub make_with : Option (List ℕ) → Command
-make_with None = Unknown
-make_with (Some path) = Make path
+-- the first word and those after it
+abbrev pub next_word : List (List ℕ) → Option (List ℕ × List (List ℕ))
+next_word [] = None
+next_word (word ∷ more) = Some (word, more)
 
--- the words of `create -b; set zonepath=V; set brand=ipkg`
-abbrev pub zonecfg_command : List (List ℕ) → Command
-zonecfg_command (a ∷ b ∷ c ∷ path ∷ d ∷ e ∷ []) =
-    if bytes_eq a (codes "create") && bytes_eq b (codes "-b;") && bytes_eq c (codes "set") && bytes_eq d (codes "set") && bytes_eq e (codes "brand=ipkg")
-    then make_with (path_word path) else Unknown
-zonecfg_command _ = Unknown
+-- the words after one that is wanted
+abbrev pub after_word : List ℕ → List (List ℕ) → Option (List (List ℕ))
+after_word wanted [] = None
+after_word wanted (word ∷ more) = if bytes_eq word wanted then Some more else None
 
-abbrev pub zoneadm_command : List (List ℕ) → Command
-zoneadm_command (word ∷ []) =
-    if bytes_eq word (codes "install") then Request Install
-    else if bytes_eq word (codes "boot") then Request Boot
-    else if bytes_eq word (codes "halt") then Request Halt
-    else Unknown
-zoneadm_command _ = Unknown
+-- something, where no word is left
+abbrev pub at_end : {A : Type 0} → A → List (List ℕ) → Option A
+at_end a [] = Some a
+at_end a (word ∷ more) = None
 
--- the words `zonecfg -z Z` or `zoneadm -z Z`, and the words after them
+infixl 10 ◌>>=◌
+abbrev pub ◌>>=◌ : {A B : Type 0} → Option A → (A → Option B) → Option B
+None >>= f = None
+(Some x) >>= f = f x
+
+-- `create -b; set zonepath=V; set brand=ipkg`
+abbrev pub zonecfg_command : List (List ℕ) → Option Command
+zonecfg_command ws = do
+  ws ← after_word (codes "create") ws
+  ws ← after_word (codes "-b;") ws
+  ws ← after_word (codes "set") ws
+  path ← next_word ws
+  value ← path_word path.0
+  ws ← after_word (codes "set") path.1
+  ws ← after_word (codes "brand=ipkg") ws
+  at_end (Make value) ws
+
+abbrev pub request_word : List ℕ → Option RequestKind
+request_word word =
+    if bytes_eq word (codes "install") then Some Install
+    else if bytes_eq word (codes "boot") then Some Boot
+    else if bytes_eq word (codes "halt") then Some Halt
+    else None
+
+-- the name of a request
+abbrev pub zoneadm_command : List (List ℕ) → Option Command
+zoneadm_command ws = do
+  word ← next_word ws
+  kind ← request_word word.0
+  at_end (Request kind) word.1
+
+abbrev pub tool_command : List ℕ → List (List ℕ) → Option Command
+tool_command tool ws =
+    if bytes_eq tool (codes "zonecfg") then zonecfg_command ws
+    else if bytes_eq tool (codes "zoneadm") then zoneadm_command ws
+    else None
+
+-- `zonecfg -z Z` or `zoneadm -z Z`, and what follows
+abbrev pub zone_command : List (List ℕ) → Option Command
+zone_command ws = do
+  tool ← next_word ws
+  ws ← after_word (codes "-z") tool.1
+  zone ← next_word ws
+  tool_command tool.0 zone.1
+
 abbrev pub command_of : List (List ℕ) → Command
 command_of [] = Blank
-command_of (tool ∷ flag ∷ zone ∷ more) =
-    if not (bytes_eq flag (codes "-z")) then Unknown
-    else if bytes_eq tool (codes "zonecfg") then zonecfg_command more
-    else if bytes_eq tool (codes "zoneadm") then zoneadm_command more
-    else Unknown
-command_of _ = Unknown
+command_of (word ∷ more) = unwrap_or (zone_command (word ∷ more)) Unknown
 
 abbrev pub line_of_words : List (List ℕ) → Line
 line_of_words ws = record { zone = word_after_flag ws; command = command_of ws }

@@ -73,10 +73,13 @@ is_at dir m = bytes_eq dir m.dir
 abbrev pub zid_of : List Id → Option ℕ
 zid_of ids = option_map (λ i. i.zid) (first_of ids)
 
--- the mount with the greatest directory goes, and the next turn is of what is then left; without one the plan goes on
-abbrev pub unmount : Desk → Job → List Step → Decision → Option Mount → Decision
+abbrev pub last_dir : List Mount → Option (List ℕ)
+last_dir ms = option_map (λ m. m.dir) (last_of ms)
+
+-- the mount with the greatest directory goes, and the plan stays where it is; without one the plan goes on
+abbrev pub unmount : Desk → Job → List Step → Decision → Option (List ℕ) → Decision
 unmount d j left next None = next
-unmount d j left next (Some m) = Just (advance d j left (Of_mounts (Go (is_at m.dir)) ∷ []) (Unmount (Some m.dir)))
+unmount d j left next (Some dir) = Just (advance d j left (Of_mounts (Go (is_at dir)) ∷ []) (Unmount (Some dir)))
 
 -- the next step of a plan; the unmounts are as many turns as there are mounts, the greatest directory first
 abbrev pub step : View → Desk → Job → Record → List Step → Decision
@@ -91,7 +94,7 @@ step v d j row (Root ∷ rest) = Just (advance d j rest (Of_mounts (Come (root_m
 step v d j row (State_step s ∷ rest) = Just (advance (record d { active = active_after s }) j rest [] (State_step s))
 step v d j row (Init _ ∷ rest) = asking d j rest (A_process init_process) A_pid (λ n. Init (Some n))
 step v d j row (Kill _ ∷ rest) = Just (advance d j rest (Processes_go all_of ∷ []) (Kill (Some (length v.world.processes))))
-step v d j row (Unmount dir ∷ rest) = unmount d j (Unmount dir ∷ rest) (step v d j row rest) (last_of v.world.mounts)
+step v d j row (Unmount dir ∷ rest) = unmount d j (Unmount dir ∷ rest) (step v d j row rest) (last_dir v.world.mounts)
 step v d j row (Clear ∷ rest) = Just (advance d j rest [] Clear)
 step v d j row (ZidBack _ ∷ rest) = Just (advance d j rest (Ids_go all_of ∷ []) (ZidBack (zid_of v.world.ids)))
 

@@ -23,7 +23,7 @@ use Rattle.zone_machine.specs.Lines.{Blank, Command, Line, Make, Request, Unknow
 use Rattle.zone_machine.specs.Machine.{decide, one, opening, session_number, subject}
 use Rattle.zone_machine.specs.Plans.{may_begin, plan}
 use Rattle.zone_machine.specs.State.{Awaiting, Desk, Doing, Job, State, empty_desk, state_of, stored, stored_from}
-use Rattle.zone_machine.specs.Turns.{active_after, goes_on, last_of, next_request, step, turn, undo, unmount}
+use Rattle.zone_machine.specs.Turns.{active_after, goes_on, last_dir, next_request, step, turn, undo, unmount}
 use Rattle.zone_machine.specs.Typed.{idle_line, is_full, make_at, put_request, typed, usable_path}
 use Rattle.zone_machine.specs.Worlds.{World, view_of, world}
 use Rattle.zone_machine.specs.declared.daemon.Outcome.{Outcome}
@@ -165,9 +165,9 @@ module _ (ps : List Process) (ms : List Mount) (is : List Id) (sessions : ℕ �
       now_at _ t e = refl
   keeps_step z row waiting t config (Init _ ∷ rest) all place undone active f l = (λ n p. record { steady = and_from _ _ f refl; moves = inl refl }, λ n k. record { steady = and_from _ _ f l; moves = inl refl })
   keeps_step z row waiting t config (Kill _ ∷ rest) all place undone active f l = λ n. record { steady = and_from _ _ f l; moves = inl refl }
-  keeps_step z row waiting t config (Unmount dir ∷ rest) all place undone active f l = at_mount (last_of ms) (keeps_step z row waiting t config rest all place undone active f l)
+  keeps_step z row waiting t config (Unmount dir ∷ rest) all place undone active f l = at_mount (last_dir ms) (keeps_step z row waiting t config rest all place undone active f l)
     where
-      at_mount : (m : Option Mount) → (let w = W (Some row) waiting (Some (J t config all place undone None)) active in KeepsIn w (step (view_of z w) w.desk (J t config all place undone None) row rest))
+      at_mount : (m : Option (List ℕ)) → (let w = W (Some row) waiting (Some (J t config all place undone None)) active in KeepsIn w (step (view_of z w) w.desk (J t config all place undone None) row rest))
           → let w = W (Some row) waiting (Some (J t config all place undone None)) active in KeepsIn w (unmount w.desk (J t config all place undone None) (Unmount dir ∷ rest) (step (view_of z w) w.desk (J t config all place undone None) row rest) m)
       at_mount None ih = ih
       at_mount (Some m) ih = λ n. record { steady = and_from _ _ f l; moves = inl refl }
