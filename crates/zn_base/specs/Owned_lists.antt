@@ -1,8 +1,17 @@
 -- A flat list of tagged items: what an event of one zone may do with it, and what the zone sees of it.
-use Rattle.std.specs.Prelude.{ℕ, List, Option, Some, None, Bool, not, filter, map, bytes_eq, ◌&&◌, ◌++◌, ◌∷◌, [], if◌then◌else◌}
+use Rattle.std.specs.Prelude.{ℕ, List, Option, Some, None, Bool, true, false, not, filter, map, bytes_eq, ◌&&◌, ◌++◌, ◌∷◌, [], if◌then◌else◌}
 use Rattle.std.specs.List.{filter_map}
 use Rattle.zn_base.specs.declared.owned.Owned.{Owned}
 
+abbrev pub is_nil : {A : Type 0} → List A → Bool
+is_nil [] = true
+is_nil (x ∷ xs) = false
+
+abbrev pub first_of : {A : Type 0} → List A → Option A
+first_of [] = None
+first_of (x ∷ xs) = Some x
+
+-- a thing's zone is z
 abbrev pub own : {A : Type 0} → List ℕ → Owned A → Option A
 own z o = if bytes_eq z o.zone then Some o.it else None
 

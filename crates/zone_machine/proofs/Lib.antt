@@ -3,3 +3,4 @@ pub mod Same_laws
 pub mod Laws
 pub mod Own_worlds
 pub mod Folds
+pub mod Words

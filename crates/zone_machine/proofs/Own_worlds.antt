@@ -1,4 +1,5 @@
 -- One event, as each zone's world sees it. Nothing here opens a case of the machine.
+use Rattle.zn_base.specs.Owned_lists.{first_of}
 use Rattle.std.proofs.Common.{◌≡◌, Bool, true, false, ap, refl, subst, sym, ◌∙◌}
 use Rattle.std.specs.Prelude.{bytes_eq}
 use Rattle.std.proofs.lemmas.Bool.{true≢false}
@@ -11,7 +12,7 @@ use Rattle.zone_machine.specs.Histories.{concerns, world_by}
 use Rattle.zone_machine.specs.Lines.{line_of}
 use Rattle.zone_machine.specs.Machine.{decide, need, one, one_of, session_number, session_subject, subject, whole, whole_world}
 use Rattle.zone_machine.specs.State.{At, Idle, Session as Session_mode, State}
-use Rattle.zone_machine.specs.Worlds.{World, first_of, has_pid, view, view_of, world}
+use Rattle.zone_machine.specs.Worlds.{World, has_pid, view, view_of, world}
 use Rattle.zone_machine.specs.declared.events.Event.{Event}
 use Rattle.zone_machine.specs.declared.events.Event.TheVariants.{Session, Turn}
 use Rattle.zone_machine.specs.declared.events.Subject.{Subject}

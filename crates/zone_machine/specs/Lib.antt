@@ -3,6 +3,7 @@ pub mod Worlds
 pub mod Edits
 pub mod Decisions
 pub mod Lines
+pub mod Lines_seen
 pub mod Typed
 pub mod Plans
 pub mod Turns

@@ -1,6 +1,7 @@
 -- How a line of an idle session is read, by the words of zonecfg(8) and zoneadm(8).
-use Rattle.std.specs.Prelude.{ℕ, List, [], ◌∷◌, ◌++◌, length, take, drop, filter, Bool, not, ◌&&◌, ◌||◌, ◌==◌, ◌-◌, Option, Some, None, bytes_eq, codes, if◌then◌else◌, unwrap_or}
-use Rattle.std.specs.List.{list_all, slice_split}
+use Rattle.zn_base.specs.Owned_lists.{is_nil, first_of}
+use Rattle.std.specs.Prelude.{ℕ, List, [], ◌∷◌, ◌++◌, length, take, drop, filter, Bool, not, ◌&&◌, ◌||◌, ◌==◌, ◌-◌, Option, Some, None, bytes_eq, codes, if◌then◌else◌, unwrap_or, nat_eq}
+use Rattle.std.specs.List.{list_all, slice_split, starts_with, ends_with}
 use Rattle.zone_machine.specs.declared.daemon.RequestKind.{RequestKind}
 use Rattle.zone_machine.specs.declared.daemon.RequestKind.TheVariants.{Install, Boot, Halt}
 
@@ -23,26 +24,25 @@ is_space b = b == 32
 
 -- the words of a text: what stands between its spaces, where that is something
 abbrev pub words : List ℕ → List (List ℕ)
-words text = filter (λ word. not (length word == 0)) (slice_split is_space text)
+words text = filter (λ word. not (is_nil word)) (slice_split is_space text)
 
 -- the word after the first `-z`
 abbrev pub word_after_flag : List (List ℕ) → Option (List ℕ)
 word_after_flag [] = None
-word_after_flag (flag ∷ []) = None
-word_after_flag (flag ∷ word ∷ more) = if bytes_eq flag (codes "-z") then Some word else word_after_flag (word ∷ more)
+word_after_flag (word ∷ more) = if bytes_eq word (codes "-z") then first_of more else word_after_flag more
 
 -- a word of a subcommand has none of the bytes that the language of zonecfg(8) gives a meaning
 abbrev pub is_word_byte : ℕ → Bool
 is_word_byte b = not (b == 34 || b == 40 || b == 41 || b == 59 || b == 61 || b == 91 || b == 93)
 
 abbrev pub is_word : List ℕ → Bool
-is_word bytes = not (length bytes == 0) && list_all is_word_byte bytes
+is_word bytes = not (is_nil bytes) && list_all is_word_byte bytes
 
 -- V, where the word is `zonepath=V;`
 abbrev pub path_word : List ℕ → Option (List ℕ)
 path_word word =
     let path : List ℕ = take (length word - 10) (drop 9 word) in
-    if is_word path && bytes_eq word (codes "zonepath=" ++ path ++ codes ";") then Some path else None
+    if is_word path && starts_with nat_eq word (codes "zonepath=") && ends_with nat_eq word (codes ";") then Some path else None
 
 -- the first word and those after it
 abbrev pub next_word : List (List ℕ) → Option (List ℕ × List (List ℕ))
@@ -56,8 +56,7 @@ after_word wanted (word ∷ more) = if bytes_eq word wanted then Some more else 
 
 -- something, where no word is left
 abbrev pub at_end : {A : Type 0} → A → List (List ℕ) → Option A
-at_end a [] = Some a
-at_end a (word ∷ more) = None
+at_end a ws = if is_nil ws then Some a else None
 
 infixl 10 ◌>>=◌
 abbrev pub ◌>>=◌ : {A B : Type 0} → Option A → (A → Option B) → Option B

@@ -1,7 +1,7 @@
 -- The machine's state: everything that all zones have, as flat lists and tables.
 use Rattle.std.specs.Prelude.{ℕ, ◌+◌, ◌-◌, ◌^◌, min, List, [], ◌∷◌, Option, Some, None, Bool, true, false, bytes_eq, unwrap_or, if◌then◌else◌}
 use Rattle.zn_base.specs.Names.{Name}
-use Rattle.zn_base.specs.Owned_lists.{Change, Come, Go, edit_list, mine}
+use Rattle.zn_base.specs.Owned_lists.{Change, Come, Go, edit_list, mine, is_nil}
 use Rattle.zn_base.specs.declared.owned.Owned.{Owned}
 use Rattle.zn_base.specs.declared.state.ZoneState.{ZoneState}
 use Rattle.zone_machine.specs.declared.daemon.Outcome.{Outcome}
@@ -57,10 +57,6 @@ next_place n = min (n + 1) (2 ^ 32 - 1)
 
 abbrev pub empty_desk : Desk
 empty_desk = record { last = 0; waiting = []; job = None; active = None }
-
-abbrev pub is_nil : {A : Type 0} → List A → Bool
-is_nil [] = true
-is_nil (x ∷ xs) = false
 
 -- the stored record of z: what the last commit that names z says
 abbrev pub stored_from : Option Record → Name → List Commit → Option Record

@@ -1,14 +1,14 @@
 -- What a turn of a zone's daemon does.
 use Rattle.std.specs.Prelude.{ℕ, List, [], ◌∷◌, ◌++◌, length, Bool, true, is_some, Option, Some, None, bytes_eq, codes, nat_eq, if◌then◌else◌}
 use Rattle.std.specs.Option.{option_map}
-use Rattle.zn_base.specs.Owned_lists.{Come, Go}
+use Rattle.zn_base.specs.Owned_lists.{Come, Go, first_of}
 use Rattle.zn_base.specs.declared.state.ZoneState.{ZoneState}
 use Rattle.zn_base.specs.declared.state.ZoneState.TheVariants.{Installed}
 use Rattle.zone_machine.specs.Decisions.{A_pid, A_serial, A_zid, Ask, Asked, Decision, Effect, Just, turned}
 use Rattle.zone_machine.specs.Edits.{A_process, A_record, An_id, Comes, Edit, Ids_go, Of_mounts, Processes_go, Set_desk, Sweep}
 use Rattle.zone_machine.specs.Plans.{may_begin, plan, undo_after}
 use Rattle.zone_machine.specs.State.{Awaiting, Desk, Doing, Job, next_place, state_now}
-use Rattle.zone_machine.specs.Worlds.{View, first_of}
+use Rattle.zone_machine.specs.Worlds.{View}
 use Rattle.zone_machine.specs.declared.daemon.Outcome.{Outcome}
 use Rattle.zone_machine.specs.declared.daemon.Outcome.TheVariants.{Done, WrongState, Denied}
 use Rattle.zone_machine.specs.declared.daemon.RequestKind.{RequestKind}

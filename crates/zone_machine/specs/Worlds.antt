@@ -1,7 +1,7 @@
 -- What belongs to one zone, and what an event of the zone may look at.
 use Rattle.std.specs.Prelude.{ℕ, List, [], ◌∷◌, Option, Some, None, Bool, bytes_eq, nat_eq, filter, if◌then◌else◌}
 use Rattle.zn_base.specs.Names.{Name}
-use Rattle.zn_base.specs.Owned_lists.{mine}
+use Rattle.zn_base.specs.Owned_lists.{mine, first_of}
 use Rattle.zn_base.specs.declared.owned.Owned.{Owned}
 use Rattle.zone_machine.specs.State.{At, Desk, Doing, Idle, Session, State, stored}
 use Rattle.zone_machine.specs.declared.objects.Id.{Id}
@@ -32,10 +32,6 @@ world z S = record {
   desk = S.desks z;
   sessions = λ n. doing z (S.sessions n);
 }
-
-abbrev pub first_of : {A : Type 0} → List A → Option A
-first_of [] = None
-first_of (x ∷ xs) = Some x
 
 abbrev pub has_pid : ℕ → Process → Bool
 has_pid pid p = nat_eq p.pid pid

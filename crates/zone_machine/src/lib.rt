@@ -4,6 +4,7 @@
 
 mod daemon;
 mod events;
+mod lines;
 mod objects;
 mod records;
 mod replies;
