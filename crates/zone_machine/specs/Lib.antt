@@ -7,6 +7,8 @@ pub mod Lines_seen
 pub mod Typed
 pub mod Plans
 pub mod Turns
+pub mod Desks_seen
+pub mod Turns_seen
 pub mod Machine
 pub mod Same
 pub mod Pools

@@ -3,14 +3,19 @@
 #![tactic(auto)]
 
 mod daemon;
+mod desks;
 mod events;
+mod faults;
 mod lines;
 mod objects;
+mod plans;
 mod records;
 mod replies;
+mod turns;
 
 pub use daemon::{Change, ChangeKind, Outcome, RequestKind, Step, TurnReply};
 pub use events::{Entry, Event, Subject};
+pub use faults::StepFault;
 pub use objects::{Id, Mount, Process};
 pub use records::{Commit, Config, Record};
 pub use replies::{Body, Head, Refusal, Reply};

@@ -1,0 +1,52 @@
+-- What the code's turns do, as the definitions have it.
+use Rattle.std.specs.Prelude.{◌≡◌, ℕ, ◌+◌, List, [], ◌∷◌, ◌++◌, Option, Some, None, drop, length}
+use Rattle.std.specs.Borrow.{Bor}
+use Rattle.std.specs.Option.{option_map}
+use Rattle.zn_base.specs.Owned_lists.{Come, Go}
+use Rattle.zone_machine.specs.Decisions.{Act, says}
+use Rattle.zone_machine.specs.Edits.{Arrival, Edit, Ids_go, New_id, New_process, New_record, Of_mounts, Processes_go, Set_desk, Sweep}
+use Rattle.zone_machine.specs.State as state
+use Rattle.zone_machine.specs.Turns.{all_of, is_at, last_dir, ticket_ended, zid_of}
+use Rattle.zone_machine.specs.Worlds.{View}
+use Rattle.zone_machine.specs.declared.daemon.Step.{Step}
+use Rattle.zone_machine.specs.declared.desks.Job.{Job}
+use Rattle.zone_machine.specs.declared.replies.Head.TheVariants.{Turned}
+use Rattle.zone_machine.specs.declared.turns.Came.{Came}
+use Rattle.zone_machine.specs.declared.turns.Came.TheVariants.{Process, Id, Record}
+use Rattle.zone_machine.specs.declared.turns.ObjectEdit.{ObjectEdit}
+use Rattle.zone_machine.specs.declared.turns.ObjectEdit.TheVariants.{Nothing, EndProcesses, Mount, Unmount, EndIds}
+use Rattle.zone_machine.specs.declared.turns.Seen.{Seen}
+use Rattle.zone_machine.specs.declared.turns.Work.{Work}
+
+abbrev pub arrival_of : Came → Arrival
+arrival_of (Process p) = New_process p
+arrival_of (Id i) = New_id i
+arrival_of (Record r) = New_record (Some r)
+
+abbrev pub object_edits : ObjectEdit → List Edit
+object_edits Nothing = []
+object_edits EndProcesses = Processes_go all_of ∷ []
+object_edits (Mount m) = Of_mounts (Come m) ∷ []
+object_edits (Unmount dir) = Of_mounts (Go (is_at dir)) ∷ []
+object_edits EndIds = Ids_go all_of ∷ []
+
+abbrev pub sweeps : Option ℕ → List Edit
+sweeps None = []
+sweeps (Some t) = Sweep (ticket_ended t) ∷ []
+
+-- the act of a turn that leaves the desk so
+abbrev pub work_act : Work → state.Desk → Act
+work_act w d = record {
+  came = option_map arrival_of w.came;
+  effect = record { edits = object_edits w.objects ++ Set_desk d ∷ sweeps w.ended; reply = says (Turned w.reply) };
+}
+
+-- what is seen is what the view shows
+pub record Sees (v : View) (s : Seen) : Type 0 where
+  pub processes : length v.world.processes ≡ s.processes
+  pub last_dir : last_dir v.world.mounts ≡ s.last_dir
+  pub zid : zid_of v.world.ids ≡ s.zid
+
+-- the steps behind the next one
+abbrev pub rest_of : Job → List Step
+rest_of j = drop (j.at + 1) j.steps.items

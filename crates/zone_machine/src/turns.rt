@@ -1,0 +1,195 @@
+//! What a turn of a zone's daemon does, from its desk and what it sees of the zone.
+ghost use Rattle.std.specs.Prelude.{◌≡◌, ◌≢◌, IsTrue, ◌<◌, ◌∷◌, [], ◌++◌, IfOk, OnOk, Some, None, drop, length, false};
+ghost use Rattle.std.specs.Option.{option_map};
+ghost use Rattle.zn_base.specs.Text.{is_text};
+ghost use Rattle.zone_machine.specs.Decisions.{A_pid, A_serial, A_zid, act_of, number_in};
+ghost use Rattle.zone_machine.specs.Desks_seen.{counted, desk_seen, job_seen};
+ghost use Rattle.zone_machine.specs.Edits.{A_process, A_record, An_id};
+ghost use Rattle.zone_machine.specs.Turns.{advance, asking, begin, failed, finish, goes_on, init_process, next_request, root_mount, step, turn_at, undo};
+ghost use Rattle.zone_machine.specs.State as state;
+ghost use Rattle.zone_machine.specs.Turns_seen.{Sees, arrival_of, object_edits, rest_of, work_act};
+
+use crate::daemon::{Outcome, RequestKind, Step, TurnReply};
+use crate::desks::{Desk, Job};
+use crate::faults::StepFault;
+use crate::objects::{Id, Mount, Process};
+use crate::plans::{may_begin, plan};
+use crate::records::{Config, Record};
+use std::alloc::{AllocError, Global};
+use zn_base::{AbsPath, Grant, Pool, Text, TextFault, ZoneState};
+
+/// What came with a grant, with its number.
+#[derive(Drop)]
+pub(crate) enum Came {
+    Process(Process),
+    Id(Id),
+    Record(Record),
+}
+
+/// What a turn does to the zone's objects.
+#[derive(Drop)]
+pub(crate) enum ObjectEdit {
+    Nothing,
+    EndProcesses,
+    Mount(Mount),
+    Unmount(AbsPath),
+    EndIds,
+}
+
+/// What a turn does beside its change of the desk.
+#[derive(Drop)]
+pub(crate) struct Work {
+    pub(crate) came: Option<Came>,
+    pub(crate) objects: ObjectEdit,
+    /// The ticket that ended.
+    pub(crate) ended: Option<u32>,
+    pub(crate) reply: TurnReply,
+}
+
+/// What a turn looks at beside the desk and the record.
+#[derive(Drop)]
+pub(crate) struct Seen {
+    pub(crate) processes: usize,
+    /// The greatest directory of the zone's mounts.
+    pub(crate) last_dir: Option<AbsPath>,
+    pub(crate) zid: Option<u32>,
+}
+
+fn number_in(grant: Grant) -> Result<u32, Pool>
+    ensures { result ≡ number_in grant }
+{
+    match grant {
+        Grant::Number(number) => Ok(number),
+        Grant::Yes => Ok(0),
+        Grant::Denied(pool) => Err(pool),
+        Grant::Nothing => Err(Pool::Store),
+    }
+}
+
+// A text that is known to be one.
+fn text(alloc: Global, bytes: &[u8]) -> Result<Text, AllocError>
+    requires { IsTrue (is_text bytes.now) }
+    ensures { IfOk result (λ text. text ≡ bytes.now) }
+{
+    match Text::read(alloc, bytes) {
+        Ok(text) => Ok(text),
+        Err(TextFault::Memory) => Err(AllocError),
+        Err(TextFault::BadText(_) | TextFault::TextLong) => unreachable!(),
+    }
+}
+
+fn saying(reply: TurnReply) -> Work
+    ensures { result ≡ record { came = None; objects = ObjectEdit.Nothing; ended = None; reply = reply } }
+{
+    Work {
+        came: None,
+        objects: ObjectEdit::Nothing,
+        ended: None,
+        reply,
+    }
+}
+
+// A step is done, with what it did to the objects, and the plan goes on behind it.
+fn advanced(job: &mut Job, objects: ObjectEdit, shown: Step) -> Result<Work, AllocError>
+    requires { job.old.at < length job.old.steps.items }
+    ensures { IfOk result (λ w. (d : state.Desk) → record { came = None; effect = advance d (job_seen job.old) (rest_of job.old) (object_edits objects) shown } ≡ work_act w (record d { job = Some (job_seen job.new) })) }
+{
+    job.count(&shown)?;
+    job.at += 1;
+    Ok(Work {
+        came: None,
+        objects,
+        ended: None,
+        reply: TurnReply::Stepped(shown),
+    })
+}
+
+// The same where the plan stays where it is.
+fn counted(job: &mut Job, objects: ObjectEdit, shown: Step) -> Result<Work, AllocError>
+    ensures { IfOk result (λ w. (d : state.Desk) → record { came = None; effect = advance d (job_seen job.old) (job_seen job.old).left (object_edits objects) shown } ≡ work_act w (record d { job = Some (job_seen job.new) })) }
+{
+    job.count(&shown)?;
+    Ok(Work {
+        came: None,
+        objects,
+        ended: None,
+        reply: TurnReply::Stepped(shown),
+    })
+}
+
+// A step is done, and something came with its grant.
+fn arrived(job: &mut Job, came: Came, shown: Step) -> Result<Work, AllocError>
+    requires { job.old.at < length job.old.steps.items }
+    ensures { IfOk result (λ w. (d : state.Desk) → record { came = Some (arrival_of came); effect = advance d (job_seen job.old) (rest_of job.old) [] shown } ≡ work_act w (record d { job = Some (job_seen job.new) })) }
+{
+    job.count(&shown)?;
+    job.at += 1;
+    Ok(Work {
+        came: Some(came),
+        objects: ObjectEdit::Nothing,
+        ended: None,
+        reply: TurnReply::Stepped(shown),
+    })
+}
+
+// A step failed, and the request will end so.
+fn failed(job: &mut Job, outcome: Outcome) -> Work
+    ensures { (d : state.Desk) → record { came = None; effect = failed d (job_seen job.old) outcome } ≡ work_act result (record d { job = Some (job_seen job.new) }) }
+{
+    job.at = job.steps.len();
+    job.ending = Some(outcome);
+    saying(TurnReply::Failed(job.place, outcome))
+}
+
+// The zone gets its id.
+fn give_zid(job: &mut Job, grant: Grant) -> Result<Work, AllocError>
+    requires { job.old.at < length job.old.steps.items }
+    ensures { IfOk result (λ w. (d : state.Desk) → act_of (asking d (job_seen job.old) (rest_of job.old) (An_id (record { zid = 0 })) A_zid (λ n. Step.Zid (Some n))) grant ≡ work_act w (record d { job = Some (job_seen job.new) })) }
+{
+    match number_in(grant) {
+        Ok(zid) => arrived(job, Came::Id(Id { zid }), Step::Zid(Some(zid))),
+        Err(pool) => Ok(failed(job, Outcome::Denied(pool))),
+    }
+}
+
+// The stored state changes.
+fn commit_state(
+    job: &mut Job,
+    alloc: Global,
+    row: &Record,
+    to: ZoneState,
+    grant: Grant,
+) -> Result<Work, AllocError>
+    requires { job.old.at < length job.old.steps.items }
+    ensures { IfOk result (λ w. (d : state.Desk) → act_of (asking d (job_seen job.old) (rest_of job.old) (A_record (λ n. Some (record row.now { state = to }))) A_serial (λ n. Step.Record to)) grant ≡ work_act w (record d { job = Some (job_seen job.new) })) }
+{
+    match number_in(grant) {
+        Ok(_) => {
+            let record = Record {
+                state: to,
+                revision: row.revision,
+                config: row.config.copy(alloc)?,
+            };
+            arrived(job, Came::Record(record), Step::Record(to))
+        }
+        Err(pool) => Ok(failed(job, Outcome::Denied(pool))),
+    }
+}
+
+// The first process begins.
+fn start_init(job: &mut Job, alloc: Global, grant: Grant) -> Result<Work, AllocError>
+    requires { job.old.at < length job.old.steps.items }
+    ensures { IfOk result (λ w. (d : state.Desk) → act_of (asking d (job_seen job.old) (rest_of job.old) (A_process init_process) A_pid (λ n. Step.Init (Some n))) grant ≡ work_act w (record d { job = Some (job_seen job.new) })) }
+{
+    match number_in(grant) {
+        Ok(pid) => {
+            let process = Process {
+                pid,
+                parent: 0,
+                name: text(alloc, b"init")?,
+            };
+            arrived(job, Came::Process(process), Step::Init(Some(pid)))
+        }
+        Err(pool) => Ok(failed(job, Outcome::Denied(pool))),
+    }
+}
