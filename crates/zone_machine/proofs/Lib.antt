@@ -4,3 +4,4 @@ pub mod Laws
 pub mod Own_worlds
 pub mod Folds
 pub mod Words
+pub mod Root_texts

@@ -1,11 +1,12 @@
 //! What a turn of a zone's daemon does, from its desk and what it sees of the zone.
-ghost use Rattle.std.specs.Prelude.{◌≡◌, ◌≢◌, IsTrue, ◌<◌, ◌∷◌, [], ◌++◌, IfOk, OnOk, Some, None, drop, length, false};
+ghost use Rattle.std.specs.Prelude.{◌≡◌, ◌≢◌, IsTrue, ◌<◌, ◌∷◌, [], ◌++◌, IfOk, OnOk, Some, None, codes, drop, length, false};
 ghost use Rattle.std.specs.Option.{option_map};
+ghost use Rattle.zn_base.specs.Owned_lists.{Come, Go};
 ghost use Rattle.zn_base.specs.Text.{is_text};
 ghost use Rattle.zone_machine.specs.Decisions.{A_pid, A_serial, A_zid, act_of, number_in};
 ghost use Rattle.zone_machine.specs.Desks_seen.{counted, desk_seen, job_seen};
-ghost use Rattle.zone_machine.specs.Edits.{A_process, A_record, An_id};
-ghost use Rattle.zone_machine.specs.Turns.{advance, asking, begin, failed, finish, goes_on, init_process, next_request, root_mount, step, turn_at, undo};
+ghost use Rattle.zone_machine.specs.Edits.{A_process, A_record, An_id, Ids_go, Of_mounts, Processes_go};
+ghost use Rattle.zone_machine.specs.Turns.{active_after, advance, all_of, is_at, asking, begin, failed, finish, goes_on, init_process, next_request, root_mount, step, turn_at, undo};
 ghost use Rattle.zone_machine.specs.State as state;
 ghost use Rattle.zone_machine.specs.Turns_seen.{Sees, arrival_of, object_edits, rest_of, work_act};
 
@@ -16,7 +17,7 @@ use crate::objects::{Id, Mount, Process};
 use crate::plans::{may_begin, plan};
 use crate::records::{Config, Record};
 use std::alloc::{AllocError, Global};
-use zn_base::{AbsPath, Grant, Pool, Text, TextFault, ZoneState};
+use zn_base::{AbsPath, Grant, PathFault, Pool, Text, TextFault, ZoneState};
 
 /// What came with a grant, with its number.
 #[derive(Drop)]
@@ -192,4 +193,86 @@ fn start_init(job: &mut Job, alloc: Global, grant: Grant) -> Result<Work, AllocE
         }
         Err(pool) => Ok(failed(job, Outcome::Denied(pool))),
     }
+}
+
+#[tactic(auto, using(crate::proofs::Root_texts::path_with_root))]
+fn root_special(alloc: Global, config: &Config) -> Result<Text, AllocError>
+    ensures { IfOk result (λ text. text ≡ config.now.zonepath ++ codes "/root") }
+{
+    let mut bytes = Vec::from_slice(alloc, config.zonepath.bytes())?;
+    bytes.extend_from_slice(b"/root")?;
+    text(alloc, &bytes)
+}
+
+fn root_dir(alloc: Global) -> Result<AbsPath, AllocError>
+    ensures { IfOk result (λ path. path ≡ codes "/") }
+{
+    match AbsPath::read(alloc, b"/") {
+        Ok(path) => Ok(path),
+        Err(PathFault::Memory) => Err(AllocError),
+        Err(PathFault::PathLong | PathFault::NotAbsolute | PathFault::BadComponent(_)) => {
+            unreachable!()
+        }
+    }
+}
+
+fn root_mount(alloc: Global, config: &Config) -> Result<Mount, AllocError>
+    ensures { IfOk result (λ mount. mount ≡ root_mount config.now) }
+{
+    Ok(Mount {
+        dir: root_dir(alloc)?,
+        fstype: text(alloc, b"root")?,
+        special: root_special(alloc, config)?,
+    })
+}
+
+// The zone's root is mounted.
+fn mount_root(job: &mut Job, alloc: Global) -> Result<Work, AllocError>
+    requires { job.old.at < length job.old.steps.items }
+    ensures { IfOk result (λ w. (d : state.Desk) → record { came = None; effect = advance d (job_seen job.old) (rest_of job.old) (Of_mounts (Come (root_mount job.old.config)) ∷ []) Step.Root } ≡ work_act w (record d { job = Some (job_seen job.new) })) }
+{
+    let mount = root_mount(alloc, &job.config)?;
+    advanced(job, ObjectEdit::Mount(mount), Step::Root)
+}
+
+fn active_after(to: ZoneState) -> Option<ZoneState>
+    ensures { result ≡ active_after to }
+{
+    match to {
+        ZoneState::Installed => None,
+        _ => Some(to),
+    }
+}
+
+// The zone goes into a state.
+fn enter_state(
+    job: &mut Job,
+    active: &mut Option<ZoneState>,
+    to: ZoneState,
+) -> Result<Work, AllocError>
+    requires { job.old.at < length job.old.steps.items }
+    ensures { IfOk result (λ w. (d : state.Desk) → record { came = None; effect = advance (record d { active = active_after to }) (job_seen job.old) (rest_of job.old) [] (Step.State to) } ≡ work_act w (record d { job = Some (job_seen job.new); active = active.new })) }
+{
+    let work = advanced(job, ObjectEdit::Nothing, Step::State(to))?;
+    *active = active_after(to);
+    Ok(work)
+}
+
+// All processes end.
+fn kill_all(job: &mut Job, count: usize) -> Result<Work, AllocError>
+    requires { job.old.at < length job.old.steps.items }
+    ensures { IfOk result (λ w. (d : state.Desk) → record { came = None; effect = advance d (job_seen job.old) (rest_of job.old) (Processes_go all_of ∷ []) (Step.Kill (Some count)) } ≡ work_act w (record d { job = Some (job_seen job.new) })) }
+{
+    match u32::try_from(count) {
+        Ok(count) => advanced(job, ObjectEdit::EndProcesses, Step::Kill(Some(count))),
+        Err(_) => Err(AllocError),
+    }
+}
+
+// One mount goes, and the plan stays where it is.
+fn unmount(job: &mut Job, alloc: Global, dir: AbsPath) -> Result<Work, AllocError>
+    ensures { IfOk result (λ w. (d : state.Desk) → record { came = None; effect = advance d (job_seen job.old) (job_seen job.old).left (Of_mounts (Go (is_at dir)) ∷ []) (Step.Unmount (Some dir)) } ≡ work_act w (record d { job = Some (job_seen job.new) })) }
+{
+    let gone = dir.copy(alloc)?;
+    counted(job, ObjectEdit::Unmount(gone), Step::Unmount(Some(dir)))
 }
