@@ -1,5 +1,6 @@
 -- What the code's turns do, as the definitions have it.
-use Rattle.std.specs.Prelude.{◌≡◌, ℕ, ◌+◌, List, [], ◌∷◌, ◌++◌, Option, Some, None, drop, length}
+use Rattle.zone_machine.specs.Desks_seen.{job_seen}
+use Rattle.std.specs.Prelude.{◌≡◌, ℕ, ◌+◌, List, [], ◌∷◌, ◌++◌, Option, Some, None, drop, length, ◌<◌, Bool, true, false, IsSome, if◌then◌else◌}
 use Rattle.std.specs.Borrow.{Bor}
 use Rattle.std.specs.Option.{option_map}
 use Rattle.zn_base.specs.Owned_lists.{Come, Go}
@@ -9,6 +10,7 @@ use Rattle.zone_machine.specs.State as state
 use Rattle.zone_machine.specs.Turns.{all_of, is_at, last_dir, ticket_ended, zid_of}
 use Rattle.zone_machine.specs.Worlds.{View}
 use Rattle.zone_machine.specs.declared.daemon.Step.{Step}
+use Rattle.zone_machine.specs.declared.daemon.Step.TheVariants as step
 use Rattle.zone_machine.specs.declared.desks.Job.{Job}
 use Rattle.zone_machine.specs.declared.replies.Head.TheVariants.{Turned}
 use Rattle.zone_machine.specs.declared.turns.Came.{Came}
@@ -50,3 +52,21 @@ pub record Sees (v : View) (s : Seen) : Type 0 where
 -- the steps behind the next one
 abbrev pub rest_of : Job → List Step
 rest_of j = drop (j.at + 1) j.steps.items
+
+abbrev pub is_unmount : Step → Bool
+is_unmount (step.Unmount dir) = true
+is_unmount _ = false
+
+-- some steps without the unmounts that stand first
+abbrev pub without_unmounts : List Step → List Step
+without_unmounts [] = []
+without_unmounts (s ∷ rest) = if is_unmount s then without_unmounts rest else s ∷ rest
+
+abbrev pub has_unmount : List Step → Bool
+has_unmount [] = false
+has_unmount (s ∷ rest) = is_unmount s
+
+-- a next step is left, which is an unmount only where something is mounted
+pub record CanStep (j : Job) (s : Seen) : Type 0 where
+  pub left : j.at < length j.steps.items
+  pub mounted : has_unmount (job_seen j).left ≡ true → IsSome s.last_dir

@@ -1,14 +1,16 @@
 //! What a turn of a zone's daemon does, from its desk and what it sees of the zone.
-ghost use Rattle.std.specs.Prelude.{◌≡◌, ◌≢◌, IsTrue, ◌<◌, ◌∷◌, [], ◌++◌, IfOk, OnOk, Some, None, codes, drop, length, false};
+ghost use Rattle.std.specs.Prelude.{◌≡◌, ◌≤◌, IsSome, IsTrue, ◌<◌, ◌∷◌, [], ◌++◌, IfOk, OnOk, Some, None, codes, drop, length, false};
 ghost use Rattle.std.specs.Option.{option_map};
+ghost use Rattle.zn_base.specs.declared.grant.Grant.{Grant as A_grant};
 ghost use Rattle.zn_base.specs.Owned_lists.{Come, Go};
 ghost use Rattle.zn_base.specs.Text.{is_text};
-ghost use Rattle.zone_machine.specs.Decisions.{A_pid, A_serial, A_zid, act_of, number_in};
+ghost use Rattle.zone_machine.specs.Decisions.{A_pid, A_serial, A_zid, Decision, act_of, number_in};
 ghost use Rattle.zone_machine.specs.Desks_seen.{counted, desk_seen, job_seen};
 ghost use Rattle.zone_machine.specs.Edits.{A_process, A_record, An_id, Ids_go, Of_mounts, Processes_go};
-ghost use Rattle.zone_machine.specs.Turns.{active_after, advance, all_of, is_at, asking, begin, failed, finish, goes_on, init_process, next_request, root_mount, step, turn_at, undo};
+ghost use Rattle.zone_machine.specs.Worlds.{View};
+ghost use Rattle.zone_machine.specs.Turns.{last_dir, unmount, active_after, advance, all_of, is_at, asking, begin, failed, finish, goes_on, init_process, next_request, root_mount, step, turn_at, undo};
 ghost use Rattle.zone_machine.specs.State as state;
-ghost use Rattle.zone_machine.specs.Turns_seen.{Sees, arrival_of, object_edits, rest_of, work_act};
+ghost use Rattle.zone_machine.specs.Turns_seen.{CanStep, Sees, is_unmount, without_unmounts, arrival_of, object_edits, rest_of, work_act};
 
 use crate::daemon::{Outcome, RequestKind, Step, TurnReply};
 use crate::desks::{Desk, Job};
@@ -275,4 +277,91 @@ fn unmount(job: &mut Job, alloc: Global, dir: AbsPath) -> Result<Work, AllocErro
 {
     let gone = dir.copy(alloc)?;
     counted(job, ObjectEdit::Unmount(gone), Step::Unmount(Some(dir)))
+}
+
+// The zone gives its id back.
+fn free_zid(job: &mut Job, zid: Option<u32>) -> Result<Work, AllocError>
+    requires { job.old.at < length job.old.steps.items }
+    ensures { IfOk result (λ w. (d : state.Desk) → record { came = None; effect = advance d (job_seen job.old) (rest_of job.old) (Ids_go all_of ∷ []) (Step.ZidBack zid) } ≡ work_act w (record d { job = Some (job_seen job.new) })) }
+{
+    advanced(job, ObjectEdit::EndIds, Step::ZidBack(zid))
+}
+
+fn is_unmount(step: &Step) -> bool
+    ensures { result ≡ is_unmount step.now }
+{
+    matches!(step, Step::Unmount(_))
+}
+
+// Where no mount is left the unmounts are passed over.
+fn skip_unmounts(steps: &[Step], from: usize) -> usize
+    requires { from ≤ length steps.now }
+    ensures skipped { drop result steps.now ≡ without_unmounts (drop from steps.now) }
+    ensures fits { result ≤ length steps.now }
+{
+    let mut at = from;
+    while at < steps.len() && is_unmount(&steps[at]) {
+        at += 1;
+    }
+    at
+}
+
+// The next step of a request that has one.
+fn next_step(job: &Job) -> &Step
+    requires { job.now.at < length job.now.steps.items }
+    ensures { (job_seen job.now).left ≡ result.now ∷ rest_of job.now }
+{
+    &job.steps[job.at]
+}
+
+// One mount goes, where one is left.
+fn unmount_last(job: &mut Job, alloc: Global, seen: Seen) -> Result<Work, AllocError>
+    requires { IsSome seen.last_dir }
+    ensures { IfOk result (λ w. (v : View) (d : state.Desk) (next : Decision) (g : A_grant) → Sees v seen → act_of (unmount d (job_seen job.old) (job_seen job.old).left next (last_dir v.world.mounts)) g ≡ work_act w (record d { job = Some (job_seen job.new) })) }
+{
+    match seen.last_dir {
+        Some(dir) => unmount(job, alloc, dir),
+        None => unreachable!(),
+    }
+}
+
+// The next step of a request that has one.
+fn step(
+    job: &mut Job,
+    active: &mut Option<ZoneState>,
+    alloc: Global,
+    seen: Seen,
+    row: &Record,
+    grant: Grant,
+) -> Result<Work, AllocError>
+    requires { CanStep job.old seen }
+    ensures { IfOk result (λ w. (v : View) (d : state.Desk) → Sees v seen → d.active ≡ active.old → act_of (step v d (job_seen job.old) row.now (job_seen job.old).left) grant ≡ work_act w (record d { job = Some (job_seen job.new); active = active.new })) }
+{
+    match next_step(job) {
+        Step::Hook(change) => {
+            let change = *change;
+            advanced(job, ObjectEdit::Nothing, Step::Hook(change))
+        }
+        Step::Record(to) => {
+            let to = *to;
+            commit_state(job, alloc, row, to, grant)
+        }
+        Step::Copy(number) => {
+            let number = *number;
+            advanced(job, ObjectEdit::Nothing, Step::Copy(number))
+        }
+        Step::Zid(_) => give_zid(job, grant),
+        Step::Limits => advanced(job, ObjectEdit::Nothing, Step::Limits),
+        Step::Devices(_) => advanced(job, ObjectEdit::Nothing, Step::Devices(Some(0))),
+        Step::Root => mount_root(job, alloc),
+        Step::State(to) => {
+            let to = *to;
+            enter_state(job, active, to)
+        }
+        Step::Init(_) => start_init(job, alloc, grant),
+        Step::Kill(_) => kill_all(job, seen.processes),
+        Step::Unmount(_) => unmount_last(job, alloc, seen),
+        Step::Clear => advanced(job, ObjectEdit::Nothing, Step::Clear),
+        Step::ZidBack(_) => free_zid(job, seen.zid),
+    }
 }
