@@ -102,11 +102,15 @@ step v d j row (ZidBack _ ∷ rest) = Just (advance d j rest (Ids_go all_of ∷ 
 abbrev pub undone : Desk → Job → List Step → List Edit → Step → Effect
 undone d j rest edits shown = turned (edits ++ Set_desk (record d { job = Some (record j { undo = rest }) }) ∷ []) (Undone shown)
 
+-- what undoes a step of the ready part
+abbrev pub undo_edits : Step → List Edit
+undo_edits (Zid n) = Ids_go all_of ∷ []
+undo_edits Root = Of_mounts (Go (is_at (codes "/"))) ∷ []
+undo_edits s = []
+
 abbrev pub undo : Desk → Job → Outcome → List Step → Effect
 undo d j outcome [] = finish d j.ticket outcome
-undo d j outcome (Zid n ∷ rest) = undone d j rest (Ids_go all_of ∷ []) (Zid n)
-undo d j outcome (Root ∷ rest) = undone d j rest (Of_mounts (Go (is_at (codes "/"))) ∷ []) Root
-undo d j outcome (s ∷ rest) = undone d j rest [] s
+undo d j outcome (s ∷ rest) = undone d j rest (undo_edits s) s
 
 -- a request under way goes on
 abbrev pub goes_on : View → Desk → Job → Record → Option Outcome → Decision

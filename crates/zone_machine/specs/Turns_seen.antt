@@ -70,3 +70,8 @@ has_unmount (s ∷ rest) = is_unmount s
 pub record CanStep (j : Job) (s : Seen) : Type 0 where
   pub left : j.at < length j.steps.items
   pub mounted : has_unmount (job_seen j).left ≡ true → IsSome s.last_dir
+
+-- the latest step that is to be undone is taken off
+abbrev pub TakesBack : Option Step → state.Job → state.Job → Type 0
+TakesBack None old new = (old.undo ≡ []) × (new ≡ old)
+TakesBack (Some s) old new = (old.undo ≡ s ∷ new.undo) × (new ≡ record old { undo = new.undo })

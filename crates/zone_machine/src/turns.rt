@@ -8,9 +8,10 @@ ghost use Rattle.zone_machine.specs.Decisions.{A_pid, A_serial, A_zid, Decision,
 ghost use Rattle.zone_machine.specs.Desks_seen.{counted, desk_seen, job_seen};
 ghost use Rattle.zone_machine.specs.Edits.{A_process, A_record, An_id, Ids_go, Of_mounts, Processes_go};
 ghost use Rattle.zone_machine.specs.Worlds.{View};
-ghost use Rattle.zone_machine.specs.Turns.{last_dir, unmount, active_after, advance, all_of, is_at, asking, begin, failed, finish, goes_on, init_process, next_request, root_mount, step, turn_at, undo};
+ghost use Rattle.zone_machine.specs.Turns.{last_dir, undo_edits, unmount, active_after, advance, all_of, is_at, asking, begin, failed, finish, goes_on, init_process, next_request, root_mount, step, turn_at, undo};
 ghost use Rattle.zone_machine.specs.State as state;
-ghost use Rattle.zone_machine.specs.Turns_seen.{CanStep, Sees, is_unmount, without_unmounts, arrival_of, object_edits, rest_of, work_act};
+ghost use Rattle.zone_machine.specs.State.{state_now};
+ghost use Rattle.zone_machine.specs.Turns_seen.{CanStep, Sees, TakesBack, is_unmount, without_unmounts, arrival_of, object_edits, rest_of, work_act};
 
 use crate::daemon::{Outcome, RequestKind, Step, TurnReply};
 use crate::desks::{Desk, Job};
@@ -363,5 +364,100 @@ fn step(
         Step::Unmount(_) => unmount_last(job, alloc, seen),
         Step::Clear => advanced(job, ObjectEdit::Nothing, Step::Clear),
         Step::ZidBack(_) => free_zid(job, seen.zid),
+    }
+}
+
+// The request under way ends.
+fn finish(desk: &mut Desk, ticket: u32, outcome: Outcome) -> Work
+    ensures { record { came = None; effect = finish (desk_seen desk.old) ticket outcome } ≡ work_act result (desk_seen desk.new) }
+{
+    desk.job = None;
+    Work {
+        came: None,
+        objects: ObjectEdit::Nothing,
+        ended: Some(ticket),
+        reply: TurnReply::Finished(ticket, outcome),
+    }
+}
+
+// A request begins, or ends at once where it may not begin in this state.
+fn begin(
+    desk: &mut Desk,
+    alloc: Global,
+    ticket: u32,
+    kind: RequestKind,
+    row: &Record,
+) -> Result<Work, AllocError>
+    ensures { IfOk result (λ w. record { came = None; effect = begin (desk_seen desk.old) ticket kind (state_now row.now (desk_seen desk.old)) row.now.config } ≡ work_act w (desk_seen desk.new)) }
+{
+    let state = match desk.active {
+        Some(state) => state,
+        None => row.state,
+    };
+    if !may_begin(kind, state) {
+        return Ok(finish(desk, ticket, Outcome::WrongState(state)));
+    }
+    desk.job = Some(Job {
+        ticket,
+        config: row.config.copy(alloc)?,
+        steps: plan(alloc, kind, state)?,
+        at: 0,
+        place: 1,
+        undo: Vec::new(alloc),
+        ending: None,
+    });
+    Ok(saying(TurnReply::Began(ticket, kind)))
+}
+
+fn take_first(waiting: &mut Vec<(u32, RequestKind)>) -> (u32, RequestKind)
+    requires { 0 < length waiting.old.items }
+    ensures { waiting.old.items ≡ result ∷ waiting.new.items }
+{
+    waiting.remove(0)
+}
+
+// The next request that waits begins.
+fn begin_next(desk: &mut Desk, alloc: Global, row: &Record) -> Result<Work, AllocError>
+    requires { 0 < length desk.old.waiting.items }
+    ensures { IfOk result (λ w. record { came = None; effect = next_request (desk_seen desk.old) (desk_seen desk.old).waiting row.now } ≡ work_act w (desk_seen desk.new)) }
+{
+    let (ticket, kind) = take_first(&mut desk.waiting);
+    begin(desk, alloc, ticket, kind, row)
+}
+
+// What undoes a step.
+fn undoing(shown: &Step, alloc: Global) -> Result<ObjectEdit, AllocError>
+    ensures { IfOk result (λ edit. object_edits edit ≡ undo_edits shown.now) }
+{
+    Ok(match shown {
+        Step::Zid(_) => ObjectEdit::EndIds,
+        Step::Root => ObjectEdit::Unmount(root_dir(alloc)?),
+        _ => ObjectEdit::Nothing,
+    })
+}
+
+fn take_back(job: &mut Job) -> Option<Step>
+    ensures { TakesBack result (job_seen job.old) (job_seen job.new) }
+{
+    job.undo.pop()
+}
+
+// One step back, or the end of the request where none is left.
+fn undo(desk: &mut Desk, alloc: Global, outcome: Outcome) -> Result<Work, AllocError>
+    requires { IsSome desk.old.job }
+    ensures { IfOk result (λ w. (j : state.Job) → (desk_seen desk.old).job ≡ Some j → record { came = None; effect = undo (desk_seen desk.old) j outcome j.undo } ≡ work_act w (desk_seen desk.new)) }
+{
+    let Some(job) = &mut desk.job else {
+        unreachable!()
+    };
+    let ticket = job.ticket;
+    match take_back(job) {
+        Some(shown) => Ok(Work {
+            came: None,
+            objects: undoing(&shown, alloc)?,
+            ended: None,
+            reply: TurnReply::Undone(shown),
+        }),
+        None => Ok(finish(desk, ticket, outcome)),
     }
 }
