@@ -5,3 +5,4 @@ pub mod Own_worlds
 pub mod Folds
 pub mod Words
 pub mod Root_texts
+pub mod Passing

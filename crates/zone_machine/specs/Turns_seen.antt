@@ -75,3 +75,7 @@ pub record CanStep (j : Job) (s : Seen) : Type 0 where
 abbrev pub TakesBack : Option Step → state.Job → state.Job → Type 0
 TakesBack None old new = (old.undo ≡ []) × (new ≡ old)
 TakesBack (Some s) old new = (old.undo ≡ s ∷ new.undo) × (new ≡ record old { undo = new.undo })
+
+-- a request waits or is under way
+abbrev pub HasWork : state.Desk → Type 0
+HasWork d = d.job ≡ None → 0 < length d.waiting

@@ -1,5 +1,5 @@
 //! What a turn of a zone's daemon does, from its desk and what it sees of the zone.
-ghost use Rattle.std.specs.Prelude.{◌≡◌, ◌≤◌, IsSome, IsTrue, ◌<◌, ◌∷◌, [], ◌++◌, IfOk, OnOk, Some, None, codes, drop, length, false};
+ghost use Rattle.std.specs.Prelude.{◌≡◌, ◌≤◌, IsSome, IsTrue, ◌<◌, ◌∷◌, [], ◌++◌, IfOk, OnOk, Some, None, Option, codes, drop, length, true};
 ghost use Rattle.std.specs.Option.{option_map};
 ghost use Rattle.zn_base.specs.declared.grant.Grant.{Grant as A_grant};
 ghost use Rattle.zn_base.specs.Owned_lists.{Come, Go};
@@ -8,10 +8,11 @@ ghost use Rattle.zone_machine.specs.Decisions.{A_pid, A_serial, A_zid, Decision,
 ghost use Rattle.zone_machine.specs.Desks_seen.{counted, desk_seen, job_seen};
 ghost use Rattle.zone_machine.specs.Edits.{A_process, A_record, An_id, Ids_go, Of_mounts, Processes_go};
 ghost use Rattle.zone_machine.specs.Worlds.{View};
+ghost use Rattle.zone_machine.specs.declared.records.Record as record_types;
 ghost use Rattle.zone_machine.specs.Turns.{last_dir, undo_edits, unmount, active_after, advance, all_of, is_at, asking, begin, failed, finish, goes_on, init_process, next_request, root_mount, step, turn_at, undo};
 ghost use Rattle.zone_machine.specs.State as state;
 ghost use Rattle.zone_machine.specs.State.{state_now};
-ghost use Rattle.zone_machine.specs.Turns_seen.{CanStep, Sees, TakesBack, is_unmount, without_unmounts, arrival_of, object_edits, rest_of, work_act};
+ghost use Rattle.zone_machine.specs.Turns_seen.{CanStep, HasWork, Sees, TakesBack, has_unmount, is_unmount, without_unmounts, arrival_of, object_edits, rest_of, work_act};
 
 use crate::daemon::{Outcome, RequestKind, Step, TurnReply};
 use crate::desks::{Desk, Job};
@@ -296,9 +297,7 @@ fn is_unmount(step: &Step) -> bool
 
 // Where no mount is left the unmounts are passed over.
 fn skip_unmounts(steps: &[Step], from: usize) -> usize
-    requires { from ≤ length steps.now }
-    ensures skipped { drop result steps.now ≡ without_unmounts (drop from steps.now) }
-    ensures fits { result ≤ length steps.now }
+    ensures { drop result steps.now ≡ without_unmounts (drop from steps.now) }
 {
     let mut at = from;
     while at < steps.len() && is_unmount(&steps[at]) {
@@ -443,21 +442,87 @@ fn take_back(job: &mut Job) -> Option<Step>
 }
 
 // One step back, or the end of the request where none is left.
-fn undo(desk: &mut Desk, alloc: Global, outcome: Outcome) -> Result<Work, AllocError>
-    requires { IsSome desk.old.job }
-    ensures { IfOk result (λ w. (j : state.Job) → (desk_seen desk.old).job ≡ Some j → record { came = None; effect = undo (desk_seen desk.old) j outcome j.undo } ≡ work_act w (desk_seen desk.new)) }
+fn undo(desk: &mut Desk, alloc: Global, job: Job, outcome: Outcome) -> Result<Work, AllocError>
+    ensures { IfOk result (λ w. (o : Option state.Job) → record { came = None; effect = undo (record (desk_seen desk.old) { job = o }) (job_seen job) outcome (job_seen job).undo } ≡ work_act w (desk_seen desk.new)) }
 {
-    let Some(job) = &mut desk.job else {
-        unreachable!()
-    };
-    let ticket = job.ticket;
-    match take_back(job) {
-        Some(shown) => Ok(Work {
-            came: None,
-            objects: undoing(&shown, alloc)?,
-            ended: None,
-            reply: TurnReply::Undone(shown),
-        }),
-        None => Ok(finish(desk, ticket, outcome)),
+    let mut job = job;
+    match take_back(&mut job) {
+        Some(shown) => {
+            desk.job = Some(job);
+            Ok(Work {
+                came: None,
+                objects: undoing(&shown, alloc)?,
+                ended: None,
+                reply: TurnReply::Undone(shown),
+            })
+        }
+        None => Ok(finish(desk, job.ticket, outcome)),
+    }
+}
+
+// The plan without the unmounts that stand next, where no mount is left.
+fn pass_unmounts(job: &mut Job, seen: &Seen)
+    ensures passed { (v : View) (d : state.Desk) (row : record_types.Record) → Sees v seen.now → step v d (job_seen job.new) row (job_seen job.new).left ≡ step v d (job_seen job.old) row (job_seen job.old).left }
+    ensures mounted { has_unmount (job_seen job.new).left ≡ true → IsSome seen.now.last_dir }
+    ensures ticket { job.new.ticket ≡ job.old.ticket }
+    ensures ending { job.new.ending ≡ job.old.ending }
+{
+    if seen.last_dir.is_none() {
+        job.at = skip_unmounts(&job.steps, job.at);
+    }
+}
+
+// The plan of the request under way goes on.
+fn follow_plan(
+    desk: &mut Desk,
+    alloc: Global,
+    job: Job,
+    seen: Seen,
+    row: &Record,
+    grant: Grant,
+) -> Result<Work, AllocError>
+    ensures { IfOk result (λ w. (v : View) (o : Option state.Job) → Sees v seen → act_of (step v (record (desk_seen desk.old) { job = o }) (job_seen job) row.now (job_seen job).left) grant ≡ work_act w (desk_seen desk.new)) }
+{
+    let mut job = job;
+    pass_unmounts(&mut job, &seen);
+    if job.at >= job.steps.len() {
+        return Ok(finish(desk, job.ticket, Outcome::Done));
+    }
+    let work = step(&mut job, &mut desk.active, alloc, seen, row, grant);
+    desk.job = Some(job);
+    work
+}
+
+// The request under way goes on.
+fn go_on(
+    desk: &mut Desk,
+    alloc: Global,
+    job: Job,
+    seen: Seen,
+    row: &Record,
+    grant: Grant,
+) -> Result<Work, AllocError>
+    ensures { IfOk result (λ w. (v : View) (o : Option state.Job) → Sees v seen → act_of (goes_on v (record (desk_seen desk.old) { job = o }) (job_seen job) row.now (job_seen job).ending) grant ≡ work_act w (desk_seen desk.new)) }
+{
+    match job.ending {
+        Some(outcome) => undo(desk, alloc, job, outcome),
+        None => follow_plan(desk, alloc, job, seen, row, grant),
+    }
+}
+
+/// A turn of a daemon that has work.
+pub(crate) fn turn(
+    desk: &mut Desk,
+    alloc: Global,
+    seen: Seen,
+    row: &Record,
+    grant: Grant,
+) -> Result<Work, AllocError>
+    requires { HasWork (desk_seen desk.old) }
+    ensures { IfOk result (λ w. (v : View) → Sees v seen → act_of (turn_at v (desk_seen desk.old) (desk_seen desk.old).job row.now) grant ≡ work_act w (desk_seen desk.new)) }
+{
+    match desk.job.take() {
+        Some(job) => go_on(desk, alloc, job, seen, row, grant),
+        None => begin_next(desk, alloc, row),
     }
 }
