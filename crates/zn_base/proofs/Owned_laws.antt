@@ -1,5 +1,5 @@
 -- What an edit of one zone does to what each zone sees of a flat list.
-use Rattle.std.proofs.Common.{◌≡◌, ℕ, List, Bool, true, false, ◌&&◌, ◌∷◌, [], refl, ap, sym, ◌∙◌}
+use Rattle.std.proofs.Common.{◌≡◌, ℕ, List, Bool, true, false, ◌&&◌, ◌∷◌, [], refl, ap, sym, ◌∙◌, Some}
 use Rattle.std.specs.Prelude.{◌≢◌, not, filter, map}
 use Rattle.std.specs.List.{cons_option}
 use Rattle.std.specs.Str.{bytes_eq}
@@ -8,7 +8,7 @@ use Rattle.std.proofs.lemmas.Bool.{false_from_ne_true}
 use Rattle.std.proofs.lemmas.List.Elements.{filter_map-append}
 use Rattle.std.proofs.lemmas.List.{append-nil}
 use Rattle.zn_base.specs.declared.owned.Owned.{Owned}
-use Rattle.zn_base.specs.Owned_lists.{own, mine, List_edit, Go, Come, Put, Change, edited, edit_list, changed, tag, put, put_tagged}
+use Rattle.zn_base.specs.Owned_lists.{own, mine, List_edit, Go, Come, Put, Change, edited, edit_list, changed, tag, put, put_tagged, first_of, placed}
 
 pub same_self : (z : List ℕ) → bytes_eq z z ≡ true
 same_self z = (bytes_eq-Decides z z).1 refl
@@ -90,3 +90,20 @@ other-list y z n (Go p) os = mine-kept z (λ o. not (bytes_eq y o.zone && p o.it
 other-list y z n (Come a) os = rw (filter_map-append (own z) os (tag y a ∷ [])) (simp (other_tag y z y n (same_self y), append-nil (mine z os)))
 other-list y z n (Put before a) os = other-put y z n before a os
 other-list y z n (Change f) os = other_change y z n f os
+
+-- what is placed is the first thing of its zone, and no other zone's
+pub first-placed : {A : Type 0} (z : List ℕ) (a : A) (os : List (Owned A)) → first_of (mine z (placed z a os)) ≡ Some a
+first-placed z a [] = simp (same_self z)
+first-placed z a (o ∷ os) = at_head (first-placed z a os) _ refl
+  where
+    at_head : first_of (mine z (placed z a os)) ≡ Some a → (b : Bool) → bytes_eq z o.zone ≡ b → first_of (mine z (placed z a (o ∷ os))) ≡ Some a
+    at_head ih true e = simp (e, same_self z)
+    at_head ih false e = simp e ih
+
+pub other-placed : {A : Type 0} (y z : List ℕ) → y ≢ z → (a : A) (os : List (Owned A)) → mine z (placed y a os) ≡ mine z os
+other-placed y z n a [] = simp (other_tag y z y n (same_self y))
+other-placed y z n a (o ∷ os) = at_head (other-placed y z n a os) _ refl
+  where
+    at_head : mine z (placed y a os) ≡ mine z os → (b : Bool) → bytes_eq y o.zone ≡ b → mine z (placed y a (o ∷ os)) ≡ mine z (o ∷ os)
+    at_head ih true e = simp (e, other_tag y z y n (same_self y), other_tag y z o.zone n e)
+    at_head ih false e = simp e (ap (λ ts. cons_option (own z o) ts) ih)

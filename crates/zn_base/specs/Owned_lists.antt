@@ -55,3 +55,8 @@ edit_list z (Go p) os = filter (λ o. not (bytes_eq z o.zone && p o.it)) os
 edit_list z (Come a) os = os ++ tag z a ∷ []
 edit_list z (Put before a) os = put_tagged z before a os
 edit_list z (Change f) os = map (changed z f) os
+
+-- a in the place of the first thing of z, or at the end where there is none
+abbrev pub placed : {A : Type 0} → List ℕ → A → List (Owned A) → List (Owned A)
+placed z a [] = tag z a ∷ []
+placed z a (o ∷ os) = if bytes_eq z o.zone then tag z a ∷ os else o ∷ placed z a os

@@ -6,3 +6,4 @@ pub mod Folds
 pub mod Words
 pub mod Root_texts
 pub mod Passing
+pub mod Places

@@ -8,6 +8,7 @@ pub mod Typed
 pub mod Plans
 pub mod Turns
 pub mod Desks_seen
+pub mod Lists_seen
 pub mod Turns_seen
 pub mod Machine
 pub mod Same

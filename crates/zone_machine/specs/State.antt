@@ -1,7 +1,7 @@
 -- The machine's state: everything that all zones have, as flat lists and tables.
 use Rattle.std.specs.Prelude.{ℕ, ◌+◌, ◌-◌, ◌^◌, min, List, [], ◌∷◌, Option, Some, None, Bool, true, false, bytes_eq, unwrap_or, if◌then◌else◌}
 use Rattle.zn_base.specs.Names.{Name}
-use Rattle.zn_base.specs.Owned_lists.{Change, Come, Go, edit_list, mine, is_nil}
+use Rattle.zn_base.specs.Owned_lists.{Change, Come, Go, edit_list, mine, is_nil, placed}
 use Rattle.zn_base.specs.declared.owned.Owned.{Owned}
 use Rattle.zn_base.specs.declared.state.ZoneState.{ZoneState}
 use Rattle.zone_machine.specs.declared.daemon.Outcome.{Outcome}
@@ -69,7 +69,7 @@ stored z commits = stored_from None z commits
 -- all stored zones with their records, in the order of their creation
 abbrev pub with_stored : Name → Option Record → List (Owned Record) → List (Owned Record)
 with_stored z None rows = edit_list z (Go (λ row. true)) rows
-with_stored z (Some new) rows = edit_list z (if is_nil (mine z rows) then Come new else Change (λ row. new)) rows
+with_stored z (Some new) rows = placed z new rows
 
 abbrev pub rows_from : List (Owned Record) → List Commit → List (Owned Record)
 rows_from rows [] = rows

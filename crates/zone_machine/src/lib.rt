@@ -7,6 +7,7 @@ mod desks;
 mod events;
 mod faults;
 mod lines;
+mod lists;
 mod objects;
 mod plans;
 mod records;

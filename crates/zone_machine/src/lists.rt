@@ -1,0 +1,56 @@
+//! Lists of what zones own.
+ghost use Rattle.std.specs.Prelude.{◌≡◌, ◌<◌, ◌++◌, ◌∷◌, [], IfOk, OnOk, MatchOption, bytes_eq, length, position, true};
+ghost use Rattle.zn_base.specs.Owned_lists.{Come, Go, edit_list, placed, tag};
+ghost use Rattle.zone_machine.specs.Lists_seen.{StandsAt, StandsNowhere};
+
+use std::alloc::AllocError;
+use zn_base::{Owned, ZoneName};
+
+fn first_place<T>(list: &[Owned<T>], zone: &ZoneName) -> Option<usize>
+    ensures { result ≡ position (λ o. bytes_eq zone.now o.zone) list.now }
+{
+    list.iter().position(|owned| zone.same(&owned.zone))
+}
+
+/// Where the first thing of a zone stands.
+pub(crate) fn place_of<T>(list: &[Owned<T>], zone: &ZoneName) -> Option<usize>
+    ensures { MatchOption result (StandsNowhere zone.now list.now) (λ at. StandsAt zone.now at list.now) }
+{
+    first_place(list, zone)
+}
+
+/// A thing comes at the end.
+pub(crate) fn add<T: Drop>(
+    list: &mut Vec<Owned<T>>,
+    zone: ZoneName,
+    it: T,
+) -> Result<(), AllocError>
+    ensures ok { OnOk result (list.new.items ≡ edit_list zone (Come it) list.old.items) }
+{
+    list.push(Owned { zone, it })?;
+    Ok(())
+}
+
+/// A thing comes in the place of the zone's first, or at the end.
+pub(crate) fn place<T: Drop>(
+    list: &mut Vec<Owned<T>>,
+    zone: ZoneName,
+    it: T,
+) -> Result<(), AllocError>
+    ensures ok { OnOk result (list.new.items ≡ placed zone it list.old.items) }
+{
+    match place_of(list, &zone) {
+        Some(at) => {
+            list[at] = Owned { zone, it };
+            Ok(())
+        }
+        None => add(list, zone, it),
+    }
+}
+
+/// All things of a zone go.
+pub(crate) fn end_all<T: Drop>(list: &mut Vec<Owned<T>>, zone: &ZoneName)
+    ensures { list.new.items ≡ edit_list zone.now (Go (λ x. true)) list.old.items }
+{
+    list.retain(|owned| !zone.same(&owned.zone));
+}
