@@ -7,3 +7,4 @@ pub mod Words
 pub mod Root_texts
 pub mod Passing
 pub mod Places
+pub mod Sessions_laws

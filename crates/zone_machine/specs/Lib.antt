@@ -8,8 +8,10 @@ pub mod Typed
 pub mod Plans
 pub mod Turns
 pub mod Desks_seen
+pub mod Sessions_seen
 pub mod Lists_seen
 pub mod Turns_seen
+pub mod Tables
 pub mod Machine
 pub mod Same
 pub mod Pools

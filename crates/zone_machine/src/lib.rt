@@ -12,6 +12,8 @@ mod objects;
 mod plans;
 mod records;
 mod replies;
+mod sessions;
+mod tables;
 mod turns;
 
 pub use daemon::{Change, ChangeKind, Outcome, RequestKind, Step, TurnReply};
