@@ -8,3 +8,4 @@ pub mod Root_texts
 pub mod Passing
 pub mod Places
 pub mod Sessions_laws
+pub mod Doing_laws

@@ -58,9 +58,16 @@ pub record Stands (S : State) (t : Tables) : Type 0 where
   pub rest : rest S ≡ rest_of t
   pub started : S.started ≡ t.started
 
--- between two tables an act of z was done, which was typed in the session n or in none
-pub record Acts (z : Name) (n : Option ℕ) (a : Act) (old new : Tables) : Type 0 where
-  pub own : world_of z new ≡ acts_world n a (world_of z old)
+-- between two tables z's world was changed so, and what no world shows so; all other worlds are as they were
+pub record Does (z : Name) (f : World → World) (g : Rest → Rest) (old new : Tables) : Type 0 where
+  pub own : world_of z new ≡ f (world_of z old)
   pub others : (y : Name) → y ≢ z → world_of y new ≡ world_of y old
-  pub rest : rest_of new ≡ came_rest z a.came (rest_of old)
+  pub rest : rest_of new ≡ g (rest_of old)
   pub started : new.started ≡ old.started
+
+-- an act of z was done, which was typed in the session n or in none
+abbrev pub Acts : Name → Option ℕ → Act → Tables → Tables → Type 0
+Acts z n a old new = Does z (acts_world n a) (came_rest z a.came) old new
+
+abbrev pub kept_rest : Rest → Rest
+kept_rest r = r
