@@ -1,11 +1,11 @@
 -- Where the first thing of a zone stands.
-use Rattle.std.proofs.Common.{◌≡◌, ◌+◌, ◌<◌, ◌≤◌, ◌∷◌, ◌++◌, [], zero, suc, not, nat_lt, ℕ, Bool, List, Option, Some, None, true, false, length, get_or, set, take, drop, refl, ap, sym, arith, ◌∙◌, cond}
+use Rattle.std.proofs.Common.{◌≡◌, ◌+◌, ◌<◌, ◌≤◌, ◌∷◌, ◌++◌, [], zero, suc, not, nat_lt, ℕ, Bool, List, Option, Some, None, true, false, length, get_or, set, take, drop, refl, ap, sym, arith, ◌∙◌, cond, ◌&&◌}
 use Rattle.std.specs.Prelude.{bytes_eq, position, if◌then◌else◌, MatchOption}
-use Rattle.std.specs.List.{position_or_len, cons_option}
+use Rattle.std.specs.List.{position_or_len, cons_option, insert}
 use Rattle.std.specs.Option.{option_map}
 use Rattle.std.proofs.lemmas.Bool.{false≢true, ltb-true, ltb-false, lt-ltb, le-ltb}
 use Rattle.zn_base.proofs.Owned_laws.{same_self, same_true}
-use Rattle.zn_base.specs.Owned_lists.{first_of, mine, own, placed, tag}
+use Rattle.zn_base.specs.Owned_lists.{first_of, mine, own, placed, tag, put_tagged}
 use Rattle.zone_machine.specs.Lists_seen.{StandsAt, StandsNowhere, of}
 use Rattle.zn_base.specs.declared.owned.Owned.{Owned}
 
@@ -62,3 +62,41 @@ stands_nowhere z (o ∷ os) h = at_head (stands_nowhere z os) (bytes_eq z o.zone
 pub stands : {A : Type 0} (z : List ℕ) (os : List (Owned A)) (r : Option ℕ) → r ≡ position (of z) os → MatchOption r (StandsNowhere z os) (λ at. StandsAt z at os)
 stands z os None e = stands_nowhere z os (sym e)
 stands z os (Some i) e = stands_at z os i (sym e)
+
+-- the first thing that passes a test gets another in front of it
+pub put-at : {A : Type 0} (z : List ℕ) (before : A → Bool) (a : A) (os : List (Owned A)) (i : ℕ) → position (λ o. bytes_eq z o.zone && not (before o.it)) os ≡ Some i → put_tagged z before a os ≡ insert os i (tag z a)
+put-at z before a [] i h = absurd (cc)
+put-at z before a (o ∷ os) i h = at_head (put-at z before a os) (bytes_eq z o.zone && not (before o.it)) refl
+  where
+    at_rest : (bytes_eq z o.zone && not (before o.it)) ≡ false → (r : Option ℕ) → position (λ o. bytes_eq z o.zone && not (before o.it)) os ≡ r → option_map (λ i. 1 + i) r ≡ Some i
+        → ((i : ℕ) → position (λ o. bytes_eq z o.zone && not (before o.it)) os ≡ Some i → put_tagged z before a os ≡ insert os i (tag z a)) → put_tagged z before a (o ∷ os) ≡ insert (o ∷ os) i (tag z a)
+    at_rest e None f g ih = absurd (cc)
+    at_rest e (Some j) f g ih = let is : i ≡ suc j = omega (arith, g') in rw is (simp e (ap (λ os. o ∷ os) (ih j f)))
+      where
+        g' : 1 + j ≡ i
+        g' = cc
+
+    at_head : ((i : ℕ) → position (λ o. bytes_eq z o.zone && not (before o.it)) os ≡ Some i → put_tagged z before a os ≡ insert os i (tag z a)) → (b : Bool) → (bytes_eq z o.zone && not (before o.it)) ≡ b → put_tagged z before a (o ∷ os) ≡ insert (o ∷ os) i (tag z a)
+    at_head ih true e =
+        let is : i ≡ 0 = zero_is (sym (position-here (λ o. bytes_eq z o.zone && not (before o.it)) o os e) ∙ h) in
+        rw is (simp e)
+      where
+        zero_is : Some 0 ≡ Some i → i ≡ 0
+        zero_is g = cc
+    at_head ih false e = at_rest e (position (λ o. bytes_eq z o.zone && not (before o.it)) os) refl (sym (position-later (λ o. bytes_eq z o.zone && not (before o.it)) o os e) ∙ h) ih
+
+pub put-nowhere : {A : Type 0} (z : List ℕ) (before : A → Bool) (a : A) (os : List (Owned A)) → position (λ o. bytes_eq z o.zone && not (before o.it)) os ≡ None → put_tagged z before a os ≡ os ++ tag z a ∷ []
+put-nowhere z before a [] h = refl
+put-nowhere z before a (o ∷ os) h = at_head (put-nowhere z before a os) (bytes_eq z o.zone && not (before o.it)) refl
+  where
+    at_rest : (bytes_eq z o.zone && not (before o.it)) ≡ false → (r : Option ℕ) → position (λ o. bytes_eq z o.zone && not (before o.it)) os ≡ r → option_map (λ i. 1 + i) r ≡ None
+        → (position (λ o. bytes_eq z o.zone && not (before o.it)) os ≡ None → put_tagged z before a os ≡ os ++ tag z a ∷ []) → put_tagged z before a (o ∷ os) ≡ (o ∷ os) ++ tag z a ∷ []
+    at_rest e None f g ih = simp e (ap (λ os. o ∷ os) (ih f))
+    at_rest e (Some j) f g ih = absurd (cc)
+
+    at_head : (position (λ o. bytes_eq z o.zone && not (before o.it)) os ≡ None → put_tagged z before a os ≡ os ++ tag z a ∷ []) → (b : Bool) → (bytes_eq z o.zone && not (before o.it)) ≡ b → put_tagged z before a (o ∷ os) ≡ (o ∷ os) ++ tag z a ∷ []
+    at_head ih true e = absurd (none_is (sym (position-here (λ o. bytes_eq z o.zone && not (before o.it)) o os e) ∙ h))
+      where
+        none_is : ◌≡◌ {A = Option ℕ} (Some 0) None → ⊥
+        none_is g = cc
+    at_head ih false e = at_rest e (position (λ o. bytes_eq z o.zone && not (before o.it)) os) refl (sym (position-later (λ o. bytes_eq z o.zone && not (before o.it)) o os e) ∙ h) ih

@@ -1,5 +1,7 @@
 -- Where things of a zone stand in a list of what zones own.
-use Rattle.std.specs.Prelude.{◌≡◌, ◌<◌, ◌∷◌, ◌++◌, [], ℕ, Bool, List, Some, true, length, get_or, set, bytes_eq}
+use Rattle.zone_machine.specs.declared.objects.Process.{Process}
+use Rattle.zone_machine.specs.Edits.{below}
+use Rattle.std.specs.Prelude.{◌≡◌, ◌<◌, ◌∷◌, ◌++◌, [], ℕ, Bool, List, Some, true, length, get_or, set, bytes_eq, not, ◌&&◌}
 use Rattle.zn_base.specs.Owned_lists.{first_of, mine, placed, tag}
 use Rattle.zn_base.specs.declared.owned.Owned.{Owned}
 
@@ -17,3 +19,7 @@ pub record StandsAt {A : Type 0} (z : List ℕ) (i : ℕ) (os : List (Owned A)) 
 pub record StandsNowhere {A : Type 0} (z : List ℕ) (os : List (Owned A)) : Type 0 where
   pub none : mine z os ≡ []
   pub placed : (a : A) → placed z a os ≡ os ++ tag z a ∷ []
+
+-- a process of z that doesn't stand below a number
+abbrev pub is_above : List ℕ → ℕ → Owned Process → Bool
+is_above z pid o = bytes_eq z o.zone && not (below pid o.it)
