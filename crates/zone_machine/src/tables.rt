@@ -1,9 +1,15 @@
 //! The tables of the machine: everything that zones have, each thing with its zone's name.
+ghost use Rattle.std.specs.Prelude.{◌≡◌, IfOk, None, OnOk, Some};
+
 use crate::desks::Desk;
+use crate::faults::StepFault;
+use crate::lists::{add, end_all, enter, place, unmount};
 use crate::objects::{Id, Mount, Process};
 use crate::records::Record;
-use crate::sessions::Session;
-use zn_base::Owned;
+use crate::sessions::{Session, end_waits};
+use crate::turns::{Came, ObjectEdit};
+use std::alloc::Global;
+use zn_base::{Owned, ZoneName};
 
 /// Everything that zones have.
 #[derive(Drop)]
@@ -22,4 +28,87 @@ pub(crate) struct Tables {
     pub(crate) last_zid: u32,
     /// Whether an event has come.
     pub(crate) started: bool,
+}
+
+impl Tables {
+    ghost use Rattle.std.specs.Option.{option_map};
+    ghost use Rattle.zn_base.specs.Owned_lists.{Come, Go};
+    ghost use Rattle.zone_machine.specs.Decisions.{Act, after_came_world, says};
+    ghost use Rattle.zone_machine.specs.Desks_seen.{desk_seen};
+    ghost use Rattle.zone_machine.specs.Edits.{New_id, New_process, New_record, comes_world, edit_world, edits_world};
+    ghost use Rattle.zone_machine.specs.Tables.{Acts, Does, came_rest, kept_rest, world_of};
+    ghost use Rattle.zone_machine.specs.Turns_seen.{arrival_of, object_edits, sweeps};
+
+    fn enter_process(&mut self, zone: ZoneName, process: Process) -> Result<(), StepFault>
+        ensures { OnOk result (Does zone (comes_world (New_process process)) (came_rest zone (Some (New_process process))) self.old self.new) }
+    {
+        let pid = process.pid;
+        enter(&mut self.processes, zone, process)?;
+        self.last_pid = pid;
+        Ok(())
+    }
+
+    fn give_id(&mut self, zone: ZoneName, id: Id) -> Result<(), StepFault>
+        ensures { OnOk result (Does zone (comes_world (New_id id)) (came_rest zone (Some (New_id id))) self.old self.new) }
+    {
+        add(&mut self.ids, zone, id)?;
+        self.last_zid = id.zid;
+        Ok(())
+    }
+
+    fn store(&mut self, zone: ZoneName, row: Record) -> Result<(), StepFault>
+        ensures { OnOk result (Does zone (comes_world (New_record (Some row))) (came_rest zone (Some (New_record (Some row)))) self.old self.new) }
+    {
+        if self.serial == u32::MAX {
+            return Err(StepFault::Memory);
+        }
+        place(&mut self.rows, zone, row)?;
+        self.serial += 1;
+        Ok(())
+    }
+
+    // What came with a grant is put into its table.
+    fn take_in(
+        &mut self,
+        alloc: Global,
+        zone: &ZoneName,
+        came: Option<Came>,
+    ) -> Result<(), StepFault>
+        ensures { OnOk result (Does zone.now (after_came_world (option_map arrival_of came)) (came_rest zone.now (option_map arrival_of came)) self.old self.new) }
+    {
+        match came {
+            Some(Came::Process(process)) => self.enter_process(zone.copy(alloc)?, process),
+            Some(Came::Id(id)) => self.give_id(zone.copy(alloc)?, id),
+            Some(Came::Record(record)) => self.store(zone.copy(alloc)?, record),
+            None => Ok(()),
+        }
+    }
+
+    // What a turn does to the zone's objects.
+    fn edit_objects(
+        &mut self,
+        alloc: Global,
+        zone: &ZoneName,
+        edit: ObjectEdit,
+    ) -> Result<(), StepFault>
+        ensures { OnOk result (Does zone.now (edits_world None (object_edits edit)) kept_rest self.old self.new) }
+    {
+        match edit {
+            ObjectEdit::Nothing => {}
+            ObjectEdit::EndProcesses => end_all(&mut self.processes, zone),
+            ObjectEdit::Mount(mount) => add(&mut self.mounts, zone.copy(alloc)?, mount)?,
+            ObjectEdit::Unmount(dir) => unmount(&mut self.mounts, zone, &dir),
+            ObjectEdit::EndIds => end_all(&mut self.ids, zone),
+        }
+        Ok(())
+    }
+
+    // Whoever waits for a ticket that ended is idle again.
+    fn end_ticket(&mut self, zone: &ZoneName, ended: Option<u32>)
+        ensures { Does zone.now (edits_world None (sweeps ended)) kept_rest self.old self.new }
+    {
+        if let Some(ticket) = ended {
+            end_waits(&mut self.sessions, zone, ticket);
+        }
+    }
 }
