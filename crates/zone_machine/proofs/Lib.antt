@@ -9,3 +9,4 @@ pub mod Passing
 pub mod Places
 pub mod Sessions_laws
 pub mod Doing_laws
+pub mod Seeing

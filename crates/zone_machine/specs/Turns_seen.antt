@@ -4,11 +4,11 @@ use Rattle.std.specs.Prelude.{◌≡◌, ℕ, ◌+◌, List, [], ◌∷◌, ◌+
 use Rattle.std.specs.Borrow.{Bor}
 use Rattle.std.specs.Option.{option_map}
 use Rattle.zn_base.specs.Owned_lists.{Come, Go}
-use Rattle.zone_machine.specs.Decisions.{Act, says}
-use Rattle.zone_machine.specs.Edits.{Arrival, Edit, Ids_go, New_id, New_process, New_record, Of_mounts, Processes_go, Set_desk, Sweep}
+use Rattle.zone_machine.specs.Decisions.{Act, says, after_came_world}
+use Rattle.zone_machine.specs.Edits.{Arrival, Edit, Ids_go, New_id, New_process, New_record, Of_mounts, Processes_go, Set_desk, Sweep, edits_world}
 use Rattle.zone_machine.specs.State as state
 use Rattle.zone_machine.specs.Turns.{all_of, is_at, last_dir, ticket_ended, zid_of}
-use Rattle.zone_machine.specs.Worlds.{View}
+use Rattle.zone_machine.specs.Worlds.{World}
 use Rattle.zone_machine.specs.declared.daemon.Step.{Step}
 use Rattle.zone_machine.specs.declared.daemon.Step.TheVariants as step
 use Rattle.zone_machine.specs.declared.desks.Job.{Job}
@@ -43,11 +43,11 @@ work_act w d = record {
   effect = record { edits = object_edits w.objects ++ Set_desk d ∷ sweeps w.ended; reply = says (Turned w.reply) };
 }
 
--- what is seen is what the view shows
-pub record Sees (v : View) (s : Seen) : Type 0 where
-  pub processes : length v.world.processes ≡ s.processes
-  pub last_dir : last_dir v.world.mounts ≡ s.last_dir
-  pub zid : zid_of v.world.ids ≡ s.zid
+-- what is seen is what the zone has
+pub record Sees (w : World) (s : Seen) : Type 0 where
+  pub processes : length w.processes ≡ s.processes
+  pub last_dir : last_dir w.mounts ≡ s.last_dir
+  pub zid : zid_of w.ids ≡ s.zid
 
 -- the steps behind the next one
 abbrev pub rest_of : Job → List Step
@@ -79,3 +79,11 @@ TakesBack (Some s) old new = (old.undo ≡ s ∷ new.undo) × (new ≡ record ol
 -- a request waits or is under way
 abbrev pub HasWork : state.Desk → Type 0
 HasWork d = d.job ≡ None → 0 < length d.waiting
+
+pub record HasNoWork (d : state.Desk) : Type 0 where
+  pub job : d.job ≡ None
+  pub waiting : d.waiting ≡ []
+
+-- what a turn does to a world beside its change of the desk
+abbrev pub work_world : Work → World → World
+work_world w v = edits_world None (sweeps w.ended) (edits_world None (object_edits w.objects) (after_came_world (option_map arrival_of w.came) v))

@@ -13,6 +13,7 @@ mod plans;
 mod records;
 mod replies;
 mod sessions;
+mod sights;
 mod tables;
 mod turns;
 

@@ -1,5 +1,6 @@
 //! What a turn of a zone's daemon does, from its desk and what it sees of the zone.
 ghost use Rattle.std.specs.Prelude.{◌≡◌, ◌≤◌, IsSome, IsTrue, ◌<◌, ◌∷◌, [], ◌++◌, IfOk, OnOk, Some, None, Option, codes, drop, length, true};
+ghost use Rattle.std.specs.Bool.{OnFalse, OnTrue};
 ghost use Rattle.std.specs.Option.{option_map};
 ghost use Rattle.zn_base.specs.declared.grant.Grant.{Grant as A_grant};
 ghost use Rattle.zn_base.specs.Owned_lists.{Come, Go};
@@ -12,7 +13,7 @@ ghost use Rattle.zone_machine.specs.declared.records.Record as record_types;
 ghost use Rattle.zone_machine.specs.Turns.{last_dir, undo_edits, unmount, active_after, advance, all_of, is_at, asking, begin, failed, finish, goes_on, init_process, next_request, root_mount, step, turn_at, undo};
 ghost use Rattle.zone_machine.specs.State as state;
 ghost use Rattle.zone_machine.specs.State.{state_now};
-ghost use Rattle.zone_machine.specs.Turns_seen.{CanStep, HasWork, Sees, TakesBack, has_unmount, is_unmount, without_unmounts, arrival_of, object_edits, rest_of, work_act};
+ghost use Rattle.zone_machine.specs.Turns_seen.{CanStep, HasNoWork, HasWork, Sees, TakesBack, has_unmount, is_unmount, without_unmounts, arrival_of, object_edits, rest_of, work_act};
 
 use crate::daemon::{Outcome, RequestKind, Step, TurnReply};
 use crate::desks::{Desk, Job};
@@ -317,7 +318,7 @@ fn next_step(job: &Job) -> &Step
 // One mount goes, where one is left.
 fn unmount_last(job: &mut Job, alloc: Global, seen: Seen) -> Result<Work, AllocError>
     requires { IsSome seen.last_dir }
-    ensures { IfOk result (λ w. (v : View) (d : state.Desk) (next : Decision) (g : A_grant) → Sees v seen → act_of (unmount d (job_seen job.old) (job_seen job.old).left next (last_dir v.world.mounts)) g ≡ work_act w (record d { job = Some (job_seen job.new) })) }
+    ensures { IfOk result (λ w. (v : View) (d : state.Desk) (next : Decision) (g : A_grant) → Sees v.world seen → act_of (unmount d (job_seen job.old) (job_seen job.old).left next (last_dir v.world.mounts)) g ≡ work_act w (record d { job = Some (job_seen job.new) })) }
 {
     match seen.last_dir {
         Some(dir) => unmount(job, alloc, dir),
@@ -335,7 +336,7 @@ fn step(
     grant: Grant,
 ) -> Result<Work, AllocError>
     requires { CanStep job.old seen }
-    ensures { IfOk result (λ w. (v : View) (d : state.Desk) → Sees v seen → d.active ≡ active.old → act_of (step v d (job_seen job.old) row.now (job_seen job.old).left) grant ≡ work_act w (record d { job = Some (job_seen job.new); active = active.new })) }
+    ensures { IfOk result (λ w. (v : View) (d : state.Desk) → Sees v.world seen → d.active ≡ active.old → act_of (step v d (job_seen job.old) row.now (job_seen job.old).left) grant ≡ work_act w (record d { job = Some (job_seen job.new); active = active.new })) }
 {
     match next_step(job) {
         Step::Hook(change) => {
@@ -462,7 +463,7 @@ fn undo(desk: &mut Desk, alloc: Global, job: Job, outcome: Outcome) -> Result<Wo
 
 // The plan without the unmounts that stand next, where no mount is left.
 fn pass_unmounts(job: &mut Job, seen: &Seen)
-    ensures passed { (v : View) (d : state.Desk) (row : record_types.Record) → Sees v seen.now → step v d (job_seen job.new) row (job_seen job.new).left ≡ step v d (job_seen job.old) row (job_seen job.old).left }
+    ensures passed { (v : View) (d : state.Desk) (row : record_types.Record) → Sees v.world seen.now → step v d (job_seen job.new) row (job_seen job.new).left ≡ step v d (job_seen job.old) row (job_seen job.old).left }
     ensures mounted { has_unmount (job_seen job.new).left ≡ true → IsSome seen.now.last_dir }
     ensures ticket { job.new.ticket ≡ job.old.ticket }
     ensures ending { job.new.ending ≡ job.old.ending }
@@ -481,7 +482,7 @@ fn follow_plan(
     row: &Record,
     grant: Grant,
 ) -> Result<Work, AllocError>
-    ensures { IfOk result (λ w. (v : View) (o : Option state.Job) → Sees v seen → act_of (step v (record (desk_seen desk.old) { job = o }) (job_seen job) row.now (job_seen job).left) grant ≡ work_act w (desk_seen desk.new)) }
+    ensures { IfOk result (λ w. (v : View) (o : Option state.Job) → Sees v.world seen → act_of (step v (record (desk_seen desk.old) { job = o }) (job_seen job) row.now (job_seen job).left) grant ≡ work_act w (desk_seen desk.new)) }
 {
     let mut job = job;
     pass_unmounts(&mut job, &seen);
@@ -502,7 +503,7 @@ fn go_on(
     row: &Record,
     grant: Grant,
 ) -> Result<Work, AllocError>
-    ensures { IfOk result (λ w. (v : View) (o : Option state.Job) → Sees v seen → act_of (goes_on v (record (desk_seen desk.old) { job = o }) (job_seen job) row.now (job_seen job).ending) grant ≡ work_act w (desk_seen desk.new)) }
+    ensures { IfOk result (λ w. (v : View) (o : Option state.Job) → Sees v.world seen → act_of (goes_on v (record (desk_seen desk.old) { job = o }) (job_seen job) row.now (job_seen job).ending) grant ≡ work_act w (desk_seen desk.new)) }
 {
     match job.ending {
         Some(outcome) => undo(desk, alloc, job, outcome),
@@ -519,10 +520,18 @@ pub(crate) fn turn(
     grant: Grant,
 ) -> Result<Work, AllocError>
     requires { HasWork (desk_seen desk.old) }
-    ensures { IfOk result (λ w. (v : View) → Sees v seen → act_of (turn_at v (desk_seen desk.old) (desk_seen desk.old).job row.now) grant ≡ work_act w (desk_seen desk.new)) }
+    ensures { IfOk result (λ w. (v : View) → Sees v.world seen → act_of (turn_at v (desk_seen desk.old) (desk_seen desk.old).job row.now) grant ≡ work_act w (desk_seen desk.new)) }
 {
     match desk.job.take() {
         Some(job) => go_on(desk, alloc, job, seen, row, grant),
         None => begin_next(desk, alloc, row),
     }
+}
+
+/// Whether a request waits or is under way.
+pub(crate) fn has_work(desk: &Desk) -> bool
+    ensures some { OnTrue result (HasWork (desk_seen desk.now)) }
+    ensures none { OnFalse result (HasNoWork (desk_seen desk.now)) }
+{
+    desk.job.is_some() || !desk.waiting.is_empty()
 }
