@@ -6,7 +6,10 @@ pub mod Folds
 pub mod Words
 pub mod Root_texts
 pub mod Passing
+pub mod Results
 pub mod Places
 pub mod Sessions_laws
 pub mod Doing_laws
 pub mod Seeing
+pub mod Desk_turns
+pub mod Turning

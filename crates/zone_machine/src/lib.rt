@@ -2,6 +2,7 @@
 //! one grant and one reply. The definitions in `specs/` say what an event does to the state of all zones.
 #![tactic(auto)]
 
+mod acts;
 mod daemon;
 mod desks;
 mod events;

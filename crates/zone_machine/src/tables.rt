@@ -56,7 +56,7 @@ impl Tables {
         Ok(())
     }
 
-    fn store(&mut self, zone: ZoneName, row: Record) -> Result<(), StepFault>
+    pub(crate) fn store(&mut self, zone: ZoneName, row: Record) -> Result<(), StepFault>
         ensures { OnOk result (Does zone (comes_world (New_record (Some row))) (came_rest zone (Some (New_record (Some row)))) self.old self.new) }
     {
         if self.serial == u32::MAX {
@@ -68,7 +68,7 @@ impl Tables {
     }
 
     // What came with a grant is put into its table.
-    fn take_in(
+    pub(crate) fn take_in(
         &mut self,
         alloc: Global,
         zone: &ZoneName,
@@ -85,7 +85,7 @@ impl Tables {
     }
 
     // What a turn does to the zone's objects.
-    fn edit_objects(
+    pub(crate) fn edit_objects(
         &mut self,
         alloc: Global,
         zone: &ZoneName,
@@ -104,7 +104,7 @@ impl Tables {
     }
 
     // Whoever waits for a ticket that ended is idle again.
-    fn end_ticket(&mut self, zone: &ZoneName, ended: Option<u32>)
+    pub(crate) fn end_ticket(&mut self, zone: &ZoneName, ended: Option<u32>)
         ensures { Does zone.now (edits_world None (sweeps ended)) kept_rest self.old self.new }
     {
         if let Some(ticket) = ended {

@@ -1,0 +1,37 @@
+-- A turn of the desk that stands at a place.
+use Rattle.std.proofs.Common.{◌≡◌, ℕ, List, Some, get_or, set, ap, sym, refl, subst, ◌∙◌}
+use Rattle.std.specs.Prelude.{bytes_eq, true}
+use Rattle.zn_base.proofs.Owned_laws.{same_true}
+use Rattle.zn_base.specs.Names.{Name}
+use Rattle.zn_base.specs.Owned_lists.{first_of, mine, tag}
+use Rattle.zn_base.specs.declared.grant.Grant.{Grant}
+use Rattle.zn_base.specs.declared.owned.Owned.{Owned}
+use Rattle.zone_machine.specs.Acts_seen.{TurnsDesk, desk_in}
+use Rattle.zone_machine.specs.Decisions.{act_of}
+use Rattle.zone_machine.specs.Desks_seen.{desk_seen}
+use Rattle.zone_machine.specs.Lists_seen.{StandsAt}
+use Rattle.zone_machine.specs.State as state
+use Rattle.zone_machine.specs.Tables.{desk_or_empty}
+use Rattle.zone_machine.specs.Turns.{turn_at}
+use Rattle.zone_machine.specs.Turns_seen.{Sees, work_act}
+use Rattle.zone_machine.specs.Worlds.{View}
+use Rattle.zone_machine.specs.declared.desks.Desk.{Desk}
+use Rattle.zone_machine.specs.declared.records.Record.{Record}
+use Rattle.zone_machine.specs.declared.turns.Seen.{Seen}
+use Rattle.zone_machine.specs.declared.turns.Work.{Work}
+
+-- the desk that stands at a place is the zone's
+pub desk_at : (z : Name) (desks : List (Owned Desk)) (at : ℕ) (o : Owned Desk) → StandsAt z at desks → o ≡ get_or desks at o → desk_in z desks ≡ desk_seen o.it
+desk_at z desks at o stands is = ap desk_or_empty (stands.first o ∙ ap (λ (o : Owned Desk). Some o.it) (sym is))
+
+pub turns_desk : (z : Name) (seen : Seen) (row : Record) (g : Grant) (w : Work) (desks : List (Owned Desk)) (at : ℕ) (o : Owned Desk) (d : Desk) → StandsAt z at desks → o ≡ get_or desks at o
+    → ((v : View) → Sees v.world seen → act_of (turn_at v (desk_seen o.it) (desk_seen o.it).job row) g ≡ work_act w (desk_seen d))
+    → TurnsDesk z seen row g w desks (set desks at (record { zone = o.zone; it = d }))
+turns_desk z seen row g w desks at o d stands is act = record {
+  desk = d;
+  placed = ap (λ y. set desks at (record { zone = y; it = d })) zone ∙ sym (stands.placed d);
+  act = subst (λ (e : state.Desk). (v : View) → Sees v.world seen → act_of (turn_at v e e.job row) g ≡ work_act w (desk_seen d)) (sym (desk_at z desks at o stands is)) act;
+}
+  where
+    zone : o.zone ≡ z
+    zone = sym (same_true z o.zone (subst (λ (p : Owned Desk). bytes_eq z p.zone ≡ true) (sym is) (stands.zone o)))
