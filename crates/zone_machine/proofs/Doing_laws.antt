@@ -1,21 +1,29 @@
 -- Changes of the tables, as each zone's world sees them.
+use Rattle.zone_machine.specs.declared.replies.Head.TheVariants.{Ticket}
+use Rattle.zone_machine.specs.Acts_seen.{Puts}
+use Rattle.zone_machine.specs.declared.daemon.RequestKind.{RequestKind}
+use Rattle.zone_machine.specs.Typed.{put_request, with_request}
+use Rattle.zone_machine.specs.Decisions.{acts_world, says}
+use Rattle.zone_machine.specs.declared.sessions.Session.TheVariants.{Idle, Awaiting}
+use Rattle.std.proofs.lemmas.Bool.{eqb-true}
 use Rattle.zone_machine.proofs.Sessions_laws.{session_at-swept, doing_at-swept, other_doing-swept}
 use Rattle.zone_machine.specs.Turns.{ticket_ended}
 use Rattle.zone_machine.specs.declared.sessions.Session.{Session}
+use Rattle.zone_machine.specs.State as state
 use Rattle.zone_machine.specs.State.{Doing}
 use Rattle.zone_machine.specs.Sessions_seen.{doing_at, session_at, ended, swept_session}
-use Rattle.zone_machine.specs.Edits.{New_id, New_process, New_record, below, comes_world, swept_doing, edits_world, Sweep}
+use Rattle.zone_machine.specs.Edits.{New_id, New_process, New_record, below, comes_world, swept_doing, edits_world, Sweep, Here, at_session, Set_desk}
 use Rattle.zone_machine.specs.declared.records.Record.{Record}
 use Rattle.zone_machine.specs.declared.objects.Id.{Id}
 use Rattle.zone_machine.specs.declared.objects.Mount.{Mount}
 use Rattle.std.proofs.Common.{◌≡◌, ◌∷◌, ◌++◌, [], ℕ, List, Option, Some, None, Bool, true, false, ap, refl, sym, subst, ◌∙◌, ◌+◌, Global}
-use Rattle.std.specs.Prelude.{◌≢◌, Vec, map}
-use Rattle.zn_base.proofs.Owned_laws.{first-placed, mine-edit, other-list, other-placed}
+use Rattle.std.specs.Prelude.{◌≢◌, Vec, map, nat_eq, if◌then◌else◌}
+use Rattle.zn_base.proofs.Owned_laws.{first-placed, mine-edit, other-list, other-placed, same_self, other_tag}
 use Rattle.zn_base.specs.Names.{Name}
 use Rattle.zn_base.specs.Owned_lists.{Come, Go, List_edit, edit_list, edited, first_of, mine, placed, Put}
 use Rattle.zn_base.specs.declared.owned.Owned.{Owned}
 use Rattle.zone_machine.specs.Desks_seen.{desk_seen}
-use Rattle.zone_machine.specs.Tables.{Does, Rest, came_rest, desk_or_empty, kept_rest, rest_of, world_of}
+use Rattle.zone_machine.specs.Tables.{Does, Rest, came_rest, desk_or_empty, kept_rest, rest_of, world_of, Acts}
 use Rattle.zone_machine.specs.Worlds.{World}
 use Rattle.zone_machine.specs.declared.desks.Desk.{Desk}
 use Rattle.zone_machine.specs.declared.objects.Process.{Process}
@@ -110,3 +118,29 @@ pub does_ends : (z : Name) (ticket : ℕ) (t : Tables) (v : Vec Session Global) 
 does_ends z ticket t v h = does_sessions z (λ k. swept_doing (ticket_ended ticket)) t v
     (λ k. rw h (ap (doing_at z) (session_at-swept t.sessions.items z (ended ticket) k) ∙ doing_at-swept z ticket (session_at t.sessions.items k)))
     (λ y n k. rw h (ap (doing_at y) (session_at-swept t.sessions.items z (ended ticket) k) ∙ other_doing-swept z y n ticket (session_at t.sessions.items k)))
+
+-- an idle session waits for a ticket of z
+pub does_waits : (z : Name) (n ticket : ℕ) (t : Tables) (v : Vec Session Global) → session_at t.sessions.items n ≡ Idle
+    → ((k : ℕ) → session_at v.items k ≡ at_session (Some n) k (Awaiting z ticket) (session_at t.sessions.items k))
+    → Does z (edits_world (Some n) (Here (Some (state.Awaiting ticket)) ∷ [])) kept_rest t (record t { sessions = v })
+does_waits z n ticket t v idle h = does_sessions z (λ k. at_session (Some n) k (Some (state.Awaiting ticket))) t v
+    (λ k. rw (h k) (own (session_at t.sessions.items k) (nat_eq n k)))
+    (λ y ne k. rw (h k) (other y ne k (nat_eq n k) refl))
+  where
+    own : (s : Session) (b : Bool) → doing_at z (if b then Awaiting z ticket else s) ≡ (if b then Some (state.Awaiting ticket) else doing_at z s)
+    own s true = simp (same_self z)
+    own s false = refl
+
+    other : (y : Name) → y ≢ z → (k : ℕ) (b : Bool) → nat_eq n k ≡ b → doing_at y (if b then Awaiting z ticket else session_at t.sessions.items k) ≡ doing_at y (session_at t.sessions.items k)
+    other y ne k true e = rw (← eqb-true n k e, idle) (simp (other_tag z y z (λ s. ne (sym s)) (same_self z)))
+    other y ne k false e = refl
+
+-- a request is put on z's desk, and an idle session waits for its ticket
+pub does_request : (z : Name) (kind : RequestKind) (n ticket : ℕ) (row : Record) (t : Tables) (v : Vec (Owned Desk) Global) (w : Vec Session Global) → Puts z kind ticket t.desks.items v.items
+    → session_at t.sessions.items n ≡ Idle → ((k : ℕ) → session_at w.items k ≡ at_session (Some n) k (Awaiting z ticket) (session_at t.sessions.items k))
+    → Acts z (Some n) (record { came = None; effect = put_request (world_of z t).desk kind (Some row) }) t (record t { desks = v; sessions = w })
+does_request z kind n ticket row t v w puts idle h =
+    let both = does_then z (λ w. record w { desk = desk_seen puts.desk }) (edits_world (Some n) (Here (Some (state.Awaiting ticket)) ∷ [])) kept_rest kept_rest t (record t { desks = v }) (record t { desks = v; sessions = w })
+        (does_desk z puts.desk t v puts.placed) (does_waits z n ticket (record t { desks = v }) w idle h) in
+    rw puts.room (does_same z _ (acts_world (Some n) (record { came = None; effect = record { edits = Set_desk (with_request (world_of z t).desk kind) ∷ Here (Some (state.Awaiting ((world_of z t).desk.last + 1))) ∷ []; reply = says (Ticket ((world_of z t).desk.last + 1)) } })) _ kept_rest t _
+        (rw (puts.seen, puts.number) refl) refl both)

@@ -1,5 +1,8 @@
 -- What the code's acts do to desks.
-use Rattle.std.specs.Prelude.{◌≡◌, List}
+use Rattle.zone_machine.specs.declared.daemon.RequestKind.{RequestKind}
+use Rattle.zone_machine.specs.Typed.{is_full, with_request}
+use Rattle.zone_machine.specs.Lists_seen.{StandsAt}
+use Rattle.std.specs.Prelude.{◌≡◌, List, ◌≢◌, ℕ, Option, Some, None, true, false, ◌+◌}
 use Rattle.zn_base.specs.Names.{Name}
 use Rattle.zn_base.specs.Owned_lists.{first_of, mine, placed}
 use Rattle.zn_base.specs.declared.grant.Grant.{Grant}
@@ -29,3 +32,16 @@ pub record TurnsDesk (z : Name) (seen : Seen) (row : Record) (g : Grant) (work :
   pub desk : Desk
   pub placed : new ≡ placed z desk old
   pub act : (v : View) → Sees v.world seen → act_of (turn_at v (desk_in z old) (desk_in z old).job row) g ≡ work_act work (desk_seen desk)
+
+-- a request is put on the zone's desk, which isn't full, under a ticket
+pub record Puts (z : Name) (kind : RequestKind) (ticket : ℕ) (old new : List (Owned Desk)) : Type 0 where
+  pub room : is_full (desk_in z old) ≡ false
+  pub number : ticket ≡ (desk_in z old).last + 1
+  pub desk : Desk
+  pub seen : desk_seen desk ≡ with_request (desk_in z old) kind
+  pub placed : new ≡ placed z desk old
+
+-- so it is, or the desk is full and all desks stay
+abbrev pub PutsRequest : Name → RequestKind → Option ℕ → List (Owned Desk) → List (Owned Desk) → Type 0
+PutsRequest z kind None old new = (is_full (desk_in z old) ≡ true) × (new ≡ old)
+PutsRequest z kind (Some ticket) old new = Puts z kind ticket old new

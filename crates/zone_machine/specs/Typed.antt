@@ -38,11 +38,14 @@ make None word = make_at (usable_path (path_of word))
 abbrev pub is_full : Desk → Bool
 is_full d = nat_lt 7 (length d.waiting) || d.last == 4294967295
 
+abbrev pub with_request : Desk → RequestKind → Desk
+with_request d kind = record d { last = d.last + 1; waiting = d.waiting ++ (d.last + 1, kind) ∷ [] }
+
 abbrev pub put_request : Desk → RequestKind → Option Record → Effect
 put_request d kind None = refused NoZone
 put_request d kind (Some row) =
     if is_full d then refused DeskFull
-    else done_saying (Set_desk (record d { last = d.last + 1; waiting = d.waiting ++ (d.last + 1, kind) ∷ [] }) ∷ Here (Some (Awaiting (d.last + 1))) ∷ [])
+    else done_saying (Set_desk (with_request d kind) ∷ Here (Some (Awaiting (d.last + 1))) ∷ [])
     (Ticket (d.last + 1))
 
 abbrev pub idle_line : View → Command → Decision

@@ -59,6 +59,25 @@ impl Tables {
     }
 }
 
+impl Tables {
+    /// A turn of the zone's daemon.
+    #[tactic(auto, unfolding(crate::specs::Turns::turn, crate::specs::Worlds::view_of))]
+    pub(crate) fn turn(
+        &mut self,
+        alloc: Global,
+        zone: &ZoneName,
+        grant: Grant,
+    ) -> Result<TurnReply, StepFault>
+        ensures reply { IfOk result (λ reply. says (Turned reply) ≡ (act_of (turn (view_of zone.now (world_of zone.now self.old))) grant).effect.reply) }
+        ensures state { OnOk result (Acts zone.now None (act_of (turn (view_of zone.now (world_of zone.now self.old))) grant) self.old self.new) }
+    {
+        match place_of(&self.rows, zone) {
+            Some(row) => self.stored_turn(alloc, zone, row, grant),
+            None => Ok(TurnReply::Idle),
+        }
+    }
+}
+
 // A turn of the zone's desk, where it has work.
 fn turn_desk(
     desks: &mut Vec<Owned<Desk>>,

@@ -17,6 +17,7 @@ mod sessions;
 mod sights;
 mod tables;
 mod turns;
+mod typing;
 
 pub use daemon::{Change, ChangeKind, Outcome, RequestKind, Step, TurnReply};
 pub use events::{Entry, Event, Subject};

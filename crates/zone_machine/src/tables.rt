@@ -3,7 +3,7 @@ ghost use Rattle.std.specs.Prelude.{◌≡◌, IfOk, None, OnOk, Some};
 
 use crate::desks::Desk;
 use crate::faults::StepFault;
-use crate::lists::{add, end_all, enter, place, unmount};
+use crate::lists::{add, end_all, enter, place, place_of, unmount};
 use crate::objects::{Id, Mount, Process};
 use crate::records::Record;
 use crate::sessions::{Session, end_waits};
@@ -38,6 +38,16 @@ impl Tables {
     ghost use Rattle.zone_machine.specs.Edits.{New_id, New_process, New_record, comes_world, edit_world, edits_world};
     ghost use Rattle.zone_machine.specs.Tables.{Acts, Does, came_rest, kept_rest, world_of};
     ghost use Rattle.zone_machine.specs.Turns_seen.{arrival_of, object_edits, sweeps};
+
+    /// What is stored of a zone.
+    pub(crate) fn stored(&self, zone: &ZoneName) -> Option<&Record>
+        ensures { option_map (λ row. row.now) result ≡ (world_of zone.now self.now).stored }
+    {
+        match place_of(&self.rows, zone) {
+            Some(at) => Some(&self.rows[at].it),
+            None => None,
+        }
+    }
 
     fn enter_process(&mut self, zone: ZoneName, process: Process) -> Result<(), StepFault>
         ensures { OnOk result (Does zone (comes_world (New_process process)) (came_rest zone (Some (New_process process))) self.old self.new) }

@@ -61,7 +61,7 @@ pub(crate) struct Seen {
     pub(crate) zid: Option<u32>,
 }
 
-fn number_in(grant: Grant) -> Result<u32, Pool>
+pub(crate) fn number_in(grant: Grant) -> Result<u32, Pool>
     ensures { result ≡ number_in grant }
 {
     match grant {
