@@ -13,3 +13,4 @@ pub mod Doing_laws
 pub mod Seeing
 pub mod Desk_turns
 pub mod Turning
+pub mod Line_cases

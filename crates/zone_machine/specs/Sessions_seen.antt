@@ -1,5 +1,6 @@
 -- The sessions of the code, as the definitions have them.
-use Rattle.std.specs.Prelude.{ℕ, List, Option, Some, None, Bool, nat_eq, bytes_eq, slice_get, unwrap_or, if◌then◌else◌}
+use Rattle.std.specs.Borrow.{Bor}
+use Rattle.std.specs.Prelude.{ℕ, List, Option, Some, None, Bool, nat_eq, bytes_eq, slice_get, unwrap_or, if◌then◌else◌, ◌≡◌}
 use Rattle.zn_base.specs.Names.{Name}
 use Rattle.zone_machine.specs.State.{Doing}
 use Rattle.zone_machine.specs.State as state
@@ -21,3 +22,13 @@ swept_session z ends (Awaiting y t) = if bytes_eq z y then (if ends t then Idle 
 
 abbrev pub ended : ℕ → ℕ → Bool
 ended t u = nat_eq t u
+
+-- what a session waits for, if it waits
+abbrev pub IsAwaited : Option (Bor Name × ℕ) → Session → Type 0
+IsAwaited None s = s ≡ Idle
+IsAwaited (Some w) s = s ≡ Awaiting w.0.now w.1
+
+-- a session is idle or waits in z
+abbrev pub IsOwnSession : Name → Session → Type 0
+IsOwnSession z Idle = Unit {0}
+IsOwnSession z (Awaiting y t) = y ≡ z

@@ -1,7 +1,7 @@
 //! What each session does.
 ghost use Rattle.std.specs.Prelude.{◌≡◌, ℕ, IfOk, OnOk, List, Some, length, map, ◌<◌, if◌then◌else◌};
 ghost use Rattle.zone_machine.specs.Edits.{at_session};
-ghost use Rattle.zone_machine.specs.Sessions_seen.{ended, session_at, swept_session};
+ghost use Rattle.zone_machine.specs.Sessions_seen.{IsAwaited, ended, session_at, swept_session};
 
 use std::alloc::AllocError;
 use zn_base::ZoneName;
@@ -65,5 +65,15 @@ pub(crate) fn end_waits(sessions: &mut Vec<Session>, zone: &ZoneName, ticket: u3
 {
     for session in sessions.iter_mut() {
         end(session, zone, ticket);
+    }
+}
+
+/// The zone and the ticket that a session waits for.
+pub(crate) fn awaited(sessions: &[Session], number: u8) -> Option<(&ZoneName, u32)>
+    ensures { IsAwaited result (session_at sessions.now number) }
+{
+    match sessions.get(number as usize) {
+        Some(Session::Awaiting { zone, ticket }) => Some((zone, *ticket)),
+        _ => None,
     }
 }

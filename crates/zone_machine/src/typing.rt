@@ -3,12 +3,12 @@ ghost use Rattle.std.specs.Prelude.{◌≡◌, ℕ, ◌+◌, ◌++◌, ◌∷◌
 ghost use Rattle.zone_machine.specs.Decisions.{act_of, says};
 ghost use Rattle.zone_machine.specs.Desks_seen.{desk_seen};
 ghost use Rattle.zone_machine.specs.Lines as lines;
-ghost use Rattle.zone_machine.specs.Lines_seen.{command_seen};
+ghost use Rattle.zone_machine.specs.Lines_seen.{command_seen, line_seen};
 ghost use Rattle.zone_machine.specs.Acts_seen.{Puts, PutsRequest};
 ghost use Rattle.zone_machine.specs.Lists_seen.{StandsAt, StandsNowhere};
 ghost use Rattle.zone_machine.specs.Tables.{Acts, Does, came_rest, kept_rest, world_of};
-ghost use Rattle.zone_machine.specs.Typed.{idle_line, is_full, make, make_at, put_request, usable_path};
-ghost use Rattle.zone_machine.specs.Sessions_seen.{session_at};
+ghost use Rattle.zone_machine.specs.Typed.{idle_line, is_full, make, make_at, put_request, typed, usable_path};
+ghost use Rattle.zone_machine.specs.Sessions_seen.{IsOwnSession, session_at};
 ghost use Rattle.zone_machine.specs.State.{empty_desk};
 ghost use Rattle.zone_machine.specs.Worlds.{view_of};
 ghost use Rattle.zn_base.specs.Path.{path_of};
@@ -17,10 +17,11 @@ ghost use Rattle.zone_machine.specs.declared.records.Record as record_types;
 use crate::daemon::RequestKind;
 use crate::desks::Desk;
 use crate::faults::StepFault;
+use crate::lines::{Command, Line};
 use crate::lists::{add, place_of};
 use crate::records::{Config, Record};
 use crate::replies::{Head, Refusal};
-use crate::sessions::{Session, wait};
+use crate::sessions::{Session, awaited, wait};
 use crate::tables::Tables;
 use crate::turns::number_in;
 use std::alloc::{AllocError, Global};
@@ -196,5 +197,67 @@ fn put_on(
     match place_of(desks, zone) {
         Some(at) => put_at(desks, at, zone, kind),
         None => Ok(Some(put_on_new(desks, alloc, zone, kind)?)),
+    }
+}
+
+impl Tables {
+    // A line of an idle session.
+    #[tactic(auto, unfolding(crate::specs::Worlds::view_of))]
+    fn idle_line(
+        &mut self,
+        alloc: Global,
+        zone: &ZoneName,
+        number: u8,
+        command: Command<'_>,
+        grant: Grant,
+    ) -> Result<Head, StepFault>
+        requires { session_at self.old.sessions.items number ≡ Session.Idle }
+        ensures head { IfOk result (λ head. says head ≡ (act_of (idle_line (view_of zone.now (world_of zone.now self.old)) (command_seen command.entry)) grant).effect.reply) }
+        ensures state { OnOk result (Acts zone.now (Some number) (act_of (idle_line (view_of zone.now (world_of zone.now self.old)) (command_seen command.entry)) grant) self.old self.new) }
+    {
+        match command {
+            Command::Blank => Ok(Head::Ok),
+            Command::Make(word) => self.make(alloc, zone, word, grant),
+            Command::Request(kind) => self.request(alloc, zone, number, kind),
+            Command::Unknown => Ok(Head::Refused(Refusal::Usage)),
+        }
+    }
+
+    // A request for a zone.
+    fn request(
+        &mut self,
+        alloc: Global,
+        zone: &ZoneName,
+        number: u8,
+        kind: RequestKind,
+    ) -> Result<Head, StepFault>
+        requires { session_at self.old.sessions.items number ≡ Session.Idle }
+        ensures head { IfOk result (λ head. says head ≡ (put_request (world_of zone.now self.old).desk kind (world_of zone.now self.old).stored).reply) }
+        ensures state { OnOk result (Acts zone.now (Some number) (record { came = None; effect = put_request (world_of zone.now self.old).desk kind (world_of zone.now self.old).stored }) self.old self.new) }
+    {
+        match self.stored(zone) {
+            Some(_) => self.put_request(alloc, zone, number, kind),
+            None => Ok(Head::Refused(Refusal::NoZone)),
+        }
+    }
+
+    /// A line that a session types, which is idle or waits in the zone.
+    #[tactic(auto, unfolding(crate::specs::Worlds::view_of, crate::specs::Typed::typed))]
+    pub(crate) fn typed(
+        &mut self,
+        alloc: Global,
+        zone: &ZoneName,
+        number: u8,
+        line: Line<'_>,
+        grant: Grant,
+    ) -> Result<Head, StepFault>
+        requires { IsOwnSession zone.now (session_at self.old.sessions.items number) }
+        ensures head { IfOk result (λ head. says head ≡ (act_of (typed (view_of zone.now (world_of zone.now self.old)) ((world_of zone.now self.old).sessions number) (line_seen line.entry)) grant).effect.reply) }
+        ensures state { OnOk result (Acts zone.now (Some number) (act_of (typed (view_of zone.now (world_of zone.now self.old)) ((world_of zone.now self.old).sessions number) (line_seen line.entry)) grant) self.old self.new) }
+    {
+        match awaited(&self.sessions, number) {
+            Some((_, ticket)) => Ok(Head::Refused(Refusal::Waiting(ticket))),
+            None => self.idle_line(alloc, zone, number, line.command, grant),
+        }
     }
 }
