@@ -14,3 +14,5 @@ pub mod Seeing
 pub mod Desk_turns
 pub mod Turning
 pub mod Line_cases
+pub mod Free_numbers
+pub mod Asking

@@ -1,7 +1,7 @@
 -- What a turn looks at.
 use Rattle.std.proofs.Common.{◌≡◌, ◌+◌, ◌<◌, ◌∷◌, ◌++◌, [], ℕ, List, Bool, Option, Some, None, true, false, filter, length, get_or, take, refl, ap, sym, ◌∙◌}
 use Rattle.std.specs.Prelude.{bytes_eq, count_by, is_some, if◌then◌else◌}
-use Rattle.std.specs.List.{cons_option}
+use Rattle.std.specs.List.{cons_option, list_any}
 use Rattle.std.specs.Option.{option_map}
 use Rattle.std.proofs.lemmas.List.{take_more, append-nil}
 use Rattle.std.proofs.lemmas.List.Elements.{filter_map-append}
@@ -38,3 +38,23 @@ last_dir-more z os i o fits is = rw (mine-more z os i o fits is) (at_zone (bytes
     at_zone : (b : Bool) → bytes_eq z o.zone ≡ b → (if b then Some o.it.dir else last_dir (mine z (take i os))) ≡ last_dir (mine z (take i os) ++ mine z (o ∷ []))
     at_zone true e = simp (e, last-push (mine z (take i os)) o.it)
     at_zone false e = simp (e, append-nil (mine z (take i os)))
+
+some_last : {A : Type 0} (x : A) (xs : List A) → is_some (last_of (x ∷ xs)) ≡ true
+some_last {A = A} x xs = at_rest (last_of xs)
+  where
+    at_rest : (o : Option A) → is_some (if is_some o then o else Some x) ≡ true
+    at_rest None = refl
+    at_rest (Some y) = refl
+
+some_dir : (o : Option Mount) → is_some (option_map (λ m. m.dir) o) ≡ is_some o
+some_dir None = refl
+some_dir (Some m) = refl
+
+-- something is mounted where a mount of the zone is
+pub any_mounted : (z : List ℕ) (os : List (Owned Mount)) → list_any (λ o. bytes_eq z o.zone) os ≡ is_some (last_dir (mine z os))
+any_mounted z [] = refl
+any_mounted z (o ∷ os) = at_head (any_mounted z os) (bytes_eq z o.zone) refl
+  where
+    at_head : list_any (λ o. bytes_eq z o.zone) os ≡ is_some (last_dir (mine z os)) → (b : Bool) → bytes_eq z o.zone ≡ b → list_any (λ o. bytes_eq z o.zone) (o ∷ os) ≡ is_some (last_dir (mine z (o ∷ os)))
+    at_head ih true e = simp e (sym (some_dir (last_of (o.it ∷ mine z os)) ∙ some_last o.it (mine z os)))
+    at_head ih false e = simp e ih

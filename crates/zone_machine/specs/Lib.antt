@@ -11,6 +11,7 @@ pub mod Desks_seen
 pub mod Sessions_seen
 pub mod Lists_seen
 pub mod Turns_seen
+pub mod Needs_seen
 pub mod Tables
 pub mod Acts_seen
 pub mod Machine

@@ -9,6 +9,8 @@ mod events;
 mod faults;
 mod lines;
 mod lists;
+mod needs;
+mod numbers;
 mod objects;
 mod plans;
 mod records;

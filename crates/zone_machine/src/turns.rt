@@ -297,7 +297,7 @@ fn is_unmount(step: &Step) -> bool
 }
 
 // Where no mount is left the unmounts are passed over.
-fn skip_unmounts(steps: &[Step], from: usize) -> usize
+pub(crate) fn skip_unmounts(steps: &[Step], from: usize) -> usize
     ensures { drop result steps.now ≡ without_unmounts (drop from steps.now) }
 {
     let mut at = from;

@@ -34,7 +34,7 @@ fn is_root(path: &AbsPath) -> bool
 }
 
 // The path that a word is, where it may be a zone's.
-fn usable_path(alloc: Global, word: &[u8]) -> Result<Option<AbsPath>, AllocError>
+pub(crate) fn usable_path(alloc: Global, word: &[u8]) -> Result<Option<AbsPath>, AllocError>
     ensures { IfOk result (λ path. path ≡ usable_path (path_of word.now)) }
 {
     match AbsPath::read(alloc, word) {
