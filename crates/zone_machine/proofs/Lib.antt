@@ -16,3 +16,4 @@ pub mod Turning
 pub mod Line_cases
 pub mod Free_numbers
 pub mod Asking
+pub mod Pools_laws

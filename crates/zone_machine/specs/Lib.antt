@@ -12,6 +12,7 @@ pub mod Sessions_seen
 pub mod Lists_seen
 pub mod Turns_seen
 pub mod Needs_seen
+pub mod Numbers_seen
 pub mod Tables
 pub mod Acts_seen
 pub mod Machine

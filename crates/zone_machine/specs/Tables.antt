@@ -71,3 +71,14 @@ Acts z n a old new = Does z (acts_world n a) (came_rest z a.came) old new
 
 abbrev pub kept_rest : Rest → Rest
 kept_rest r = r
+
+-- what the pools know, by the tables
+abbrev pub pools_in : Tables → Pools
+pools_in t = record {
+  pid_used = λ n. list_any (λ o. has_pid n o.it) t.processes.items;
+  zid_used = λ n. list_any (λ o. has_zid n o.it) t.ids.items;
+  last_pid = t.last_pid;
+  last_zid = t.last_zid;
+  rows = t.rows.items;
+  serial = t.serial;
+}

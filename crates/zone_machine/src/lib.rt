@@ -13,6 +13,7 @@ mod needs;
 mod numbers;
 mod objects;
 mod plans;
+mod pools;
 mod records;
 mod replies;
 mod sessions;
