@@ -1,0 +1,29 @@
+-- What the pools say, one after another.
+use Rattle.std.proofs.Common.{◌≡◌, ◌∷◌, [], ◌+◌, ℕ, List, Bool, Option, Some, None, true, false, map, refl, ap, sym, ◌∙◌}
+use Rattle.std.specs.Prelude.{nat_eq, if◌then◌else◌}
+use Rattle.std.specs.List.{list_any}
+use Rattle.zn_base.specs.Names.{Name}
+use Rattle.zn_base.specs.declared.grant.Grant.{Grant}
+use Rattle.zn_base.specs.declared.grant.Grant.TheVariants.{Nothing, Number, Yes, Denied}
+use Rattle.zn_base.specs.declared.grant.Pool.TheVariants.{Zones, Paths}
+use Rattle.zone_machine.specs.Decisions.{A_path, A_serial, A_zone, Asked}
+use Rattle.zone_machine.specs.Numbers_seen.{is_among}
+use Rattle.zone_machine.specs.Pools.{Pools, has_place, path_taken, said_by, said_by_all}
+
+-- one pool alone
+pub said_one : (P : Pools) (z : Name) (a : Asked) → said_by_all P z (a ∷ []) Nothing ≡ said_by P z a
+said_one P z a = of_grant (said_by P z a)
+  where
+    of_grant : (g : Grant) → elim g as (λ g. Grant) [ Denied pool ↦ Denied pool | g ↦ g ] ≡ g
+    of_grant Nothing = refl
+    of_grant (Number n) = refl
+    of_grant Yes = refl
+    of_grant (Denied pool) = refl
+
+-- the numbers of a list, as those that are used
+pub among-map : {A : Type 0} (f : A → ℕ) (xs : List A) (n : ℕ) → is_among (map f xs) n ≡ list_any (λ x. nat_eq (f x) n) xs
+among-map f [] n = refl
+among-map f (x ∷ xs) n = rw (among-map f xs n) refl
+
+pub used-map : {A : Type 0} (f : A → ℕ) (used : List ℕ) (xs : List A) → used ≡ map f xs → is_among used ≡ (λ n. list_any (λ x. nat_eq (f x) n) xs)
+used-map f used xs h = λ i n. (ap (λ u. is_among u n) h ∙ among-map f xs n) i

@@ -1,0 +1,30 @@
+//! The zone machine: sessions type lines, zones' daemons take turns, and each such event has one subject,
+//! one grant and one reply. The definitions in `specs/` say what an event does to the state of all zones.
+#![tactic(auto)]
+
+mod acts;
+mod daemon;
+mod desks;
+mod events;
+mod faults;
+mod lines;
+mod lists;
+mod needs;
+mod numbers;
+mod objects;
+mod plans;
+mod pools;
+mod records;
+mod replies;
+mod sessions;
+mod sights;
+mod tables;
+mod turns;
+mod typing;
+
+pub use daemon::{Change, ChangeKind, Outcome, RequestKind, Step, TurnReply};
+pub use events::{Entry, Event, Subject};
+pub use faults::StepFault;
+pub use objects::{Id, Mount, Process};
+pub use records::{Commit, Config, Record};
+pub use replies::{Body, Head, Refusal, Reply};

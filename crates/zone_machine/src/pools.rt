@@ -1,0 +1,105 @@
+//! What the pools give that all zones share, and which grants may be stated.
+ghost use Rattle.std.specs.Prelude.{◌≡◌, ◌&&◌, ◌∷◌, [], ◌+◌, IfOk, bytes_eq, map, not, if◌then◌else◌};
+ghost use Rattle.std.specs.List.{list_any};
+ghost use Rattle.zone_machine.specs.Decisions.{A_path, A_serial, A_zone};
+ghost use Rattle.zone_machine.specs.Needs_seen.{asked_by};
+ghost use Rattle.zone_machine.specs.Numbers_seen.{is_among};
+ghost use Rattle.zone_machine.specs.Pools.{fits_asked, fits_pool, has_place, has_room, next_free, numbered, path_taken, said_by, said_by_all};
+ghost use Rattle.zone_machine.specs.Tables.{pools_in};
+
+use crate::needs::Need;
+use crate::numbers::next_free;
+use crate::objects::{Id, Process};
+use crate::records::Record;
+use crate::tables::Tables;
+use std::alloc::{AllocError, Global};
+use zn_base::{AbsPath, Grant, Owned, Pool, ZoneName};
+
+fn pids(alloc: Global, processes: &[Owned<Process>]) -> Result<Vec<u32>, AllocError>
+    ensures { IfOk result (λ v. v.items ≡ map (λ o. o.it.pid) processes.now) }
+{
+    processes.iter().map(|owned| owned.it.pid).collect(alloc)
+}
+
+fn zids(alloc: Global, ids: &[Owned<Id>]) -> Result<Vec<u32>, AllocError>
+    ensures { IfOk result (λ v. v.items ≡ map (λ o. o.it.zid) ids.now) }
+{
+    ids.iter().map(|owned| owned.it.zid).collect(alloc)
+}
+
+fn numbered(pool: Pool, number: Option<u32>) -> Grant
+    ensures { result ≡ numbered pool number }
+{
+    match number {
+        Some(number) => Grant::Number(number),
+        None => Grant::Denied(pool),
+    }
+}
+
+fn has_path(zone: &ZoneName, path: &AbsPath, row: &Owned<Record>) -> bool
+    ensures { result ≡ (not (bytes_eq zone.now row.now.zone) && bytes_eq path.now row.now.it.config.zonepath) }
+{
+    !zone.same(&row.zone) && path.bytes() == row.it.config.zonepath.bytes()
+}
+
+fn path_taken(rows: &[Owned<Record>], zone: &ZoneName, path: &AbsPath) -> bool
+    ensures { result ≡ list_any (λ row. not (bytes_eq zone.now row.zone) && bytes_eq path.now row.it.config.zonepath) rows.now }
+{
+    rows.iter().any(|row| has_path(zone, path, row))
+}
+
+impl Tables {
+    fn next_pid(&self, alloc: Global) -> Result<Grant, AllocError>
+        ensures { IfOk result (λ grant. grant ≡ numbered Pool.Pids (next_free (pools_in self.now).pid_used 2 29999 self.now.last_pid)) }
+    {
+        let used = pids(alloc, &self.processes)?;
+        Ok(numbered(Pool::Pids, next_free(&used, 2, 29_999, self.last_pid)))
+    }
+
+    fn next_zid(&self, alloc: Global) -> Result<Grant, AllocError>
+        ensures { IfOk result (λ grant. grant ≡ numbered Pool.Zids (next_free (pools_in self.now).zid_used 1 9999 self.now.last_zid)) }
+    {
+        let used = zids(alloc, &self.ids)?;
+        Ok(numbered(Pool::Zids, next_free(&used, 1, 9_999, self.last_zid)))
+    }
+
+    fn next_serial(&self) -> Grant
+        ensures { result ≡ (if has_room (pools_in self.now) then Grant.Number (self.now.serial + 1) else Grant.Denied Pool.Store) }
+    {
+        if self.serial < u32::MAX {
+            Grant::Number(self.serial + 1)
+        } else {
+            Grant::Denied(Pool::Store)
+        }
+    }
+
+    fn new_zone(&self, zone: &ZoneName, path: &AbsPath) -> Grant
+        ensures { result ≡ said_by_all (pools_in self.now) zone.now (A_zone ∷ A_path path.now ∷ A_serial ∷ []) Grant.Nothing }
+    {
+        if self.rows.len() >= 256 {
+            return Grant::Denied(Pool::Zones);
+        }
+        if path_taken(&self.rows, zone, path) {
+            return Grant::Denied(Pool::Paths);
+        }
+        self.next_serial()
+    }
+
+    /// What the pools give for a need.
+    pub(crate) fn grant_for(
+        &self,
+        alloc: Global,
+        zone: &ZoneName,
+        need: &Need,
+    ) -> Result<Grant, AllocError>
+        ensures { IfOk result (λ grant. grant ≡ said_by_all (pools_in self.now) zone.now (asked_by need.now) Grant.Nothing) }
+    {
+        match need {
+            Need::Nothing => Ok(Grant::Nothing),
+            Need::Pid => self.next_pid(alloc),
+            Need::Zid => self.next_zid(alloc),
+            Need::Record => Ok(self.next_serial()),
+            Need::NewZone(path) => Ok(self.new_zone(zone, path)),
+        }
+    }
+}

@@ -1,0 +1,73 @@
+//! What a turn looks at in the tables.
+ghost use Rattle.std.specs.Prelude.{◌≡◌, IfOk, Some, bytes_eq, length, if◌then◌else◌};
+ghost use Rattle.std.specs.Option.{option_map};
+ghost use Rattle.zn_base.specs.Owned_lists.{mine};
+ghost use Rattle.zone_machine.specs.Tables.{world_of};
+ghost use Rattle.zone_machine.specs.Turns.{last_dir, zid_of};
+ghost use Rattle.zone_machine.specs.Turns_seen.{Sees};
+
+use crate::lists::place_of;
+use crate::objects::{Id, Mount};
+use crate::tables::Tables;
+use crate::turns::Seen;
+use std::alloc::{AllocError, Global};
+use zn_base::{AbsPath, Owned, ZoneName};
+
+#[tactic(auto, using(crate::proofs::Seeing::count_mine))]
+fn count_of<T>(list: &[Owned<T>], zone: &ZoneName) -> usize
+    ensures { result ≡ length (mine zone.now list.now) }
+{
+    list.iter().filter(|owned| zone.same(&owned.zone)).count()
+}
+
+fn later_dir<'m>(
+    last: Option<&'m AbsPath>,
+    owned: &'m Owned<Mount>,
+    zone: &ZoneName,
+) -> Option<&'m AbsPath>
+    ensures { option_map (λ dir. dir.now) result ≡ (if bytes_eq zone.now owned.now.zone then Some owned.now.it.dir else option_map (λ dir. dir.now) last.entry) }
+{
+    if zone.same(&owned.zone) {
+        Some(&owned.it.dir)
+    } else {
+        last
+    }
+}
+
+// The greatest directory of a zone's mounts.
+fn last_dir(
+    alloc: Global,
+    mounts: &[Owned<Mount>],
+    zone: &ZoneName,
+) -> Result<Option<AbsPath>, AllocError>
+    ensures { IfOk result (λ dir. dir ≡ last_dir (mine zone.now mounts.now)) }
+{
+    let mut last = None;
+    for owned in mounts {
+        last = later_dir(last, owned, zone);
+    }
+    match last {
+        Some(dir) => Ok(Some(dir.copy(alloc)?)),
+        None => Ok(None),
+    }
+}
+
+fn zid_of(ids: &[Owned<Id>], zone: &ZoneName) -> Option<u32>
+    ensures { result ≡ zid_of (mine zone.now ids.now) }
+{
+    match place_of(ids, zone) {
+        Some(at) => Some(ids[at].it.zid),
+        None => None,
+    }
+}
+
+/// What a turn looks at.
+pub(crate) fn see(alloc: Global, tables: &Tables, zone: &ZoneName) -> Result<Seen, AllocError>
+    ensures { IfOk result (λ seen. Sees (world_of zone.now tables.now) seen) }
+{
+    Ok(Seen {
+        processes: count_of(&tables.processes, zone),
+        last_dir: last_dir(alloc, &tables.mounts, zone)?,
+        zid: zid_of(&tables.ids, zone),
+    })
+}

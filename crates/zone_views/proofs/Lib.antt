@@ -1,0 +1,2 @@
+pub mod Purge
+pub mod Steady

@@ -1,0 +1,194 @@
+-- Histories, as one zone sees them. Nothing here opens a case of the machine.
+use Rattle.std.proofs.Common.{◌≡◌, ◌∷◌, [], ◌&&◌, ℕ, List, Bool, true, false, Option, Some, None, map, ap, refl, subst, sym, ◌∙◌}
+use Rattle.std.specs.Prelude.{bytes_eq, nat_eq, filter, if◌then◌else◌}
+use Rattle.std.specs.List.{list_all}
+use Rattle.std.proofs.lemmas.Bool.{and_parts, false≢true}
+use Rattle.zn_base.proofs.Owned_laws.{same_self, same_true}
+use Rattle.zn_base.specs.Names.{Name}
+use Rattle.zn_base.specs.declared.grant.Grant.{Grant}
+use Rattle.zone_machine.proofs.Laws.{IsOwn, IsOwn-of, IsOwn-swept}
+use Rattle.zone_machine.proofs.Own_worlds.{leaves, reply-whole, reply-world, world-one, world_by-other}
+use Rattle.zone_machine.proofs.Same_laws.{reply-Decides, subject-Decides}
+use Rattle.zone_machine.specs.Decisions.{Act, act_of, acts, after_came}
+use Rattle.zone_machine.specs.Edits.{Edit, Here, Set_desk, Sweep, at_session, comes, edit, edits, session_of, Arrival, New_process}
+use Rattle.zone_machine.specs.Histories.{after, after_entry, any_grant, asked, concerns, entry_at, is_history, is_of, is_told, only, replay, replies, run, world_by, world_one}
+use Rattle.zone_machine.specs.Lines.{line_of}
+use Rattle.zone_machine.specs.Machine.{decide, one, one_of, opening, session_number, session_subject, subject}
+use Rattle.zone_machine.specs.Same.{same_reply, same_subject}
+use Rattle.zone_machine.specs.State.{At, Idle, Session as Session_mode, State, empty_desk, stored}
+use Rattle.zone_machine.specs.Worlds.{World, doing, view, world}
+use Rattle.zone_machine.specs.declared.events.Entry.{Entry}
+use Rattle.zone_machine.specs.declared.events.Event.{Event}
+use Rattle.zone_machine.specs.declared.events.Event.TheVariants.{Session, Turn}
+use Rattle.zone_machine.specs.declared.events.Subject.{Subject}
+use Rattle.zone_machine.specs.declared.events.Subject.TheVariants.{Zone, Global, Whole}
+use Rattle.zone_machine.specs.declared.records.Commit.{Commit}
+use Rattle.zone_machine.specs.declared.records.Record.{Record}
+
+-- a state that entries of z and of the whole system alone have reached: each session is idle or z's
+pub record IsPurged (z : Name) (S : State) : Type 0 where
+  pub sessions : (n : ℕ) → IsOwn z (S.sessions n)
+
+IsPurged-edit : (y z : Name) (n : Option ℕ) (e : Edit) (S : State) → y ≡ z → IsPurged z S → IsPurged z (edit y n e S)
+unfolding edit
+IsPurged-edit y z n (Here d) S same is = record { sessions = λ k. at_number n k }
+  where
+    at_test : (k : ℕ) (b : Bool) → IsOwn z (if b then session_of y d else S.sessions k)
+    at_test k true = subst (λ x. IsOwn z (session_of x d)) (sym same) (IsOwn-of z d)
+    at_test k false = is.sessions k
+
+    at_number : (m : Option ℕ) (k : ℕ) → IsOwn z (at_session m k (session_of y d) (S.sessions k))
+    at_number None k = is.sessions k
+    at_number (Some m) k = at_test k (nat_eq m k)
+IsPurged-edit y z n (Sweep f) S same is = record { sessions = λ k. IsOwn-swept y z f (S.sessions k) (is.sessions k) }
+IsPurged-edit y z n (Set_desk d) S same is = record { sessions = is.sessions }
+IsPurged-edit y z n _ S same is = record { sessions = is.sessions }
+
+IsPurged-edits : (y z : Name) (n : Option ℕ) (es : List Edit) (S : State) → y ≡ z → IsPurged z S → IsPurged z (edits y n es S)
+IsPurged-edits y z n [] S same is = is
+IsPurged-edits y z n (e ∷ es) S same is = IsPurged-edits y z n es (edit y n e S) same (IsPurged-edit y z n e S same is)
+
+IsPurged-came : (y z : Name) (c : Option Arrival) (S : State) → IsPurged z S → IsPurged z (after_came y c S)
+unfolding comes
+IsPurged-came y z None S is = is
+IsPurged-came y z (Some (New_process p)) S is = record { sessions = is.sessions }
+IsPurged-came y z (Some _) S is = record { sessions = is.sessions }
+
+IsPurged-one : (z : Name) (S : State) (e : Event) (g : Grant) → concerns z (subject S e) ≡ true → IsPurged z S → IsPurged z (one S e g).state
+unfolding one
+IsPurged-one z S e g h is = at_subject (subject S e) h
+  where
+    at_subject : (s : Subject) → concerns z s ≡ true → IsPurged z (one_of s S e g).state
+    at_subject (Zone y) h =
+        let a : Act = act_of (decide (view y S) e) g in
+        let acted : IsPurged z (acts y (session_number e) a S) = IsPurged-edits y z (session_number e) a.effect.edits (after_came y a.came S) (sym (same_true z y h)) (IsPurged-came y z a.came S is) in
+        record { sessions = acted.sessions }
+    at_subject Global h = absurd (false≢true h)
+    at_subject Whole h = record { sessions = is.sessions }
+
+-- two states agree on z, and the second was reached by entries that concern z
+pub record Agree (z : Name) (S T : State) : Type 0 where
+  pub world : world z S ≡ world z T
+  pub purged : IsPurged z T
+
+-- they give each event that concerns z the same subject
+pub subjects : (z : Name) (S T : State) (e : Event) → Agree z S T → concerns z (subject S e) ≡ true → subject T e ≡ subject S e
+unfolding subject
+subjects z S T (Session n text) a h = at_sessions (S.sessions n) (T.sessions n) (ap (λ w. w.sessions n) a.world) (a.purged.sessions n) h
+  where
+    at_sessions : (s t : Session_mode) → doing z s ≡ doing z t → IsOwn z t → concerns z (session_subject (line_of text) s) ≡ true → session_subject (line_of text) t ≡ session_subject (line_of text) s
+    at_sessions Idle Idle d own h = refl
+    at_sessions Idle (At y x) d own h = let e : bytes_eq z y ≡ true = subst (λ w. bytes_eq z w ≡ true) (sym own) (same_self z) in let none : None ≡ Some x = simp e at d in cc
+    at_sessions (At y x) Idle d own h = let none : Some x ≡ None = simp h at d in cc
+    at_sessions (At y x) (At y' x') d own h = ap Zone (own ∙ same_true z y h)
+subjects z S T (Turn y) a h = refl
+
+-- a step of both
+kept_step : (z : Name) (S T : State) (e : Event) (g : Grant) → Agree z S T → concerns z (subject S e) ≡ true
+    → Agree z (one S e g).state (one T e g).state × ((one S e g).reply ≡ (one T e g).reply)
+kept_step z S T e g a h = (record { world = worlds; purged = purged }, at_subject (subject S e) refl h)
+  where
+    same : subject T e ≡ subject S e
+    same = subjects z S T e a h
+
+    purged : IsPurged z (one T e g).state
+    purged = IsPurged-one z T e g (subst (λ s. concerns z s ≡ true) (sym same) h) a.purged
+
+    worlds : world z (one S e g).state ≡ world z (one T e g).state
+    worlds = world-one z S e g ∙ (ap (λ w. world_by (subject S e) z w e g) a.world ∙ (ap (λ s. world_by s z (world z T) e g) (sym same) ∙ sym (world-one z T e g)))
+
+    at_subject : (s : Subject) → subject S e ≡ s → concerns z s ≡ true → (one S e g).reply ≡ (one T e g).reply
+    at_subject (Zone y) is h = let mine : subject S e ≡ Zone z = is ∙ ap Zone (sym (same_true z y h)) in reply-world z S T e g mine (same ∙ mine) a.world
+    at_subject Global is h = absurd (false≢true h)
+    at_subject Whole is h = reply-whole S T e g is (same ∙ is)
+
+replies-cons : (z : Name) (e : Entry) (h : List Entry) → replies z (e ∷ h) ≡ (if is_of z e.subject then e.reply ∷ replies z h else replies z h)
+replies-cons z e h = at_test (is_of z e.subject)
+  where
+    at_test : (b : Bool) → map (λ e. e.reply) (if b then e ∷ filter (λ e. is_of z e.subject) h else filter (λ e. is_of z e.subject) h) ≡ (if b then e.reply ∷ replies z h else replies z h)
+    at_test true = refl
+    at_test false = refl
+
+not_of : (z : Name) (s : Subject) → concerns z s ≡ false → is_of z s ≡ false
+not_of z (Zone y) h = h
+not_of z Global h = refl
+not_of z Whole h = refl
+
+-- two entries with one subject and one reply, and replies that agree from there on
+replies-step : (z : Name) (e f : Entry) (h k : List Entry) → e.subject ≡ f.subject → e.reply ≡ f.reply → replies z h ≡ replies z k → replies z (e ∷ h) ≡ replies z (f ∷ k)
+replies-step z e f h k subject reply more =
+    replies-cons z e h ∙ ((λ i. if is_of z (subject i) then reply i ∷ more i else more i) ∙ sym (replies-cons z f k))
+
+-- removing the entries of all other zones changes no reply of z
+pub purge : (z : Name) (es : List (Event × Grant)) (S T : State) → Agree z S T → replies z (run S es) ≡ replies z (run T (asked (only z (run S es))))
+purge z [] S T a = refl
+purge z (e ∷ es) S T a = at_test (λ S T a. purge z es S T a) _ refl
+  where
+    at_test : ((S T : State) → Agree z S T → replies z (run S es) ≡ replies z (run T (asked (only z (run S es)))))
+        → (b : Bool) → concerns z (subject S e.0) ≡ b → replies z (run S (e ∷ es)) ≡ replies z (run T (asked (only z (run S (e ∷ es)))))
+    at_test ih true h =
+        let both = kept_step z S T e.0 e.1 a h in
+        let left : List Entry = run (one S e.0 e.1).state es in
+        rw h (replies-step z (entry_at S e.0 e.1) (entry_at T e.0 e.1) left (run (one T e.0 e.1).state (asked (only z left))) (sym (subjects z S T e.0 a h)) both.1 (ih (one S e.0 e.1).state (one T e.0 e.1).state both.0))
+    at_test ih false h =
+        rw (h, replies-cons z (entry_at S e.0 e.1) (run (one S e.0 e.1).state es), not_of z (subject S e.0) h)
+        (ih (one S e.0 e.1).state T (record { world = leaves z S e.0 e.1 h ∙ a.world; purged = a.purged }))
+
+-- the openings of two stores that hold the same of z
+pub opening-agree : (z : Name) (commits others : List Commit) → stored z commits ≡ stored z others → Agree z (opening commits) (opening others)
+opening-agree z commits others h = record {
+  world = let f : Option Record → World = λ row. record { processes = []; mounts = []; ids = []; stored = row; desk = empty_desk; sessions = λ n. None } in ap f h;
+  purged = record { sessions = λ n. tt };
+}
+
+-- a history is the run of its own events
+told_entry : (S : State) (e : Entry) → is_told S e ≡ true → entry_at S e.event e.grant ≡ e
+told_entry S e h =
+    let parts = and_parts (same_subject e.subject (subject S e.event)) (same_reply e.reply (one S e.event e.grant).reply) h in
+    let subject : subject S e.event ≡ e.subject = sym ((subject-Decides e.subject (subject S e.event)).0 parts.0) in
+    let reply : (one S e.event e.grant).reply ≡ e.reply = sym ((reply-Decides e.reply (one S e.event e.grant).reply).0 parts.1) in
+    λ i. record { event = e.event; subject = subject i; grant = e.grant; reply = reply i }
+
+-- the three parts of a history that begins with an entry
+pub record Begins (permits : State → Event → Grant → Bool) (S : State) (e : Entry) (h : List Entry) : Type 0 where
+  pub told : is_told S e ≡ true
+  pub permitted : permits S e.event e.grant ≡ true
+  pub rest : is_history permits (after_entry S e) h ≡ true
+
+pub begins : (permits : State → Event → Grant → Bool) (S : State) (e : Entry) (h : List Entry) → is_history permits S (e ∷ h) ≡ true → Begins permits S e h
+begins permits S e h is =
+    let outer = and_parts (is_told S e && permits S e.event e.grant) (is_history permits (after_entry S e) h) is in
+    let inner = and_parts (is_told S e) (permits S e.event e.grant) outer.0 in
+    record { told = inner.0; permitted = inner.1; rest = outer.1 }
+
+pub run-asked : (permits : State → Event → Grant → Bool) (S : State) (h : List Entry) → is_history permits S h ≡ true → run S (asked h) ≡ h
+run-asked permits S [] is = refl
+run-asked permits S (e ∷ h) is =
+    let parts = begins permits S e h is in
+    let first : entry_at S e.event e.grant ≡ e = told_entry S e parts.told in
+    let more : run (after_entry S e) (asked h) ≡ h = run-asked permits (after_entry S e) h parts.rest in
+    λ i. first i ∷ more i
+
+-- a state that a history left, whose entries all concern z
+pub IsPurged-after : (z : Name) (S : State) (h : List Entry) → is_history any_grant S h ≡ true → list_all (λ entry. concerns z entry.subject) h ≡ true → IsPurged z S → IsPurged z (after S h)
+IsPurged-after z S [] is all p = p
+IsPurged-after z S (e ∷ h) is all p =
+    let parts = begins any_grant S e h is in
+    let both = and_parts (concerns z e.subject) (list_all (λ entry. concerns z entry.subject) h) all in
+    let same : e.subject ≡ subject S e.event = sym (ap (λ e. e.subject) (told_entry S e parts.told)) in
+    IsPurged-after z (after_entry S e) h parts.rest both.1 (IsPurged-one z S e.event e.grant (subst (λ s. concerns z s ≡ true) same both.0) p)
+
+-- a zone's world after a history is a replay of its own entries
+pub world-after : (z : Name) (permits : State → Event → Grant → Bool) (S : State) (h : List Entry) → is_history permits S h ≡ true → world z (after S h) ≡ replay z (world z S) (only z h)
+world-after z permits S [] is = refl
+world-after z permits S (e ∷ h) is = world-after z permits (after_entry S e) h parts.rest ∙ at_test _ refl
+  where
+    parts : Begins permits S e h
+    parts = begins permits S e h is
+
+    one_more : world z (after_entry S e) ≡ world_one z (world z S) e
+    one_more = world-one z S e.event e.grant ∙ ap (λ f. world_one z (world z S) f) (told_entry S e parts.told)
+
+    at_test : (b : Bool) → concerns z e.subject ≡ b → replay z (world z (after_entry S e)) (only z h) ≡ replay z (world z S) (only z (e ∷ h))
+    at_test true c = rw c (ap (λ w. replay z w (only z h)) one_more)
+    at_test false c = rw c (ap (λ w. replay z w (only z h)) (one_more ∙ world_by-other z e.subject (world z S) e.event e.grant c))

@@ -1,0 +1,19 @@
+use Rattle.std.proofs.Common.{◌≡◌, ap, refl, sym, ◌∙◌, subst}
+use Rattle.zone_machine.specs.Histories.{asked, only, replies, run}
+use Rattle.zone_machine.specs.Machine.{opening}
+use Rattle.zone_views.proofs.Purge.{opening-agree, purge, run-asked}
+use Rattle.zone_views.proofs.laws.purging_keeps_replies.Goals as goal
+
+histories : goal.returns-clause-histories
+histories c = λ z permits commits others h is same.
+    subst (λ k. replies z k ≡ replies z (run (opening others) (asked (only z k)))) (run-asked permits (opening commits) h is) (purge z (asked h) (opening commits) (opening others) (opening-agree z commits others same))
+
+pub returns-clause-histories : goal.returns-clause-histories
+returns-clause-histories = histories
+
+pub returns-clause-alike : goal.returns-clause-alike
+returns-clause-alike c = λ z permits commits others h k is also same alike.
+    histories c z permits commits others h is same ∙ (ap (λ es. replies z (run (opening others) es)) alike ∙ sym (histories c z permits others others k also refl))
+
+pub returns-clause-runs : goal.returns-clause-runs
+returns-clause-runs c = λ z commits others es same. purge z es (opening commits) (opening others) (opening-agree z commits others same)

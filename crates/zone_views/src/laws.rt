@@ -1,0 +1,71 @@
+//! The laws, over every state or every history.
+ghost use Rattle.std.specs.Prelude.{◌≡◌, ◌⊎◌, Bool, List, Some, false, true};
+ghost use Rattle.std.specs.List.{list_all};
+ghost use Rattle.zn_base.specs.Moves.{may_move};
+ghost use Rattle.zn_base.specs.Names.{Name};
+ghost use Rattle.zn_base.specs.declared.grant.Grant.{Grant};
+ghost use Rattle.zone_machine.specs.Histories.{after, any_grant, asked, concerns, is_history, only, replay, replies, run};
+ghost use Rattle.zone_machine.specs.Machine.{need, one, opening, subject};
+ghost use Rattle.zone_machine.specs.State.{State, stored, zone_state};
+ghost use Rattle.zone_machine.specs.Worlds.{world};
+ghost use Rattle.zone_machine.specs.declared.events.Entry.{Entry};
+ghost use Rattle.zone_machine.specs.declared.events.Event.{Event};
+ghost use Rattle.zone_machine.specs.declared.events.Subject.TheVariants.{Zone};
+ghost use Rattle.zone_machine.specs.declared.records.Commit.{Commit};
+ghost use Rattle.zone_views.specs.Storable.{are_storable};
+
+/// An event that belongs neither to a zone nor to the whole system leaves the zone's world as it was.
+pub fn others_change_nothing()
+    ensures { (z : Name) (S : State) (e : Event) (g : Grant) → concerns z (subject S e) ≡ false
+        → world z (one S e g).state ≡ world z S }
+{}
+
+/// What a zone is told, what it asks, and what it becomes are functions of its world, the event and the
+/// grant.
+pub fn own_world_decides()
+    ensures reply { (z : Name) (S T : State) (e : Event) (g : Grant) → subject S e ≡ Zone z → subject T e ≡ Zone z
+        → world z S ≡ world z T → (one S e g).reply ≡ (one T e g).reply }
+    ensures need { (z : Name) (S T : State) (e : Event) → subject S e ≡ Zone z → subject T e ≡ Zone z
+        → world z S ≡ world z T → need S e ≡ need T e }
+    ensures after { (z : Name) (S T : State) (e : Event) (g : Grant) → concerns z (subject S e) ≡ true
+        → subject S e ≡ subject T e → world z S ≡ world z T → world z (one S e g).state ≡ world z (one T e g).state }
+{}
+
+/// A state that only entries of a zone and of the whole system reached has the same subject for each event
+/// that concerns the zone in a state with the same world of it.
+pub fn subjects_agree()
+    ensures { (z : Name) (S : State) (commits : List Commit) (h : List Entry) (e : Event)
+        → is_history any_grant (opening commits) h ≡ true → list_all (λ entry. concerns z entry.subject) h ≡ true
+        → world z S ≡ world z (after (opening commits) h)
+        → concerns z (subject S e) ≡ true → subject (after (opening commits) h) e ≡ subject S e }
+{}
+
+/// Removing the entries of all other zones, grants kept, changes no reply of a zone, whatever else is
+/// stored.
+pub fn purging_keeps_replies()
+    ensures histories { (z : Name) (permits : State → Event → Grant → Bool) (commits others : List Commit) (h : List Entry)
+        → is_history permits (opening commits) h ≡ true → stored z commits ≡ stored z others
+        → replies z h ≡ replies z (run (opening others) (asked (only z h))) }
+    // Two histories with the same entries of the zone give it the same replies.
+    ensures alike { (z : Name) (permits : State → Event → Grant → Bool) (commits others : List Commit) (h k : List Entry)
+        → is_history permits (opening commits) h ≡ true → is_history permits (opening others) k ≡ true
+        → stored z commits ≡ stored z others → asked (only z h) ≡ asked (only z k) → replies z h ≡ replies z k }
+    // The same of a run, whose grants may be any.
+    ensures runs { (z : Name) (commits others : List Commit) (es : List (Event × Grant)) → stored z commits ≡ stored z others
+        → replies z (run (opening commits) es) ≡ replies z (run (opening others) (asked (only z (run (opening commits) es)))) }
+{}
+
+/// The world of a zone after a history is what its own entries and those of the whole system make of the
+/// world before.
+pub fn worlds_are_replayed()
+    ensures { (z : Name) (permits : State → Event → Grant → Bool) (S : State) (h : List Entry)
+        → is_history permits S h ≡ true → world z (after S h) ≡ replay z (world z S) (only z h) }
+{}
+
+/// After any history an event leaves the state of each zone as it was, or the zone is its subject and
+/// moves along the transition table.
+pub fn states_move_along_the_table()
+    ensures { (z : Name) (commits : List Commit) (h : List Entry) (e : Event) (g : Grant)
+        → are_storable commits ≡ true → let S = after (opening commits) h in let T = (one S e g).state in
+        (zone_state z T ≡ zone_state z S) ⊎ ((subject S e ≡ Zone z) × (may_move (zone_state z S) (zone_state z T) ≡ true)) }
+{}

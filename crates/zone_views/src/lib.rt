@@ -1,0 +1,11 @@
+//! What a zone learns of the others: the laws of the zone machine's definitions. Removing all other zones'
+//! entries, grants kept, changes no reply of a zone, and zones move only along the transition table. Each
+//! law is the contract of a function that does nothing.
+#![tactic(auto)]
+
+mod laws;
+
+pub use laws::{
+    others_change_nothing, own_world_decides, purging_keeps_replies, states_move_along_the_table,
+    subjects_agree, worlds_are_replayed,
+};
