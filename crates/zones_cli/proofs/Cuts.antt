@@ -1,5 +1,5 @@
 -- The first line of an input.
-use Rattle.std.proofs.Common.{◌≡◌, ◌+◌, ◌≤◌, ◌<◌, ℕ, Bool, true, false, cond, not, nat_lt, suc, is_some, List, [], ◌∷◌, ◌++◌, ◌||◌, length, take, drop, Option, Some, None, IfSome, refl, ap, sym, ◌∙◌, arith, append_assoc, append-nil, length-append}
+use Rattle.std.proofs.Common.{◌≡◌, ◌+◌, ◌≤◌, ◌<◌, ℕ, Bool, true, false, cond, not, nat_lt, suc, is_some, List, [], ◌∷◌, ◌++◌, ◌||◌, length, take, drop, Option, Some, None, IfSome, refl, ap, sym, ◌∙◌, arith, append_assoc, append-nil, length-append, inl}
 use Rattle.std.proofs.lemmas.Bool.Decides.{nat_tests}
 use Rattle.std.proofs.lemmas.List.{take_all, drop_all, nil_from_length, take-append-drop}
 use Rattle.std.proofs.lemmas.List.Folds.{list_any-append}
@@ -8,10 +8,10 @@ use Rattle.std.specs.List.{position, position_or_len, before_first, after_first,
 use Rattle.std.specs.Io.KnownBytes.{IsAtEnd}
 use Rattle.zn_base.specs.Streams.{before_known}
 use Rattle.zones_cli.specs.Lines.{lines_of, with_first, is_newline, has_newline}
-use Rattle.zones_cli.specs.Reading.{lines_left, FirstIsLong}
+use Rattle.zones_cli.specs.Reading.{lines_left, FirstIsLong, TakesLine}
 
 -- a newline ends the first line
-cut_at : (p rest : List ℕ) → has_newline p ≡ false → lines_of (p ++ 10 ∷ rest) ≡ p ∷ lines_of rest
+pub cut_at : (p rest : List ℕ) → has_newline p ≡ false → lines_of (p ++ 10 ∷ rest) ≡ p ∷ lines_of rest
 cut_at [] rest h = refl
 cut_at (b ∷ p) rest h =
     elim (is_newline b) as (λ v. (v || has_newline p) ≡ false → cond v ([] ∷ lines_of (p ++ 10 ∷ rest)) (with_first b (lines_of (p ++ 10 ∷ rest))) ≡ (b ∷ p) ∷ lines_of rest) [
@@ -92,7 +92,7 @@ none_behind xs h = let l = no_parts xs h in drop_all (position_or_len is_newline
 both_clean : (xs ys : List ℕ) → has_newline xs ≡ false → has_newline ys ≡ false → has_newline (xs ++ ys) ≡ false
 both_clean xs ys h k = list_any-append is_newline xs ys ∙ rw (h, k) refl
 
-cut_whole : (p : List ℕ) → has_newline p ≡ false → 0 < length p → lines_of p ≡ p ∷ []
+pub cut_whole : (p : List ℕ) → has_newline p ≡ false → 0 < length p → lines_of p ≡ p ∷ []
 cut_whole [] h l = absurd (omega arith)
 cut_whole (b ∷ p) h l = cut_end b p h
 
@@ -166,3 +166,23 @@ goes_on all (Some xs) line ahead e none = e ∙ ap Some (rw (all_front ahead non
 
 pub clean_on : (line ahead : List ℕ) → has_newline line ≡ false → has_newline ahead ≡ false → has_newline (line ++ before_first is_newline ahead) ≡ false
 clean_on line ahead h k = both_clean line (before_first is_newline ahead) h (clean_front ahead)
+
+-- where a newline is ahead, the line and its newline were taken
+pub took_line : (all left : Option (List ℕ)) (line ahead : List ℕ) → all ≡ before_known line (before_known ahead left) → has_newline line ≡ false → has_newline ahead ≡ true → TakesLine (line ++ before_first is_newline ahead) all (before_known (after_first is_newline ahead) left)
+took_line all left line ahead e clean has = record {
+  clean = both_clean line (before_first is_newline ahead) clean (clean_front ahead);
+  ended = inl (bytes left e);
+}
+  where
+    bytes : (left : Option (List ℕ)) → all ≡ before_known line (before_known ahead left) → all ≡ before_known ((line ++ before_first is_newline ahead) ++ 10 ∷ []) (before_known (after_first is_newline ahead) left)
+    bytes None e = e
+    bytes (Some xs) e =
+        let front = before_first is_newline ahead in
+        let behind = after_first is_newline ahead in
+        e ∙ ap Some (ap (λ bs. line ++ (bs ++ xs)) (parts ahead has) ∙ ap (λ bs. line ++ bs) (append_assoc front (10 ∷ behind) xs)
+        ∙ sym (append_assoc line front (10 ∷ (behind ++ xs))) ∙ sym (append_assoc (line ++ front) (10 ∷ []) (behind ++ xs)))
+
+-- nothing before what is known
+pub nothing_before : (ahead : List ℕ) (left known : Option (List ℕ)) → ahead ≡ [] → known ≡ left → before_known ahead left ≡ known
+nothing_before ahead None known none same = sym same
+nothing_before ahead (Some bs) known none same = ap (λ front. Some (front ++ bs)) none ∙ sym same

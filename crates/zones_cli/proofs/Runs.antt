@@ -4,7 +4,8 @@ use Rattle.std.specs.Option.{option_map}
 use Rattle.zone_config.specs.declared.terms.Contents.{Contents}
 use Rattle.zones_cli.specs.Lines.{is_newline, lines_of, with_first}
 use Rattle.zones_cli.specs.Reading.{lines_left}
-use Rattle.zones_cli.specs.Output.{edited, exported, limit_at}
+use Rattle.zones_cli.specs.Exporting.{edited, exported}
+use Rattle.zones_cli.specs.Output.{limit_at}
 
 -- where the first line past the last number is there, it is past the limit
 past_last : (config : Option Contents) (b : ℕ) (bytes : List ℕ) → edited 200001 config (lines_of (b ∷ bytes)) ≡ limit_at 200001

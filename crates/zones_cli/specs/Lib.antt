@@ -3,5 +3,8 @@ pub mod Reading
 pub mod Subcommands
 pub mod Words
 pub mod Output
+pub mod Exporting
 pub mod Outcomes
+pub mod Tracing
+pub mod Program
 pub mod Run

@@ -1,6 +1,7 @@
 -- What reading one line says.
-use Rattle.std.specs.Prelude.{◌≡◌, ◌<◌, ◌≤◌, ◌+◌, ◌++◌, ℕ, List, [], ◌∷◌, length, true, false, Option, IfSome}
+use Rattle.std.specs.Prelude.{◌≡◌, ◌<◌, ◌≤◌, ◌+◌, ◌++◌, ◌⊎◌, ℕ, List, [], ◌∷◌, length, true, false, Option, IfSome}
 use Rattle.std.specs.List.{after_first, before_first}
+use Rattle.std.specs.Io.KnownBytes.{IsAtEnd}
 use Rattle.std.specs.Option.{option_map}
 use Rattle.zn_base.specs.Streams.{before_known}
 use Rattle.zones_cli.specs.Lines.{has_newline, is_newline, lines_of}
@@ -23,6 +24,22 @@ abbrev pub GivesLine : Got → List ℕ → Option (List (List ℕ)) → Option 
 GivesLine Line line old new = (old ≡ option_map (λ lines. line ∷ lines) new) × (length line ≤ 4096)
 GivesLine End line old new = IfSome old (λ lines. lines ≡ [])
 GivesLine TooLong line old new = IfSome old FirstIsLong
+
+-- a line was taken off some bytes, with its newline, or as the last one without
+pub record TakesLine (line : List ℕ) (old new : Option (List ℕ)) : Type 0 where
+  pub clean : has_newline line ≡ false
+  pub ended : (old ≡ before_known (line ++ 10 ∷ []) new) ⊎ ((old ≡ before_known line new) × (0 < length line) × IsAtEnd new)
+
+abbrev pub TakesBytes : Got → List ℕ → Option (List ℕ) → Option (List ℕ) → Type 0
+TakesBytes Line line old new = TakesLine line old new
+TakesBytes End line old new = Unit {0}
+TakesBytes TooLong line old new = Unit {0}
+
+-- no more than the beginning of a line was taken off some bytes
+pub record BeginsLine (old new : Option (List ℕ)) : Type 0 where
+  pub begun : List ℕ
+  pub clean : has_newline begun ≡ false
+  pub taken : old ≡ before_known begun new
 
 -- what stands before a newline was moved onto a line
 pub record MovesPart (line new_line ahead new_ahead : List ℕ) : Type 0 where

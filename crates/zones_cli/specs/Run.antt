@@ -1,12 +1,12 @@
 -- What a run leaves on its two sinks, by its status.
 use Rattle.std.specs.Prelude.{◌≡◌, ◌≤◌, ◌⊎◌, ◌++◌, ◌∷◌, [], ℕ, List, length, take, Option, codes}
 use Rattle.zn_base.specs.Streams.{Rose, after_known}
-use Rattle.zones_cli.specs.declared.status.TheConstants.{DONE, LIMIT, NO_MEMORY, READ_FAULT, REFUSED, USAGE, WRITE_FAULT}
+use Rattle.zones_cli.specs.declared.status.TheConstants.{DONE, GRAMMAR, LIMIT, NO_MEMORY, READ_FAULT, REFUSED, USAGE, WRITE_FAULT}
 use Rattle.zones_cli.specs.Output.{Output}
 
 -- the statuses that the words and the whole input decide
 abbrev pub IsDecided : ℕ → Type 0
-IsDecided status = (status ≡ DONE) ⊎ ((status ≡ REFUSED) ⊎ ((status ≡ USAGE) ⊎ (status ≡ LIMIT)))
+IsDecided status = (status ≡ DONE) ⊎ ((status ≡ REFUSED) ⊎ ((status ≡ USAGE) ⊎ ((status ≡ GRAMMAR) ⊎ (status ≡ LIMIT))))
 
 abbrev pub IsStatus : ℕ → Type 0
 IsStatus status = IsDecided status ⊎ ((status ≡ READ_FAULT) ⊎ ((status ≡ WRITE_FAULT) ⊎ (status ≡ NO_MEMORY)))

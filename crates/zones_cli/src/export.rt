@@ -2,17 +2,14 @@
 ghost use Rattle.std.specs.Prelude.{◌≡◌, ◌≤◌, IfOk, IsErrOf, IfSome, None};
 ghost use Rattle.zn_base.specs.Streams.{Rose};
 ghost use Rattle.zones_cli.specs.Outcomes.{outcome_of};
-ghost use Rattle.zones_cli.specs.Output.{ended, exported};
+ghost use Rattle.zones_cli.specs.Exporting.{ended, exported};
 
 use crate::edit::{EditFault, edit};
-use crate::lines::{Ahead, Got, ReadFault, next_line};
+use crate::lines::{Ahead, Got, LINES_MAX, ReadFault, next_line};
 use crate::outcome::{Complaint, EndFault, Outcome};
 use std::alloc::Global;
 use zn_base::Source;
 use zone_config::{ConfigFault, ZoneConfig, export};
-
-/// The greatest number of lines.
-pub const LINES_MAX: u64 = 200_000;
 
 // What the end of the input comes to.
 fn end_of(alloc: Global, zone: &Option<ZoneConfig>) -> Result<Outcome, ReadFault>

@@ -5,7 +5,7 @@ ghost use Rattle.std.specs.Io.KnownBytes.{IsAtEnd};
 ghost use Rattle.std.specs.List.{after_first, before_first};
 ghost use Rattle.zn_base.specs.Streams.{Rose, before_known};
 ghost use Rattle.zones_cli.specs.Lines.{has_newline, is_newline};
-ghost use Rattle.zones_cli.specs.Reading.{GivesLine, TakesPart, lines_left};
+ghost use Rattle.zones_cli.specs.Reading.{BeginsLine, GivesLine, TakesBytes, TakesPart, lines_left};
 ghost use Rattle.zones_cli.specs.declared.lines.ReadFault.TheVariants.{Memory};
 
 use std::alloc::{AllocError, Global};
@@ -18,6 +18,9 @@ const PIECE: usize = 4096;
 
 /// The greatest length of a line without its newline, in bytes.
 pub const LINE_MAX: usize = 4096;
+
+/// The greatest number of lines.
+pub const LINES_MAX: u64 = 200_000;
 
 /// Why the input could not be read on.
 #[derive(Clone, Copy, Debug, PartialEq, Eq, Error)]
@@ -118,12 +121,14 @@ impl Ahead {
         requires { self.old ≡ [] }
         ensures bytes { OnOk result (S.left source.old ≡ before_known self.new (S.left source.new)) }
         ensures end { OnOk result (self.new ≡ [] → IsAtEnd (S.left source.new)) }
+        ensures kept { OnErr result ((self.new ≡ []) × (S.left source.new ≡ S.left source.old)) }
         ensures failed { OnErr result ((result ≡ Err ReadFault.Failed) × Rose (S.faults source.old) (S.faults source.new)) }
         ensures later { S.faults source.old ≤ S.faults source.new }
     {
+        self.from = 0;
+        self.to = 0;
         match source.read(&mut self.piece) {
             Ok(count) => {
-                self.from = 0;
                 self.to = count;
                 Ok(())
             }
@@ -132,10 +137,12 @@ impl Ahead {
     }
 
     /// Reads a piece where nothing is ahead, and says whether something is.
+    #[tactic(auto, using(crate::proofs::Cuts::nothing_before))]
     pub fn refill<S: Source>(&mut self, source: &mut S) -> Result<bool, ReadFault>
         ensures bytes { OnOk result (before_known self.old (S.left source.old) ≡ before_known self.new (S.left source.new)) }
         ensures more { IfOk result (λ more. more ≡ true → 0 < length self.new) }
         ensures end { IfOk result (λ more. more ≡ false → (self.new ≡ []) × IsAtEnd (S.left source.new)) }
+        ensures kept { OnErr result (before_known self.old (S.left source.old) ≡ S.left source.new) }
         ensures failed { OnErr result ((result ≡ Err ReadFault.Failed) × Rose (S.faults source.old) (S.faults source.new)) }
         ensures later { S.faults source.old ≤ S.faults source.new }
     {
@@ -179,6 +186,8 @@ pub fn next_line<S: Source>(
     line: &mut Vec<u8>,
 ) -> Result<Got, ReadFault>
     ensures got { IfOk result (λ got. GivesLine got line.new.items (lines_left ahead.old (S.left source.old)) (lines_left ahead.new (S.left source.new))) }
+    ensures took { IfOk result (λ got. TakesBytes got line.new.items (before_known ahead.old (S.left source.old)) (before_known ahead.new (S.left source.new))) }
+    ensures begun { IsErrOf result ReadFault.Failed → BeginsLine (before_known ahead.old (S.left source.old)) (S.left source.new) }
     ensures failed { IsErrOf result ReadFault.Failed → Rose (S.faults source.old) (S.faults source.new) }
     ensures later { S.faults source.old ≤ S.faults source.new }
 {

@@ -10,6 +10,7 @@ mod run;
 mod status;
 #[cfg(test)]
 mod tests;
+mod trace;
 mod words;
 
 use run::run_zones;

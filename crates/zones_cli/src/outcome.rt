@@ -5,6 +5,7 @@ ghost use Rattle.zones_cli.specs.Outcomes.{complaint_status, end_text};
 use crate::edit::EditFault;
 use crate::status;
 use std::fmt;
+use trace_text::LineFault;
 
 /// Why the end of the input is refused.
 #[derive(Clone, Copy, Debug, PartialEq, Eq)]
@@ -32,6 +33,10 @@ pub enum Complaint {
     Line(u64, EditFault),
     /// The end of the input is refused.
     End(EndFault),
+    /// A line of a trace is outside its grammar.
+    Grammar(u64, LineFault),
+    /// A trace is done, and this is its first line that was refused.
+    FirstRefused(u64),
     /// A line is past a limit.
     Limit(u64),
 }
@@ -52,6 +57,8 @@ impl fmt::Display for Complaint {
                 let text = fault.text();
                 writeln!(f, "end: {text}")
             }
+            Complaint::Grammar(number, fault) => writeln!(f, "line {number}: {fault}"),
+            Complaint::FirstRefused(number) => writeln!(f, "first refused line: {number}"),
             Complaint::Limit(number) => writeln!(f, "limit at line {number}"),
         }
     }
@@ -63,7 +70,10 @@ impl Complaint {
         ensures { result ≡ complaint_status self }
     {
         match self {
-            Complaint::Line(_, _) | Complaint::End(_) => status::REFUSED,
+            Complaint::Line(_, _) | Complaint::End(_) | Complaint::FirstRefused(_) => {
+                status::REFUSED
+            }
+            Complaint::Grammar(_, _) => status::GRAMMAR,
             Complaint::Limit(_) => status::LIMIT,
         }
     }
@@ -74,8 +84,6 @@ impl Complaint {
 pub enum Outcome {
     /// A text for standard output.
     Text(Vec<u8>),
-    /// A text for standard output that is always the same.
-    Fixed(&'static [u8]),
     /// A line for standard error.
     Complains(Complaint),
 }

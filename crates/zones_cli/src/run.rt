@@ -1,18 +1,21 @@
 //! The top call of `zones`.
-ghost use Rattle.std.specs.Prelude.{◌≡◌, ◌≤◌, ◌⊎◌, ◌↔◌, ◌++◌, ◌∷◌, [], map, string_bytes, IfOk, IfSome, IsErrOf, None, Some};
+ghost use Rattle.std.specs.Prelude.{◌≡◌, ◌≢◌, ◌≤◌, ◌⊎◌, ◌↔◌, ◌++◌, ◌∷◌, [], map, string_bytes, IfSome, None};
 ghost use Rattle.zn_base.specs.Streams.{Rose, TakesFront, after_known};
-ghost use Rattle.zones_cli.specs.Outcomes.{complaint_status, complaint_text, outcome_of};
-ghost use Rattle.zones_cli.specs.Output.{output_for, output_of};
+ghost use Rattle.zones_cli.specs.Outcomes.{complaint_status, complaint_text};
+ghost use Rattle.zones_cli.specs.Program.{HasAnswered, HasAnsweredRead, output_of};
 ghost use Rattle.zones_cli.specs.Run.{Agrees, HasFront, IsDecided, IsStatus, TakesFronts, memory_line, read_fault_line, write_fault_line};
 ghost use Rattle.zones_cli.specs.Words.{command_of};
+ghost use Rattle.zones_cli.specs.Tracing.{AnswersRead, HasReplies, run_of, traced};
 
 use crate::export::export_all;
 use crate::lines::ReadFault;
 use crate::outcome::{Complaint, Outcome};
-use crate::status::{DONE, LIMIT, NO_MEMORY, READ_FAULT, REFUSED, USAGE, WRITE_FAULT};
+use crate::status::{DONE, NO_MEMORY, READ_FAULT, REFUSED, USAGE, WRITE_FAULT};
+use crate::trace::{TraceFault, trace_all};
 use crate::words::{Command, HELP, USAGE_LINE, VERSION, command_of};
 use std::alloc::Global;
 use zn_base::{Sink, Source, write_all};
+use zone_machine::Machine;
 
 // Tries a line once; its failure changes nothing but the count of faults.
 fn tell<E: Sink>(err: &mut E, line: &[u8])
@@ -54,9 +57,9 @@ fn complain<E: Sink>(alloc: Global, err: &mut E, complaint: Complaint) -> u8
         tell(err, b"no memory\n");
         return NO_MEMORY;
     };
-    if complaint.status() == LIMIT {
+    if complaint.status() != REFUSED {
         tell(err, line.as_bytes());
-        return LIMIT;
+        return complaint.status();
     }
     match write_all(err, line.as_bytes()) {
         Ok(()) => REFUSED,
@@ -67,21 +70,51 @@ fn complain<E: Sink>(alloc: Global, err: &mut E, complaint: Complaint) -> u8
     }
 }
 
-// What a command and the whole input come to.
-fn come_to<S: Source>(alloc: Global, command: Command, src: &mut S) -> Result<Outcome, ReadFault>
-    ensures whole { IfOk result (λ outcome. IfSome (output_for (Some command) (S.left src.old)) (λ o. outcome_of outcome ≡ o)) }
-    ensures failed { IsErrOf result ReadFault.Failed → Rose (S.faults src.old) (S.faults src.new) }
+// The command `trace`.
+#[tactic(auto, using(crate::proofs::Fronts::behind_nothing))]
+fn run_trace<S: Source, K: Sink, E: Sink>(
+    alloc: Global,
+    src: &mut S,
+    out: &mut K,
+    err: &mut E,
+) -> u8
+    ensures statuses { IsStatus result }
+    ensures decided { IsDecided result → IfSome (S.left src.old) (λ bytes. Agrees (traced bytes) result (K.holds out.old) (K.holds out.new)) }
+    ensures line { IsDecided result → IfSome (S.left src.old) (λ bytes.
+        TakesFront (E.holds err.old) (E.holds err.new) (E.faults err.old) (E.faults err.new) (traced bytes).err) }
+    ensures whole_line { result ≤ REFUSED → IfSome (S.left src.old) (λ bytes. E.holds err.new ≡ after_known (E.holds err.old) (traced bytes).err) }
+    ensures usage { result ≢ USAGE }
+    ensures read_fault { result ≡ READ_FAULT → Rose (S.faults src.old) (S.faults src.new) }
+    ensures taken { result ≡ READ_FAULT → IfSome (S.left src.old) (λ _. AnswersRead (S.left src.old) (S.left src.new) (K.holds out.old) (K.holds out.new)) }
+    ensures answered { (result ≡ READ_FAULT) ⊎ (result ≡ NO_MEMORY) → IfSome (S.left src.old) (λ bytes. HasReplies (K.holds out.old) (K.holds out.new) (run_of bytes)) }
+    ensures read_line { result ≡ READ_FAULT → TakesFront (E.holds err.old) (E.holds err.new) (E.faults err.old) (E.faults err.new) read_fault_line }
+    ensures write_fault { result ≡ WRITE_FAULT → Rose (K.faults out.old) (K.faults out.new) ⊎ Rose (E.faults err.old) (E.faults err.new) }
+    ensures write_front { result ≡ WRITE_FAULT → IfSome (S.left src.old) (λ bytes. HasFront (K.holds out.old) (K.holds out.new) (traced bytes).out) }
+    ensures write_line { result ≡ WRITE_FAULT → IfSome (S.left src.old) (λ bytes.
+        TakesFronts (E.holds err.old) (E.holds err.new) (E.faults err.old) (E.faults err.new) (traced bytes).err write_fault_line) }
+    ensures memory_line { result ≡ NO_MEMORY → TakesFront (E.holds err.old) (E.holds err.new) (E.faults err.old) (E.faults err.new) memory_line }
 {
-    match command {
-        Command::Export => export_all(alloc, src),
-        Command::Help => Ok(Outcome::Fixed(HELP)),
-        Command::Version => Ok(Outcome::Fixed(VERSION)),
+    let mut machine = Machine::empty(alloc);
+    match trace_all(alloc, &mut machine, src, out) {
+        Ok(None) => DONE,
+        Ok(Some(complaint)) => complain(alloc, err, complaint),
+        Err(TraceFault::Read) => {
+            tell(err, b"read fault\n");
+            READ_FAULT
+        }
+        Err(TraceFault::Write) => {
+            tell(err, b"write fault\n");
+            WRITE_FAULT
+        }
+        Err(TraceFault::Memory) => {
+            tell(err, b"no memory\n");
+            NO_MEMORY
+        }
     }
 }
 
 /// Does what the words say, and answers the exit status. `out` and `err` are standard output and
-/// standard error. The input is read line by line, and no further than the first line that is refused
-/// or past a limit.
+/// standard error. The input is read line by line, and no further than the line that ends the run.
 pub fn run_zones<S: Source, K: Sink, E: Sink>(
     alloc: Global,
     words: &[String],
@@ -104,7 +137,7 @@ pub fn run_zones<S: Source, K: Sink, E: Sink>(
 
     // The source failed.
     ensures read_fault { result ≡ READ_FAULT → Rose (S.faults src.old) (S.faults src.new) }
-    ensures read_nothing { result ≡ READ_FAULT → K.holds out.new ≡ K.holds out.old }
+    ensures read_text { result ≡ READ_FAULT → HasAnsweredRead (command_of (map string_bytes words.now)) (S.left src.old) (S.left src.new) (K.holds out.old) (K.holds out.new) }
     ensures read_line { result ≡ READ_FAULT → TakesFront (E.holds err.old) (E.holds err.new) (E.faults err.old) (E.faults err.new) read_fault_line }
 
     // A sink failed.
@@ -115,24 +148,28 @@ pub fn run_zones<S: Source, K: Sink, E: Sink>(
         TakesFronts (E.holds err.old) (E.holds err.new) (E.faults err.old) (E.faults err.new) o.err write_fault_line) }
 
     // Memory ran out.
-    ensures memory_nothing { result ≡ NO_MEMORY → K.holds out.new ≡ K.holds out.old }
+    ensures memory_text { result ≡ NO_MEMORY → HasAnswered (command_of (map string_bytes words.now)) (S.left src.old) (K.holds out.old) (K.holds out.new) }
     ensures memory_line { result ≡ NO_MEMORY → TakesFront (E.holds err.old) (E.holds err.new) (E.faults err.old) (E.faults err.new) memory_line }
 {
-    let Some(command) = command_of(words) else {
-        tell(err, USAGE_LINE);
-        return USAGE;
-    };
-    match come_to(alloc, command, src) {
-        Ok(Outcome::Text(text)) => write_text(out, err, &text),
-        Ok(Outcome::Fixed(text)) => write_text(out, err, text),
-        Ok(Outcome::Complains(complaint)) => complain(alloc, err, complaint),
-        Err(ReadFault::Failed) => {
-            tell(err, b"read fault\n");
-            READ_FAULT
-        }
-        Err(ReadFault::Memory) => {
-            tell(err, b"no memory\n");
-            NO_MEMORY
+    match command_of(words) {
+        Some(Command::Export) => match export_all(alloc, src) {
+            Ok(Outcome::Text(text)) => write_text(out, err, &text),
+            Ok(Outcome::Complains(complaint)) => complain(alloc, err, complaint),
+            Err(ReadFault::Failed) => {
+                tell(err, b"read fault\n");
+                READ_FAULT
+            }
+            Err(ReadFault::Memory) => {
+                tell(err, b"no memory\n");
+                NO_MEMORY
+            }
+        },
+        Some(Command::Trace) => run_trace(alloc, src, out, err),
+        Some(Command::Help) => write_text(out, err, HELP),
+        Some(Command::Version) => write_text(out, err, VERSION),
+        None => {
+            tell(err, USAGE_LINE);
+            USAGE
         }
     }
 }

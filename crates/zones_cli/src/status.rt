@@ -9,6 +9,9 @@ pub const REFUSED: u8 = 1;
 /// The words are no form of the command line.
 pub const USAGE: u8 = 2;
 
+/// A line is outside the grammar.
+pub const GRAMMAR: u8 = 3;
+
 /// The source failed.
 pub const READ_FAULT: u8 = 4;
 

@@ -14,16 +14,20 @@ pub const HELP: &[u8] = b"usage: zones COMMAND\n
 COMMAND is one of
   export     read zonecfg(8) subcommands from standard input, and write the
              export text of the configuration that they denote
+  trace      read the lines of a trace from standard input, and write the reply to
+             each of their events, as a system with no zone gives it
   --help     write this text
   --version  write the version
 \nThe exit status is 0 where all is done, 1 where a line or the end of the input is
-refused, 2 for a faulty command line, 4 for a read fault, 5 for a write fault, 8 for
-a line above 4096 bytes or more than 200000 lines, and 9 where memory runs out.\n";
+refused, 2 for a faulty command line, 3 for a line outside the grammar of a trace, 4
+for a read fault, 5 for a write fault, 8 for a line above 4096 bytes or more than
+200000 lines, and 9 where memory runs out.\n";
 
 /// The forms of the command line.
 #[derive(Clone, Copy, Debug, PartialEq, Eq)]
 pub enum Command {
     Export,
+    Trace,
     Help,
     Version,
 }
@@ -34,6 +38,7 @@ fn command_named(word: &str) -> Option<Command>
 {
     match word {
         "export" => Some(Command::Export),
+        "trace" => Some(Command::Trace),
         "--help" => Some(Command::Help),
         "--version" => Some(Command::Version),
         _ => None,

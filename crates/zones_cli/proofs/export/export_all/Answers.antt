@@ -1,7 +1,7 @@
 use Rattle.std.proofs.Common.{◌≡◌, ◌+◌, ap, sym, ◌∙◌, arith}
 use Rattle.std.specs.Option.{option_map}
 use Rattle.zones_cli.specs.Lines.{lines_of}
-use Rattle.zones_cli.specs.Output.{edited}
+use Rattle.zones_cli.specs.Exporting.{edited}
 use Rattle.zones_cli.proofs.Runs.{limit_begins}
 use Rattle.zones_cli.proofs.export.export_all.Goals as goal
 

@@ -1,7 +1,7 @@
 use Rattle.std.proofs.Common.{◌≡◌, ◌+◌, ◌≤◌}
 use Rattle.std.specs.Option.{option_map}
 use Rattle.zones_cli.specs.Reading.{lines_left}
-use Rattle.zones_cli.specs.Output.{edited, exported}
+use Rattle.zones_cli.specs.Exporting.{edited, exported}
 use Rattle.zones_cli.proofs.export.export_all.Given as goal
 
 -- what the lines to come amount to, over what is open, is what the whole input amounts to

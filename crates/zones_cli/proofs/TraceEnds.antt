@@ -1,0 +1,268 @@
+-- How a trace ends, and what standard output has taken then.
+use Rattle.std.proofs.Common.{◌≡◌, ◌+◌, ◌≤◌, ◌<◌, ◌||◌, ◌++◌, ◌⊎◌, inl, inr, map, ℕ, Bool, true, false, cond, nat_lt, List, [], ◌∷◌, length, take, Option, Some, None, IfSome, Result, Ok, Err, refl, ap, sym, subst, ◌∙◌, arith, append_assoc}
+use Rattle.std.specs.Prelude.{IsErrAnd, IsErrOf, nat_le}
+use Rattle.std.specs.Io.KnownBytes.{IsAtEnd}
+use Rattle.std.specs.Option.{option_map}
+use Rattle.std.proofs.lemmas.Bool.Decides.{nat_tests}
+use Rattle.std.proofs.lemmas.Grind.{flat_map-append}
+use Rattle.std.proofs.lemmas.List.{append-nil, take-append-le, take_all}
+use Rattle.std.proofs.Math.Seq.{take-append-add, take-append_seam, take-length}
+use Rattle.zn_base.specs.Streams.{Rose, TakesFront, after_known, before_known}
+use Rattle.trace_text.specs.Lines.{event_of}
+use Rattle.trace_text.specs.declared.fault.LineFault.{LineFault}
+use Rattle.zone_machine.specs.Histories.{after_entry, entry_at, history}
+use Rattle.zone_machine.specs.Machine.{opening}
+use Rattle.zone_machine.specs.Pools.{allowed, or_else}
+use Rattle.zone_machine.specs.State.{State}
+use Rattle.zone_machine.specs.declared.events.Entry.{Entry}
+use Rattle.zone_machine.specs.declared.events.Event.{Event}
+use Rattle.zones_cli.specs.Lines.{is_newline, lines_of, with_first}
+use Rattle.zones_cli.specs.Output.{is_past_limit}
+use Rattle.zones_cli.specs.Reading.{BeginsLine, FirstIsLong}
+use Rattle.zones_cli.specs.Run.{HasFront}
+use Rattle.zones_cli.specs.Tracing.{AnswersRead, At_end, At_fault, Ending, HasReplies, Past_limit, Run, Script, StopsEvent, Tells, ends, entry_text, left_to_tell, replies_text, run_of, run_on, script_from, told, told_refusal, trace_fault_of, traced, with_line, with_script}
+use Rattle.zones_cli.specs.declared.outcome.Complaint.{Complaint}
+use Rattle.zones_cli.specs.declared.outcome.Complaint.TheVariants.{Grammar as Bad_line, Limit}
+use Rattle.zones_cli.specs.declared.trace.Stop.{Stop}
+use Rattle.zones_cli.specs.declared.trace.Stop.TheVariants.{Fault, Grammar}
+use Rattle.zones_cli.specs.declared.trace.TraceFault.TheVariants.{Memory, Read, Write}
+use Rattle.zones_cli.specs.declared.trace.TraceFault.{TraceFault}
+use Rattle.zones_cli.specs.declared.lines.ReadFault.{ReadFault}
+use Rattle.zones_cli.specs.declared.lines.ReadFault.TheVariants.{Failed, Memory as No_memory}
+use Rattle.zones_cli.proofs.Fronts.{after_known-append}
+use Rattle.zones_cli.proofs.TraceRuns.{Knows, RunsOn, known_run}
+use Rattle.zones_cli.proofs.Traces.{answers_line, or_else-None, script_line}
+
+abbrev ended_run : List Entry → Option ℕ → Ending → Run
+ended_run done refused ending = record { entries = done; refused = refused; ending = ending }
+
+-- with no event to come the run is what it has come to
+no_more : (done : List Entry) (refused : Option ℕ) (n : ℕ) (S : State) (lines : List (List ℕ)) (ending : Ending) → script_from n lines ≡ ends ending → run_on done refused n S lines ≡ ended_run done refused ending
+no_more done refused n S lines ending is =
+    ap (with_script done refused S) is ∙ ap (λ entries. ended_run entries (or_else refused None) ending) (append-nil done) ∙ ap (λ first. ended_run done first ending) (or_else-None refused)
+
+-- every ending has the text of its entries
+told-out : (done : List Entry) (refused : Option ℕ) (ending : Ending) → (told (ended_run done refused ending)).out ≡ replies_text done
+told-out done None At_end = refl
+told-out done (Some n) At_end = refl
+told-out done refused (At_fault n fault) = refl
+told-out done refused (Past_limit n) = refl
+
+-- the run has ended so
+pub tells_ending : (stands : State → Type 0) (refused : Option ℕ) (n : ℕ) (held holds bytes input : Option (List ℕ)) (ending : Ending) (complaint : Option Complaint)
+    → RunsOn stands refused n held holds bytes input → IfSome bytes (λ bs. script_from n (lines_of bs) ≡ ends ending) → ((done : List Entry) → left_to_tell complaint ≡ record (told (ended_run done refused ending)) { out = [] })
+    → IfSome input (λ bs. Tells complaint held holds (traced bs))
+tells_ending stands refused n held holds bytes None ending complaint run ended is = tt
+tells_ending stands refused n held holds bytes (Some input) ending complaint run ended is =
+    let known = run.known in
+    let here : script_from n (lines_of known.to_come) ≡ ends ending = subst (λ bytes. IfSome bytes (λ bs. script_from n (lines_of bs) ≡ ends ending)) known.here ended in
+    let whole : run_of input ≡ ended_run run.done refused ending = known_run refused n run.state run.done bytes input known ∙ no_more run.done refused n run.state (lines_of known.to_come) ending here in
+    subst (λ r. Tells complaint held holds (told r)) (sym whole) (record {
+      rest = is run.done;
+      taken = run.text ∙ ap (after_known held) (sym (told-out run.done refused ending));
+    })
+
+-- the four ways in which lines end
+pub at_end : (n : ℕ) (bytes : Option (List ℕ)) → IfSome (option_map lines_of bytes) (λ ls. ls ≡ []) → IfSome bytes (λ bs. script_from n (lines_of bs) ≡ ends At_end)
+at_end n None h = tt
+at_end n (Some bs) h = ap (script_from n) h
+
+past_limit : (n m : ℕ) → 4096 < m → (nat_lt 200000 n || nat_lt 4096 m) ≡ true
+past_limit n m h = grind (arith, nat_tests)
+
+first_long : (n : ℕ) (lines : List (List ℕ)) → FirstIsLong lines → script_from n lines ≡ ends (Past_limit n)
+first_long n [] h = absurd h
+first_long n (line ∷ ls) h = ap (λ v. cond v (ends (Past_limit n)) (with_line n (event_of line) (script_from (n + 1) ls))) (past_limit n (length line) h)
+
+pub at_long : (n : ℕ) (bytes : Option (List ℕ)) → IfSome (option_map lines_of bytes) FirstIsLong → IfSome bytes (λ bs. script_from n (lines_of bs) ≡ ends (Past_limit n))
+at_long n None h = tt
+at_long n (Some bs) h = first_long n (lines_of bs) h
+
+pub at_fault : (n : ℕ) (line : List ℕ) (fault : LineFault) (bytes : Option (List ℕ)) (new : Option (List (List ℕ))) → option_map lines_of bytes ≡ option_map (λ ls. line ∷ ls) new → n ≤ 200000 → length line ≤ 4096 → event_of line ≡ Err fault → IfSome bytes (λ bs. script_from n (lines_of bs) ≡ ends (At_fault n fault))
+at_fault n line fault None new is h k e = tt
+at_fault n line fault (Some bs) None is h k e = absurd (cc)
+at_fault n line fault (Some bs) (Some ls) is h k e =
+    let first : lines_of bs ≡ line ∷ ls = cc in
+    ap (script_from n) first ∙ script_line n line ls h k ∙ ap (λ r. with_line n r (script_from (n + 1) ls)) e
+
+past_last : (b : ℕ) (bytes : List ℕ) → script_from 200001 (lines_of (b ∷ bytes)) ≡ ends (Past_limit 200001)
+past_last b bytes =
+    elim (is_newline b) as (λ v. script_from 200001 (cond v ([] ∷ lines_of bytes) (with_first b (lines_of bytes))) ≡ ends (Past_limit 200001)) [
+      | true ↦ refl
+      | false ↦ elim (lines_of bytes) as (λ lines. script_from 200001 (with_first b lines) ≡ ends (Past_limit 200001)) [
+        | [] ↦ refl
+        | line ∷ lines ↦ refl
+      ]
+    ]
+
+pub at_last : (ahead : List ℕ) (left : Option (List ℕ)) → 0 < length ahead → IfSome (before_known ahead left) (λ bs. script_from 200001 (lines_of bs) ≡ ends (Past_limit 200001))
+at_last [] left some = absurd (omega arith)
+at_last (b ∷ ahead) None some = tt
+at_last (b ∷ ahead) (Some left) some = past_last b (ahead ++ left)
+
+-- before the input has ended, some whole replies were written
+pub has_replies : (stands : State → Type 0) (refused : Option ℕ) (n : ℕ) (held holds bytes input : Option (List ℕ)) → RunsOn stands refused n held holds bytes input → IfSome input (λ bs. HasReplies held holds (run_of bs))
+has_replies stands refused n held holds bytes None run = tt
+has_replies stands refused n held holds bytes (Some input) run =
+    let is = known_run refused n run.state run.done bytes input run.known in
+    subst (HasReplies held holds) (sym is) (record {
+      count = length run.done;
+      taken = run.text ∙ ap (λ entries. after_known held (replies_text entries)) (sym (take-append_seam run.done _));
+    })
+
+-- the source failed at the beginning of a line: the lines taken before were answered
+pub reads_up_to : (stands : State → Type 0) (refused : Option ℕ) (n : ℕ) (held holds bytes left input : Option (List ℕ)) → RunsOn stands refused n held holds bytes input → BeginsLine bytes left → IfSome input (λ _. AnswersRead input left held holds)
+reads_up_to stands refused n held holds bytes left None run begins = tt
+reads_up_to stands refused n held holds bytes left (Some input) run begins =
+    let known = run.known in
+    let entries : (run_of known.past).entries ≡ run.done = ap (λ lines. (run_on [] None 1 (opening []) lines).entries) (sym (append-nil (lines_of known.past))) ∙ ap (λ r. r.entries) (known.leads []) ∙ append-nil run.done in
+    record {
+      taken = known.past;
+      begun = begins.begun;
+      clean = begins.clean;
+      read = ap Some known.all ∙ ap (before_known known.past) (sym known.here ∙ begins.taken) ∙ sym (before_known-append left known.past begins.begun);
+      text = run.text ∙ ap (λ entries. after_known held (replies_text entries)) (sym entries);
+    }
+  where
+    before_known-append : (known : Option (List ℕ)) (xs ys : List ℕ) → before_known (xs ++ ys) known ≡ before_known xs (before_known ys known)
+    before_known-append None xs ys = refl
+    before_known-append (Some bs) xs ys = ap Some (append_assoc xs ys bs)
+
+-- a front of a text in the midst of a longer one
+front_within : (held between holds : Option (List ℕ)) (before text more : List ℕ) (count : ℕ) → between ≡ after_known held before → holds ≡ after_known between (take count text) → HasFront held holds (before ++ (text ++ more))
+front_within held between holds before text more count b t =
+    let all : holds ≡ after_known held (before ++ take count text) = t ∙ ap (λ known. after_known known (take count text)) b ∙ after_known-append held before (take count text) in
+    elim (nat_le count (length text)) as (λ v. nat_le count (length text) ≡ v → HasFront held holds (before ++ (text ++ more))) [
+      | true ↦ λ e.
+          let short : count ≤ length text = grind (arith, nat_tests) in
+          record { count = length before + count; taken = all ∙ ap (after_known held) (sym (take-append-add before (text ++ more) count ∙ ap (λ bytes. before ++ bytes) (take-append-le count text more short))) }
+      | false ↦ λ e.
+          let long : length text ≤ count = grind (arith, nat_tests) in
+          record {
+            count = length before + length text;
+            taken = all ∙ ap (λ bytes. after_known held (before ++ bytes)) (take_all count text long)
+                ∙ ap (after_known held) (sym (take-append-add before (text ++ more) (length text) ∙ ap (λ bytes. before ++ bytes) (take-append_seam text more)));
+          }
+    ] refl
+
+-- the texts of some entries, of one after them and of those that follow
+replies_text-around : (done : List Entry) (entry : Entry) (more : List Entry) → replies_text ((done ++ entry ∷ []) ++ more) ≡ replies_text done ++ (entry_text entry ++ replies_text more)
+replies_text-around done entry more = ap replies_text (append_assoc done (entry ∷ []) more) ∙ flat_map-append entry_text done (entry ∷ more)
+
+front_of_run : (held between holds : Option (List ℕ)) (done : List Entry) (refused : Option ℕ) (n : ℕ) (S : State) (e : Event) (line : List ℕ) (lines : List (List ℕ)) (bytes : List ℕ) (count : ℕ)
+    → between ≡ after_known held (replies_text done) → run_on done refused n S (line ∷ lines) ≡ run_of bytes → n ≤ 200000 → length line ≤ 4096 → event_of line ≡ Ok (Some e)
+    → holds ≡ after_known between (take count (entry_text (entry_at S e (allowed S e)))) → HasFront held holds (traced bytes).out
+front_of_run held between holds done refused n S e line lines bytes count text is h k says taken =
+    let entry : Entry = entry_at S e (allowed S e) in
+    let more = history (after_entry S entry) (map (λ e. e.1) (script_from (n + 1) lines).events) in
+    let run = run_of bytes in
+    let entries : run.entries ≡ (done ++ entry ∷ []) ++ more = ap (λ r. r.entries) (sym is ∙ answers_line done refused n S e line lines h k says) in
+    subst (HasFront held holds) (sym (told-out run.entries run.refused run.ending ∙ ap replies_text entries ∙ replies_text-around done entry more))
+    (front_within held between holds (replies_text done) (entry_text entry) (replies_text more) count text taken)
+
+-- where a reply could not be written whole, a front of the whole text was taken
+pub has_front : (stands : State → Type 0) (refused : Option ℕ) (n : ℕ) (held holds now_holds : Option (List ℕ)) (e : Event) (line : List ℕ) (bytes : Option (List ℕ)) (new : Option (List (List ℕ))) (input : Option (List ℕ)) (before now : ℕ)
+    → RunsOn stands refused n held holds bytes input → option_map lines_of bytes ≡ option_map (λ ls. line ∷ ls) new → n ≤ 200000 → length line ≤ 4096 → event_of line ≡ Ok (Some e)
+    → ((S : State) → stands S → TakesFront holds now_holds before now (entry_text (entry_at S e (allowed S e)))) → IfSome input (λ bs. HasFront held now_holds (traced bs).out)
+has_front stands refused n held holds now_holds e line bytes new None before now run is h k says front = tt
+has_front stands refused n held holds now_holds e line bytes None (Some input) before now run is h k says front =
+    let none : Some (lines_of run.known.to_come) ≡ None = sym (ap (option_map lines_of) run.known.here) ∙ is in absurd (cc)
+has_front stands refused n held holds now_holds e line bytes (Some lines) (Some input) before now run is h k says front =
+    let first : Some (lines_of run.known.to_come) ≡ Some (line ∷ lines) = sym (ap (option_map lines_of) run.known.here) ∙ is in
+    let here : lines_of run.known.to_come ≡ line ∷ lines = cc in
+    let one : run_on run.done refused n run.state (line ∷ lines) ≡ run_of input = sym (known_run refused n run.state run.done bytes input run.known ∙ ap (run_on run.done refused n run.state) here) in
+    let part = front run.state run.stood in
+    front_of_run held holds now_holds run.done refused n run.state e line lines input part.count run.text one h k says part.taken
+
+-- a line whose reply could not be written leaves a front of the whole text
+pub stopped_front : (stands : State → Type 0) (refused : Option ℕ) (n : ℕ) (held holds now_holds : Option (List ℕ)) (line : List ℕ) (bytes : Option (List ℕ)) (new : Option (List (List ℕ))) (input : Option (List ℕ)) (before now : ℕ) (stop : Stop)
+    → RunsOn stands refused n held holds bytes input → option_map lines_of bytes ≡ option_map (λ ls. line ∷ ls) new → n ≤ 200000 → length line ≤ 4096 → StopsEvent stop stands (event_of line) holds now_holds before now
+    → stop ≡ Fault Write → IfSome input (λ bs. HasFront held now_holds (traced bs).out)
+stopped_front stands refused n held holds now_holds line bytes new input before now (Fault Write) run is h k stopped e =
+    has_front stands refused n held holds now_holds stopped.0 line bytes new input before now run is h k stopped.1 stopped.3
+stopped_front stands refused n held holds now_holds line bytes new input before now (Fault Memory) run is h k stopped e = absurd (cc)
+stopped_front stands refused n held holds now_holds line bytes new input before now (Fault Read) run is h k stopped e = absurd (cc)
+stopped_front stands refused n held holds now_holds line bytes new input before now (Grammar fault) run is h k stopped e = absurd (cc)
+
+-- a line that ended the trace for want of memory leaves whole replies
+pub stopped_replies : (stands : State → Type 0) (refused : Option ℕ) (n : ℕ) (held holds now_holds : Option (List ℕ)) (line : List ℕ) (bytes input : Option (List ℕ)) (before now : ℕ) (stop : Stop)
+    → RunsOn stands refused n held holds bytes input → StopsEvent stop stands (event_of line) holds now_holds before now
+    → (stop ≡ Fault Read) ⊎ (stop ≡ Fault Memory) → IfSome input (λ bs. HasReplies held now_holds (run_of bs))
+stopped_replies stands refused n held holds now_holds line bytes input before now (Fault Write) run stopped (inl e) = absurd (cc)
+stopped_replies stands refused n held holds now_holds line bytes input before now (Fault Write) run stopped (inr e) = absurd (cc)
+stopped_replies stands refused n held holds now_holds line bytes input before now (Fault Memory) run stopped e =
+    subst (λ known. IfSome input (λ bs. HasReplies held known (run_of bs))) (sym stopped) (has_replies stands refused n held holds bytes input run)
+stopped_replies stands refused n held holds now_holds line bytes input before now (Fault Read) run stopped e = absurd stopped
+stopped_replies stands refused n held holds now_holds line bytes input before now (Grammar fault) run stopped (inl e) = absurd (cc)
+stopped_replies stands refused n held holds now_holds line bytes input before now (Grammar fault) run stopped (inr e) = absurd (cc)
+
+-- a byte ahead, after all the lines that there may be
+pub tells_last : (stands : State → Type 0) (refused : Option ℕ) (n : ℕ) (held holds bytes : Option (List ℕ)) (ahead : List ℕ) (left input : Option (List ℕ))
+    → RunsOn stands refused n held holds bytes input → n ≡ 200001 → bytes ≡ before_known ahead left → 0 < length ahead → IfSome input (λ bs. Tells (Some (Limit 200001)) held holds (traced bs))
+tells_last stands refused n held holds bytes ahead left input run last same some =
+    let here : RunsOn stands refused 200001 held holds bytes input = subst (λ m. RunsOn stands refused m held holds bytes input) last run in
+    tells_ending stands refused 200001 held holds bytes input (Past_limit 200001) (Some (Limit 200001)) here
+    (subst (λ known. IfSome known (λ bs. script_from 200001 (lines_of bs) ≡ ends (Past_limit 200001))) (sym same) (at_last ahead left some)) (λ done. refl)
+
+-- at an ending all replies were written, and the whole text
+pub whole_replies : (complaint : Option Complaint) (held holds : Option (List ℕ)) (input : Option (List ℕ)) → IfSome input (λ bytes. Tells complaint held holds (traced bytes)) → IfSome input (λ bytes. HasReplies held holds (run_of bytes))
+whole_replies complaint held holds None tells = tt
+whole_replies complaint held holds (Some bytes) tells =
+    let run = run_of bytes in
+    record {
+      count = length run.entries;
+      taken = tells.taken ∙ ap (after_known held) (told-out run.entries run.refused run.ending) ∙ ap (λ entries. after_known held (replies_text entries)) (sym (take-length run.entries));
+    }
+
+pub whole_front : (complaint : Option Complaint) (held holds : Option (List ℕ)) (input : Option (List ℕ)) → IfSome input (λ bytes. Tells complaint held holds (traced bytes)) → IfSome input (λ bytes. HasFront held holds (traced bytes).out)
+whole_front complaint held holds None tells = tt
+whole_front complaint held holds (Some bytes) tells =
+    record { count = length (traced bytes).out; taken = tells.taken ∙ ap (after_known held) (sym (take-length (traced bytes).out)) }
+
+refusal_alone : (text : List ℕ) (refused : Option ℕ) → record (told_refusal [] refused) { out = [] } ≡ record (told_refusal text refused) { out = [] }
+refusal_alone text None = refl
+refusal_alone text (Some n) = refl
+
+-- the end of the input
+pub tells_end : (stands : State → Type 0) (refused : Option ℕ) (n : ℕ) (held holds bytes input : Option (List ℕ)) (complaint : Option Complaint)
+    → RunsOn stands refused n held holds bytes input → IfSome (option_map lines_of bytes) (λ ls. ls ≡ []) → left_to_tell complaint ≡ record (told_refusal [] refused) { out = [] } → IfSome input (λ bs. Tells complaint held holds (traced bs))
+tells_end stands refused n held holds bytes input complaint run none is =
+    tells_ending stands refused n held holds bytes input At_end complaint run (at_end n bytes none) (λ done. is ∙ refusal_alone (replies_text done) refused)
+
+nothing_ahead : (ahead : List ℕ) (left : Option (List ℕ)) → ahead ≡ [] → IsAtEnd left → IfSome (option_map lines_of (before_known ahead left)) (λ ls. ls ≡ [])
+nothing_ahead ahead None none end = tt
+nothing_ahead ahead (Some bs) none end = rw (none, end) refl
+
+-- nothing is ahead, after all the lines that there may be
+pub tells_last_end : (stands : State → Type 0) (refused : Option ℕ) (n : ℕ) (held holds bytes : Option (List ℕ)) (ahead : List ℕ) (left input : Option (List ℕ)) (complaint : Option Complaint)
+    → RunsOn stands refused n held holds bytes input → bytes ≡ before_known ahead left → ahead ≡ [] → IsAtEnd left → left_to_tell complaint ≡ record (told_refusal [] refused) { out = [] } → IfSome input (λ bs. Tells complaint held holds (traced bs))
+tells_last_end stands refused n held holds bytes ahead left input complaint run same none end is =
+    tells_end stands refused n held holds bytes input complaint run (subst (λ known. IfSome (option_map lines_of known) (λ ls. ls ≡ [])) (sym same) (nothing_ahead ahead left none end)) is
+
+-- a line that is too long
+pub tells_long : (stands : State → Type 0) (refused : Option ℕ) (n : ℕ) (held holds bytes input : Option (List ℕ)) → RunsOn stands refused n held holds bytes input → IfSome (option_map lines_of bytes) FirstIsLong → IfSome input (λ bs. Tells (Some (Limit n)) held holds (traced bs))
+tells_long stands refused n held holds bytes input run long = tells_ending stands refused n held holds bytes input (Past_limit n) (Some (Limit n)) run (at_long n bytes long) (λ done. refl)
+
+-- a line outside the grammar
+pub tells_fault : (stands : State → Type 0) (refused : Option ℕ) (n : ℕ) (held holds now_holds : Option (List ℕ)) (line : List ℕ) (fault : LineFault) (bytes : Option (List ℕ)) (new : Option (List (List ℕ))) (input : Option (List ℕ)) (before now : ℕ) (stop : Stop)
+    → RunsOn stands refused n held holds bytes input → option_map lines_of bytes ≡ option_map (λ ls. line ∷ ls) new → n ≤ 200000 → length line ≤ 4096 → StopsEvent stop stands (event_of line) holds now_holds before now
+    → stop ≡ Grammar fault → IfSome input (λ bs. Tells (Some (Bad_line n fault)) held now_holds (traced bs))
+tells_fault stands refused n held holds now_holds line fault bytes new input before now (Fault e) run is h k stopped same = absurd (cc)
+tells_fault stands refused n held holds now_holds line fault bytes new input before now (Grammar said) run is h k stopped same =
+    let one : event_of line ≡ Err fault = cc in
+    subst (λ known. IfSome input (λ bs. Tells (Some (Bad_line n fault)) held known (traced bs))) (sym stopped.1)
+    (tells_ending stands refused n held holds bytes input (At_fault n fault) (Some (Bad_line n fault)) run (at_fault n line fault bytes new is h k one) (λ done. refl))
+
+-- the source failed where nothing of a line was begun
+pub begins_nothing : (old new : Option (List ℕ)) → old ≡ new → BeginsLine old new
+begins_nothing old new same = record { begun = []; clean = refl; taken = same ∙ nothing_before new }
+  where
+    nothing_before : (known : Option (List ℕ)) → known ≡ before_known [] known
+    nothing_before None = refl
+    nothing_before (Some bs) = refl
+
+-- a fault of reading that ends a trace as one is the source's
+pub source_failed : {T : Type 0} (r : Result T TraceFault) (fault : ReadFault) → IsErrAnd r (λ e. e ≡ trace_fault_of fault) → IsErrOf r Read → fault ≡ Failed
+source_failed (Ok x) fault said is = absurd (cc)
+source_failed (Err e) Failed said is = refl
+source_failed (Err e) No_memory said is = let read : e ≡ Read = cc in absurd (cc)
