@@ -143,6 +143,6 @@ pub does_request : (z : Name) (kind : RequestKind) (n ticket : ℕ) (row : Recor
     → Acts z (Some n) (record { came = None; effect = put_request (world_of z t).desk kind (Some row) }) t (record t { desks = v; sessions = w })
 does_request z kind n ticket row t v w puts idle h =
     let both = does_then z (λ w. record w { desk = desk_seen puts.desk }) (edits_world (Some n) (Here (Some (state.Awaiting ticket)) ∷ [])) kept_rest kept_rest t (record t { desks = v }) (record t { desks = v; sessions = w })
-        (does_desk z puts.desk t v puts.placed) (does_waits z n ticket (record t { desks = v }) w idle h) in
+    (does_desk z puts.desk t v puts.placed) (does_waits z n ticket (record t { desks = v }) w idle h) in
     rw puts.room (does_same z _ (acts_world (Some n) (record { came = None; effect = record { edits = Set_desk (with_request (world_of z t).desk kind) ∷ Here (Some (state.Awaiting ((world_of z t).desk.last + 1))) ∷ []; reply = says (Ticket ((world_of z t).desk.last + 1)) } })) _ kept_rest t _
-        (rw (puts.seen, puts.number) refl) refl both)
+    (rw (puts.seen, puts.number) refl) refl both)

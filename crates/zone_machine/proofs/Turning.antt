@@ -75,7 +75,7 @@ Acts-turns z t u v row seen g w h sees turns done =
     let d = desk_seen turns.desk in
     let both = does_then z (λ w. record w { desk = d }) (work_world w) kept_rest (came_rest z (option_map arrival_of w.came)) t (record t { desks = v }) u (does_desk z turns.desk t v turns.placed) done in
     rw (turn-turns z t row seen g w v.items h sees turns)
-        (does_same z _ (acts_world None (work_act w d)) _ (came_rest z (option_map arrival_of w.came)) t u (work-desk (world_of z t) d w.came w.objects w.ended) refl both)
+    (does_same z _ (acts_world None (work_act w d)) _ (came_rest z (option_map arrival_of w.came)) t u (work-desk (world_of z t) d w.came w.objects w.ended) refl both)
 
 -- nothing happens to the tables
 pub Acts-rests : (z : Name) (t : Tables) (v : Vec (Owned Desk) Global) (row : Record) (g : Grant) → first_of (mine z t.rows.items) ≡ Some row → RestsDesk z t.desks.items v.items

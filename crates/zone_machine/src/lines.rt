@@ -93,13 +93,7 @@ fn behind_word<'t>(text: &'t [u8], wanted: &[u8]) -> Option<&'t [u8]>
     ensures { GivesRest result (after_word wanted.now (words text.now)) }
 {
     match split_word(text) {
-        Some((word, rest)) => {
-            if word == wanted {
-                Some(rest)
-            } else {
-                None
-            }
-        }
+        Some((word, rest)) => { if word == wanted { Some(rest) } else { None } }
         None => None,
     }
 }
@@ -188,7 +182,11 @@ fn zonecfg_command(text: &[u8]) -> Option<Command<'_>>
     let path = path_word(word)?;
     let text = behind_word(text, b"set")?;
     let text = behind_word(text, b"brand=ipkg")?;
-    if is_blank(text) { Some(Command::Make(path)) } else { None }
+    if is_blank(text) {
+        Some(Command::Make(path))
+    } else {
+        None
+    }
 }
 
 fn request_word(word: &[u8]) -> Option<RequestKind>
@@ -210,7 +208,11 @@ fn zoneadm_command(text: &[u8]) -> Option<Command<'_>>
 {
     let (word, text) = split_word(text)?;
     let kind = request_word(word)?;
-    if is_blank(text) { Some(Command::Request(kind)) } else { None }
+    if is_blank(text) {
+        Some(Command::Request(kind))
+    } else {
+        None
+    }
 }
 
 fn tool_command<'t>(tool: &[u8], text: &'t [u8]) -> Option<Command<'t>>

@@ -6,8 +6,8 @@ ghost use Rattle.zone_machine.specs.Edits.{below};
 ghost use Rattle.zone_machine.specs.Lists_seen.{StandsAt, StandsNowhere, is_above};
 ghost use Rattle.zone_machine.specs.Turns.{is_at};
 
-use std::alloc::AllocError;
 use crate::objects::{Mount, Process};
+use std::alloc::AllocError;
 use zn_base::{AbsPath, Owned, ZoneName};
 
 fn first_place<T>(list: &[Owned<T>], zone: &ZoneName) -> Option<usize>

@@ -108,12 +108,7 @@ impl Tables {
     }
 
     // What a zone that is made asks.
-    fn make_need(
-        &self,
-        alloc: Global,
-        zone: &ZoneName,
-        word: &[u8],
-    ) -> Result<Need, AllocError>
+    fn make_need(&self, alloc: Global, zone: &ZoneName, word: &[u8]) -> Result<Need, AllocError>
         ensures { IfOk result (λ need. asked_of (make (world_of zone.now self.now).stored word.now) ≡ asked_by need) }
     {
         match self.stored(zone) {

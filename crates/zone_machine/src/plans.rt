@@ -44,7 +44,7 @@ fn install_part(alloc: Global) -> Result<Vec<Step>, AllocError>
         Step::Copy(3),
         Step::Copy(4),
         Step::Record(ZoneState::Installed),
-        hook_after(ChangeKind::Install)
+        hook_after(ChangeKind::Install),
     ]?)
 }
 
@@ -55,7 +55,7 @@ fn boot_part(alloc: Global) -> Result<Vec<Step>, AllocError>
         hook_before(ChangeKind::Boot),
         Step::Init(None),
         Step::State(ZoneState::Running),
-        hook_after(ChangeKind::Boot)
+        hook_after(ChangeKind::Boot),
     ]?)
 }
 
@@ -73,7 +73,7 @@ fn ready_and_boot_parts(alloc: Global) -> Result<Vec<Step>, AllocError>
         hook_before(ChangeKind::Boot),
         Step::Init(None),
         Step::State(ZoneState::Running),
-        hook_after(ChangeKind::Boot)
+        hook_after(ChangeKind::Boot),
     ]?)
 }
 
@@ -89,7 +89,7 @@ fn halt_part(alloc: Global) -> Result<Vec<Step>, AllocError>
         Step::State(ZoneState::Down),
         Step::ZidBack(None),
         Step::State(ZoneState::Installed),
-        hook_after(ChangeKind::Halt)
+        hook_after(ChangeKind::Halt),
     ]?)
 }
 

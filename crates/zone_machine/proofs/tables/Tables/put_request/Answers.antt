@@ -11,5 +11,5 @@ returns-in_ok-wait-in-Some-clause-state c = λ row.
     let z = c.args.zone.now in let t = c.args.self.now in let ticket = c.in-Some.ticket in
     let puts : Puts z c.args.kind ticket t.desks.items c.put_on.new.desks.items = rw c.in-Some.is at c.in_ok-ticket.ensures in
     let waits : (k : ℕ) → session_at c.wait.new.sessions.items k ≡ at_session (Some c.args.number) k (Awaiting z ticket) (session_at t.sessions.items k) =
-        λ k. rw (← c.in_ok-copy-in-Some.ensures) (c.in_ok-wait-in-Some.ensures k) in
+    λ k. rw (← c.in_ok-copy-in-Some.ensures) (c.in_ok-wait-in-Some.ensures k) in
     does_request z c.args.kind c.args.number ticket row t c.put_on.new.desks c.wait.new.sessions puts c.requires waits
