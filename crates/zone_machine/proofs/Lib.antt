@@ -17,3 +17,4 @@ pub mod Line_cases
 pub mod Free_numbers
 pub mod Asking
 pub mod Pools_laws
+pub mod Standing
