@@ -18,3 +18,4 @@ pub mod Free_numbers
 pub mod Asking
 pub mod Pools_laws
 pub mod Standing
+pub mod Stepping

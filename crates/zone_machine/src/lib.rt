@@ -18,6 +18,7 @@ mod records;
 mod replies;
 mod sessions;
 mod sights;
+mod steps;
 mod tables;
 mod turns;
 mod typing;
