@@ -19,3 +19,4 @@ pub mod Asking
 pub mod Pools_laws
 pub mod Standing
 pub mod Stepping
+pub mod Granting

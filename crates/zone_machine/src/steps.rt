@@ -14,7 +14,6 @@ ghost use Rattle.zone_machine.specs.Typed.{badly_named, global_line};
 
 use crate::daemon::TurnReply;
 use crate::events::{Entry, Event, Subject};
-use crate::faults::StepFault;
 use crate::lines::{Command, Line, line_of};
 use crate::needs::Need;
 use crate::replies::{Body, Head, Refusal, Reply};
@@ -24,7 +23,7 @@ use std::alloc::{AllocError, Global};
 use zn_base::{Grant, NameFault, ZoneName};
 
 // The zone that a word names, or the global zone.
-fn named_subject(alloc: Global, word: Option<&[u8]>) -> Result<Subject, StepFault>
+fn named_subject(alloc: Global, word: Option<&[u8]>) -> Result<Subject, AllocError>
     ensures { IfOk result (λ subject. subject ≡ named_subject (word_seen word.entry)) }
 {
     let Some(word) = word else {
@@ -32,7 +31,7 @@ fn named_subject(alloc: Global, word: Option<&[u8]>) -> Result<Subject, StepFaul
     };
     match ZoneName::read(alloc, word) {
         Ok(zone) => Ok(Subject::Zone(zone)),
-        Err(NameFault::Memory) => Err(StepFault::Memory),
+        Err(NameFault::Memory) => Err(AllocError),
         Err(
             NameFault::Empty | NameFault::TooLong | NameFault::BadByte(_) | NameFault::Reserved,
         ) => Ok(Subject::Global),
@@ -40,7 +39,7 @@ fn named_subject(alloc: Global, word: Option<&[u8]>) -> Result<Subject, StepFaul
 }
 
 // Why a word names no zone.
-fn badly_named(alloc: Global, word: Option<&[u8]>) -> Result<Refusal, StepFault>
+fn badly_named(alloc: Global, word: Option<&[u8]>) -> Result<Refusal, AllocError>
     ensures { IfOk result (λ refusal. refusal ≡ badly_named (word_seen word.entry)) }
 {
     let Some(word) = word else {
@@ -48,13 +47,13 @@ fn badly_named(alloc: Global, word: Option<&[u8]>) -> Result<Refusal, StepFault>
     };
     match ZoneName::read(alloc, word) {
         Ok(_) => Ok(Refusal::Usage),
-        Err(NameFault::Memory) => Err(StepFault::Memory),
+        Err(NameFault::Memory) => Err(AllocError),
         Err(fault) => Ok(Refusal::BadName(fault)),
     }
 }
 
 // A line that belongs to no zone.
-fn global_line(alloc: Global, line: Line<'_>) -> Result<Head, StepFault>
+fn global_line(alloc: Global, line: Line<'_>) -> Result<Head, AllocError>
     ensures { IfOk result (λ head. says head ≡ global_line (line_seen line.entry)) }
 {
     match line.command {
@@ -68,7 +67,7 @@ fn global_line(alloc: Global, line: Line<'_>) -> Result<Head, StepFault>
 
 impl Tables {
     /// Whose an event is.
-    pub(crate) fn subject(&self, alloc: Global, event: &Event) -> Result<Subject, StepFault>
+    pub(crate) fn subject(&self, alloc: Global, event: &Event) -> Result<Subject, AllocError>
         ensures { IfOk result (λ subject. subject ≡ subject_in self.now event.now) }
     {
         match event {
@@ -109,7 +108,7 @@ impl Tables {
         zone: &ZoneName,
         event: &Event,
         grant: Grant,
-    ) -> Result<Head, StepFault>
+    ) -> Result<Head, AllocError>
         requires { subject_in self.old event.now ≡ Subject.Zone zone.now }
         ensures head { IfOk result (λ head. says head ≡ (act_of (decide_in zone.now self.old event.now) grant).effect.reply) }
         ensures state { OnOk result (Acts zone.now (session_number event.now) (act_of (decide_in zone.now self.old event.now) grant) self.old self.new) }
@@ -129,7 +128,7 @@ impl Tables {
         zone: &ZoneName,
         event: &Event,
         grant: Grant,
-    ) -> Result<Head, StepFault>
+    ) -> Result<Head, AllocError>
         requires { subject_in self.old event.now ≡ Subject.Zone zone.now }
         ensures { IfOk result (λ head. IsHead self.old event.now grant head self.new) }
     {
@@ -137,7 +136,7 @@ impl Tables {
     }
 
     // What an event of the global zone is answered.
-    fn global_head(&self, alloc: Global, event: &Event) -> Result<Head, StepFault>
+    fn global_head(&self, alloc: Global, event: &Event) -> Result<Head, AllocError>
         requires { subject_in self.now event.now ≡ Subject.Global }
         ensures { IfOk result (λ head. (grant : A_grant) → IsHead self.now event.now grant head self.now) }
     {
@@ -153,7 +152,7 @@ impl Tables {
         event: &Event,
         subject: &Subject,
         grant: Grant,
-    ) -> Result<Head, StepFault>
+    ) -> Result<Head, AllocError>
         requires { subject.now ≡ subject_in self.old event.now }
         ensures { IfOk result (λ head. IsHead self.old event.now grant head self.new) }
     {
@@ -171,7 +170,7 @@ impl Tables {
         event: Event,
         subject: Subject,
         grant: Grant,
-    ) -> Result<Entry, StepFault>
+    ) -> Result<Entry, AllocError>
         requires { subject ≡ subject_in self.old event }
         ensures { IfOk result (λ entry. IsStep self.old event grant entry self.new) }
     {
