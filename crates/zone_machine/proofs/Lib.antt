@@ -18,3 +18,6 @@ pub mod Line_cases
 pub mod Free_numbers
 pub mod Asking
 pub mod Pools_laws
+pub mod Standing
+pub mod Stepping
+pub mod Granting

@@ -16,6 +16,7 @@ pub mod Needs_seen
 pub mod Numbers_seen
 pub mod Tables
 pub mod Acts_seen
+pub mod Steps
 pub mod Machine
 pub mod Same
 pub mod Pools

@@ -1,4 +1,12 @@
 -- The machine's tables, as the definitions have them.
+use Rattle.zone_machine.specs.declared.events.Subject.TheVariants.{Zone}
+use Rattle.zone_machine.specs.declared.events.Subject.{Subject}
+use Rattle.zone_machine.specs.declared.events.Event.{Event}
+use Rattle.zone_machine.specs.declared.events.Event.TheVariants as event
+use Rattle.zone_machine.specs.declared.sessions.Session.TheVariants.{Idle, Awaiting}
+use Rattle.zone_machine.specs.declared.sessions.Session.{Session}
+use Rattle.zone_machine.specs.Machine.{named_subject, decide}
+use Rattle.zone_machine.specs.Lines.{Line, line_of}
 use Rattle.std.specs.Prelude.{◌≡◌, ◌≢◌, ℕ, ◌+◌, List, [], Option, Some, None, Bool, length, unwrap_or}
 use Rattle.std.specs.List.{list_any}
 use Rattle.std.specs.Option.{option_map}
@@ -6,14 +14,14 @@ use Rattle.zn_base.specs.Names.{Name}
 use Rattle.zn_base.specs.Owned_lists.{mine}
 use Rattle.zone_machine.specs.Firsts.{first_of}
 use Rattle.zn_base.specs.declared.owned.Owned.{Owned}
-use Rattle.zone_machine.specs.Decisions.{Act, acts_world}
+use Rattle.zone_machine.specs.Decisions.{Act, acts_world, Decision}
 use Rattle.zone_machine.specs.Desks_seen.{desk_seen}
 use Rattle.zone_machine.specs.Edits.{Arrival, New_id, New_process, New_record}
 use Rattle.zone_machine.specs.Pools.{Pools, has_zid}
 use Rattle.zone_machine.specs.Sessions_seen.{doing_at, session_at}
 use Rattle.zone_machine.specs.State as state
 use Rattle.zone_machine.specs.State.{State, empty_desk, rows_of, with_stored}
-use Rattle.zone_machine.specs.Worlds.{World, has_pid, world}
+use Rattle.zone_machine.specs.Worlds.{World, has_pid, world, view_of}
 use Rattle.zone_machine.specs.declared.desks.Desk.{Desk}
 use Rattle.zone_machine.specs.declared.records.Record.{Record}
 use Rattle.zone_machine.specs.declared.tables.Tables.{Tables}
@@ -83,3 +91,16 @@ pools_in t = record {
   rows = t.rows.items;
   serial = t.serial;
 }
+
+-- whose an event is, by the tables
+abbrev pub subject_at : Line → Session → Subject
+subject_at line Idle = named_subject line.zone
+subject_at line (Awaiting y t) = Zone y
+
+abbrev pub subject_in : Tables → Event → Subject
+subject_in t (event.Session n text) = subject_at (line_of text) (session_at t.sessions.items n)
+subject_in t (event.Turn z) = Zone z
+
+-- the case of an event of z, by the tables
+abbrev pub decide_in : Name → Tables → Event → Decision
+decide_in z t e = decide (view_of z (world_of z t)) e

@@ -12,7 +12,6 @@ ghost use Rattle.zone_machine.specs.declared.replies.Head.TheVariants.{Turned};
 
 use crate::daemon::TurnReply;
 use crate::desks::Desk;
-use crate::faults::StepFault;
 use crate::lists::place_of;
 use crate::records::Record;
 use crate::sights::see;
@@ -28,7 +27,7 @@ impl Tables {
         alloc: Global,
         zone: &ZoneName,
         work: Work,
-    ) -> Result<TurnReply, StepFault>
+    ) -> Result<TurnReply, AllocError>
         ensures reply { IfOk result (λ reply. reply ≡ work.reply) }
         ensures state { OnOk result (Does zone.now (work_world work) (came_rest zone.now (option_map arrival_of work.came)) self.old self.new) }
     {
@@ -45,7 +44,7 @@ impl Tables {
         zone: &ZoneName,
         row: usize,
         grant: Grant,
-    ) -> Result<TurnReply, StepFault>
+    ) -> Result<TurnReply, AllocError>
         requires { StandsAt zone.now row self.old.rows.items }
         ensures reply { IfOk result (λ reply. says (Turned reply) ≡ (act_of (turn (view_of zone.now (world_of zone.now self.old))) grant).effect.reply) }
         ensures state { OnOk result (Acts zone.now None (act_of (turn (view_of zone.now (world_of zone.now self.old))) grant) self.old self.new) }
@@ -67,7 +66,7 @@ impl Tables {
         alloc: Global,
         zone: &ZoneName,
         grant: Grant,
-    ) -> Result<TurnReply, StepFault>
+    ) -> Result<TurnReply, AllocError>
         ensures reply { IfOk result (λ reply. says (Turned reply) ≡ (act_of (turn (view_of zone.now (world_of zone.now self.old))) grant).effect.reply) }
         ensures state { OnOk result (Acts zone.now None (act_of (turn (view_of zone.now (world_of zone.now self.old))) grant) self.old self.new) }
     {

@@ -98,7 +98,7 @@ fn desk_need(desk: &Desk, mounted: bool) -> Need
 impl Tables {
     // What the next turn of a zone's daemon asks.
     #[tactic(auto, unfolding(crate::specs::Turns::turn, crate::specs::Worlds::view_of))]
-    fn turn_need(&self, zone: &ZoneName) -> Need
+    pub(crate) fn turn_need(&self, zone: &ZoneName) -> Need
         ensures { asked_of (turn (view_of zone.now (world_of zone.now self.now))) ≡ asked_by result }
     {
         match (self.stored(zone), place_of(&self.desks, zone)) {
@@ -122,7 +122,7 @@ impl Tables {
 
     // What a line asks that a session types.
     #[tactic(auto, unfolding(crate::specs::Typed::typed, crate::specs::Worlds::view_of))]
-    fn line_need(
+    pub(crate) fn line_need(
         &self,
         alloc: Global,
         zone: &ZoneName,

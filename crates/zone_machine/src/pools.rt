@@ -1,11 +1,12 @@
 //! What the pools give that all zones share, and which grants may be stated.
 ghost use Rattle.std.specs.Prelude.{◌≡◌, ◌&&◌, ◌∷◌, [], ◌+◌, IfOk, bytes_eq, map, not, if◌then◌else◌};
 ghost use Rattle.std.specs.List.{list_any};
-ghost use Rattle.zone_machine.specs.Decisions.{A_path, A_serial, A_zone};
+ghost use Rattle.zone_machine.specs.Decisions.{A_path, A_pid, A_serial, A_zid, A_zone};
 ghost use Rattle.zone_machine.specs.Needs_seen.{asked_by};
 ghost use Rattle.zone_machine.specs.Numbers_seen.{is_among};
-ghost use Rattle.zone_machine.specs.Pools.{fits_asked, fits_pool, has_place, has_room, next_free, numbered, path_taken, said_by, said_by_all};
+ghost use Rattle.zone_machine.specs.Pools.{fits_asked, fits_pool, has_room, has_zid, is_pool, next_free, numbered, said_by_all};
 ghost use Rattle.zone_machine.specs.Tables.{pools_in};
+ghost use Rattle.zone_machine.specs.Worlds.{has_pid};
 
 use crate::needs::Need;
 use crate::numbers::next_free;
@@ -100,6 +101,74 @@ impl Tables {
             Need::Zid => self.next_zid(alloc),
             Need::Record => Ok(self.next_serial()),
             Need::NewZone(path) => Ok(self.new_zone(zone, path)),
+        }
+    }
+}
+
+fn pid_used(processes: &[Owned<Process>], pid: u32) -> bool
+    ensures { result ≡ list_any (λ o. has_pid pid o.it) processes.now }
+{
+    processes.iter().any(|owned| owned.it.pid == pid)
+}
+
+fn zid_used(ids: &[Owned<Id>], zid: u32) -> bool
+    ensures { result ≡ list_any (λ o. has_zid zid o.it) ids.now }
+{
+    ids.iter().any(|owned| owned.it.zid == zid)
+}
+
+fn asks_pool(need: &Need, pool: Pool) -> bool
+    ensures { result ≡ list_any (is_pool pool) (asked_by need.now) }
+{
+    match need {
+        Need::Nothing => false,
+        Need::Pid => pool == Pool::Pids,
+        Need::Zid => pool == Pool::Zids,
+        Need::Record => pool == Pool::Store,
+        Need::NewZone(_) => pool == Pool::Zones || pool == Pool::Paths || pool == Pool::Store,
+    }
+}
+
+impl Tables {
+    fn pid_fits(&self, number: u32) -> bool
+        ensures { result ≡ fits_pool (pools_in self.now) number A_pid }
+    {
+        (2..=29_999).contains(&number) && !pid_used(&self.processes, number)
+    }
+
+    fn zid_fits(&self, number: u32) -> bool
+        ensures { result ≡ fits_pool (pools_in self.now) number A_zid }
+    {
+        (1..=9_999).contains(&number) && !zid_used(&self.ids, number)
+    }
+
+    fn serial_fits(&self, number: u32) -> bool
+        ensures { result ≡ fits_pool (pools_in self.now) number A_serial }
+    {
+        number >= 1 && self.serial < u32::MAX
+    }
+
+    fn number_fits(&self, need: &Need, number: u32) -> bool
+        ensures { result ≡ fits_asked (pools_in self.now) (asked_by need.now) (Grant.Number number) }
+    {
+        match need {
+            Need::Nothing => false,
+            Need::Pid => self.pid_fits(number),
+            Need::Zid => self.zid_fits(number),
+            Need::Record => self.serial_fits(number),
+            Need::NewZone(_) => self.rows.len() < 256 && self.serial_fits(number),
+        }
+    }
+
+    /// Whether a grant may be stated for a need.
+    pub(crate) fn fits(&self, need: &Need, grant: Grant) -> bool
+        ensures { result ≡ fits_asked (pools_in self.now) (asked_by need.now) grant }
+    {
+        match grant {
+            Grant::Nothing => matches!(need, Need::Nothing),
+            Grant::Number(number) => self.number_fits(need, number),
+            Grant::Yes => false,
+            Grant::Denied(pool) => asks_pool(need, pool),
         }
     }
 }

@@ -2,6 +2,7 @@
 ghost use Rattle.std.specs.Prelude.{◌≡◌, IfOk, Some, bytes_eq, length, if◌then◌else◌};
 ghost use Rattle.std.specs.Option.{option_map};
 ghost use Rattle.zn_base.specs.Owned_lists.{mine};
+ghost use Rattle.zone_machine.specs.State.{state_of};
 ghost use Rattle.zone_machine.specs.Tables.{world_of};
 ghost use Rattle.zone_machine.specs.Turns.{last_dir, zid_of};
 ghost use Rattle.zone_machine.specs.Turns_seen.{Sees};
@@ -11,7 +12,7 @@ use crate::objects::{Id, Mount};
 use crate::tables::Tables;
 use crate::turns::Seen;
 use std::alloc::{AllocError, Global};
-use zn_base::{AbsPath, Owned, ZoneName};
+use zn_base::{AbsPath, Owned, ZoneName, ZoneState};
 
 #[tactic(auto, using(crate::proofs::Seeing::count_mine))]
 fn count_of<T>(list: &[Owned<T>], zone: &ZoneName) -> usize
@@ -70,4 +71,25 @@ pub(crate) fn see(alloc: Global, tables: &Tables, zone: &ZoneName) -> Result<See
         last_dir: last_dir(alloc, &tables.mounts, zone)?,
         zid: zid_of(&tables.ids, zone),
     })
+}
+
+impl Tables {
+    fn active(&self, zone: &ZoneName) -> Option<ZoneState>
+        ensures { result ≡ (world_of zone.now self.now).desk.active }
+    {
+        match place_of(&self.desks, zone) {
+            Some(at) => self.desks[at].it.active,
+            None => None,
+        }
+    }
+
+    /// The state of a zone, where it is stored.
+    pub(crate) fn state(&self, zone: &ZoneName) -> Option<ZoneState>
+        ensures { result ≡ state_of (world_of zone.now self.now).stored (world_of zone.now self.now).desk }
+    {
+        match self.stored(zone) {
+            Some(row) => Some(self.active(zone).unwrap_or(row.state)),
+            None => None,
+        }
+    }
 }

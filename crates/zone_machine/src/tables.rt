@@ -1,14 +1,13 @@
 //! The tables of the machine: everything that zones have, each thing with its zone's name.
-ghost use Rattle.std.specs.Prelude.{◌≡◌, IfOk, None, OnOk, Some};
+ghost use Rattle.std.specs.Prelude.{◌≡◌, [], IfOk, None, OnOk, Some};
 
 use crate::desks::Desk;
-use crate::faults::StepFault;
 use crate::lists::{add, end_all, enter, place, place_of, unmount};
 use crate::objects::{Id, Mount, Process};
 use crate::records::Record;
 use crate::sessions::{Session, end_waits};
 use crate::turns::{Came, ObjectEdit};
-use std::alloc::Global;
+use std::alloc::{AllocError, Global};
 use zn_base::{Owned, ZoneName};
 
 /// Everything that zones have.
@@ -36,8 +35,27 @@ impl Tables {
     ghost use Rattle.zone_machine.specs.Decisions.{Act, after_came_world, says};
     ghost use Rattle.zone_machine.specs.Desks_seen.{desk_seen};
     ghost use Rattle.zone_machine.specs.Edits.{New_id, New_process, New_record, comes_world, edit_world, edits_world};
-    ghost use Rattle.zone_machine.specs.Tables.{Acts, Does, came_rest, kept_rest, world_of};
+    ghost use Rattle.zone_machine.specs.Tables.{Acts, Does, Stands, came_rest, kept_rest, world_of};
+    ghost use Rattle.zone_machine.specs.Machine.{opening};
     ghost use Rattle.zone_machine.specs.Turns_seen.{arrival_of, object_edits, sweeps};
+
+    /// Where no zone is stored yet.
+    pub(crate) fn empty(alloc: Global) -> Self
+        ensures { Stands (opening []) result }
+    {
+        Self {
+            processes: Vec::new(alloc),
+            mounts: Vec::new(alloc),
+            ids: Vec::new(alloc),
+            rows: Vec::new(alloc),
+            serial: 0,
+            sessions: Vec::new(alloc),
+            desks: Vec::new(alloc),
+            last_pid: 1,
+            last_zid: 0,
+            started: false,
+        }
+    }
 
     /// What is stored of a zone.
     pub(crate) fn stored(&self, zone: &ZoneName) -> Option<&Record>
@@ -49,7 +67,7 @@ impl Tables {
         }
     }
 
-    fn enter_process(&mut self, zone: ZoneName, process: Process) -> Result<(), StepFault>
+    fn enter_process(&mut self, zone: ZoneName, process: Process) -> Result<(), AllocError>
         ensures { OnOk result (Does zone (comes_world (New_process process)) (came_rest zone (Some (New_process process))) self.old self.new) }
     {
         let pid = process.pid;
@@ -58,7 +76,7 @@ impl Tables {
         Ok(())
     }
 
-    fn give_id(&mut self, zone: ZoneName, id: Id) -> Result<(), StepFault>
+    fn give_id(&mut self, zone: ZoneName, id: Id) -> Result<(), AllocError>
         ensures { OnOk result (Does zone (comes_world (New_id id)) (came_rest zone (Some (New_id id))) self.old self.new) }
     {
         add(&mut self.ids, zone, id)?;
@@ -66,11 +84,11 @@ impl Tables {
         Ok(())
     }
 
-    pub(crate) fn store(&mut self, zone: ZoneName, row: Record) -> Result<(), StepFault>
+    pub(crate) fn store(&mut self, zone: ZoneName, row: Record) -> Result<(), AllocError>
         ensures { OnOk result (Does zone (comes_world (New_record (Some row))) (came_rest zone (Some (New_record (Some row)))) self.old self.new) }
     {
         if self.serial == u32::MAX {
-            return Err(StepFault::Memory);
+            return Err(AllocError);
         }
         place(&mut self.rows, zone, row)?;
         self.serial += 1;
@@ -83,7 +101,7 @@ impl Tables {
         alloc: Global,
         zone: &ZoneName,
         came: Option<Came>,
-    ) -> Result<(), StepFault>
+    ) -> Result<(), AllocError>
         ensures { OnOk result (Does zone.now (after_came_world (option_map arrival_of came)) (came_rest zone.now (option_map arrival_of came)) self.old self.new) }
     {
         match came {
@@ -100,7 +118,7 @@ impl Tables {
         alloc: Global,
         zone: &ZoneName,
         edit: ObjectEdit,
-    ) -> Result<(), StepFault>
+    ) -> Result<(), AllocError>
         ensures { OnOk result (Does zone.now (edits_world None (object_edits edit)) kept_rest self.old self.new) }
     {
         match edit {

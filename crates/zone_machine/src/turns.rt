@@ -17,7 +17,6 @@ ghost use Rattle.zone_machine.specs.Turns_seen.{CanStep, HasNoWork, HasWork, See
 
 use crate::daemon::{Outcome, RequestKind, Step, TurnReply};
 use crate::desks::{Desk, Job};
-use crate::faults::StepFault;
 use crate::objects::{Id, Mount, Process};
 use crate::plans::{may_begin, plan};
 use crate::records::{Config, Record};

@@ -16,7 +16,6 @@ ghost use Rattle.zone_machine.specs.declared.records.Record as record_types;
 
 use crate::daemon::RequestKind;
 use crate::desks::Desk;
-use crate::faults::StepFault;
 use crate::lines::{Command, Line};
 use crate::lists::{add, place_of};
 use crate::records::{Config, Record};
@@ -76,7 +75,7 @@ impl Tables {
         zone: &ZoneName,
         path: Option<AbsPath>,
         grant: Grant,
-    ) -> Result<Head, StepFault>
+    ) -> Result<Head, AllocError>
         ensures head { IfOk result (λ head. says head ≡ (act_of (make_at path) grant).effect.reply) }
         ensures state { OnOk result ((n : Option ℕ) → Acts zone.now n (act_of (make_at path) grant) self.old self.new) }
     {
@@ -104,7 +103,7 @@ impl Tables {
         zone: &ZoneName,
         word: &[u8],
         grant: Grant,
-    ) -> Result<Head, StepFault>
+    ) -> Result<Head, AllocError>
         ensures head { IfOk result (λ head. says head ≡ (act_of (make (world_of zone.now self.old).stored word.now) grant).effect.reply) }
         ensures state { OnOk result ((n : Option ℕ) → Acts zone.now n (act_of (make (world_of zone.now self.old).stored word.now) grant) self.old self.new) }
     {
@@ -126,7 +125,7 @@ impl Tables {
         zone: &ZoneName,
         number: u8,
         kind: RequestKind,
-    ) -> Result<Head, StepFault>
+    ) -> Result<Head, AllocError>
         requires { session_at self.old.sessions.items number ≡ Session.Idle }
         ensures head { IfOk result (λ head. (row : record_types.Record) → says head ≡ (put_request (world_of zone.now self.old).desk kind (Some row)).reply) }
         ensures state { OnOk result ((row : record_types.Record) → Acts zone.now (Some number) (record { came = None; effect = put_request (world_of zone.now self.old).desk kind (Some row) }) self.old self.new) }
@@ -210,7 +209,7 @@ impl Tables {
         number: u8,
         command: Command<'_>,
         grant: Grant,
-    ) -> Result<Head, StepFault>
+    ) -> Result<Head, AllocError>
         requires { session_at self.old.sessions.items number ≡ Session.Idle }
         ensures head { IfOk result (λ head. says head ≡ (act_of (idle_line (view_of zone.now (world_of zone.now self.old)) (command_seen command.entry)) grant).effect.reply) }
         ensures state { OnOk result (Acts zone.now (Some number) (act_of (idle_line (view_of zone.now (world_of zone.now self.old)) (command_seen command.entry)) grant) self.old self.new) }
@@ -230,7 +229,7 @@ impl Tables {
         zone: &ZoneName,
         number: u8,
         kind: RequestKind,
-    ) -> Result<Head, StepFault>
+    ) -> Result<Head, AllocError>
         requires { session_at self.old.sessions.items number ≡ Session.Idle }
         ensures head { IfOk result (λ head. says head ≡ (put_request (world_of zone.now self.old).desk kind (world_of zone.now self.old).stored).reply) }
         ensures state { OnOk result (Acts zone.now (Some number) (record { came = None; effect = put_request (world_of zone.now self.old).desk kind (world_of zone.now self.old).stored }) self.old self.new) }
@@ -250,7 +249,7 @@ impl Tables {
         number: u8,
         line: Line<'_>,
         grant: Grant,
-    ) -> Result<Head, StepFault>
+    ) -> Result<Head, AllocError>
         requires { IsOwnSession zone.now (session_at self.old.sessions.items number) }
         ensures head { IfOk result (λ head. says head ≡ (act_of (typed (view_of zone.now (world_of zone.now self.old)) ((world_of zone.now self.old).sessions number) (line_seen line.entry)) grant).effect.reply) }
         ensures state { OnOk result (Acts zone.now (Some number) (act_of (typed (view_of zone.now (world_of zone.now self.old)) ((world_of zone.now self.old).sessions number) (line_seen line.entry)) grant) self.old self.new) }

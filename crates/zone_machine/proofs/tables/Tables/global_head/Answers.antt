@@ -1,0 +1,21 @@
+use Rattle.std.proofs.Common.{rules, ◌≡◌, ap, sym, ◌∙◌, IfOk, None, OnOk, Some, ℕ, ◌+◌, ◌-◌, ◌*◌, ◌<◌, ◌≤◌, length, ◌/◌, ◌%◌, Bool, true, false, nat_eq, nat_lt, List, [], ◌∷◌, ◌++◌, slice_index_or, slice_set, bit_and, bit_or, Fits, w8, w32, w64, Bor, MutBor}
+use Rattle.std.specs.Option.{option_map}
+use Rattle.zn_base.specs.Names.{name_of}
+use Rattle.zone_machine.specs.Decisions.{act_of, asked_of, says}
+use Rattle.zone_machine.specs.Lines.{line_of}
+use Rattle.zone_machine.specs.Lines_seen.{line_seen, word_seen}
+use Rattle.zone_machine.specs.Machine.{named_subject, session_number}
+use Rattle.zone_machine.specs.Needs_seen.{asked_by}
+use Rattle.zn_base.specs.declared.grant.Grant.{Grant as A_grant}
+use Rattle.zone_machine.specs.Steps.{IsHead, IsStep}
+use Rattle.zone_machine.specs.Tables.{Acts, decide_in, subject_in}
+use Rattle.zone_machine.specs.Typed.{badly_named, global_line}
+use Rattle.zone_machine.proofs.tables.Tables.global_head.Goals as goal
+use Rattle.zone_machine.proofs.Results.{if_ok}
+use Rattle.zone_machine.proofs.Stepping.{IsHead-session}
+
+-- src/steps.rt:140:5
+pub returns-in-Session : goal.returns-in-Session
+returns-in-Session c =
+    if_ok c.global_line.result (λ head. says head ≡ global_line (line_seen c.line_of.result)) (λ head. (g : A_grant) → IsHead c.args.self.now c.args.event.now g head c.args.self.now)
+      (λ head h. IsHead-session c.args.self.now c.args.event.now c.in-Session.number c.in-Session.text head c.in-Session.is c.requires (h ∙ (ap global_line c.line_of.ensures ∙ ap (λ x. global_line (line_of x)) c.bytes.ensures.bytes))) c.global_line.ensures

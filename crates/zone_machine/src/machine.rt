@@ -1,0 +1,87 @@
+//! The machine.
+ghost use Rattle.std.specs.Prelude.{◌≡◌, [], Err, IfOk};
+ghost use Rattle.zone_machine.specs.Machine.{opening};
+ghost use Rattle.zone_machine.specs.Steps.{IsAllowed, IsAllowedStep, IsFittingStep, IsMisfit, IsStarted, IsSubject, IsZoneState};
+ghost use Rattle.zone_machine.specs.Tables.{Stands};
+
+use crate::events::{Entry, Event, Subject};
+use crate::faults::StepFault;
+use crate::tables::Tables;
+use std::alloc::Global;
+use std::marker::Model;
+use zn_base::{Grant, ZoneName, ZoneState};
+
+/// The machine of all zones. Contracts see its tables, and say what they stand for.
+#[derive(Drop)]
+pub struct Machine {
+    tables: Tables,
+}
+
+impl Model for Machine {
+    ghost use Rattle.zone_machine.specs.declared.tables.Tables.{Tables};
+
+    ghost Value = { Tables };
+
+    ghost view = { λ m. m.tables };
+}
+
+impl Machine {
+    /// The machine before any event, where no zone is stored. It takes no memory.
+    pub fn empty(alloc: Global) -> Self
+        ensures { Stands (opening []) result }
+    {
+        Self {
+            tables: Tables::empty(alloc),
+        }
+    }
+
+    /// Whose an event is.
+    pub fn subject(&self, alloc: Global, event: &Event) -> Result<Subject, StepFault>
+        ensures { IfOk result (IsSubject self.now event.now) }
+    {
+        Ok(self.tables.subject(alloc, event)?)
+    }
+
+    /// The grant that the pools give an event.
+    pub fn allowed(&self, alloc: Global, event: &Event) -> Result<Grant, StepFault>
+        ensures { IfOk result (IsAllowed self.now event.now) }
+    {
+        let subject = self.tables.subject(alloc, event)?;
+        Ok(self.tables.allowed(alloc, event, &subject)?)
+    }
+
+    /// An event is answered under the grant that the pools give it.
+    pub fn step(&mut self, alloc: Global, event: Event) -> Result<Entry, StepFault>
+        ensures { IfOk result (λ entry. IsAllowedStep self.old event entry self.new) }
+    {
+        let subject = self.tables.subject(alloc, &event)?;
+        let grant = self.tables.allowed(alloc, &event, &subject)?;
+        Ok(self.tables.answer(alloc, event, subject, grant)?)
+    }
+
+    /// An event is answered under a stated grant, where it fits.
+    pub fn step_given(&mut self, alloc: Global, event: Event, grant: Grant) -> Result<Entry, StepFault>
+        ensures ok { IfOk result (λ entry. IsFittingStep self.old event grant entry self.new) }
+        ensures misfit { result ≡ Err StepFault.BadGrant → IsMisfit self.old event grant self.new }
+    {
+        let subject = self.tables.subject(alloc, &event)?;
+        if !self.tables.is_fit(alloc, &event, &subject, grant)? {
+            return Err(StepFault::BadGrant);
+        }
+        Ok(self.tables.answer(alloc, event, subject, grant)?)
+    }
+
+    /// The state of a zone, where it is stored.
+    pub fn state(&self, zone: &ZoneName) -> Option<ZoneState>
+        ensures { IsZoneState self.now zone.now result }
+    {
+        self.tables.state(zone)
+    }
+
+    /// Whether an event has come.
+    pub fn started(&self) -> bool
+        ensures { IsStarted self.now result }
+    {
+        self.tables.started
+    }
+}
