@@ -49,7 +49,7 @@ IsHead-zone t u z e g head is said acts S s =
     let case : decide (view z S) e ≡ decide_in z t e = decide-stands S t z e s in
     let does = ap (λ d. done_by z (session_number e) (act_of d g) S) case in
     heads-by S e g head u (done_by z (session_number e) (act_of (decide_in z t e) g) S) (one-of S e g (Zone z) of ∙ does) said
-      (Stands-acts S t u z (session_number e) (act_of (decide_in z t e) g) (own_session S e z of) s acts)
+    (Stands-acts S t u z (session_number e) (act_of (decide_in z t e) g) (own_session S e z of) s acts)
 
 -- an event of the global zone
 pub IsHead-global : (t : Tables) (e : Event) (g : Grant) (head : Head) → subject_in t e ≡ Global → ((S : State) → says head ≡ global_reply S e) → IsHead t e g head t

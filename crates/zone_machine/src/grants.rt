@@ -43,12 +43,7 @@ impl Tables {
     }
 
     // What an event asks of the pools.
-    fn asked(
-        &self,
-        alloc: Global,
-        event: &Event,
-        subject: &Subject,
-    ) -> Result<Need, AllocError>
+    fn asked(&self, alloc: Global, event: &Event, subject: &Subject) -> Result<Need, AllocError>
         requires { subject.now ≡ subject_in self.now event.now }
         ensures { IfOk result (λ need. asked_in subject.now self.now event.now ≡ asked_by need) }
     {

@@ -60,7 +60,12 @@ impl Machine {
     }
 
     /// An event is answered under a stated grant, where it fits.
-    pub fn step_given(&mut self, alloc: Global, event: Event, grant: Grant) -> Result<Entry, StepFault>
+    pub fn step_given(
+        &mut self,
+        alloc: Global,
+        event: Event,
+        grant: Grant,
+    ) -> Result<Entry, StepFault>
         ensures ok { IfOk result (λ entry. IsFittingStep self.old event grant entry self.new) }
         ensures misfit { result ≡ Err StepFault.BadGrant → IsMisfit self.old event grant self.new }
     {

@@ -32,9 +32,8 @@ fn named_subject(alloc: Global, word: Option<&[u8]>) -> Result<Subject, AllocErr
     match ZoneName::read(alloc, word) {
         Ok(zone) => Ok(Subject::Zone(zone)),
         Err(NameFault::Memory) => Err(AllocError),
-        Err(
-            NameFault::Empty | NameFault::TooLong | NameFault::BadByte(_) | NameFault::Reserved,
-        ) => Ok(Subject::Global),
+        Err(NameFault::Empty | NameFault::TooLong | NameFault::BadByte(_) | NameFault::Reserved) =>
+            Ok(Subject::Global),
     }
 }
 

@@ -1,4 +1,4 @@
-use Rattle.std.proofs.Common.{rules, ◌≡◌,ap, sym, ◌∙◌, IfOk, ℕ, ◌+◌, ◌-◌, ◌*◌, ◌<◌, ◌≤◌, length, ◌/◌, ◌%◌, Bool, true, false, nat_eq, nat_lt, List, [], ◌∷◌, ◌++◌, slice_index_or, slice_set, bit_and, bit_or, Fits, w8, w32, w64, Bor, MutBor}
+use Rattle.std.proofs.Common.{rules, ◌≡◌, ap, sym, ◌∙◌, IfOk, ℕ, ◌+◌, ◌-◌, ◌*◌, ◌<◌, ◌≤◌, length, ◌/◌, ◌%◌, Bool, true, false, nat_eq, nat_lt, List, [], ◌∷◌, ◌++◌, slice_index_or, slice_set, bit_and, bit_or, Fits, w8, w32, w64, Bor, MutBor}
 use Rattle.zone_machine.specs.Decisions.{asked_of}
 use Rattle.zone_machine.specs.Needs_seen.{asked_by}
 use Rattle.zone_machine.specs.Pools.{said_by_all}
@@ -13,7 +13,7 @@ use Rattle.zone_machine.proofs.Results.{if_ok}
 pub returns-in-Zone : goal.returns-in-Zone
 returns-in-Zone c =
     if_ok c.zone_allowed.result (λ g. g ≡ said_by_all (pools_in c.args.self.now) c.in-Zone.zone (asked_of (decide_in c.in-Zone.zone c.args.self.now c.args.event.now)) Nothing) (IsAllowed c.args.self.now c.args.event.now)
-      (λ g. IsAllowed-zone c.args.self.now c.in-Zone.zone c.args.event.now g (sym c.requires ∙ c.in-Zone.is)) c.zone_allowed.ensures
+    (λ g. IsAllowed-zone c.args.self.now c.in-Zone.zone c.args.event.now g (sym c.requires ∙ c.in-Zone.is)) c.zone_allowed.ensures
 
 -- src/grants.rt:30:5
 pub returns-in-Global : goal.returns-in-Global

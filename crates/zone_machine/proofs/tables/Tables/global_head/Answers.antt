@@ -18,4 +18,4 @@ use Rattle.zone_machine.proofs.Stepping.{IsHead-session}
 pub returns-in-Session : goal.returns-in-Session
 returns-in-Session c =
     if_ok c.global_line.result (λ head. says head ≡ global_line (line_seen c.line_of.result)) (λ head. (g : A_grant) → IsHead c.args.self.now c.args.event.now g head c.args.self.now)
-      (λ head h. IsHead-session c.args.self.now c.args.event.now c.in-Session.number c.in-Session.text head c.in-Session.is c.requires (h ∙ (ap global_line c.line_of.ensures ∙ ap (λ x. global_line (line_of x)) c.bytes.ensures.bytes))) c.global_line.ensures
+    (λ head h. IsHead-session c.args.self.now c.args.event.now c.in-Session.number c.in-Session.text head c.in-Session.is c.requires (h ∙ (ap global_line c.line_of.ensures ∙ ap (λ x. global_line (line_of x)) c.bytes.ensures.bytes))) c.global_line.ensures

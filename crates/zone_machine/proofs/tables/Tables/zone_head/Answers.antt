@@ -18,6 +18,6 @@ use Rattle.zone_machine.proofs.Stepping.{IsHead-zone}
 pub returns : goal.returns
 returns c =
     both_ok c.act.result (λ head. says head ≡ (act_of (decide_in c.args.zone.now c.args.self.now c.args.event.now) c.args.grant).effect.reply)
-      (Acts c.args.zone.now (session_number c.args.event.now) (act_of (decide_in c.args.zone.now c.args.self.now c.args.event.now) c.args.grant) c.args.self.now c.act.new.self)
-      (λ head. IsHead c.args.self.now c.args.event.now c.args.grant head c.act.new.self)
-      (λ head. IsHead-zone c.args.self.now c.act.new.self c.args.zone.now c.args.event.now c.args.grant head c.requires) c.act.ensures.head c.act.ensures.state
+    (Acts c.args.zone.now (session_number c.args.event.now) (act_of (decide_in c.args.zone.now c.args.self.now c.args.event.now) c.args.grant) c.args.self.now c.act.new.self)
+    (λ head. IsHead c.args.self.now c.args.event.now c.args.grant head c.act.new.self)
+    (λ head. IsHead-zone c.args.self.now c.act.new.self c.args.zone.now c.args.event.now c.args.grant head c.requires) c.act.ensures.head c.act.ensures.state
