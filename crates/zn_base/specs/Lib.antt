@@ -6,6 +6,7 @@ pub mod Path
 pub mod Names
 pub mod Moves
 pub mod Owned_lists
+pub mod Firsts
 pub mod Same
 pub mod Disk
 pub mod MemoryDisk

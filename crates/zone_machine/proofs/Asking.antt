@@ -3,7 +3,7 @@ use Rattle.std.proofs.Common.{◌≡◌, ◌+◌, ◌∷◌, [], zero, suc, ℕ,
 use Rattle.std.specs.Prelude.{is_some, slice_get}
 use Rattle.std.specs.Option.{option_map}
 use Rattle.std.proofs.lemmas.Bool.{false≢true, true≢false}
-use Rattle.zone_machine.specs.Firsts.{first_of}
+use Rattle.zn_base.specs.Firsts.{first_of}
 use Rattle.zone_machine.proofs.Passing.{step-passed}
 use Rattle.zone_machine.specs.Decisions.{asked_of}
 use Rattle.zone_machine.specs.Needs_seen.{plan_asks, step_asks}

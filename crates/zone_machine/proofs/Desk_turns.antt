@@ -7,7 +7,7 @@ use Rattle.std.specs.Prelude.{bytes_eq, true, false, ◌+◌, ◌++◌, ◌∷�
 use Rattle.zn_base.proofs.Owned_laws.{same_true}
 use Rattle.zn_base.specs.Names.{Name}
 use Rattle.zn_base.specs.Owned_lists.{mine, tag}
-use Rattle.zone_machine.specs.Firsts.{first_of}
+use Rattle.zn_base.specs.Firsts.{first_of}
 use Rattle.zn_base.specs.declared.grant.Grant.{Grant}
 use Rattle.zn_base.specs.declared.owned.Owned.{Owned}
 use Rattle.zone_machine.specs.Acts_seen.{TurnsDesk, desk_in, Puts}

@@ -1,4 +1,3 @@
-pub mod Firsts_laws
 pub mod Examples
 pub mod Same_laws
 pub mod Laws

@@ -6,7 +6,7 @@ use Rattle.std.specs.Option.{option_map}
 use Rattle.std.proofs.lemmas.Bool.{false≢true, ltb-true, ltb-false, lt-ltb, le-ltb}
 use Rattle.zn_base.proofs.Owned_laws.{same_self, same_true}
 use Rattle.zn_base.specs.Owned_lists.{mine, own, tag, put_tagged}
-use Rattle.zone_machine.specs.Firsts.{first_of, placed}
+use Rattle.zn_base.specs.Firsts.{first_of, placed}
 use Rattle.zone_machine.specs.Lists_seen.{StandsAt, StandsNowhere, of}
 use Rattle.zn_base.specs.declared.owned.Owned.{Owned}
 

@@ -4,7 +4,7 @@ use Rattle.std.specs.Prelude.{Vec}
 use Rattle.std.specs.Option.{option_map}
 use Rattle.zn_base.specs.Names.{Name}
 use Rattle.zn_base.specs.Owned_lists.{mine}
-use Rattle.zone_machine.specs.Firsts.{first_of}
+use Rattle.zn_base.specs.Firsts.{first_of}
 use Rattle.zn_base.specs.declared.grant.Grant.{Grant}
 use Rattle.zn_base.specs.declared.owned.Owned.{Owned}
 use Rattle.zone_machine.proofs.Doing_laws.{does_desk, does_nothing, does_same, does_then}

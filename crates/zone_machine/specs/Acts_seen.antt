@@ -5,7 +5,7 @@ use Rattle.zone_machine.specs.Lists_seen.{StandsAt}
 use Rattle.std.specs.Prelude.{◌≡◌, List, ◌≢◌, ℕ, Option, Some, None, true, false, ◌+◌}
 use Rattle.zn_base.specs.Names.{Name}
 use Rattle.zn_base.specs.Owned_lists.{mine}
-use Rattle.zone_machine.specs.Firsts.{first_of, placed}
+use Rattle.zn_base.specs.Firsts.{first_of, placed}
 use Rattle.zn_base.specs.declared.grant.Grant.{Grant}
 use Rattle.zn_base.specs.declared.owned.Owned.{Owned}
 use Rattle.zone_machine.specs.Decisions.{act_of}

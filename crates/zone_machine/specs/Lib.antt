@@ -1,4 +1,3 @@
-pub mod Firsts
 pub mod State
 pub mod Worlds
 pub mod Edits

@@ -3,7 +3,7 @@ use Rattle.zone_machine.specs.declared.objects.Process.{Process}
 use Rattle.zone_machine.specs.Edits.{below}
 use Rattle.std.specs.Prelude.{◌≡◌, ◌<◌, ◌∷◌, ◌++◌, [], ℕ, Bool, List, Some, true, length, get_or, set, bytes_eq, not, ◌&&◌}
 use Rattle.zn_base.specs.Owned_lists.{mine, tag}
-use Rattle.zone_machine.specs.Firsts.{first_of, placed}
+use Rattle.zn_base.specs.Firsts.{first_of, placed}
 use Rattle.zn_base.specs.declared.owned.Owned.{Owned}
 
 abbrev pub of : {A : Type 0} → List ℕ → Owned A → Bool

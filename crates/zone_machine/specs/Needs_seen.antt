@@ -1,6 +1,6 @@
 -- What the code's needs ask, as the definitions have it.
 use Rattle.zone_machine.specs.Turns_seen.{without_unmounts}
-use Rattle.zone_machine.specs.Firsts.{first_of}
+use Rattle.zn_base.specs.Firsts.{first_of}
 use Rattle.std.specs.Prelude.{List, [], ◌∷◌, Option, Some, None, Bool, true, false}
 use Rattle.zone_machine.specs.Decisions.{A_path, A_pid, A_serial, A_zid, A_zone, Asked}
 use Rattle.zone_machine.specs.declared.daemon.Step.{Step}

@@ -2,7 +2,7 @@
 use Rattle.std.specs.Prelude.{ℕ, ◌+◌, ◌-◌, ◌^◌, min, List, [], ◌∷◌, Option, Some, None, Bool, true, false, bytes_eq, unwrap_or, if◌then◌else◌}
 use Rattle.zn_base.specs.Names.{Name}
 use Rattle.zn_base.specs.Owned_lists.{Change, Come, Go, edit_list, mine}
-use Rattle.zone_machine.specs.Firsts.{is_nil, placed}
+use Rattle.zn_base.specs.Firsts.{is_nil, placed}
 use Rattle.zn_base.specs.declared.owned.Owned.{Owned}
 use Rattle.zn_base.specs.declared.state.ZoneState.{ZoneState}
 use Rattle.zone_machine.specs.declared.daemon.Outcome.{Outcome}

@@ -2,7 +2,7 @@
 use Rattle.std.specs.Prelude.{ℕ, List, [], ◌∷◌, ◌++◌, length, Bool, true, is_some, Option, Some, None, bytes_eq, codes, nat_eq, if◌then◌else◌}
 use Rattle.std.specs.Option.{option_map}
 use Rattle.zn_base.specs.Owned_lists.{Come, Go}
-use Rattle.zone_machine.specs.Firsts.{first_of}
+use Rattle.zn_base.specs.Firsts.{first_of}
 use Rattle.zn_base.specs.declared.state.ZoneState.{ZoneState}
 use Rattle.zn_base.specs.declared.state.ZoneState.TheVariants.{Installed}
 use Rattle.zone_machine.specs.Decisions.{A_pid, A_serial, A_zid, Ask, Asked, Decision, Effect, Just, turned}

@@ -2,7 +2,7 @@
 use Rattle.std.specs.Prelude.{ℕ, List, [], ◌∷◌, Option, Some, None, Bool, bytes_eq, nat_eq, filter, if◌then◌else◌}
 use Rattle.zn_base.specs.Names.{Name}
 use Rattle.zn_base.specs.Owned_lists.{mine}
-use Rattle.zone_machine.specs.Firsts.{first_of}
+use Rattle.zn_base.specs.Firsts.{first_of}
 use Rattle.zn_base.specs.declared.owned.Owned.{Owned}
 use Rattle.zone_machine.specs.State.{At, Desk, Doing, Idle, Session, State, stored}
 use Rattle.zone_machine.specs.declared.objects.Id.{Id}

@@ -2,7 +2,7 @@
 ghost use Rattle.std.specs.Prelude.{◌≡◌, ◌+◌, ◌≤◌, [], ◌∷◌, MatchOption, None, Some, bytes_eq, codes, drop, length, nat_eq, not, position, take};
 ghost use Rattle.std.specs.List.{ends_with, list_all, starts_with};
 ghost use Rattle.std.specs.Option.{option_map};
-ghost use Rattle.zone_machine.specs.Firsts.{first_of, is_nil};
+ghost use Rattle.zn_base.specs.Firsts.{first_of, is_nil};
 ghost use Rattle.zone_machine.specs.Lines.{after_word, command_of, is_space, is_word, is_word_byte, line_of, path_word, request_word, tool_command, word_after_flag, words, zone_command, zoneadm_command, zonecfg_command};
 ghost use Rattle.zone_machine.specs.Lines_seen.{BeginsWord, EndsWord, GivesRest, GivesWord, IsWordFirst, command_seen, line_seen, word_seen};
 

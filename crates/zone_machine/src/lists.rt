@@ -1,7 +1,7 @@
 //! Lists of what zones own.
 ghost use Rattle.std.specs.Prelude.{◌≡◌, ◌<◌, ◌++◌, ◌∷◌, [], IfOk, OnOk, MatchOption, bytes_eq, length, position, true};
 ghost use Rattle.zn_base.specs.Owned_lists.{Come, Go, Put, edit_list, tag};
-ghost use Rattle.zone_machine.specs.Firsts.{placed};
+ghost use Rattle.zn_base.specs.Firsts.{placed};
 ghost use Rattle.zone_machine.specs.Edits.{below};
 ghost use Rattle.zone_machine.specs.Lists_seen.{StandsAt, StandsNowhere, is_above};
 ghost use Rattle.zone_machine.specs.Turns.{is_at};

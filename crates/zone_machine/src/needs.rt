@@ -3,7 +3,7 @@ ghost use Rattle.std.specs.Prelude.{◌≡◌, IfOk, bytes_eq, drop, is_some};
 ghost use Rattle.std.specs.List.{list_any};
 ghost use Rattle.std.specs.Option.{option_map};
 ghost use Rattle.zn_base.specs.Owned_lists.{mine};
-ghost use Rattle.zone_machine.specs.Firsts.{first_of};
+ghost use Rattle.zn_base.specs.Firsts.{first_of};
 ghost use Rattle.zone_machine.specs.Decisions.{asked_of};
 ghost use Rattle.zone_machine.specs.Desks_seen.{desk_seen, job_seen};
 ghost use Rattle.zone_machine.specs.Lines_seen.{line_seen};

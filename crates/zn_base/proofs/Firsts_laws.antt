@@ -5,7 +5,7 @@ use Rattle.std.specs.List.{cons_option}
 use Rattle.std.specs.Str.{bytes_eq}
 use Rattle.zn_base.specs.declared.owned.Owned.{Owned}
 use Rattle.zn_base.specs.Owned_lists.{own, mine}
-use Rattle.zone_machine.specs.Firsts.{first_of, placed}
+use Rattle.zn_base.specs.Firsts.{first_of, placed}
 use Rattle.zn_base.proofs.Owned_laws.{same_self, other_tag}
 
 pub first-placed : {A : Type 0} (z : List ℕ) (a : A) (os : List (Owned A)) → first_of (mine z (placed z a os)) ≡ Some a
