@@ -1,37 +1,35 @@
 -- How a trace ends, and what standard output has taken then.
-use Rattle.std.proofs.Common.{◌≡◌, ◌+◌, ◌≤◌, ◌<◌, ◌||◌, ◌++◌, ◌⊎◌, inl, inr, map, ℕ, Bool, true, false, cond, nat_lt, List, [], ◌∷◌, length, take, Option, Some, None, IfSome, Result, Ok, Err, refl, ap, sym, subst, ◌∙◌, arith, append_assoc}
-use Rattle.std.specs.Prelude.{IsErrAnd, IsErrOf, nat_le}
+use Rattle.std.proofs.Common.{◌≡◌, ◌+◌, ◌≤◌, ◌<◌, ◌||◌, ◌++◌, ◌⊎◌, inl, inr, ℕ, true, false, cond, nat_lt, List, [], ◌∷◌, length, take, drop, Option, Some, None, IfSome, Result, Ok, Err, refl, ap, sym, subst, ◌∙◌, arith, append_assoc, zero, suc}
+use Rattle.std.specs.Prelude.{IfOk, IsErrAnd, IsErrOf, nat_le}
 use Rattle.std.specs.Io.KnownBytes.{IsAtEnd}
 use Rattle.std.specs.Option.{option_map}
 use Rattle.std.proofs.lemmas.Bool.Decides.{nat_tests}
 use Rattle.std.proofs.lemmas.Grind.{flat_map-append}
-use Rattle.std.proofs.lemmas.List.{append-nil, take-append-le, take_all}
+use Rattle.std.proofs.lemmas.List.{append-nil, append_cancel_left, take-append-drop, take-append-le, take_all}
 use Rattle.std.proofs.Math.Seq.{take-append-add, take-append_seam, take-length}
-use Rattle.zn_base.specs.Streams.{Rose, TakesFront, after_known, before_known}
+use Rattle.zn_base.specs.Streams.{after_known, before_known}
 use Rattle.trace_text.specs.Lines.{event_of}
 use Rattle.trace_text.specs.declared.fault.LineFault.{LineFault}
-use Rattle.zone_machine.specs.Histories.{after_entry, entry_at, history}
 use Rattle.zone_machine.specs.Machine.{opening}
-use Rattle.zone_machine.specs.Pools.{allowed, or_else}
+use Rattle.zone_machine.specs.Pools.{or_else}
 use Rattle.zone_machine.specs.State.{State}
 use Rattle.zone_machine.specs.declared.events.Entry.{Entry}
 use Rattle.zone_machine.specs.declared.events.Event.{Event}
 use Rattle.zones_cli.specs.Lines.{is_newline, lines_of, with_first}
-use Rattle.zones_cli.specs.Output.{is_past_limit}
 use Rattle.zones_cli.specs.Reading.{BeginsLine, FirstIsLong}
 use Rattle.zones_cli.specs.Run.{HasFront}
-use Rattle.zones_cli.specs.Tracing.{AnswersRead, At_end, At_fault, Ending, HasReplies, Past_limit, Run, Script, StopsEvent, Tells, ends, entry_text, left_to_tell, replies_text, run_of, run_on, script_from, told, told_refusal, trace_fault_of, traced, with_line, with_script}
+use Rattle.zones_cli.specs.Tracing.{AnswersRead, At_end, At_fault, Ending, HasReplies, HasWritten, Past_limit, Run, Stops, Tells, ends, entry_text, left_to_tell, replies_text, run_of, run_on, script_from, told, told_refusal, trace_fault_of, traced, with_line, with_script}
 use Rattle.zones_cli.specs.declared.outcome.Complaint.{Complaint}
 use Rattle.zones_cli.specs.declared.outcome.Complaint.TheVariants.{Grammar as Bad_line, Limit}
 use Rattle.zones_cli.specs.declared.trace.Stop.{Stop}
-use Rattle.zones_cli.specs.declared.trace.Stop.TheVariants.{Fault, Grammar}
+use Rattle.zones_cli.specs.declared.trace.Stop.TheVariants.{Grammar, Memory as No_room}
 use Rattle.zones_cli.specs.declared.trace.TraceFault.TheVariants.{Memory, Read, Write}
 use Rattle.zones_cli.specs.declared.trace.TraceFault.{TraceFault}
 use Rattle.zones_cli.specs.declared.lines.ReadFault.{ReadFault}
 use Rattle.zones_cli.specs.declared.lines.ReadFault.TheVariants.{Failed, Memory as No_memory}
-use Rattle.zones_cli.proofs.Fronts.{after_known-append}
-use Rattle.zones_cli.proofs.TraceRuns.{Knows, RunsOn, known_run}
-use Rattle.zones_cli.proofs.Traces.{answers_line, or_else-None, script_line}
+use Rattle.zones_cli.proofs.Fronts.{after_known-append, after_known-nil}
+use Rattle.zones_cli.proofs.TraceRuns.{RunsOn, known_run}
+use Rattle.zones_cli.proofs.Traces.{or_else-None, script_line}
 
 abbrev ended_run : List Entry → Option ℕ → Ending → Run
 ended_run done refused ending = record { entries = done; refused = refused; ending = ending }
@@ -145,56 +143,35 @@ front_within held between holds before text more count b t =
           }
     ] refl
 
--- the texts of some entries, of one after them and of those that follow
-replies_text-around : (done : List Entry) (entry : Entry) (more : List Entry) → replies_text ((done ++ entry ∷ []) ++ more) ≡ replies_text done ++ (entry_text entry ++ replies_text more)
-replies_text-around done entry more = ap replies_text (append_assoc done (entry ∷ []) more) ∙ flat_map-append entry_text done (entry ∷ more)
-
-front_of_run : (held between holds : Option (List ℕ)) (done : List Entry) (refused : Option ℕ) (n : ℕ) (S : State) (e : Event) (line : List ℕ) (lines : List (List ℕ)) (bytes : List ℕ) (count : ℕ)
-    → between ≡ after_known held (replies_text done) → run_on done refused n S (line ∷ lines) ≡ run_of bytes → n ≤ 200000 → length line ≤ 4096 → event_of line ≡ Ok (Some e)
-    → holds ≡ after_known between (take count (entry_text (entry_at S e (allowed S e)))) → HasFront held holds (traced bytes).out
-front_of_run held between holds done refused n S e line lines bytes count text is h k says taken =
-    let entry : Entry = entry_at S e (allowed S e) in
-    let more = history (after_entry S entry) (map (λ e. e.1) (script_from (n + 1) lines).events) in
+-- what waited was not written whole: a front of the whole text was taken
+pub flushed_front : (held holds now input : Option (List ℕ)) (waiting : List ℕ) → HasWritten held holds → IfSome input (λ bs. HasReplies held (after_known holds waiting) (run_of bs)) → HasFront holds now waiting
+    → IfSome input (λ bs. HasFront held now (traced bs).out)
+flushed_front held holds now None waiting written replies front = tt
+flushed_front None holds now (Some bytes) waiting written replies front =
+    record { count = 0; taken = front.taken ∙ ap (λ known. after_known known (take front.count waiting)) written.1 }
+flushed_front (Some begun) holds now (Some bytes) waiting written replies front =
     let run = run_of bytes in
-    let entries : run.entries ≡ (done ++ entry ∷ []) ++ more = ap (λ r. r.entries) (sym is ∙ answers_line done refused n S e line lines h k says) in
-    subst (HasFront held holds) (sym (told-out run.entries run.refused run.ending ∙ ap replies_text entries ∙ replies_text-around done entry more))
-    (front_within held between holds (replies_text done) (entry_text entry) (replies_text more) count text taken)
+    let more = replies_text (drop replies.count run.entries) in
+    let known : Some ((begun ++ written.0) ++ waiting) ≡ Some (begun ++ replies_text (take replies.count run.entries)) = sym (ap (λ known. after_known known waiting) written.1) ∙ replies.taken in
+    let joined : written.0 ++ waiting ≡ replies_text (take replies.count run.entries) = append_cancel_left begun _ _ (sym (append_assoc begun written.0 waiting) ∙ cc) in
+    let whole : (traced bytes).out ≡ written.0 ++ (waiting ++ more) =
+    told-out run.entries run.refused run.ending ∙ ap replies_text (sym (take-append-drop replies.count run.entries))
+    ∙ flat_map-append entry_text (take replies.count run.entries) (drop replies.count run.entries) ∙ ap (λ text. text ++ more) (sym joined) ∙ append_assoc written.0 waiting more in
+    subst (HasFront (Some begun) now) (sym whole) (front_within (Some begun) holds now written.0 waiting more front.count written.1 front.taken)
 
--- where a reply could not be written whole, a front of the whole text was taken
-pub has_front : (stands : State → Type 0) (refused : Option ℕ) (n : ℕ) (held holds now_holds : Option (List ℕ)) (e : Event) (line : List ℕ) (bytes : Option (List ℕ)) (new : Option (List (List ℕ))) (input : Option (List ℕ)) (before now : ℕ)
-    → RunsOn stands refused n held holds bytes input → option_map lines_of bytes ≡ option_map (λ ls. line ∷ ls) new → n ≤ 200000 → length line ≤ 4096 → event_of line ≡ Ok (Some e)
-    → ((S : State) → stands S → TakesFront holds now_holds before now (entry_text (entry_at S e (allowed S e)))) → IfSome input (λ bs. HasFront held now_holds (traced bs).out)
-has_front stands refused n held holds now_holds e line bytes new None before now run is h k says front = tt
-has_front stands refused n held holds now_holds e line bytes None (Some input) before now run is h k says front =
-    let none : Some (lines_of run.known.to_come) ≡ None = sym (ap (option_map lines_of) run.known.here) ∙ is in absurd (cc)
-has_front stands refused n held holds now_holds e line bytes (Some lines) (Some input) before now run is h k says front =
-    let first : Some (lines_of run.known.to_come) ≡ Some (line ∷ lines) = sym (ap (option_map lines_of) run.known.here) ∙ is in
-    let here : lines_of run.known.to_come ≡ line ∷ lines = cc in
-    let one : run_on run.done refused n run.state (line ∷ lines) ≡ run_of input = sym (known_run refused n run.state run.done bytes input run.known ∙ ap (run_on run.done refused n run.state) here) in
-    let part = front run.state run.stood in
-    front_of_run held holds now_holds run.done refused n run.state e line lines input part.count run.text one h k says part.taken
+-- more and more was written
+pub nothing_written : (known : Option (List ℕ)) → HasWritten known known
+nothing_written known = ([], sym (after_known-nil known))
 
--- a line whose reply could not be written leaves a front of the whole text
-pub stopped_front : (stands : State → Type 0) (refused : Option ℕ) (n : ℕ) (held holds now_holds : Option (List ℕ)) (line : List ℕ) (bytes : Option (List ℕ)) (new : Option (List (List ℕ))) (input : Option (List ℕ)) (before now : ℕ) (stop : Stop)
-    → RunsOn stands refused n held holds bytes input → option_map lines_of bytes ≡ option_map (λ ls. line ∷ ls) new → n ≤ 200000 → length line ≤ 4096 → StopsEvent stop stands (event_of line) holds now_holds before now
-    → stop ≡ Fault Write → IfSome input (λ bs. HasFront held now_holds (traced bs).out)
-stopped_front stands refused n held holds now_holds line bytes new input before now (Fault Write) run is h k stopped e =
-    has_front stands refused n held holds now_holds stopped.0 line bytes new input before now run is h k stopped.1 stopped.3
-stopped_front stands refused n held holds now_holds line bytes new input before now (Fault Memory) run is h k stopped e = absurd (cc)
-stopped_front stands refused n held holds now_holds line bytes new input before now (Fault Read) run is h k stopped e = absurd (cc)
-stopped_front stands refused n held holds now_holds line bytes new input before now (Grammar fault) run is h k stopped e = absurd (cc)
+pub written_front : (held holds : Option (List ℕ)) (text : List ℕ) → HasFront held holds text → HasWritten held holds
+written_front held holds text front = (take front.count text, front.taken)
 
--- a line that ended the trace for want of memory leaves whole replies
-pub stopped_replies : (stands : State → Type 0) (refused : Option ℕ) (n : ℕ) (held holds now_holds : Option (List ℕ)) (line : List ℕ) (bytes input : Option (List ℕ)) (before now : ℕ) (stop : Stop)
-    → RunsOn stands refused n held holds bytes input → StopsEvent stop stands (event_of line) holds now_holds before now
-    → (stop ≡ Fault Read) ⊎ (stop ≡ Fault Memory) → IfSome input (λ bs. HasReplies held now_holds (run_of bs))
-stopped_replies stands refused n held holds now_holds line bytes input before now (Fault Write) run stopped (inl e) = absurd (cc)
-stopped_replies stands refused n held holds now_holds line bytes input before now (Fault Write) run stopped (inr e) = absurd (cc)
-stopped_replies stands refused n held holds now_holds line bytes input before now (Fault Memory) run stopped e =
-    subst (λ known. IfSome input (λ bs. HasReplies held known (run_of bs))) (sym stopped) (has_replies stands refused n held holds bytes input run)
-stopped_replies stands refused n held holds now_holds line bytes input before now (Fault Read) run stopped e = absurd stopped
-stopped_replies stands refused n held holds now_holds line bytes input before now (Grammar fault) run stopped (inl e) = absurd (cc)
-stopped_replies stands refused n held holds now_holds line bytes input before now (Grammar fault) run stopped (inr e) = absurd (cc)
+pub written_on : (held between holds : Option (List ℕ)) → HasWritten held between → HasWritten between holds → HasWritten held holds
+written_on held between holds first second = (first.0 ++ second.0, second.1 ∙ ap (λ known. after_known known second.0) first.1 ∙ after_known-append held first.0 second.0)
+
+-- nothing waits
+pub nothing_waits : (known : Option (List ℕ)) (waiting : List ℕ) → waiting ≡ [] → after_known known waiting ≡ known
+nothing_waits known waiting none = rw none (after_known-nil known)
 
 -- a byte ahead, after all the lines that there may be
 pub tells_last : (stands : State → Type 0) (refused : Option ℕ) (n : ℕ) (held holds bytes : Option (List ℕ)) (ahead : List ℕ) (left input : Option (List ℕ))
@@ -244,14 +221,32 @@ pub tells_long : (stands : State → Type 0) (refused : Option ℕ) (n : ℕ) (h
 tells_long stands refused n held holds bytes input run long = tells_ending stands refused n held holds bytes input (Past_limit n) (Some (Limit n)) run (at_long n bytes long) (λ done. refl)
 
 -- a line outside the grammar
-pub tells_fault : (stands : State → Type 0) (refused : Option ℕ) (n : ℕ) (held holds now_holds : Option (List ℕ)) (line : List ℕ) (fault : LineFault) (bytes : Option (List ℕ)) (new : Option (List (List ℕ))) (input : Option (List ℕ)) (before now : ℕ) (stop : Stop)
-    → RunsOn stands refused n held holds bytes input → option_map lines_of bytes ≡ option_map (λ ls. line ∷ ls) new → n ≤ 200000 → length line ≤ 4096 → StopsEvent stop stands (event_of line) holds now_holds before now
-    → stop ≡ Grammar fault → IfSome input (λ bs. Tells (Some (Bad_line n fault)) held now_holds (traced bs))
-tells_fault stands refused n held holds now_holds line fault bytes new input before now (Fault e) run is h k stopped same = absurd (cc)
-tells_fault stands refused n held holds now_holds line fault bytes new input before now (Grammar said) run is h k stopped same =
-    let one : event_of line ≡ Err fault = cc in
-    subst (λ known. IfSome input (λ bs. Tells (Some (Bad_line n fault)) held known (traced bs))) (sym stopped.1)
-    (tells_ending stands refused n held holds bytes input (At_fault n fault) (Some (Bad_line n fault)) run (at_fault n line fault bytes new is h k one) (λ done. refl))
+pub tells_fault : (stands : State → Type 0) (refused : Option ℕ) (n : ℕ) (held holds : Option (List ℕ)) (line : List ℕ) (fault : LineFault) (bytes : Option (List ℕ)) (new : Option (List (List ℕ))) (input : Option (List ℕ))
+    → RunsOn stands refused n held holds bytes input → option_map lines_of bytes ≡ option_map (λ ls. line ∷ ls) new → n ≤ 200000 → length line ≤ 4096 → event_of line ≡ Err fault
+    → IfSome input (λ bs. Tells (Some (Bad_line n fault)) held holds (traced bs))
+tells_fault stands refused n held holds line fault bytes new input run is h k says =
+    tells_ending stands refused n held holds bytes input (At_fault n fault) (Some (Bad_line n fault)) run (at_fault n line fault bytes new is h k says) (λ done. refl)
+
+-- a run ended, and what waited then was not written whole
+pub ended_front : (result : Result (Option Complaint) TraceFault) (held holds now input : Option (List ℕ)) (waiting : List ℕ)
+    → IfOk result (λ complaint. IfSome input (λ bs. Tells complaint held (after_known holds waiting) (traced bs))) → (IsErrOf result Read ⊎ IsErrOf result Memory → IfSome input (λ bs. HasReplies held (after_known holds waiting) (run_of bs)))
+    → (IsErrOf result Write → IfSome input (λ bs. HasFront held holds (traced bs).out)) → (IsErrOf result Write → waiting ≡ []) → HasWritten held holds → HasFront holds now waiting → IfSome input (λ bs. HasFront held now (traced bs).out)
+ended_front (Ok complaint) held holds now input waiting tells answered front none written stopped = flushed_front held holds now input waiting written (whole_replies complaint held (after_known holds waiting) input tells) stopped
+ended_front (Err Read) held holds now input waiting tells answered front none written stopped = flushed_front held holds now input waiting written (answered (inl refl)) stopped
+ended_front (Err Memory) held holds now input waiting tells answered front none written stopped = flushed_front held holds now input waiting written (answered (inr refl)) stopped
+ended_front (Err Write) held holds now input waiting tells answered front none written stopped =
+    let text : take stopped.count waiting ≡ [] = rw (none refl) (take_nil stopped.count) in
+    let same : now ≡ holds = stopped.taken ∙ ap (after_known holds) text ∙ after_known-nil holds in
+    subst (λ known. IfSome input (λ bs. HasFront held known (traced bs).out)) (sym same) (front refl)
+  where
+    take_nil : (n : ℕ) → take {A = ℕ} n [] ≡ []
+    take_nil zero = refl
+    take_nil (suc n) = refl
+
+-- what a line that ended the trace outside the grammar says
+pub stops_outside : (stop : Stop) (fault : LineFault) (said : Result (Option Event) LineFault) → Stops stop said → stop ≡ Grammar fault → said ≡ Err fault
+stops_outside (Grammar found) fault said stops same = stops ∙ cc
+stops_outside No_room fault said stops same = absurd (cc)
 
 -- the source failed where nothing of a line was begun
 pub begins_nothing : (old new : Option (List ℕ)) → old ≡ new → BeginsLine old new

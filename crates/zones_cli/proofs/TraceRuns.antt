@@ -1,7 +1,6 @@
 -- What a machine, standard output and the bytes to come amount to, in the midst of a trace.
 use Rattle.std.proofs.Common.{◌≡◌, ◌+◌, ◌≤◌, ◌<◌, ◌++◌, ◌⊎◌, ℕ, Bool, true, false, cond, List, [], ◌∷◌, length, Option, Some, None, IfSome, Result, Ok, Err, refl, ap, sym, subst, inl, inr, ◌∙◌, arith, append_assoc}
 use Rattle.std.specs.Io.KnownBytes.{IsAtEnd}
-use Rattle.std.specs.Option.{option_map}
 use Rattle.std.proofs.lemmas.List.{append-nil}
 use Rattle.zn_base.specs.Streams.{after_known, before_known}
 use Rattle.trace_text.specs.Lines.{event_of}
@@ -14,7 +13,7 @@ use Rattle.zone_machine.specs.declared.events.Entry.{Entry}
 use Rattle.zone_machine.specs.declared.events.Event.{Event}
 use Rattle.zones_cli.specs.Lines.{has_newline, is_newline, lines_of, with_first}
 use Rattle.zones_cli.specs.Reading.{TakesLine}
-use Rattle.zones_cli.specs.Tracing.{IsAnswered, Run, TakesEvent, entry_text, is_refusal, replies_text, run_of, run_on}
+use Rattle.zones_cli.specs.Tracing.{IsAnswered, TakesEvent, entry_text, is_refusal, replies_text, run_of, run_on}
 use Rattle.zones_cli.proofs.Cuts.{cut_at, cut_whole}
 use Rattle.zones_cli.proofs.Fronts.{after_known-append, after_known-nil}
 use Rattle.zones_cli.proofs.Traces.{answers_line, or_else-None, refused_at_line, skips_line}
@@ -54,6 +53,10 @@ runs_from_start stands held input stood = record {
     at_input : (input : Option (List ℕ)) → IfSome input (Knows None 1 (opening []) [] (before_known [] input))
     at_input None = tt
     at_input (Some bytes) = record { past = []; to_come = bytes; here = refl; all = refl; fresh = inl (inl refl); leads = λ lines. refl }
+
+-- what was told in another way
+pub runs_told : (stands : State → Type 0) (refused : Option ℕ) (n : ℕ) (held holds now_holds bytes input : Option (List ℕ)) → now_holds ≡ holds → RunsOn stands refused n held holds bytes input → RunsOn stands refused n held now_holds bytes input
+runs_told stands refused n held holds now_holds bytes input same run = subst (λ known. RunsOn stands refused n held known bytes input) (sym same) run
 
 -- lines that end in a newline are followed by those of the bytes behind them
 lines_of-onto : (front bytes : List ℕ) → lines_of ((front ++ 10 ∷ []) ++ bytes) ≡ lines_of (front ++ 10 ∷ []) ++ lines_of bytes

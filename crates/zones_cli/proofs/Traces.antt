@@ -1,16 +1,13 @@
 -- The run of a trace, one line further.
-use Rattle.std.proofs.Common.{◌≡◌, ◌+◌, ◌≤◌, ◌<◌, ◌||◌, ◌++◌, ℕ, Bool, true, false, cond, nat_lt, List, [], ◌∷◌, length, map, Option, Some, None, Result, Ok, Err, refl, ap, sym, ◌∙◌, arith, append_assoc}
-use Rattle.std.specs.Option.{option_map}
+use Rattle.std.proofs.Common.{◌≡◌, ◌+◌, ◌≤◌, ◌||◌, ◌++◌, ℕ, true, false, cond, nat_lt, List, [], ◌∷◌, length, map, Option, Some, None, Ok, refl, ap, sym, ◌∙◌, arith, append_assoc}
 use Rattle.std.proofs.lemmas.Bool.Decides.{nat_tests}
 use Rattle.trace_text.specs.Lines.{event_of}
-use Rattle.trace_text.specs.declared.fault.LineFault.{LineFault}
 use Rattle.zone_machine.specs.Histories.{after_entry, entry_at, history}
 use Rattle.zone_machine.specs.Pools.{allowed, or_else}
 use Rattle.zone_machine.specs.State.{State}
 use Rattle.zone_machine.specs.declared.events.Entry.{Entry}
 use Rattle.zone_machine.specs.declared.events.Event.{Event}
-use Rattle.zones_cli.specs.Output.{is_past_limit}
-use Rattle.zones_cli.specs.Tracing.{Past_limit, Run, Script, ends, first_refused, is_refusal, run_on, script_from, with_line, with_script}
+use Rattle.zones_cli.specs.Tracing.{Past_limit, Run, ends, first_refused, is_refusal, run_on, script_from, with_line, with_script}
 
 within : (n m : ℕ) → n ≤ 200000 → m ≤ 4096 → (nat_lt 200000 n || nat_lt 4096 m) ≡ false
 within n m h k = grind (arith, nat_tests)

@@ -3,7 +3,7 @@
 use Rattle.std.specs.Prelude.{ℕ, List, [], ◌∷◌, ◌++◌, ◌+◌, ◌≡◌, map, take, Bool, true, false, Option, Some, None, Result, Ok, Err, codes, if◌then◌else◌}
 use Rattle.std.specs.Fmt.{decimal}
 use Rattle.std.specs.List.{flat_map}
-use Rattle.zn_base.specs.Streams.{Rose, TakesFront, after_known, before_known}
+use Rattle.zn_base.specs.Streams.{after_known, before_known}
 use Rattle.trace_text.specs.Faults.{fault_text}
 use Rattle.trace_text.specs.Lines.{event_of}
 use Rattle.trace_text.specs.Replies.{reply_text}
@@ -23,9 +23,9 @@ use Rattle.zone_machine.specs.declared.replies.Head.TheVariants.{Refused, Turned
 use Rattle.zones_cli.specs.declared.lines.ReadFault.{ReadFault}
 use Rattle.zones_cli.specs.declared.lines.ReadFault.TheVariants.{Memory, Failed as Source_failed}
 use Rattle.zones_cli.specs.declared.trace.TraceFault.{TraceFault}
-use Rattle.zones_cli.specs.declared.trace.TraceFault.TheVariants.{Memory as No_memory, Read, Write}
+use Rattle.zones_cli.specs.declared.trace.TraceFault.TheVariants.{Memory as No_memory, Read}
 use Rattle.zones_cli.specs.declared.trace.Stop.{Stop}
-use Rattle.zones_cli.specs.declared.trace.Stop.TheVariants.{Fault, Grammar}
+use Rattle.zones_cli.specs.declared.trace.Stop.TheVariants.{Memory as No_room, Grammar}
 use Rattle.zones_cli.specs.Lines.{has_newline, lines_of}
 use Rattle.zones_cli.specs.Outcomes.{complaint_output}
 use Rattle.zones_cli.specs.declared.outcome.Complaint.{Complaint}
@@ -170,10 +170,11 @@ TakesEvent stands new_stands (Ok (Some e)) number refused now holds new_holds =
     (refusal : Bool) × IsAnswered stands new_stands e refusal holds new_holds × (now ≡ (if refusal then or_else refused (Some number) else refused))
 TakesEvent stands new_stands (Err fault) number refused now holds new_holds = ⊥
 
--- a line ended the trace: it is outside the grammar, or its reply could not be written, or memory ran out
-abbrev pub StopsEvent : Stop → (State → Type 0) → Result (Option Event) LineFault → Option (List ℕ) → Option (List ℕ) → (before now : ℕ) → Type 0
-StopsEvent (Grammar fault) stands said holds new_holds before now = (said ≡ Err fault) × (new_holds ≡ holds)
-StopsEvent (Fault Write) stands said holds new_holds before now =
-    (e : Event) × (said ≡ Ok (Some e)) × Rose before now × ((S : State) → stands S → TakesFront holds new_holds before now (entry_text (entry_at S e (allowed S e))))
-StopsEvent (Fault No_memory) stands said holds new_holds before now = new_holds ≡ holds
-StopsEvent (Fault Read) stands said holds new_holds before now = ⊥
+-- why a line ends the trace: it is outside the grammar, or memory ran out
+abbrev pub Stops : Stop → Result (Option Event) LineFault → Type 0
+Stops (Grammar fault) said = said ≡ Err fault
+Stops No_room said = Unit {0}
+
+-- nothing but more bytes was taken
+abbrev pub HasWritten : (held holds : Option (List ℕ)) → Type 0
+HasWritten held holds = (written : List ℕ) × (holds ≡ after_known held written)

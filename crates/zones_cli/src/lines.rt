@@ -1,6 +1,6 @@
 //! The lines of a source, one at a time. No more is kept than the line under way and one piece that was
 //! read ahead, and a line that is too long is found without being stored.
-ghost use Rattle.std.specs.Prelude.{◌≡◌, ◌<◌, ◌≤◌, ◌+◌, ◌++◌, [], length, drop, IfOk, OnOk, OnErr, IsErrOf, Err, nat_le, position, true, false};
+ghost use Rattle.std.specs.Prelude.{◌≡◌, ◌<◌, ◌≤◌, ◌+◌, ◌++◌, ◌==◌, [], length, drop, IfOk, OnOk, OnErr, IsErrOf, Err, nat_le, position, true, false};
 ghost use Rattle.std.specs.Io.KnownBytes.{IsAtEnd};
 ghost use Rattle.std.specs.List.{after_first, before_first};
 ghost use Rattle.zn_base.specs.Streams.{Rose, before_known};
@@ -107,6 +107,13 @@ impl Ahead {
         ensures bound { length result.now ≤ 4096 }
     {
         &self.piece[self.from..self.to]
+    }
+
+    /// Whether all that was read is used.
+    pub fn is_empty(&self) -> bool
+        ensures { result ≡ (length self.now == 0) }
+    {
+        self.bytes().is_empty()
     }
 
     fn skip(&mut self, count: usize)
