@@ -12,3 +12,5 @@ pub mod Disk
 pub mod MemoryDisk
 pub mod MemoryDiskIsSound
 pub mod FileDisk
+pub mod Glob
+pub mod Runs
