@@ -12,3 +12,4 @@ pub mod Disk
 pub mod MemoryDisk
 pub mod MemoryDiskIsSound
 pub mod FileDisk
+pub mod States
