@@ -6,7 +6,13 @@
 mod fault;
 mod rows;
 mod printing;
+mod reading;
+mod laws;
+#[cfg(test)]
+mod tests;
 
 pub use fault::IndexFault;
+pub use laws::{one_row_a_line, one_text_for_rows, printed_reads_back, reads_one_way};
 pub use printing::print_index;
+pub use reading::read_index;
 pub use rows::IndexRow;
