@@ -4,3 +4,4 @@ pub mod Parts
 pub mod Uuids
 pub mod Walk
 pub mod OneReading
+pub mod Examples

@@ -58,9 +58,10 @@ behind_place c bytes xs ys end is at =
 pub cut_alike : (c : ℕ) (xs ys xs' ys' : List ℕ) → lacks c xs ≡ true → lacks c xs' ≡ true → xs ++ c ∷ ys ≡ xs' ++ c ∷ ys' → (xs ≡ xs') × (ys ≡ ys')
 cut_alike c xs ys xs' ys' f f' same =
     let found : Some (length xs) ≡ position (λ b. b == c) (xs ++ c ∷ ys) = sym (first_behind c xs ys f) in
-    let at : length xs ≡ length xs' = place_is c (xs ++ c ∷ ys) xs' ys' (length xs) f' same found in
-    (sym (before_place c (xs ++ c ∷ ys) xs ys (length xs) refl refl) ∙ before_place c (xs ++ c ∷ ys) xs' ys' (length xs) same at,
-      sym (behind_place c (xs ++ c ∷ ys) xs ys (length xs) refl refl) ∙ behind_place c (xs ++ c ∷ ys) xs' ys' (length xs) same at)
+    let at : length xs ≡ length xs' = place_is c (xs ++ c ∷ ys) xs' ys' (length xs) f' same found in (
+      sym (before_place c (xs ++ c ∷ ys) xs ys (length xs) refl refl) ∙ before_place c (xs ++ c ∷ ys) xs' ys' (length xs) same at,
+      sym (behind_place c (xs ++ c ∷ ys) xs ys (length xs) refl refl) ∙ behind_place c (xs ++ c ∷ ys) xs' ys' (length xs) same at,
+    )
 
 -- what stands before the newline of a row's line
 abbrev pub front : IndexRow → List ℕ
@@ -103,10 +104,11 @@ last_fields path uuid rest len is =
     let whole : length rest ≡ length path + 38 = rw is (omega (arith, length-append path (colon ∷ (uuid ++ newline ∷ [])), length-append uuid (newline ∷ []))) in
     let start : length rest - 1 - 36 ≡ length path + 1 = omega arith in
     let before : length rest - 1 - 36 - 1 ≡ length path = omega arith in
-    let size : length rest - 1 - (length path + 1) ≡ 36 = omega arith in
-    (omega arith,
+    let size : length rest - 1 - (length path + 1) ≡ 36 = omega arith in (
+      omega arith,
       rw before (rw is (take_at path (colon ∷ (uuid ++ newline ∷ [])) (length path) refl)),
-      rw (start, size, is, drop-append-add path (colon ∷ (uuid ++ newline ∷ [])) 1) (take_at uuid (newline ∷ []) 36 len))
+      rw (start, size, is, drop-append-add path (colon ∷ (uuid ++ newline ∷ [])) 1) (take_at uuid (newline ∷ []) 36 len),
+    )
 
 -- what stands behind the name of a line and its colon, and behind the state and its colon
 abbrev pub behind_state : IndexRow → List ℕ

@@ -184,4 +184,4 @@ pub front_lacks_newline : (row : IndexRow) → IsIndexRow row → lacks newline 
 front_lacks_newline row is =
     lacks-append newline row.name _ (name_lacks_newline row.name is.name)
     (lacks-append newline (state_text row.state) _ (state_lacks_newline row.state)
-      (lacks-append newline (escaped row.path) _ (path_lacks_newline row.path is.path) (uuid_lacks_newline row.uuid)))
+    (lacks-append newline (escaped row.path) _ (path_lacks_newline row.path is.path) (uuid_lacks_newline row.uuid)))

@@ -16,11 +16,11 @@ digits_give : (hex : List ℕ) → length hex ≡ 32 → list_all is_hex_digit h
 digits_give hex len digits = record {
   sixteen = by_index_length 16 (byte_of_digits hex);
   bytes = λ k d inside.
-    let here : k < 16 = omega (arith, by_index_length 16 (byte_of_digits hex)) in
-    let passes = AllPass-from_list_all is_hex_digit hex digits in
-    let high = value_small (slice_index hex (2 * k)) (passes (2 * k) 0 (omega arith)) in
-    let low = value_small (slice_index hex (2 * k + 1)) (passes (2 * k + 1) 0 (omega arith)) in
-    rw (by_index_at 16 (byte_of_digits hex) k d here) (omega (arith, high, low));
+      let here : k < 16 = omega (arith, by_index_length 16 (byte_of_digits hex)) in
+      let passes = AllPass-from_list_all is_hex_digit hex digits in
+      let high = value_small (slice_index hex (2 * k)) (passes (2 * k) 0 (omega arith)) in
+      let low = value_small (slice_index hex (2 * k + 1)) (passes (2 * k + 1) 0 (omega arith)) in
+      rw (by_index_at 16 (byte_of_digits hex) k d here) (omega (arith, high, low));
 }
 
 some_if : (b : Bool) (u v : List ℕ) → Some u ≡ (if b then Some v else None) → (b ≡ true) × (u ≡ v)

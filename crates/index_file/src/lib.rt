@@ -4,10 +4,10 @@
 #![tactic(auto)]
 
 mod fault;
-mod rows;
+mod laws;
 mod printing;
 mod reading;
-mod laws;
+mod rows;
 #[cfg(test)]
 mod tests;
 

@@ -13,5 +13,5 @@ loop-row-preserved c =
     record {
       text = grind (arith, common_steps);
       each = All-more IsIndexRow c.args.rows.now c.loop-row.row-index c.row-item.result c.loop-row-test.true c.loop-row.invariant.each
-      (subst IsIndexRow c.row-item.is (c.in_ok-push_line.ensures.row stored));
+          (subst IsIndexRow c.row-item.is (c.in_ok-push_line.ensures.row stored));
     }
