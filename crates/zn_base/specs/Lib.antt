@@ -14,3 +14,4 @@ pub mod MemoryDiskIsSound
 pub mod FileDisk
 pub mod Glob
 pub mod Runs
+pub mod States
