@@ -21,8 +21,8 @@ use Rattle.zone_machine.specs.Turns_seen.{Sees, work_act}
 use Rattle.zone_machine.specs.Worlds.{View}
 use Rattle.zone_machine.specs.declared.desks.Desk.{Desk}
 use Rattle.zone_machine.specs.declared.records.Record.{Record}
-use Rattle.zone_machine.specs.declared.turns.Seen.{Seen}
-use Rattle.zone_machine.specs.declared.turns.Work.{Work}
+use Rattle.zone_machine.specs.declared.work.Seen.{Seen}
+use Rattle.zone_machine.specs.declared.work.Work.{Work}
 
 -- the desk that stands at a place is the zone's
 pub desk_at : (z : Name) (desks : List (Owned Desk)) (at : ℕ) (o : Owned Desk) → StandsAt z at desks → o ≡ get_or desks at o → desk_in z desks ≡ desk_seen o.it

@@ -22,12 +22,12 @@ use Rattle.zone_machine.specs.declared.desks.Desk.{Desk}
 use Rattle.zone_machine.specs.declared.records.Record.{Record}
 use Rattle.zone_machine.specs.declared.replies.Head.TheVariants.{Turned}
 use Rattle.zone_machine.specs.declared.tables.Tables.{Tables}
-use Rattle.zone_machine.specs.declared.turns.Came.{Came}
-use Rattle.zone_machine.specs.declared.turns.Came.TheVariants as came
-use Rattle.zone_machine.specs.declared.turns.ObjectEdit.{ObjectEdit}
-use Rattle.zone_machine.specs.declared.turns.ObjectEdit.TheVariants as objects
-use Rattle.zone_machine.specs.declared.turns.Seen.{Seen}
-use Rattle.zone_machine.specs.declared.turns.Work.{Work}
+use Rattle.zone_machine.specs.declared.work.Came.{Came}
+use Rattle.zone_machine.specs.declared.work.Came.TheVariants as came
+use Rattle.zone_machine.specs.declared.work.ObjectEdit.{ObjectEdit}
+use Rattle.zone_machine.specs.declared.work.ObjectEdit.TheVariants as objects
+use Rattle.zone_machine.specs.declared.work.Seen.{Seen}
+use Rattle.zone_machine.specs.declared.work.Work.{Work}
 
 -- the act of some work on a world whose desk is changed already
 work-desk : (w : World) (d : state.Desk) (c : Option Came) (o : ObjectEdit) (ended : Option ℕ)

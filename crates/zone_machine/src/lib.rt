@@ -14,6 +14,7 @@ mod machine;
 mod needs;
 mod numbers;
 mod objects;
+mod plan_steps;
 mod plans;
 mod pools;
 mod records;
@@ -24,6 +25,7 @@ mod steps;
 mod tables;
 mod turns;
 mod typing;
+mod work;
 
 pub use daemon::{Change, ChangeKind, Outcome, RequestKind, Step, TurnReply};
 pub use events::{Entry, Event, Subject};

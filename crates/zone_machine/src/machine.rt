@@ -35,7 +35,8 @@ impl Machine {
         }
     }
 
-    /// Whose an event is.
+    /// Whose an event is: of a session the zone in which it waits for a ticket, else the zone that the
+    /// line names, else the global zone; of a turn the zone whose daemon it is.
     pub fn subject(&self, alloc: Global, event: &Event) -> Result<Subject, StepFault>
         ensures ok { IfOk result (IsSubject self.now event.now) }
         ensures err { IsOkUnless result StepFault.Memory }
@@ -52,7 +53,8 @@ impl Machine {
         Ok(self.tables.allowed(alloc, event, &subject)?)
     }
 
-    /// An event is answered under the grant that the pools give it.
+    /// An event is answered under the grant that the pools give it. After want of memory nothing is said of
+    /// the machine.
     pub fn step(&mut self, alloc: Global, event: Event) -> Result<Entry, StepFault>
         ensures ok { IfOk result (λ entry. IsAllowedStep self.old event entry self.new) }
         ensures err { IsOkUnless result StepFault.Memory }
@@ -62,7 +64,8 @@ impl Machine {
         Ok(self.tables.answer(alloc, event, subject, grant)?)
     }
 
-    /// An event is answered under a stated grant, where it fits.
+    /// An event is answered under a stated grant, where it fits, as when a recorded trace is run again. After
+    /// want of memory nothing is said of the machine.
     pub fn step_given(
         &mut self,
         alloc: Global,

@@ -5,7 +5,7 @@ use Rattle.zone_machine.proofs.Passing.{passed-mounted, step-passed}
 use Rattle.zone_machine.specs.Desks_seen.{job_seen}
 use Rattle.zone_machine.specs.Turns.{step}
 use Rattle.zone_machine.specs.Turns_seen.{has_unmount, without_unmounts}
-use Rattle.zone_machine.proofs.turns.pass_unmounts.Goals as goal
+use Rattle.zone_machine.proofs.plan_steps.pass_unmounts.Goals as goal
 
 none_since : {A : Type 0} (o : Option A) → is_some o ≡ false → o ≡ None
 none_since None e = refl
