@@ -2,11 +2,11 @@
 use Rattle.zone_machine.specs.State.{empty_desk}
 use Rattle.zone_machine.specs.declared.daemon.RequestKind.{RequestKind}
 use Rattle.zone_machine.specs.Typed.{is_full, with_request}
-use Rattle.std.proofs.Common.{◌≡◌, ℕ, List, Some, get_or, set, ap, sym, refl, subst, ◌∙◌}
+use Rattle.std.proofs.Common.{◌≡◌, ℕ, List, Some, get_or, set, ap, sym, subst, ◌∙◌}
 use Rattle.std.specs.Prelude.{bytes_eq, true, false, ◌+◌, ◌++◌, ◌∷◌, []}
 use Rattle.zn_base.proofs.Owned_laws.{same_true}
 use Rattle.zn_base.specs.Names.{Name}
-use Rattle.zn_base.specs.Owned_lists.{mine, tag}
+use Rattle.zn_base.specs.Owned_lists.{tag}
 use Rattle.zn_base.specs.Firsts.{first_of}
 use Rattle.zn_base.specs.declared.grant.Grant.{Grant}
 use Rattle.zn_base.specs.declared.owned.Owned.{Owned}

@@ -1,8 +1,7 @@
 -- What the code's acts do to desks.
 use Rattle.zone_machine.specs.declared.daemon.RequestKind.{RequestKind}
 use Rattle.zone_machine.specs.Typed.{is_full, with_request}
-use Rattle.zone_machine.specs.Lists_seen.{StandsAt}
-use Rattle.std.specs.Prelude.{◌≡◌, List, ◌≢◌, ℕ, Option, Some, None, true, false, ◌+◌}
+use Rattle.std.specs.Prelude.{◌≡◌, List, ℕ, Option, Some, None, true, false, ◌+◌}
 use Rattle.zn_base.specs.Names.{Name}
 use Rattle.zn_base.specs.Owned_lists.{mine}
 use Rattle.zn_base.specs.Firsts.{first_of, placed}

@@ -1,7 +1,6 @@
 -- What the code's turns do, as the definitions have it.
 use Rattle.zone_machine.specs.Desks_seen.{job_seen}
 use Rattle.std.specs.Prelude.{◌≡◌, ℕ, ◌+◌, List, [], ◌∷◌, ◌++◌, Option, Some, None, drop, length, ◌<◌, Bool, true, false, IsSome, if◌then◌else◌}
-use Rattle.std.specs.Borrow.{Bor}
 use Rattle.std.specs.Option.{option_map}
 use Rattle.zn_base.specs.Owned_lists.{Come, Go}
 use Rattle.zn_base.specs.declared.grant.Grant.{Grant}

@@ -23,6 +23,8 @@ mod sessions;
 mod sights;
 mod steps;
 mod tables;
+#[cfg(test)]
+mod tests;
 mod turns;
 mod typing;
 mod work;
