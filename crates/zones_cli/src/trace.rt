@@ -17,7 +17,7 @@ use std::alloc::Global;
 use thiserror::Error;
 use trace_text::{LineFault, print_reply, read_line};
 use zn_base::{Sink, Source, write_all};
-use zone_machine::{Event, Head, Machine, Outcome, TurnReply};
+use zone_machine::{Event, Head, Machine, Outcome, StepFault, TurnReply};
 
 /// Why a trace ended before its input did.
 #[derive(Clone, Copy, Debug, PartialEq, Eq, Error)]
@@ -84,8 +84,10 @@ fn answer<K: Sink>(
     ensures not_read { result ≢ Err TraceFault.Read }
     ensures later { K.faults out.old ≤ K.faults out.new }
 {
-    let Ok(entry) = machine.step(alloc, event) else {
-        return Err(TraceFault::Memory);
+    let entry = match machine.step(alloc, event) {
+        Ok(entry) => entry,
+        Err(StepFault::Memory) => return Err(TraceFault::Memory),
+        Err(StepFault::BadGrant) => unreachable!(),
     };
     let Ok(text) = print_reply(alloc, &entry.subject, &entry.reply) else {
         return Err(TraceFault::Memory);
