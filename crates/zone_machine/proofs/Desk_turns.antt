@@ -2,11 +2,11 @@
 use Rattle.zone_machine.specs.State.{empty_desk}
 use Rattle.zone_machine.specs.declared.daemon.RequestKind.{RequestKind}
 use Rattle.zone_machine.specs.Typed.{is_full, with_request}
-use Rattle.std.proofs.Common.{◌≡◌, ℕ, List, Some, get_or, set, ap, sym, refl, subst, ◌∙◌}
+use Rattle.std.proofs.Common.{◌≡◌, ℕ, List, Some, get_or, set, ap, sym, subst, ◌∙◌}
 use Rattle.std.specs.Prelude.{bytes_eq, true, false, ◌+◌, ◌++◌, ◌∷◌, []}
 use Rattle.zn_base.proofs.Owned_laws.{same_true}
 use Rattle.zn_base.specs.Names.{Name}
-use Rattle.zn_base.specs.Owned_lists.{mine, tag}
+use Rattle.zn_base.specs.Owned_lists.{tag}
 use Rattle.zn_base.specs.Firsts.{first_of}
 use Rattle.zn_base.specs.declared.grant.Grant.{Grant}
 use Rattle.zn_base.specs.declared.owned.Owned.{Owned}
@@ -21,8 +21,8 @@ use Rattle.zone_machine.specs.Turns_seen.{Sees, work_act}
 use Rattle.zone_machine.specs.Worlds.{View}
 use Rattle.zone_machine.specs.declared.desks.Desk.{Desk}
 use Rattle.zone_machine.specs.declared.records.Record.{Record}
-use Rattle.zone_machine.specs.declared.turns.Seen.{Seen}
-use Rattle.zone_machine.specs.declared.turns.Work.{Work}
+use Rattle.zone_machine.specs.declared.work.Seen.{Seen}
+use Rattle.zone_machine.specs.declared.work.Work.{Work}
 
 -- the desk that stands at a place is the zone's
 pub desk_at : (z : Name) (desks : List (Owned Desk)) (at : ℕ) (o : Owned Desk) → StandsAt z at desks → o ≡ get_or desks at o → desk_in z desks ≡ desk_seen o.it

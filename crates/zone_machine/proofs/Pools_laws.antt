@@ -1,14 +1,13 @@
 -- What the pools say, one after another.
-use Rattle.std.proofs.Common.{◌≡◌, ◌∷◌, [], ◌+◌, ℕ, List, Bool, Option, Some, None, true, false, map, refl, ap, sym, ◌∙◌}
-use Rattle.std.specs.Prelude.{nat_eq, if◌then◌else◌}
+use Rattle.std.proofs.Common.{◌≡◌, ◌∷◌, [], ℕ, List, map, refl, ap, ◌∙◌}
+use Rattle.std.specs.Prelude.{nat_eq}
 use Rattle.std.specs.List.{list_any}
 use Rattle.zn_base.specs.Names.{Name}
 use Rattle.zn_base.specs.declared.grant.Grant.{Grant}
 use Rattle.zn_base.specs.declared.grant.Grant.TheVariants.{Nothing, Number, Yes, Denied}
-use Rattle.zn_base.specs.declared.grant.Pool.TheVariants.{Zones, Paths}
-use Rattle.zone_machine.specs.Decisions.{A_path, A_serial, A_zone, Asked}
+use Rattle.zone_machine.specs.Decisions.{Asked}
 use Rattle.zone_machine.specs.Numbers_seen.{is_among}
-use Rattle.zone_machine.specs.Pools.{Pools, has_place, path_taken, said_by, said_by_all}
+use Rattle.zone_machine.specs.Pools.{Pools, said_by, said_by_all}
 
 -- one pool alone
 pub said_one : (P : Pools) (z : Name) (a : Asked) → said_by_all P z (a ∷ []) Nothing ≡ said_by P z a

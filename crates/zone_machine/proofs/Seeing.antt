@@ -1,7 +1,7 @@
 -- What a turn looks at.
 use Rattle.std.proofs.Common.{◌≡◌, ◌+◌, ◌<◌, ◌∷◌, ◌++◌, [], ℕ, List, Bool, Option, Some, None, true, false, filter, length, get_or, take, refl, ap, sym, ◌∙◌}
 use Rattle.std.specs.Prelude.{bytes_eq, count_by, is_some, if◌then◌else◌}
-use Rattle.std.specs.List.{cons_option, list_any}
+use Rattle.std.specs.List.{list_any}
 use Rattle.std.specs.Option.{option_map}
 use Rattle.std.proofs.lemmas.List.{take_more, append-nil}
 use Rattle.std.proofs.lemmas.List.Elements.{filter_map-append}

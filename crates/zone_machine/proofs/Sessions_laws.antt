@@ -9,7 +9,6 @@ use Rattle.std.proofs.lemmas.Bool.{eqb-true, eqb-false}
 use Rattle.std.proofs.lemmas.List.{get_or-set_same, get_or-set_other}
 use Rattle.std.proofs.lemmas.Option.{slice_get-map, unwrap_or-slice_get}
 use Rattle.zone_machine.specs.Sessions_seen.{doing_at, session_at, swept_session, ended}
-use Rattle.zone_machine.specs.State as state
 use Rattle.zone_machine.specs.declared.sessions.Session.{Session}
 use Rattle.zone_machine.specs.declared.sessions.Session.TheVariants.{Idle, Awaiting}
 

@@ -1,16 +1,15 @@
 -- What stands for a state after an act of one zone, and what the tables tell of the state.
-use Rattle.std.proofs.Common.{◌≡◌, ◌+◌, ◌∷◌, ◌++◌, [], ℕ, List, Bool, Option, Some, None, true, false, filter, length, refl, ap, sym, subst, ◌∙◌, length-append}
-use Rattle.std.specs.Prelude.{◌≢◌, bytes_eq, ◌||◌}
-use Rattle.std.specs.List.{cons_option, list_any}
-use Rattle.std.proofs.lemmas.Bool.{cases_Bool, false≢true, true≢false}
+use Rattle.std.proofs.Common.{◌≡◌, ◌+◌, ◌∷◌, ◌++◌, [], ℕ, List, Bool, Option, Some, None, true, false, length, refl, ap, sym, subst, ◌∙◌, length-append}
+use Rattle.std.specs.Prelude.{◌≢◌, bytes_eq}
+use Rattle.std.specs.List.{list_any}
+use Rattle.std.proofs.lemmas.Bool.{false≢true, true≢false}
 use Rattle.zn_base.proofs.Owned_laws.{same_self, same_true}
 use Rattle.zn_base.specs.Names.{Name}
 use Rattle.zn_base.specs.Owned_lists.{mine}
-use Rattle.zn_base.specs.declared.grant.Grant.{Grant}
 use Rattle.zn_base.specs.declared.owned.Owned.{Owned}
 use Rattle.zone_machine.proofs.Laws.{OwnSession, other-acts, own-acts}
-use Rattle.zone_machine.proofs.Own_worlds.{own_session, view-world}
-use Rattle.zone_machine.specs.Decisions.{Act, Decision, act_of, acts, acts_world, after_came}
+use Rattle.zone_machine.proofs.Own_worlds.{view-world}
+use Rattle.zone_machine.specs.Decisions.{Act, acts, acts_world, after_came}
 use Rattle.zone_machine.specs.Edits.{Arrival, Edit, New_id, New_process, New_record, Processes_go, comes, edit, edits}
 use Rattle.zone_machine.specs.Lines.{Line, line_of}
 use Rattle.zone_machine.specs.Machine.{decide, session_subject, started, subject}
@@ -18,8 +17,8 @@ use Rattle.zone_machine.specs.Pools.{has_zid, pools_of}
 use Rattle.zone_machine.specs.Sessions_seen.{doing_at, session_at}
 use Rattle.zone_machine.specs.State as state
 use Rattle.zone_machine.specs.State.{State, rows_from, rows_of, with_stored}
-use Rattle.zone_machine.specs.Tables.{Acts, Does, Rest, Stands, came_rest, decide_in, pools_in, rest, rest_of, subject_at, subject_in, world_of}
-use Rattle.zone_machine.specs.Worlds.{World, doing, has_pid, view, view_of, world}
+use Rattle.zone_machine.specs.Tables.{Acts, Stands, came_rest, decide_in, pools_in, rest, subject_at, subject_in, world_of}
+use Rattle.zone_machine.specs.Worlds.{doing, has_pid, view, view_of, world}
 use Rattle.zone_machine.specs.declared.events.Event.{Event}
 use Rattle.zone_machine.specs.declared.events.Event.TheVariants as event
 use Rattle.zone_machine.specs.declared.events.Subject.TheVariants.{Zone}

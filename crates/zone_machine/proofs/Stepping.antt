@@ -1,21 +1,19 @@
 -- A step of the tables is the definitions' step.
-use Rattle.std.proofs.Common.{◌≡◌, ℕ, Bool, List, Option, Some, None, Result, Ok as Right, Err, true, refl, ap, sym, subst, ◌∙◌}
+use Rattle.std.proofs.Common.{◌≡◌, ℕ, List, Option, Some, None, Result, Ok as Right, Err, true, refl, ap, sym, subst, ◌∙◌}
 use Rattle.zn_base.specs.Names.{Name, name_of}
 use Rattle.zn_base.specs.declared.grant.Grant.{Grant}
 use Rattle.zn_base.specs.declared.name.NameFault.{NameFault}
 use Rattle.zone_machine.proofs.Own_worlds.{own_session}
-use Rattle.zone_machine.proofs.Standing.{Stands-acts, Stands-started, decide-stands, pools-stand, subject-stands}
+use Rattle.zone_machine.proofs.Standing.{Stands-acts, Stands-started, decide-stands, subject-stands}
 use Rattle.zone_machine.specs.Decisions.{act_of, says}
-use Rattle.zone_machine.specs.Histories.{entry_at}
 use Rattle.zone_machine.specs.Lines.{Line, line_of}
 use Rattle.zone_machine.specs.Machine.{Answered, decide, done_by, global_reply, named_subject, one, one_of, session_number, subject, subject_of_name}
 use Rattle.zone_machine.specs.Sessions_seen.{session_at}
 use Rattle.zone_machine.specs.State.{State}
-use Rattle.zone_machine.specs.Steps.{Answers, Heads, IsHead, IsStep}
+use Rattle.zone_machine.specs.Steps.{Heads, IsHead, IsStep}
 use Rattle.zone_machine.specs.Tables.{Acts, Stands, decide_in, subject_at, subject_in, world_of}
 use Rattle.zone_machine.specs.Typed.{global_line, typed}
 use Rattle.zone_machine.specs.Worlds.{view, view_of}
-use Rattle.zone_machine.specs.declared.events.Entry.{Entry}
 use Rattle.zone_machine.specs.declared.events.Event.{Event}
 use Rattle.zone_machine.specs.declared.events.Event.TheVariants as event
 use Rattle.zone_machine.specs.declared.events.Subject.{Subject}

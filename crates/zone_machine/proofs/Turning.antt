@@ -1,5 +1,5 @@
 -- A turn of the tables is the definitions' turn.
-use Rattle.std.proofs.Common.{◌≡◌, ◌∷◌, ◌++◌, [], ℕ, List, Option, Some, None, Global, ap, refl, sym, subst, ◌∙◌}
+use Rattle.std.proofs.Common.{◌≡◌, ◌∷◌, ◌++◌, [], ℕ, List, Option, Some, None, Global, ap, refl, ◌∙◌}
 use Rattle.std.specs.Prelude.{Vec}
 use Rattle.std.specs.Option.{option_map}
 use Rattle.zn_base.specs.Names.{Name}
@@ -7,27 +7,26 @@ use Rattle.zn_base.specs.Owned_lists.{mine}
 use Rattle.zn_base.specs.Firsts.{first_of}
 use Rattle.zn_base.specs.declared.grant.Grant.{Grant}
 use Rattle.zn_base.specs.declared.owned.Owned.{Owned}
-use Rattle.zone_machine.proofs.Doing_laws.{does_desk, does_nothing, does_same, does_then}
+use Rattle.zone_machine.proofs.Doing_laws.{does_desk, does_same, does_then}
 use Rattle.zone_machine.specs.Acts_seen.{RestsDesk, TurnsDesk, desk_in}
-use Rattle.zone_machine.specs.Decisions.{Act, Just, act_of, acts_world, after_came_world, says, turned}
+use Rattle.zone_machine.specs.Decisions.{Just, act_of, acts_world, after_came_world, turned}
 use Rattle.zone_machine.specs.Desks_seen.{desk_seen}
-use Rattle.zone_machine.specs.Edits.{Set_desk, Sweep, edits_world}
+use Rattle.zone_machine.specs.Edits.{Set_desk, edits_world}
 use Rattle.zone_machine.specs.State as state
 use Rattle.zone_machine.specs.Tables.{Acts, Does, came_rest, kept_rest, world_of}
 use Rattle.zone_machine.specs.Turns.{turn, turn_at}
 use Rattle.zone_machine.specs.Turns_seen.{Sees, arrival_of, object_edits, sweeps, work_act, work_world}
-use Rattle.zone_machine.specs.Worlds.{View, World, view_of}
+use Rattle.zone_machine.specs.Worlds.{World, view_of}
 use Rattle.zone_machine.specs.declared.daemon.TurnReply.TheVariants.{Idle}
 use Rattle.zone_machine.specs.declared.desks.Desk.{Desk}
 use Rattle.zone_machine.specs.declared.records.Record.{Record}
-use Rattle.zone_machine.specs.declared.replies.Head.TheVariants.{Turned}
 use Rattle.zone_machine.specs.declared.tables.Tables.{Tables}
-use Rattle.zone_machine.specs.declared.turns.Came.{Came}
-use Rattle.zone_machine.specs.declared.turns.Came.TheVariants as came
-use Rattle.zone_machine.specs.declared.turns.ObjectEdit.{ObjectEdit}
-use Rattle.zone_machine.specs.declared.turns.ObjectEdit.TheVariants as objects
-use Rattle.zone_machine.specs.declared.turns.Seen.{Seen}
-use Rattle.zone_machine.specs.declared.turns.Work.{Work}
+use Rattle.zone_machine.specs.declared.work.Came.{Came}
+use Rattle.zone_machine.specs.declared.work.Came.TheVariants as came
+use Rattle.zone_machine.specs.declared.work.ObjectEdit.{ObjectEdit}
+use Rattle.zone_machine.specs.declared.work.ObjectEdit.TheVariants as objects
+use Rattle.zone_machine.specs.declared.work.Seen.{Seen}
+use Rattle.zone_machine.specs.declared.work.Work.{Work}
 
 -- the act of some work on a world whose desk is changed already
 work-desk : (w : World) (d : state.Desk) (c : Option Came) (o : ObjectEdit) (ended : Option ℕ)

@@ -1,24 +1,21 @@
 -- What the code's acts do to desks.
 use Rattle.zone_machine.specs.declared.daemon.RequestKind.{RequestKind}
 use Rattle.zone_machine.specs.Typed.{is_full, with_request}
-use Rattle.zone_machine.specs.Lists_seen.{StandsAt}
-use Rattle.std.specs.Prelude.{◌≡◌, List, ◌≢◌, ℕ, Option, Some, None, true, false, ◌+◌}
+use Rattle.std.specs.Prelude.{◌≡◌, List, ℕ, Option, Some, None, true, false, ◌+◌}
 use Rattle.zn_base.specs.Names.{Name}
 use Rattle.zn_base.specs.Owned_lists.{mine}
 use Rattle.zn_base.specs.Firsts.{first_of, placed}
 use Rattle.zn_base.specs.declared.grant.Grant.{Grant}
 use Rattle.zn_base.specs.declared.owned.Owned.{Owned}
-use Rattle.zone_machine.specs.Decisions.{act_of}
 use Rattle.zone_machine.specs.Desks_seen.{desk_seen}
 use Rattle.zone_machine.specs.State as state
 use Rattle.zone_machine.specs.Tables.{desk_or_empty}
 use Rattle.zone_machine.specs.Turns.{turn_at}
-use Rattle.zone_machine.specs.Turns_seen.{HasNoWork, Sees, work_act}
-use Rattle.zone_machine.specs.Worlds.{View}
+use Rattle.zone_machine.specs.Turns_seen.{FollowsView, HasNoWork}
 use Rattle.zone_machine.specs.declared.desks.Desk.{Desk}
 use Rattle.zone_machine.specs.declared.records.Record.{Record}
-use Rattle.zone_machine.specs.declared.turns.Seen.{Seen}
-use Rattle.zone_machine.specs.declared.turns.Work.{Work}
+use Rattle.zone_machine.specs.declared.work.Seen.{Seen}
+use Rattle.zone_machine.specs.declared.work.Work.{Work}
 
 abbrev pub desk_in : Name → List (Owned Desk) → state.Desk
 desk_in z desks = desk_or_empty (first_of (mine z desks))
@@ -32,7 +29,7 @@ pub record RestsDesk (z : Name) (old new : List (Owned Desk)) : Type 0 where
 pub record TurnsDesk (z : Name) (seen : Seen) (row : Record) (g : Grant) (work : Work) (old new : List (Owned Desk)) : Type 0 where
   pub desk : Desk
   pub placed : new ≡ placed z desk old
-  pub act : (v : View) → Sees v.world seen → act_of (turn_at v (desk_in z old) (desk_in z old).job row) g ≡ work_act work (desk_seen desk)
+  pub act : FollowsView seen (λ v. turn_at v (desk_in z old) (desk_in z old).job row) g (desk_seen desk) work
 
 -- a request is put on the zone's desk, which isn't full, under a ticket
 pub record Puts (z : Name) (kind : RequestKind) (ticket : ℕ) (old new : List (Owned Desk)) : Type 0 where

@@ -1,6 +1,6 @@
 -- How a line of an idle session is read, by the words of zonecfg(8) and zoneadm(8).
 use Rattle.zn_base.specs.Firsts.{is_nil, first_of}
-use Rattle.std.specs.Prelude.{ℕ, List, [], ◌∷◌, ◌++◌, length, take, drop, filter, Bool, not, ◌&&◌, ◌||◌, ◌==◌, ◌-◌, Option, Some, None, bytes_eq, codes, if◌then◌else◌, unwrap_or, nat_eq}
+use Rattle.std.specs.Prelude.{ℕ, List, [], ◌∷◌, length, take, drop, filter, Bool, not, ◌&&◌, ◌||◌, ◌==◌, ◌-◌, Option, Some, None, bytes_eq, codes, if◌then◌else◌, unwrap_or, nat_eq}
 use Rattle.std.specs.List.{list_all, slice_split, starts_with, ends_with}
 use Rattle.zone_machine.specs.declared.daemon.RequestKind.{RequestKind}
 use Rattle.zone_machine.specs.declared.daemon.RequestKind.TheVariants.{Install, Boot, Halt}

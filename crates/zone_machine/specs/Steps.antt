@@ -1,7 +1,7 @@
 -- A step of the machine, as the definitions have it.
 use Rattle.zone_machine.specs.declared.replies.Head.{Head}
 use Rattle.zone_machine.specs.Decisions.{Asked, asked_of, says}
-use Rattle.std.specs.Prelude.{◌≡◌, List, [], Option, Bool, true, false}
+use Rattle.std.specs.Prelude.{◌≡◌, ◌⊎◌, List, [], Option, Bool, true, false, IsErrOf, Result}
 use Rattle.zn_base.specs.Names.{Name}
 use Rattle.zn_base.specs.declared.grant.Grant.{Grant}
 use Rattle.zn_base.specs.declared.state.ZoneState.{ZoneState}
@@ -14,6 +14,8 @@ use Rattle.zone_machine.specs.declared.events.Entry.{Entry}
 use Rattle.zone_machine.specs.declared.events.Event.{Event}
 use Rattle.zone_machine.specs.declared.events.Subject.{Subject}
 use Rattle.zone_machine.specs.declared.events.Subject.TheVariants.{Zone, Global, Whole}
+use Rattle.zone_machine.specs.declared.faults.StepFault.{StepFault}
+use Rattle.zone_machine.specs.declared.faults.StepFault.TheVariants.{Memory, BadGrant}
 use Rattle.zone_machine.specs.declared.tables.Tables.{Tables}
 
 -- the event is answered by the definitions' entry under a grant, and what is left stands for the state after it
@@ -44,6 +46,10 @@ IsFittingStep t e g entry u = (S : State) → Stands S t → (fits S e g ≡ tru
 -- the grant doesn't fit, and nothing is changed
 abbrev pub IsMisfit : Tables → Event → Grant → Tables → Type 0
 IsMisfit t e g u = ((S : State) → Stands S t → fits S e g ≡ false) × (u ≡ t)
+
+-- a grant that doesn't fit is told to be so, or memory is wanting
+abbrev pub IsRefusedIfUnfit : Tables → Event → Grant → Result Entry StepFault → Type 0
+IsRefusedIfUnfit t e g result = (S : State) → Stands S t → fits S e g ≡ false → IsErrOf result BadGrant ⊎ IsErrOf result Memory
 
 -- what the tables tell of every state that they stand for
 abbrev pub IsSubject : Tables → Event → Subject → Type 0

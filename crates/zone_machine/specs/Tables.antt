@@ -7,9 +7,8 @@ use Rattle.zone_machine.specs.declared.sessions.Session.TheVariants.{Idle, Await
 use Rattle.zone_machine.specs.declared.sessions.Session.{Session}
 use Rattle.zone_machine.specs.Machine.{named_subject, decide}
 use Rattle.zone_machine.specs.Lines.{Line, line_of}
-use Rattle.std.specs.Prelude.{◌≡◌, ◌≢◌, ℕ, ◌+◌, List, [], Option, Some, None, Bool, length, unwrap_or}
+use Rattle.std.specs.Prelude.{◌≡◌, ◌≢◌, ℕ, ◌+◌, List, Option, Some, None, length}
 use Rattle.std.specs.List.{list_any}
-use Rattle.std.specs.Option.{option_map}
 use Rattle.zn_base.specs.Names.{Name}
 use Rattle.zn_base.specs.Owned_lists.{mine}
 use Rattle.zn_base.specs.Firsts.{first_of}

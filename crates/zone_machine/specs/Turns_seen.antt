@@ -1,24 +1,24 @@
 -- What the code's turns do, as the definitions have it.
 use Rattle.zone_machine.specs.Desks_seen.{job_seen}
 use Rattle.std.specs.Prelude.{◌≡◌, ℕ, ◌+◌, List, [], ◌∷◌, ◌++◌, Option, Some, None, drop, length, ◌<◌, Bool, true, false, IsSome, if◌then◌else◌}
-use Rattle.std.specs.Borrow.{Bor}
 use Rattle.std.specs.Option.{option_map}
 use Rattle.zn_base.specs.Owned_lists.{Come, Go}
-use Rattle.zone_machine.specs.Decisions.{Act, says, after_came_world}
+use Rattle.zn_base.specs.declared.grant.Grant.{Grant}
+use Rattle.zone_machine.specs.Decisions.{Act, Decision, Effect, act_of, says, after_came_world}
 use Rattle.zone_machine.specs.Edits.{Arrival, Edit, Ids_go, New_id, New_process, New_record, Of_mounts, Processes_go, Set_desk, Sweep, edits_world}
 use Rattle.zone_machine.specs.State as state
 use Rattle.zone_machine.specs.Turns.{all_of, is_at, last_dir, ticket_ended, zid_of}
-use Rattle.zone_machine.specs.Worlds.{World}
+use Rattle.zone_machine.specs.Worlds.{View, World}
 use Rattle.zone_machine.specs.declared.daemon.Step.{Step}
 use Rattle.zone_machine.specs.declared.daemon.Step.TheVariants as step
 use Rattle.zone_machine.specs.declared.desks.Job.{Job}
 use Rattle.zone_machine.specs.declared.replies.Head.TheVariants.{Turned}
-use Rattle.zone_machine.specs.declared.turns.Came.{Came}
-use Rattle.zone_machine.specs.declared.turns.Came.TheVariants.{Process, Id, Record}
-use Rattle.zone_machine.specs.declared.turns.ObjectEdit.{ObjectEdit}
-use Rattle.zone_machine.specs.declared.turns.ObjectEdit.TheVariants.{Nothing, EndProcesses, Mount, Unmount, EndIds}
-use Rattle.zone_machine.specs.declared.turns.Seen.{Seen}
-use Rattle.zone_machine.specs.declared.turns.Work.{Work}
+use Rattle.zone_machine.specs.declared.work.Came.{Came}
+use Rattle.zone_machine.specs.declared.work.Came.TheVariants.{Process, Id, Record}
+use Rattle.zone_machine.specs.declared.work.ObjectEdit.{ObjectEdit}
+use Rattle.zone_machine.specs.declared.work.ObjectEdit.TheVariants.{Nothing, EndProcesses, Mount, Unmount, EndIds}
+use Rattle.zone_machine.specs.declared.work.Seen.{Seen}
+use Rattle.zone_machine.specs.declared.work.Work.{Work}
 
 abbrev pub arrival_of : Came → Arrival
 arrival_of (Process p) = New_process p
@@ -43,11 +43,23 @@ work_act w d = record {
   effect = record { edits = object_edits w.objects ++ Set_desk d ∷ sweeps w.ended; reply = says (Turned w.reply) };
 }
 
+-- an act with which nothing comes
+abbrev pub bare : Effect → Act
+bare e = record { came = None; effect = e }
+
+-- the work does what an act says on any desk, and leaves the job so
+abbrev pub CarriesOut : (state.Desk → Act) → Job → Work → Type 0
+CarriesOut act j w = (d : state.Desk) → act d ≡ work_act w (record d { job = Some (job_seen j) })
+
 -- what is seen is what the zone has
 pub record Sees (w : World) (s : Seen) : Type 0 where
   pub processes : length w.processes ≡ s.processes
   pub last_dir : last_dir w.mounts ≡ s.last_dir
   pub zid : zid_of w.ids ≡ s.zid
+
+-- the work does what is decided in every view that shows what is seen, and leaves the desk so
+abbrev pub FollowsView : Seen → (View → Decision) → Grant → state.Desk → Work → Type 0
+FollowsView s decision g d w = (v : View) → Sees v.world s → act_of (decision v) g ≡ work_act w d
 
 -- the steps behind the next one
 abbrev pub rest_of : Job → List Step

@@ -16,7 +16,8 @@ use crate::lists::place_of;
 use crate::records::Record;
 use crate::sights::see;
 use crate::tables::Tables;
-use crate::turns::{Seen, Work, has_work, turn};
+use crate::turns::{has_work, turn};
+use crate::work::{Seen, Work};
 use std::alloc::{AllocError, Global};
 use zn_base::{Grant, Owned, ZoneName};
 

@@ -14,6 +14,7 @@ mod machine;
 mod needs;
 mod numbers;
 mod objects;
+mod plan_steps;
 mod plans;
 mod pools;
 mod records;
@@ -22,8 +23,11 @@ mod sessions;
 mod sights;
 mod steps;
 mod tables;
+#[cfg(test)]
+mod tests;
 mod turns;
 mod typing;
+mod work;
 
 pub use daemon::{Change, ChangeKind, Outcome, RequestKind, Step, TurnReply};
 pub use events::{Entry, Event, Subject};

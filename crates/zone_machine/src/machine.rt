@@ -1,7 +1,7 @@
 //! The machine.
-ghost use Rattle.std.specs.Prelude.{◌≡◌, [], Err, IfOk};
+ghost use Rattle.std.specs.Prelude.{◌≡◌, [], IfOk, IsErrOf, IsOkUnless};
 ghost use Rattle.zone_machine.specs.Machine.{opening};
-ghost use Rattle.zone_machine.specs.Steps.{IsAllowed, IsAllowedStep, IsFittingStep, IsMisfit, IsStarted, IsSubject, IsZoneState};
+ghost use Rattle.zone_machine.specs.Steps.{IsAllowed, IsAllowedStep, IsFittingStep, IsMisfit, IsRefusedIfUnfit, IsStarted, IsSubject, IsZoneState};
 ghost use Rattle.zone_machine.specs.Tables.{Stands};
 
 use crate::events::{Entry, Event, Subject};
@@ -35,31 +35,37 @@ impl Machine {
         }
     }
 
-    /// Whose an event is.
+    /// Whose an event is: of a session the zone in which it waits for a ticket, else the zone that the
+    /// line names, else the global zone; of a turn the zone whose daemon it is.
     pub fn subject(&self, alloc: Global, event: &Event) -> Result<Subject, StepFault>
-        ensures { IfOk result (IsSubject self.now event.now) }
+        ensures ok { IfOk result (IsSubject self.now event.now) }
+        ensures err { IsOkUnless result StepFault.Memory }
     {
         Ok(self.tables.subject(alloc, event)?)
     }
 
     /// The grant that the pools give an event.
     pub fn allowed(&self, alloc: Global, event: &Event) -> Result<Grant, StepFault>
-        ensures { IfOk result (IsAllowed self.now event.now) }
+        ensures ok { IfOk result (IsAllowed self.now event.now) }
+        ensures err { IsOkUnless result StepFault.Memory }
     {
         let subject = self.tables.subject(alloc, event)?;
         Ok(self.tables.allowed(alloc, event, &subject)?)
     }
 
-    /// An event is answered under the grant that the pools give it.
+    /// An event is answered under the grant that the pools give it. After want of memory nothing is said of
+    /// the machine.
     pub fn step(&mut self, alloc: Global, event: Event) -> Result<Entry, StepFault>
-        ensures { IfOk result (λ entry. IsAllowedStep self.old event entry self.new) }
+        ensures ok { IfOk result (λ entry. IsAllowedStep self.old event entry self.new) }
+        ensures err { IsOkUnless result StepFault.Memory }
     {
         let subject = self.tables.subject(alloc, &event)?;
         let grant = self.tables.allowed(alloc, &event, &subject)?;
         Ok(self.tables.answer(alloc, event, subject, grant)?)
     }
 
-    /// An event is answered under a stated grant, where it fits.
+    /// An event is answered under a stated grant, where it fits, as when a recorded trace is run again. After
+    /// want of memory nothing is said of the machine.
     pub fn step_given(
         &mut self,
         alloc: Global,
@@ -67,7 +73,8 @@ impl Machine {
         grant: Grant,
     ) -> Result<Entry, StepFault>
         ensures ok { IfOk result (λ entry. IsFittingStep self.old event grant entry self.new) }
-        ensures misfit { result ≡ Err StepFault.BadGrant → IsMisfit self.old event grant self.new }
+        ensures misfit { IsErrOf result StepFault.BadGrant → IsMisfit self.old event grant self.new }
+        ensures unfit { IsRefusedIfUnfit self.old event grant result }
     {
         let subject = self.tables.subject(alloc, &event)?;
         if !self.tables.is_fit(alloc, &event, &subject, grant)? {

@@ -10,7 +10,7 @@ ghost use Rattle.zone_machine.specs.Turns_seen.{Sees};
 use crate::lists::place_of;
 use crate::objects::{Id, Mount};
 use crate::tables::Tables;
-use crate::turns::Seen;
+use crate::work::Seen;
 use std::alloc::{AllocError, Global};
 use zn_base::{AbsPath, Owned, ZoneName, ZoneState};
 

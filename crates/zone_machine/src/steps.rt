@@ -65,7 +65,7 @@ fn global_line(alloc: Global, line: Line<'_>) -> Result<Head, AllocError>
 }
 
 impl Tables {
-    /// Whose an event is.
+    /// Whose an event is: the zone that its session waits in, else the zone that its line names.
     pub(crate) fn subject(&self, alloc: Global, event: &Event) -> Result<Subject, AllocError>
         ensures { IfOk result (λ subject. subject ≡ subject_in self.now event.now) }
     {
@@ -77,9 +77,7 @@ impl Tables {
             },
         }
     }
-}
 
-impl Tables {
     /// What an event of a zone asks of the pools.
     #[tactic(auto, unfolding(crate::specs::Machine::decide, crate::specs::Worlds::view_of))]
     pub(crate) fn need(
@@ -145,6 +143,7 @@ impl Tables {
         }
     }
 
+    // What an event is answered.
     fn head(
         &mut self,
         alloc: Global,
@@ -162,7 +161,7 @@ impl Tables {
         }
     }
 
-    /// The event is answered under a grant.
+    /// The event is answered under a grant, whether or not it fits.
     pub(crate) fn answer(
         &mut self,
         alloc: Global,

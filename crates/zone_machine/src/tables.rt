@@ -6,7 +6,7 @@ use crate::lists::{add, end_all, enter, place, place_of, unmount};
 use crate::objects::{Id, Mount, Process};
 use crate::records::Record;
 use crate::sessions::{Session, end_waits};
-use crate::turns::{Came, ObjectEdit};
+use crate::work::{Came, ObjectEdit};
 use std::alloc::{AllocError, Global};
 use zn_base::{Owned, ZoneName};
 
@@ -87,6 +87,7 @@ impl Tables {
     pub(crate) fn store(&mut self, zone: ZoneName, row: Record) -> Result<(), AllocError>
         ensures { OnOk result (Does zone (comes_world (New_record (Some row))) (came_rest zone (Some (New_record (Some row)))) self.old self.new) }
     {
+        // The pools give no number for such a record.
         if self.serial == u32::MAX {
             return Err(AllocError);
         }

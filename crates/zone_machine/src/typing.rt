@@ -16,13 +16,13 @@ ghost use Rattle.zone_machine.specs.declared.records.Record as record_types;
 
 use crate::daemon::RequestKind;
 use crate::desks::Desk;
+use crate::grants::number_in;
 use crate::lines::{Command, Line};
 use crate::lists::{add, place_of};
 use crate::records::{Config, Record};
 use crate::replies::{Head, Refusal};
 use crate::sessions::{Session, awaited, wait};
 use crate::tables::Tables;
-use crate::turns::number_in;
 use std::alloc::{AllocError, Global};
 use zn_base::{AbsPath, Grant, Owned, PathFault, ZoneName, ZoneState};
 

@@ -1,8 +1,8 @@
 -- Parts of a line that are texts.
-use Rattle.std.proofs.Common.{◌≡◌, inl, inr, ◌≤◌, ◌<◌, ◌+◌, ◌-◌, ℕ, true, false, cond, not, nat_lt, List, [], Some, None, Result, Ok, Err, IfOk, IsTrue, All, Vec, Global, get_or, drop, length, length-take, get_or-take, get_or-drop, refl, ap, subst, arith, ◌∙◌}
+use Rattle.std.proofs.Common.{◌≡◌, ◌≤◌, ◌<◌, ◌+◌, ◌-◌, ℕ, true, false, cond, not, nat_lt, List, Some, None, Result, Ok, Err, IfOk, IsTrue, All, Vec, Global, get_or, drop, length, length-take, get_or-take, get_or-drop, refl, ap, subst, arith, ◌∙◌}
 use Rattle.std.specs.Prelude.{is_ok, position, slice_range}
 use Rattle.std.proofs.lemmas.Bool.Decides.{nat_tests}
-use Rattle.std.proofs.lemmas.List.Elements.{All-drop, All-same, All-take, All-weaker}
+use Rattle.std.proofs.lemmas.List.Elements.{All-weaker}
 use Rattle.std.proofs.lemmas.List.Quantifiers.{position-Some}
 use Rattle.std.proofs.lemmas.Result.{IfOk-weaker}
 use Rattle.zn_base.specs.Answers.{AnswersUnless}
@@ -12,8 +12,8 @@ use Rattle.zonecfg_lex.specs.declared.fault.LexFault.{LexFault}
 use Rattle.zonecfg_lex.specs.declared.fault.LexFault.TheVariants.{Memory}
 use Rattle.zonecfg_lex.specs.declared.scope.Scope.TheVariants.{Between}
 use Rattle.zonecfg_lex.specs.declared.token.Token.{Token}
-use Rattle.zonecfg_lex.specs.Tokens.{is_comment, part_tokens_of, result_map, text_of, tokens_from, tokens_of, AreRising, IsWithin}
-use Rattle.zonecfg_lex.specs.Value.{is_quoted, IsReadable, StandIn}
+use Rattle.zonecfg_lex.specs.Tokens.{result_map, text_of, tokens_from, AreRising, IsWithin}
+use Rattle.zonecfg_lex.specs.Value.{is_quoted, IsReadable}
 use Rattle.zonecfg_lex.proofs.Rising.{AreSoundFrom, IsFilledIn, PrintsFrom, ReadsSoundly, each_sound, reads_soundly, rise}
 
 is_text-printing : (xs : List ℕ) → length xs ≤ 4200 → ((k : ℕ) → k < length xs → is_text_byte (get_or xs k 0) ≡ true) → is_text xs ≡ true
@@ -50,6 +50,7 @@ pub record KeepTo (line : List ℕ) (ts : List Token) : Type 0 where
   pub within : All (IsWithin (length line)) ts
   pub rising : AreRising ts
   pub printable : All (λ t. IsTrue (is_text (text_of line t))) ts
+  pub readable : All (IsReadable line) ts
 
 module _ (line : List ℕ) where
   reads_are_sound : (r : Result (Vec Token Global) LexFault) → AnswersUnless Memory (tokens_from None Between 0 line) (result_map (λ (v : Vec Token Global). v.items) r) → IfOk r (λ v. AreSoundFrom line 0 v.items)
@@ -62,19 +63,6 @@ module _ (line : List ℕ) where
   all_printable : length line ≤ 4200 → (ts : List Token) → AreSoundFrom line 0 ts → All (λ t. IsTrue (is_text (text_of line t))) ts
   all_printable short ts h = All-weaker (IsFilledIn line) (λ t. IsTrue (is_text (text_of line t))) (λ t s. is_text-slice line t.start t.end short s.1.inside s.1.prints) ts (each_sound line 0 ts h)
 
-  pub keep : length line ≤ 4200 → (r : Result (Vec Token Global) LexFault) → AnswersUnless Memory (tokens_from None Between 0 line) (result_map (λ (v : Vec Token Global). v.items) r) → IfOk r (λ v. KeepTo line v.items)
-  keep short r h =
-      IfOk-weaker r (λ (v : Vec Token Global). AreSoundFrom line 0 v.items) (λ (v : Vec Token Global). KeepTo line v.items)
-      (λ v s. record { within = all_within v.items s; rising = rise line 0 v.items s; printable = all_printable short v.items s }) (reads_are_sound r h)
-
-  part_tokens_of-sound : ReadsSoundly line 0 (part_tokens_of line)
-  unfolding part_tokens_of
-  part_tokens_of-sound = reads_soundly line line None Between 0 refl tt
-
-  tokens_of-sound : ReadsSoundly line 0 (tokens_of line)
-  unfolding tokens_of
-  tokens_of-sound = elim (is_comment line) as (λ v. ReadsSoundly line 0 (cond v (Ok []) (part_tokens_of line))) [ true ↦ tt | false ↦ part_tokens_of-sound ]
-
   readable : length line ≤ 4200 → (t : Token) → IsFilledIn line t → IsReadable line t
   readable short t s = record {
     filled = s.0;
@@ -85,9 +73,10 @@ module _ (line : List ℕ) where
     ];
   }
 
-  -- tokens that stand in a line can be read
-  pub all_readable : length line ≤ 4200 → (ts : List Token) → StandIn line ts → All (IsReadable line) ts
-  all_readable short ts s =
-      let sound : AreSoundFrom line 0 s.all = elim s.are [ inl e ↦ subst (ReadsSoundly line 0) e tokens_of-sound | inr e ↦ subst (ReadsSoundly line 0) e part_tokens_of-sound ] in
-      let part = All-take (IsFilledIn line) (s.to - s.from) (drop s.from s.all) (All-drop (IsFilledIn line) s.from s.all (each_sound line 0 s.all sound)) in
-      All-weaker (IsFilledIn line) (IsReadable line) (readable short) ts (All-same (IsFilledIn line) _ _ s.part part)
+  all_readable : length line ≤ 4200 → (ts : List Token) → AreSoundFrom line 0 ts → All (IsReadable line) ts
+  all_readable short ts h = All-weaker (IsFilledIn line) (IsReadable line) (readable short) ts (each_sound line 0 ts h)
+
+  pub keep : length line ≤ 4200 → (r : Result (Vec Token Global) LexFault) → AnswersUnless Memory (tokens_from None Between 0 line) (result_map (λ (v : Vec Token Global). v.items) r) → IfOk r (λ v. KeepTo line v.items)
+  keep short r h =
+      IfOk-weaker r (λ (v : Vec Token Global). AreSoundFrom line 0 v.items) (λ (v : Vec Token Global). KeepTo line v.items)
+      (λ v s. record { within = all_within v.items s; rising = rise line 0 v.items s; printable = all_printable short v.items s; readable = all_readable short v.items s }) (reads_are_sound r h)

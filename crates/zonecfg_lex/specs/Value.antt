@@ -1,5 +1,5 @@
 -- The value that tokens are: a text, pairs in round brackets, or a list in square ones.
-use Rattle.std.specs.Prelude.{◌≡◌, ◌⊎◌, ℕ, List, [], ◌∷◌, ◌+◌, ◌<◌, ◌≤◌, Bool, IsTrue, true, false, length, filter, map, Option, Some, None, Result, Ok, Err, if◌then◌else◌, slice_range}
+use Rattle.std.specs.Prelude.{ℕ, List, [], ◌∷◌, ◌+◌, ◌<◌, ◌≤◌, Bool, IsTrue, true, false, length, filter, map, Option, Some, None, Result, Ok, Err, if◌then◌else◌, slice_range}
 use Rattle.zn_base.specs.Text.{is_text}
 use Rattle.zonecfg_lex.specs.declared.fault.LexFault.{LexFault}
 use Rattle.zonecfg_lex.specs.declared.fault.LexFault.TheVariants.{NoValue}
@@ -11,7 +11,6 @@ use Rattle.zonecfg_lex.specs.declared.token.TokenKind.TheVariants.{Word, Quoted,
 use Rattle.zonecfg_lex.specs.declared.values.Pair.{Pair}
 use Rattle.zonecfg_lex.specs.declared.values.Value.{Value}
 use Rattle.zonecfg_lex.specs.declared.values.Value.TheVariants.{Simple, Complex, List as Items}
-use Rattle.zonecfg_lex.specs.Tokens.{part_tokens_of, tokens_of}
 
 -- what may follow a token in a value, and how it goes on then
 abbrev pub stage_behind : Stage → TokenKind → Option Stage
@@ -87,11 +86,3 @@ pub record IsReadable (line : List ℕ) (t : Token) : Type 0 where
   pub filled : t.start < t.end
   pub inside : t.end ≤ length line
   pub printable : IsTrue (is_text (given_text line t))
-
--- tokens that stand one after another among those of a line or of a part of one
-pub record StandIn (line : List ℕ) (ts : List Token) : Type 0 where
-  pub all : List Token
-  pub from : ℕ
-  pub to : ℕ
-  pub are : (tokens_of line ≡ Ok all) ⊎ (part_tokens_of line ≡ Ok all)
-  pub part : ts ≡ slice_range all from to

@@ -3,7 +3,7 @@ ghost use Rattle.std.specs.Prelude.{◌≡◌, ◌<◌, ◌≤◌, ◌∷◌, Al
 ghost use Rattle.zn_base.specs.Answers.{AnswersUnless};
 ghost use Rattle.zonecfg_lex.specs.declared.grammar.Stage.TheVariants.{Start};
 ghost use Rattle.zonecfg_lex.specs.Tokens.{result_map};
-ghost use Rattle.zonecfg_lex.specs.Value.{first_misfit, gives_text, given_text, given_texts, made_value, paired, stage_behind, text_start, value_of, IsReadable, StandIn};
+ghost use Rattle.zonecfg_lex.specs.Value.{first_misfit, gives_text, given_text, given_texts, made_value, paired, stage_behind, text_start, value_of, IsReadable};
 
 use crate::{LexFault, Pair, Pairs, Texts, Token, TokenKind, Value};
 use std::alloc::Global;
@@ -81,7 +81,8 @@ fn text_start(token: Token) -> u32
     }
 }
 
-fn given_text(alloc: Global, line: &[u8], token: Token) -> Result<Text, LexFault>
+/// The text that a word or a quoted token of a line gives.
+pub fn given_text(alloc: Global, line: &[u8], token: Token) -> Result<Text, LexFault>
     requires { IsReadable line.now token }
     ensures { AnswersUnless LexFault.Memory (Ok (given_text line.now token)) result }
 {
@@ -106,7 +107,8 @@ fn texts(alloc: Global, line: &[u8], tokens: &[Token]) -> Result<Vec<Text>, LexF
     Ok(texts)
 }
 
-fn pairs(alloc: Global, line: &[u8], tokens: &[Token]) -> Result<Vec<Pair>, LexFault>
+/// The pairs that the words and quoted tokens of a line give, each name with the text behind it.
+pub fn pairs(alloc: Global, line: &[u8], tokens: &[Token]) -> Result<Vec<Pair>, LexFault>
     requires { All (IsReadable line.now) tokens.now }
     ensures { AnswersUnless LexFault.Memory (Ok (paired (given_texts line.now tokens.now))) (result_map (λ ps. ps.items) result) }
 {
@@ -140,7 +142,7 @@ fn made_value(alloc: Global, line: &[u8], first: Token, rest: &[Token]) -> Resul
 /// The value that some tokens of a line are, or the place where they stop being one.
 pub fn value(alloc: Global, line: &[u8], tokens: &[Token]) -> Result<Value, LexFault>
     requires short { length line.now ≤ 4200 }
-    requires stand { StandIn line.now tokens.now }
+    requires readable { All (IsReadable line.now) tokens.now }
     ensures { AnswersUnless LexFault.Memory (value_of line.now tokens.now) result }
 {
     if let Some(place) = first_misfit(line, tokens) {

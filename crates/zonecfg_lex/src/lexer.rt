@@ -5,6 +5,7 @@ ghost use Rattle.zn_base.specs.Text.{is_text_byte, is_text};
 ghost use Rattle.zonecfg_lex.specs.declared.scope.Role.TheVariants.{Letter};
 ghost use Rattle.zonecfg_lex.specs.declared.scope.Scope.{Scope};
 ghost use Rattle.zonecfg_lex.specs.declared.scope.Scope.TheVariants.{Between};
+ghost use Rattle.zonecfg_lex.specs.Value.{IsReadable};
 ghost use Rattle.zonecfg_lex.specs.Tokens.{in_word, nothing_unless, or_stray, part_tokens_of, place_of, result_map, role_of, text_of, token, tokens_from, tokens_of, word, AreRising, IsWithin};
 
 use crate::bytes::is_comment;
@@ -90,6 +91,7 @@ pub fn tokens(alloc: Global, line: &[u8]) -> Result<Vec<Token>, LexFault>
     ensures within { IfOk result (λ ts. All (IsWithin (length line.now)) ts.items) }
     ensures rising { IfOk result (λ ts. AreRising ts.items) }
     ensures printable { IfOk result (λ ts. All (λ t. IsTrue (is_text (text_of line.now t))) ts.items) }
+    ensures readable { IfOk result (λ ts. All (IsReadable line.now) ts.items) }
 {
     if is_comment(line) {
         return Ok(Vec::new(alloc));
@@ -105,6 +107,7 @@ pub fn part_tokens(alloc: Global, part: &[u8]) -> Result<Vec<Token>, LexFault>
     ensures within { IfOk result (λ ts. All (IsWithin (length part.now)) ts.items) }
     ensures rising { IfOk result (λ ts. AreRising ts.items) }
     ensures printable { IfOk result (λ ts. All (λ t. IsTrue (is_text (text_of part.now t))) ts.items) }
+    ensures readable { IfOk result (λ ts. All (IsReadable part.now) ts.items) }
 {
     cut(alloc, part)
 }

@@ -15,7 +15,7 @@ mod values;
 
 pub use bytes::{is_blank, is_comment, is_plain};
 pub use fault::LexFault;
-pub use grammar::value;
+pub use grammar::{given_text, pairs, value};
 pub use lexer::{part_tokens, tokens};
 pub use plain::plain_lines_are_cut;
 pub use spans::parts;

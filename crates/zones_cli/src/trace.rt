@@ -14,7 +14,7 @@ use std::alloc::{AllocError, Global};
 use thiserror::Error;
 use trace_text::{LineFault, print_reply, read_line};
 use zn_base::{Sink, Source, write_all};
-use zone_machine::{Event, Head, Machine, Outcome, TurnReply};
+use zone_machine::{Event, Head, Machine, Outcome, StepFault, TurnReply};
 
 // How many bytes of replies may wait before they are written.
 const WAITING_MAX: usize = 16384;
@@ -80,8 +80,10 @@ fn answer(
     ensures answered { IfOk result (λ refusal. (held : Option (List ℕ)) → IsAnswered (λ S. Stands S machine.old) (λ S. Stands S machine.new) event refusal (after_known held waiting.old.items) (after_known held waiting.new.items)) }
     ensures same { OnErr result (waiting.new.items ≡ waiting.old.items) }
 {
-    let Ok(entry) = machine.step(alloc, event) else {
-        return Err(AllocError);
+    let entry = match machine.step(alloc, event) {
+        Ok(entry) => entry,
+        Err(StepFault::Memory) => return Err(AllocError),
+        Err(StepFault::BadGrant) => unreachable!(),
     };
     let Ok(text) = print_reply(alloc, &entry.subject, &entry.reply) else {
         return Err(AllocError);

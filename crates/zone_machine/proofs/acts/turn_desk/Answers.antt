@@ -1,4 +1,3 @@
-use Rattle.std.proofs.Common.{subst}
 use Rattle.zone_machine.proofs.Desk_turns.{turns_desk}
 use Rattle.zone_machine.specs.Lists_seen.{StandsAt}
 use Rattle.zone_machine.proofs.acts.turn_desk.Goals as goal

@@ -20,3 +20,7 @@ returns-clause-rising c =
 pub returns-clause-printable : goal.returns-clause-printable
 returns-clause-printable c =
     IfOk-weaker c.cut.result (λ (v : Vec Token Global). KeepTo c.args.part.now v.items) _ (λ v k. k.printable) (keep c.args.part.now c.requires c.cut.result c.cut.ensures)
+
+pub returns-clause-readable : goal.returns-clause-readable
+returns-clause-readable c =
+    IfOk-weaker c.cut.result (λ (v : Vec Token Global). KeepTo c.args.part.now v.items) _ (λ v k. k.readable) (keep c.args.part.now c.requires c.cut.result c.cut.ensures)

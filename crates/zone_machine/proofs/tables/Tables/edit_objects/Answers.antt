@@ -1,4 +1,3 @@
-use Rattle.std.specs.Prelude.{true}
 use Rattle.zn_base.specs.Owned_lists.{Come, Go}
 use Rattle.zone_machine.proofs.Doing_laws.{does_ids, does_mounts, does_processes}
 use Rattle.zone_machine.specs.Turns.{all_of, is_at}

@@ -1,4 +1,4 @@
-use Rattle.std.proofs.Common.{◌≡◌, Some, None, ap, sym, ◌∙◌}
+use Rattle.std.proofs.Common.{◌≡◌, Some, ap, sym, ◌∙◌}
 use Rattle.zn_base.specs.Owned_lists.{mine}
 use Rattle.zn_base.specs.Firsts.{first_of}
 use Rattle.zone_machine.proofs.Results.{if_ok, on_ok}

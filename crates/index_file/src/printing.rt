@@ -1,0 +1,82 @@
+//! The index text, printed.
+ghost use Rattle.std.specs.Prelude.{◌≡◌, ◌++◌, ◌∷◌, All, IfErr, IfOk, IsTrue, OnOk};
+ghost use Rattle.uuid.specs.Text.{hyphenated_text, lower};
+ghost use Rattle.zn_base.specs.States.{is_stored};
+ghost use Rattle.index_file.specs.declared.fault.IndexFault.TheVariants.{Memory};
+ghost use Rattle.index_file.specs.Index.{colon, escaped, escaped_byte, index_text, is_escaped_byte, line_text, IsIndex, IsIndexRow, IsUuid, NamesDiffer};
+
+use crate::{IndexFault, IndexRow};
+use std::alloc::{AllocError, Global};
+use uuid::Uuid;
+
+fn is_escaped_byte(byte: u8) -> bool
+    ensures { result ≡ is_escaped_byte byte }
+{
+    byte == b':' || byte == b'\\'
+}
+
+fn push_escaped_byte(out: &mut Vec<u8>, byte: u8) -> Result<(), AllocError>
+    ensures { OnOk result (out.new.items ≡ out.old.items ++ escaped_byte byte) }
+{
+    if is_escaped_byte(byte) {
+        out.push(b'\\')?;
+    }
+    out.push(byte)?;
+    Ok(())
+}
+
+fn push_path(out: &mut Vec<u8>, path: &[u8]) -> Result<(), AllocError>
+    ensures { OnOk result (out.new.items ≡ out.old.items ++ colon ∷ escaped path.now) }
+{
+    out.push(b':')?;
+    for byte in path {
+        push_escaped_byte(out, *byte)?;
+    }
+    Ok(())
+}
+
+fn push_field(out: &mut Vec<u8>, field: &[u8]) -> Result<(), AllocError>
+    ensures { OnOk result (out.new.items ≡ out.old.items ++ colon ∷ field.now) }
+{
+    out.push(b':')?;
+    out.extend_from_slice(field)
+}
+
+#[tactic(auto, using(crate::proofs::Uuids::parsed_is_uuid))]
+fn push_uuid(out: &mut Vec<u8>, uuid: Uuid) -> Result<(), AllocError>
+    ensures text { OnOk result (out.new.items ≡ out.old.items ++ colon ∷ hyphenated_text lower uuid) }
+    ensures uuid { IsUuid uuid }
+{
+    let mut buffer = Uuid::encode_buffer();
+    push_field(out, uuid.hyphenated().encode_lower(&mut buffer).as_bytes())
+}
+
+/// Appends the line of a row.
+#[tactic(auto, unfolding(crate::specs::Index::line_text))]
+pub(crate) fn push_line(out: &mut Vec<u8>, row: &IndexRow) -> Result<(), AllocError>
+    ensures text { OnOk result (out.new.items ≡ out.old.items ++ line_text row.now) }
+    ensures row { OnOk result (IsTrue (is_stored row.now.state) → IsIndexRow row.now) }
+{
+    out.extend_from_slice(row.name.bytes())?;
+    push_field(out, row.state.text())?;
+    push_path(out, row.path.bytes())?;
+    push_uuid(out, row.uuid)?;
+    out.push(b'\n')?;
+    Ok(())
+}
+
+/// The index text of some zones, in their order: one line `NAME:STATE:PATH:UUID` for each. In PATH a
+/// backslash stands before each colon and each backslash; UUID is hyphenated, in lower case.
+pub fn print_index(alloc: Global, rows: &[IndexRow]) -> Result<Vec<u8>, IndexFault>
+    requires stored { All (λ row. IsTrue (is_stored row.state)) rows.now }
+    requires names { NamesDiffer rows.now }
+    ensures text { IfOk result (λ text. text.items ≡ index_text rows.now) }
+    ensures index { OnOk result (IsIndex rows.now) }
+    ensures memory { IfErr result (λ fault. fault ≡ Memory) }
+{
+    let mut text = Vec::new(alloc);
+    for row in rows {
+        push_line(&mut text, row)?;
+    }
+    Ok(text)
+}
