@@ -452,11 +452,23 @@ fn a_trace_writes_whole_replies_up_to_a_fault(rt: HostRuntime) -> Result<(), Fai
     check(
         &rt,
         Given {
-            outs: &[2],
+            outs: &[1],
             ..short
         },
         5,
-        b"a idle\n",
+        b"",
+        b"write fault\n",
+    )?;
+    // Each line is a piece, and its reply is written before more is read.
+    check(
+        &rt,
+        Given {
+            input: b"D aaaa\nD bbbb\n",
+            outs: &[2],
+            ..TRACED
+        },
+        5,
+        b"aaaa idle\n",
         b"write fault\n",
     )?;
     check(

@@ -156,8 +156,8 @@ fn write_some<K: Sink>(ahead: &Ahead, waiting: &mut Vec<u8>, out: &mut K) -> Res
 }
 
 // Takes all lines, one at a time, up to the first that is outside the grammar or past a limit. What is
-// left to tell is answered, and the last replies wait to be written. Whoever types a line and waits for its
-// reply gets it: nothing waits while the source is asked for more.
+// left to tell is answered, and the last replies wait to be written. Nothing waits where no byte of a next
+// line is there, so whoever types a line gets its reply.
 fn take_lines<S: Source, K: Sink>(
     alloc: Global,
     machine: &mut Machine,
