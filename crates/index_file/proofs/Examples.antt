@@ -1,5 +1,5 @@
 -- What the definitions say of some rows.
-use Rattle.std.proofs.Common.{◌≡◌, ℕ, List, [], ◌∷◌, codes, refl}
+use Rattle.std.proofs.Common.{◌≡◌, [], ◌∷◌, codes, refl}
 use Rattle.uuid.specs.Text.{by_index}
 use Rattle.zn_base.specs.declared.state.ZoneState.TheVariants.{Configured, Installed}
 use Rattle.index_file.specs.declared.rows.IndexRow.{IndexRow}

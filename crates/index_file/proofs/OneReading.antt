@@ -1,6 +1,6 @@
 -- A text is read in one way.
-use Rattle.std.proofs.Common.{◌≡◌, ◌≢◌, ℕ, ◌+◌, ◌<◌, ◌≤◌, Bool, true, false, List, [], ◌∷◌, ◌++◌, length, length-append, append_assoc, get_or, take, drop, All, Option, Some, None, Result, Ok, Err, unwrap_or, IsTrue, ◌⊎◌, inl, inr, refl, sym, ap, ◌∙◌, subst, arith}
-use Rattle.std.specs.List.{AllPairs, Any}
+use Rattle.std.proofs.Common.{◌≡◌, ◌≢◌, ℕ, ◌+◌, false, List, [], ◌∷◌, ◌++◌, length, length-append, append_assoc, get_or, All, Some, Result, Ok, Err, IsTrue, ◌⊎◌, inl, inr, refl, sym, ap, ◌∙◌, subst, arith}
+use Rattle.std.specs.List.{Any}
 use Rattle.std.proofs.lemmas.List.{append-nil, get_or_append_left, get_or_default}
 use Rattle.std.proofs.Math.Seq.{get_or-append_seam}
 use Rattle.std.proofs.lemmas.List.Elements.{All-head, All-tail}
@@ -12,7 +12,7 @@ use Rattle.index_file.specs.declared.fault.IndexFault.{IndexFault}
 use Rattle.index_file.specs.declared.fault.IndexFault.TheVariants.{Memory, IndexLine, SameName}
 use Rattle.index_file.specs.declared.rows.IndexRow.{IndexRow}
 use Rattle.index_file.specs.Index.{colon, escaped, index_text, line_text, newline, IsIndex, IsIndexRow, IsUuid}
-use Rattle.index_file.specs.Reading.{BeginsWithLine, GoesOn, IsBadLine, IsRepeat, ReadsAs, StandsFor}
+use Rattle.index_file.specs.Reading.{BeginsWithLine, ReadsAs}
 use Rattle.index_file.specs.OneReading.{OneRowALine, OneTextForRows, PrintedReadsBack, ReadsOneWay}
 use Rattle.index_file.proofs.Escapes.{unescaped, unescaped-escaped}
 use Rattle.index_file.proofs.Lines.{behind_name, behind_state, cut_alike, front, last_fields, line_alone, line_ends, line_named, uuid_text_length}

@@ -1,8 +1,8 @@
 -- The parts of a right line: which bytes they lack, and that they are read as what they were made of.
-use Rattle.std.proofs.Common.{◌≡◌, ℕ, ◌+◌, ◌<◌, ◌≤◌, Bool, true, false, cond, not, ◌&&◌, ◌||◌, nat_lt, nat_le, List, [], ◌∷◌, ◌++◌, length, get_or, Option, Some, None, Result, Ok, Err, IsTrue, if◌then◌else◌, refl, sym, ap, ◌∙◌, arith}
+use Rattle.std.proofs.Common.{◌≡◌, ℕ, ◌+◌, ◌<◌, ◌≤◌, Bool, true, false, cond, not, ◌&&◌, ◌||◌, nat_lt, List, [], ◌∷◌, ◌++◌, length, Option, Some, None, Result, Ok, Err, IsTrue, if◌then◌else◌, refl, ap, ◌∙◌, arith}
 use Rattle.std.specs.Prelude.{◌==◌, position, is_ok}
 use Rattle.std.specs.List.{list_all, onto_first, position_or_len, slice_split}
-use Rattle.std.proofs.lemmas.Bool.{and_parts, not-false}
+use Rattle.std.proofs.lemmas.Bool.{and_parts}
 use Rattle.std.proofs.lemmas.Bool.Decides.{nat_tests}
 use Rattle.std.proofs.lemmas.List.Sums.{list_all-from_AllPass}
 use Rattle.uuid.specs.Text.{by_index, digit_place, hex_digit, hyphen, hyphenated_text, is_hyphen_place, lower, nibble}
@@ -10,10 +10,8 @@ use Rattle.uuid.proofs.TextLemmas.{by_index_at, by_index_length}
 use Rattle.zn_base.specs.Names.{first_wrong, is_letter_or_digit, is_name, is_name_byte, is_reserved, name_of, name_unless}
 use Rattle.zn_base.specs.Path.{first_bad, first_bad_below_root, is_component, is_component_byte, is_path, is_slash, path_from_root, path_of, path_unless}
 use Rattle.zn_base.specs.States.{is_stored, state_text, stored_state}
-use Rattle.zn_base.specs.declared.name.NameFault.{NameFault}
-use Rattle.zn_base.specs.declared.name.NameFault.TheVariants.{Empty, TooLong, BadByte, Reserved}
-use Rattle.zn_base.specs.declared.path.PathFault.{PathFault}
-use Rattle.zn_base.specs.declared.path.PathFault.TheVariants.{PathLong, NotAbsolute, BadComponent}
+use Rattle.zn_base.specs.declared.name.NameFault.TheVariants.{Empty, TooLong, Reserved}
+use Rattle.zn_base.specs.declared.path.PathFault.TheVariants.{PathLong, NotAbsolute}
 use Rattle.zn_base.specs.declared.state.ZoneState.{ZoneState}
 use Rattle.zn_base.specs.declared.state.ZoneState.TheVariants.{Configured, Incomplete, Installed, Ready, Running, ShuttingDown, Down}
 use Rattle.index_file.specs.declared.rows.IndexRow.{IndexRow}

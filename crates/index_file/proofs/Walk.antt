@@ -1,11 +1,11 @@
 -- One line more of an index, and a line that names a zone again.
-use Rattle.std.proofs.Common.{◌≡◌, ◌≢◌, ℕ, ◌+◌, ◌<◌, Bool, true, false, List, [], ◌∷◌, ◌++◌, length, append_assoc, get_or, All, IsTrue, inl, inr, refl, sym, ap, ◌∙◌, subst}
-use Rattle.std.specs.List.{AllPairs, Any}
+use Rattle.std.proofs.Common.{◌≡◌, ◌≢◌, ℕ, ◌+◌, List, [], ◌∷◌, ◌++◌, length, append_assoc, get_or, sym, ap, ◌∙◌}
+use Rattle.std.specs.List.{Any}
 use Rattle.std.proofs.lemmas.List.{flat_map_more, get_or_default}
 use Rattle.std.proofs.lemmas.List.Elements.{All-push}
 use Rattle.std.proofs.lemmas.List.Quantifiers.{all_pairs_push}
 use Rattle.index_file.specs.declared.rows.IndexRow.{IndexRow}
-use Rattle.index_file.specs.Index.{index_text, line_text, IsIndex, IsIndexRow, NamesDiffer}
+use Rattle.index_file.specs.Index.{index_text, line_text, IsIndex, IsIndexRow}
 use Rattle.index_file.specs.Reading.{IsRepeat}
 
 -- no row has the name

@@ -3,7 +3,7 @@ use Rattle.std.specs.Prelude.{◌≡◌, List, ℕ, Result, Ok}
 use Rattle.index_file.specs.declared.fault.IndexFault.{IndexFault}
 use Rattle.index_file.specs.declared.rows.IndexRow.{IndexRow}
 use Rattle.index_file.specs.Index.{index_text, line_text, IsIndex, IsIndexRow}
-use Rattle.index_file.specs.Reading.{ReadsAs, StandsFor}
+use Rattle.index_file.specs.Reading.{ReadsAs}
 
 -- at most one row has a line
 abbrev pub OneRowALine : Type 0

@@ -1,8 +1,8 @@
-use Rattle.std.proofs.Common.{true, inr, sym, ap, ◌∙◌, ◌+◌, ◌≡◌, length, arith}
+use Rattle.std.proofs.Common.{true, inr, ◌+◌, ◌≡◌, length, arith}
 use Rattle.std.proofs.lemmas.Grind.{common_steps}
 use Rattle.std.specs.List.{Any}
 use Rattle.index_file.specs.declared.rows.IndexRow.{IndexRow}
-use Rattle.index_file.specs.Index.{index_text, line_text, IsIndex, IsIndexRow}
+use Rattle.index_file.specs.Index.{line_text, IsIndexRow}
 use Rattle.index_file.proofs.Walk.{index_push, lines_push, repeats, IsNewName}
 use Rattle.index_file.proofs.reading.read_index.Goals as goal
 

@@ -1,4 +1,4 @@
-use Rattle.std.proofs.Common.{◌≡◌, [], drop, false, sym, ap, ◌∙◌, ◌++◌, refl}
+use Rattle.std.proofs.Common.{◌≡◌, [], drop, false, sym, ◌∙◌, ◌++◌}
 use Rattle.std.proofs.lemmas.List.{append-nil, drop_all}
 use Rattle.index_file.proofs.Escapes.{unescaped, unescaped-escaped}
 use Rattle.index_file.proofs.reading.unescaped.Goals as goal

@@ -1,0 +1,5 @@
+pub mod Bodies
+pub mod Stored
+pub mod Journal
+pub mod Uuids
+pub mod Faults
