@@ -1,0 +1,135 @@
+//! Sets of privileges.
+ghost use Rattle.std.specs.Prelude.{◌≡◌, ◌<◌, [], IfOk, slice_get};
+ghost use Rattle.priv_sets.specs.declared.table.Class.TheVariants.{Default, Required};
+ghost use Rattle.priv_sets.specs.Sets.{all_of, both, default_set, everything, has, only, print_of, union, within, without};
+
+use crate::table::{Class, is_of, row};
+use std::alloc::{AllocError, Global};
+use std::marker::Model;
+
+/// A set of the privileges of the table. Contracts see the list of their numbers, in the table's order.
+#[derive(Drop)]
+pub struct PrivSet {
+    // The bit of place n is set where the privilege of number n is in the set.
+    bits: u64,
+}
+
+impl Model for PrivSet {
+    ghost use Rattle.std.specs.Prelude.{List, ℕ, ◌<◌, ◌^◌};
+    ghost use Rattle.priv_sets.specs.Sets.{set_of_bits};
+
+    ghost Value = { List ℕ };
+
+    ghost view = { λ s. set_of_bits s.bits };
+
+    ghost invariant = { λ s. s.bits < 2 ^ 40 };
+}
+
+impl PrivSet {
+    pub(crate) fn none() -> PrivSet
+        ensures { result ≡ [] }
+    {
+        PrivSet { bits: 0 }
+    }
+
+    pub(crate) fn everything() -> PrivSet
+        ensures { result ≡ everything }
+    {
+        PrivSet {
+            bits: (1 << 40) - 1,
+        }
+    }
+
+    /// The set of one privilege.
+    pub fn only(number: u8) -> PrivSet
+        requires { number < 40 }
+        ensures { result ≡ only number }
+    {
+        PrivSet { bits: 1 << number }
+    }
+
+    /// What is in one of the two sets.
+    pub fn union(&self, other: &PrivSet) -> PrivSet
+        ensures { result ≡ union self.now other.now }
+    {
+        PrivSet {
+            bits: self.bits | other.bits,
+        }
+    }
+
+    /// What is in this set and not in the other one.
+    pub fn without(&self, other: &PrivSet) -> PrivSet
+        ensures { result ≡ without self.now other.now }
+    {
+        PrivSet {
+            bits: self.bits & !other.bits,
+        }
+    }
+
+    pub(crate) fn both(&self, other: &PrivSet) -> PrivSet
+        ensures { result ≡ both self.now other.now }
+    {
+        PrivSet {
+            bits: self.bits & other.bits,
+        }
+    }
+
+    /// Whether the privilege of a number is in the set.
+    pub fn has(&self, number: u8) -> bool
+        ensures { result ≡ has self.now number }
+    {
+        number < 40 && self.bits >> number & 1 == 1
+    }
+
+    /// Whether all that is in this set is in the other one.
+    pub fn within(&self, other: &PrivSet) -> bool
+        ensures { result ≡ within self.now other.now }
+    {
+        self.bits & !other.bits == 0
+    }
+
+    // The privilege that comes first in the table.
+    pub(crate) fn first(&self) -> Option<u8>
+        ensures { result ≡ slice_get self.now 0 }
+    {
+        if self.bits == 0 {
+            None
+        } else {
+            Some(self.bits.trailing_zeros() as u8)
+        }
+    }
+
+    pub(crate) fn all_of(class: Class) -> PrivSet
+        ensures { result ≡ all_of class }
+    {
+        let mut set = PrivSet::none();
+        for number in 0..40 {
+            if is_of(number, class) {
+                set = set.union(&PrivSet::only(number));
+            }
+        }
+        set
+    }
+
+    pub(crate) fn default_set() -> PrivSet
+        ensures { result ≡ default_set }
+    {
+        PrivSet::all_of(Class::Default).union(&PrivSet::all_of(Class::Required))
+    }
+
+    /// The names in the set, in the table's order, with a comma between two.
+    pub fn print(&self, alloc: Global) -> Result<Vec<u8>, AllocError>
+        ensures { IfOk result (λ text. text.items ≡ print_of self.now) }
+    {
+        let mut text = Vec::new(alloc);
+        for number in 0..40 {
+            if self.has(number) {
+                if !text.is_empty() {
+                    text.push(b',')?;
+                }
+                text.extend_from_slice(row(number).name.as_bytes())?;
+            }
+        }
+        Ok(text)
+    }
+}
