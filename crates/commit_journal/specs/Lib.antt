@@ -1,5 +1,0 @@
-pub mod Bodies
-pub mod Stored
-pub mod Journal
-pub mod Uuids
-pub mod Faults
