@@ -1,3 +1,1 @@
-pub mod Names
-pub mod Kept
-pub mod Settings
+mod Examples
