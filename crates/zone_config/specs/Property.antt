@@ -65,11 +65,16 @@ shown IpType c = ip_text c.ip
 shown Hostid c = c.hostid
 shown FsAllowed c = c.fs_allowed
 
+-- nothing is set
+abbrev pub blank : Contents
+blank = record {
+  zonepath = None; brand = []; autoboot = false; bootargs = []; pool = []; limitpriv = []; class = []; ip = Shared; hostid = [];
+  fs_allowed = []; fs = []; net = []; device = []; rctl = []; attr = []; dataset = [];
+}
+
 -- what a property shows while it is not set
 abbrev pub unset_text : Property → List ℕ
-unset_text Autoboot = codes "false"
-unset_text IpType = codes "shared"
-unset_text p = []
+unset_text p = shown p blank
 
 -- a property given a text that its rule allows, or the text of one that is not set
 abbrev pub with_value : Property → List ℕ → Contents → Contents
@@ -87,13 +92,6 @@ with_value FsAllowed value c = record c { fs_allowed = value }
 -- a property as it is before it is set
 abbrev pub without_value : Property → Contents → Contents
 without_value p c = with_value p (unset_text p) c
-
--- nothing is set
-abbrev pub blank : Contents
-blank = record {
-  zonepath = None; brand = []; autoboot = false; bootargs = []; pool = []; limitpriv = []; class = []; ip = Shared; hostid = [];
-  fs_allowed = []; fs = []; net = []; device = []; rctl = []; attr = []; dataset = [];
-}
 
 abbrev pub alias_name : Alias → List ℕ
 alias_name CpuShares = codes "cpu-shares"
