@@ -1,9 +1,9 @@
 -- What a resource may hold, and how two are told apart.
-use Rattle.std.specs.Prelude.{ℕ, List, [], ◌∷◌, length, Bool, true, false, nat_le, nat_lt, not, ◌&&◌, Option, Some, None, if◌then◌else◌}
+use Rattle.std.specs.Prelude.{ℕ, List, [], ◌∷◌, length, Bool, true, false, nat_le, nat_lt, not, ◌&&◌, ◌==◌, Option, Some, None, if◌then◌else◌}
 use Rattle.std.specs.List.{list_all, list_any}
 use Rattle.std.specs.Str.{bytes_eq}
 use Rattle.config_terms.specs.declared.fields.Field.{Field}
-use Rattle.config_terms.specs.declared.rules.Rule.TheVariants.{RootedPath, OptionWord}
+use Rattle.config_terms.specs.declared.rules.Rule.TheVariants.{OptionWord}
 use Rattle.config_terms.specs.declared.terms.Attr as attr
 use Rattle.config_terms.specs.declared.terms.Fs as fs
 use Rattle.config_terms.specs.declared.terms.Limit.{Limit}
@@ -15,62 +15,49 @@ use Rattle.config_terms.specs.declared.terms.Resource.{Resource}
 use Rattle.config_terms.specs.declared.terms.Resource.TheVariants.{Fs, Net, Device, Rctl, Attr, Dataset}
 use Rattle.config_terms.specs.Numbers.{is_limit}
 use Rattle.config_terms.specs.Rules.{obeys, fits}
-use Rattle.config_terms.specs.Fields.{fields_of, field_rule, key_field, fs_shown, net_shown, text_shown, rctl_shown, attr_shown, kind_of, resource_shown}
-
--- a path that is set is one, and so isn't empty
-abbrev pub is_kept_path : Option (List ℕ) → Bool
-is_kept_path None = true
-is_kept_path (Some path) = obeys RootedPath path
-
--- what the list of a resource may hold
-abbrev pub fs_holds : fs.Fs → Bool
-fs_holds f = is_kept_path f.dir && list_all (obeys OptionWord) f.options
+use Rattle.config_terms.specs.Fields.{fields_of, field_rule, key_field, fs_shown, net_shown, text_shown, rctl_shown, attr_shown}
 
 abbrev pub is_allowed_limit : Limit → Bool
 is_allowed_limit v = is_limit v.limit
-
-abbrev pub rctl_holds : rctl.Rctl → Bool
-rctl_holds r = list_all is_allowed_limit r.values
-
-abbrev pub no_list_holds : {A : Type 0} → A → Bool
-no_list_holds x = true
-
-abbrev pub resource_holds : Resource → Bool
-resource_holds (Fs f) = fs_holds f
-resource_holds (Net n) = true
-resource_holds (Device m) = true
-resource_holds (Rctl r) = rctl_holds r
-resource_holds (Attr a) = true
-resource_holds (Dataset d) = true
 
 -- whether each simple property of a kind is unset or obeys its rule
 unfoldable pub fields_fit : Kind → (Field → List ℕ) → Bool
 fields_fit k shown = list_all (λ f. fits (field_rule f) (shown f)) (fields_of k)
 
--- whether a resource of a kind is allowed, by what its properties show and whether its list is
-unfoldable pub entry_allowed : Kind → (Field → List ℕ) → Bool → Bool
-entry_allowed k shown holds = fields_fit k shown && holds
+-- whether a resource of a kind is allowed, by what its simple properties show and by what its lists have
+unfoldable pub entry_allowed : Kind → (Field → List ℕ) → List (List ℕ) → List Limit → Bool
+entry_allowed k shown options values = fields_fit k shown && list_all (obeys OptionWord) options && list_all is_allowed_limit values
+
+-- a path that is set isn't empty
+abbrev pub is_kept_path : Option (List ℕ) → Bool
+is_kept_path None = true
+is_kept_path (Some path) = not (length path == 0)
 
 abbrev pub fs_allowed : fs.Fs → Bool
-fs_allowed f = entry_allowed kind.Fs (fs_shown f) (fs_holds f)
+fs_allowed f = is_kept_path f.dir && entry_allowed kind.Fs (fs_shown f) f.options []
 
 abbrev pub net_allowed : net.Net → Bool
-net_allowed n = entry_allowed kind.Net (net_shown n) true
+net_allowed n = entry_allowed kind.Net (net_shown n) [] []
 
 abbrev pub device_allowed : List ℕ → Bool
-device_allowed m = entry_allowed kind.Device (text_shown m) true
+device_allowed m = entry_allowed kind.Device (text_shown m) [] []
 
 abbrev pub rctl_allowed : rctl.Rctl → Bool
-rctl_allowed r = entry_allowed kind.Rctl (rctl_shown r) (rctl_holds r)
+rctl_allowed r = entry_allowed kind.Rctl (rctl_shown r) [] r.values
 
 abbrev pub attr_allowed : attr.Attr → Bool
-attr_allowed a = entry_allowed kind.Attr (attr_shown a) true
+attr_allowed a = entry_allowed kind.Attr (attr_shown a) [] []
 
 abbrev pub dataset_allowed : List ℕ → Bool
-dataset_allowed d = entry_allowed kind.Dataset (text_shown d) true
+dataset_allowed d = entry_allowed kind.Dataset (text_shown d) [] []
 
 abbrev pub is_allowed : Resource → Bool
-is_allowed r = entry_allowed (kind_of r) (resource_shown r) (resource_holds r)
+is_allowed (Fs f) = fs_allowed f
+is_allowed (Net n) = net_allowed n
+is_allowed (Device m) = device_allowed m
+is_allowed (Rctl r) = rctl_allowed r
+is_allowed (Attr a) = attr_allowed a
+is_allowed (Dataset d) = dataset_allowed d
 
 -- the options of one fs are at most 32
 abbrev pub few_options : fs.Fs → Bool

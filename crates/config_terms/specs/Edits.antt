@@ -1,16 +1,17 @@
 -- What each edit makes of one resource.
 use Rattle.std.specs.Prelude.{◌≡◌, ℕ, List, [], ◌∷◌, ◌++◌, length, Bool, true, false, nat_lt, nat_eq, not, ◌&&◌, ◌||◌, ◌==◌, Option, Some, None, Result, Ok, Err, codes, position, remove, option_map, option_and_then, ok_or, if◌then◌else◌}
 use Rattle.std.specs.List.{list_all}
+use mathlib.Core.Bool.{beq}
 use Rattle.std.specs.Str.{bytes_eq}
 use Rattle.zonecfg_lex.specs.declared.values.Pair.{Pair}
 use Rattle.zonecfg_lex.specs.declared.values.Value.{Value}
 use Rattle.zonecfg_lex.specs.declared.values.Value.TheVariants.{Simple, Complex, List as Items}
-use Rattle.config_terms.specs.declared.edits.ListEdit.{ListEdit}
-use Rattle.config_terms.specs.declared.edits.ListEdit.TheVariants.{Put, Add, Remove}
+use Rattle.config_terms.specs.declared.lists.ListEdit.{ListEdit}
+use Rattle.config_terms.specs.declared.lists.ListEdit.TheVariants.{Put, Add, Remove}
 use Rattle.config_terms.specs.declared.fault.ConfigFault.{ConfigFault}
 use Rattle.config_terms.specs.declared.fault.ConfigFault.TheVariants.{Memory, UnknownProperty, BadValue, NoMatch, TooMany}
 use Rattle.config_terms.specs.declared.fields.Field.{Field}
-use Rattle.config_terms.specs.declared.fields.Field.TheVariants.{FsDir, FsSpecial, FsRaw, FsType, NetAddress, NetAllowed, NetPhysical, NetDefrouter, RctlName, AttrName, AttrType, AttrValue}
+use Rattle.config_terms.specs.declared.fields.Field.TheVariants.{FsDir, FsSpecial, FsRaw, FsType, NetAddress, NetAllowed, NetPhysical, NetDefrouter, DeviceMatch, RctlName, AttrName, AttrType, AttrValue, DatasetName}
 use Rattle.config_terms.specs.declared.fields.Named.{Named}
 use Rattle.config_terms.specs.declared.fields.Named.TheVariants.{One, Many}
 use Rattle.config_terms.specs.declared.rules.Rule.TheVariants.{OptionWord}
@@ -67,6 +68,10 @@ net_with NetPhysical text n = record n { physical = text }
 net_with NetDefrouter text n = record n { defrouter = text }
 net_with _ text n = n
 
+abbrev pub device_with : Field → List ℕ → List ℕ → List ℕ
+device_with DeviceMatch text m = text
+device_with _ text m = m
+
 abbrev pub rctl_with : Field → List ℕ → rctl.Rctl → rctl.Rctl
 rctl_with RctlName text r = record r { name = text }
 rctl_with _ text r = r
@@ -77,25 +82,40 @@ attr_with AttrType text a = record a { form = text }
 attr_with AttrValue text a = record a { value = text }
 attr_with _ text a = a
 
+abbrev pub dataset_with : Field → List ℕ → List ℕ → List ℕ
+dataset_with DatasetName text d = text
+dataset_with _ text d = d
+
 abbrev pub with_field : Field → List ℕ → Resource → Resource
 with_field field text (Fs f) = Fs (fs_with field text f)
 with_field field text (Net n) = Net (net_with field text n)
-with_field field text (Device m) = Device text
+with_field field text (Device m) = Device (device_with field text m)
 with_field field text (Rctl r) = Rctl (rctl_with field text r)
 with_field field text (Attr a) = Attr (attr_with field text a)
-with_field field text (Dataset d) = Dataset text
+with_field field text (Dataset d) = Dataset (dataset_with field text d)
+
+abbrev pub with_dir : Option (List ℕ) → Resource → Resource
+with_dir dir (Fs f) = Fs (record f { dir = dir })
+with_dir dir (Net n) = Net n
+with_dir dir (Device m) = Device m
+with_dir dir (Rctl r) = Rctl r
+with_dir dir (Attr a) = Attr a
+with_dir dir (Dataset d) = Dataset d
 
 -- a simple value put in the place of a property, where its rule allows the value
 abbrev pub field_set : Field → Value → Resource → Result Resource ConfigFault
 field_set field (Simple text) r = if obeys (field_rule field) text then Ok (with_field field text r) else Err BadValue
 field_set field value r = Err BadValue
 
+abbrev pub option_texts : List (List ℕ) → Option (List (List ℕ))
+option_texts texts = if list_all (obeys OptionWord) texts then Some texts else None
+
 -- the options that a value gives; an empty text gives none where it is put, and is no option elsewhere
-abbrev pub options_given : ListEdit → Value → Result (List (List ℕ)) ConfigFault
-options_given Put (Simple []) = Ok []
-options_given edit (Simple text) = if obeys OptionWord text then Ok (text ∷ []) else Err BadValue
-options_given edit (Items texts) = if list_all (obeys OptionWord) texts then Ok texts else Err BadValue
-options_given edit (Complex pairs) = Err BadValue
+abbrev pub options_given : ListEdit → Value → Option (List (List ℕ))
+options_given Put (Simple []) = Some []
+options_given edit (Simple text) = option_texts (text ∷ [])
+options_given edit (Items texts) = option_texts texts
+options_given edit (Complex pairs) = None
 
 abbrev pub is_pair : List ℕ → List ℕ → Pair → Bool
 is_pair name value p = bytes_eq p.name name && bytes_eq p.value value
@@ -116,10 +136,10 @@ abbrev pub limit_of : List Pair → Option Limit
 limit_of (p ∷ l ∷ a ∷ []) = limit_of_pairs p l a
 limit_of pairs = None
 
--- the values of an rctl that a value gives
-abbrev pub limits_given : Value → Result (List Limit) ConfigFault
-limits_given (Complex pairs) = ok_or (option_map (λ v. v ∷ []) (limit_of pairs)) BadValue
-limits_given value = Err BadValue
+-- the value of an rctl that a value gives
+abbrev pub limit_given : Value → Option Limit
+limit_given (Complex pairs) = limit_of pairs
+limit_given value = None
 
 -- a list without the first item of a test
 abbrev pub without_first : {A : Type 0} → (A → Bool) → List A → Option (List A)
@@ -145,12 +165,8 @@ passes_options Remove given xs = false
 unfoldable pub options_edited : ListEdit → List (List ℕ) → List (List ℕ) → Result (List (List ℕ)) ConfigFault
 options_edited edit given xs = if passes_options edit given xs then Err (TooMany 32) else edited bytes_eq edit given xs
 
-abbrev pub same_bool : Bool → Bool → Bool
-same_bool true b = b
-same_bool false b = not b
-
 abbrev pub same_limit : Limit → Limit → Bool
-same_limit v w = v.limit == w.limit && same_bool v.deny w.deny
+same_limit v w = v.limit == w.limit && beq v.deny w.deny
 
 unfoldable pub limits_edited : ListEdit → List Limit → List Limit → Result (List Limit) ConfigFault
 limits_edited edit given xs = edited same_limit edit given xs
@@ -162,11 +178,11 @@ and_then (Err e) f = Err e
 
 abbrev pub fs_edited : ListEdit → Value → fs.Fs → Result fs.Fs ConfigFault
 fs_edited edit v f =
-    and_then (options_given edit v) (λ given. and_then (options_edited edit given f.options) (λ os. Ok (record f { options = os })))
+    and_then (ok_or (options_given edit v) BadValue) (λ given. and_then (options_edited edit given f.options) (λ os. Ok (record f { options = os })))
 
 abbrev pub rctl_edited : ListEdit → Value → rctl.Rctl → Result rctl.Rctl ConfigFault
 rctl_edited edit v r =
-    and_then (limits_given v) (λ given. and_then (limits_edited edit given r.values) (λ vs. Ok (record r { values = vs })))
+    and_then (ok_or (limit_given v) BadValue) (λ given. and_then (limits_edited edit (given ∷ []) r.values) (λ vs. Ok (record r { values = vs })))
 
 -- an edit of the list of a resource by a value
 unfoldable pub list_edited : ListEdit → Value → Resource → Result Resource ConfigFault

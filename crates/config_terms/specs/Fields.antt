@@ -10,6 +10,7 @@ use Rattle.config_terms.specs.declared.rules.Rule.TheVariants.{RootedPath, Simpl
 use Rattle.config_terms.specs.declared.terms.Attr as attr
 use Rattle.config_terms.specs.declared.terms.Fs as fs
 use Rattle.config_terms.specs.declared.terms.Net as net
+use Rattle.config_terms.specs.declared.terms.Limit.{Limit}
 use Rattle.config_terms.specs.declared.terms.Rctl as rctl
 use Rattle.config_terms.specs.declared.terms.Kind.{Kind}
 use Rattle.config_terms.specs.declared.terms.Kind.TheVariants as kind
@@ -142,6 +143,16 @@ kind_of (Device m) = kind.Device
 kind_of (Rctl r) = kind.Rctl
 kind_of (Attr a) = kind.Attr
 kind_of (Dataset d) = kind.Dataset
+
+-- the options of a resource, which an fs alone may have
+abbrev pub resource_options : Resource → List (List ℕ)
+resource_options (Fs f) = f.options
+resource_options _ = []
+
+-- the values of a resource, which an rctl alone may have
+abbrev pub resource_values : Resource → List Limit
+resource_values (Rctl r) = r.values
+resource_values _ = []
 
 abbrev pub resource_shown : Resource → Field → List ℕ
 resource_shown (Fs f) = fs_shown f

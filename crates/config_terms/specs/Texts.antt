@@ -10,9 +10,8 @@ use Rattle.config_terms.specs.declared.terms.Rctl as rctl
 use Rattle.config_terms.specs.declared.terms.Kind.{Kind}
 use Rattle.config_terms.specs.declared.terms.Kind.TheVariants as kind
 use Rattle.config_terms.specs.declared.terms.Resource.{Resource}
-use Rattle.config_terms.specs.declared.terms.Resource.TheVariants.{Fs, Net, Device, Rctl, Attr, Dataset}
 use Rattle.config_terms.specs.Rules.{is_alphanumeric}
-use Rattle.config_terms.specs.Fields.{kind_name, field_name, fields_of, fs_shown, net_shown, text_shown, rctl_shown, attr_shown, kind_of, resource_shown}
+use Rattle.config_terms.specs.Fields.{kind_name, field_name, fields_of, fs_shown, net_shown, text_shown, rctl_shown, attr_shown, kind_of, resource_shown, resource_options, resource_values}
 
 -- letters, digits and `_-./:,*?!@+%`
 abbrev pub is_bare_byte : ℕ → Bool
@@ -58,50 +57,32 @@ unfoldable pub options_line : List (List ℕ) → List ℕ
 options_line [] = []
 options_line (o ∷ os) = joined (codes "add options " ∷ options_text (o ∷ os) ∷ codes "\n" ∷ [])
 
--- the lines of the list of a resource
-abbrev pub fs_lines : fs.Fs → List ℕ
-fs_lines f = options_line f.options
-
-abbrev pub rctl_lines : rctl.Rctl → List ℕ
-rctl_lines r = limit_lines r.values
-
--- a resource without a list
-abbrev pub no_lines : {A : Type 0} → A → List ℕ
-no_lines x = []
-
-abbrev pub resource_lines : Resource → List ℕ
-resource_lines (Fs f) = fs_lines f
-resource_lines (Net n) = []
-resource_lines (Device m) = []
-resource_lines (Rctl r) = rctl_lines r
-resource_lines (Attr a) = []
-resource_lines (Dataset d) = []
-
 -- the lines of the simple properties of a kind, by what each shows
 unfoldable pub settings : Kind → (Field → List ℕ) → List ℕ
 settings k shown = flat_map (λ f. setting (field_name f) (shown f)) (fields_of k)
 
--- a resource of a kind, by what its properties show and by the lines of its list
-unfoldable pub entry_text : Kind → (Field → List ℕ) → List ℕ → List ℕ
-entry_text k shown lines = joined (codes "add " ∷ kind_name k ∷ codes "\n" ∷ settings k shown ∷ lines ∷ codes "end\n" ∷ [])
+-- a resource of a kind, by what its simple properties show and by what its lists have
+unfoldable pub entry_text : Kind → (Field → List ℕ) → List (List ℕ) → List Limit → List ℕ
+entry_text k shown options values =
+    joined (codes "add " ∷ kind_name k ∷ codes "\n" ∷ settings k shown ∷ options_line options ∷ limit_lines values ∷ codes "end\n" ∷ [])
 
 abbrev pub fs_text : fs.Fs → List ℕ
-fs_text f = entry_text kind.Fs (fs_shown f) (fs_lines f)
+fs_text f = entry_text kind.Fs (fs_shown f) f.options []
 
 abbrev pub net_text : net.Net → List ℕ
-net_text n = entry_text kind.Net (net_shown n) []
+net_text n = entry_text kind.Net (net_shown n) [] []
 
 abbrev pub device_text : List ℕ → List ℕ
-device_text m = entry_text kind.Device (text_shown m) []
+device_text m = entry_text kind.Device (text_shown m) [] []
 
 abbrev pub rctl_text : rctl.Rctl → List ℕ
-rctl_text r = entry_text kind.Rctl (rctl_shown r) (rctl_lines r)
+rctl_text r = entry_text kind.Rctl (rctl_shown r) [] r.values
 
 abbrev pub attr_text : attr.Attr → List ℕ
-attr_text a = entry_text kind.Attr (attr_shown a) []
+attr_text a = entry_text kind.Attr (attr_shown a) [] []
 
 abbrev pub dataset_text : List ℕ → List ℕ
-dataset_text d = entry_text kind.Dataset (text_shown d) []
+dataset_text d = entry_text kind.Dataset (text_shown d) [] []
 
 abbrev pub resource_text : Resource → List ℕ
-resource_text r = entry_text (kind_of r) (resource_shown r) (resource_lines r)
+resource_text r = entry_text (kind_of r) (resource_shown r) (resource_options r) (resource_values r)

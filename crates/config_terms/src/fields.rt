@@ -1,7 +1,7 @@
 //! The tables of resources: kinds, and their simple properties with names and rules.
 ghost use Rattle.std.specs.Prelude.{◌≡◌, ◌≤◌, length, Some};
 ghost use Rattle.std.specs.Option.{option_map};
-ghost use Rattle.config_terms.specs.Fields.{kind_name, kind_named, field_name, field_rule, fields_of, list_name, key_field, field_named, named};
+ghost use Rattle.config_terms.specs.Fields.{kind_name, kind_named, field_name, field_rule, fields_of, list_name, key_field, field_named, is_name_of_list, named};
 
 use crate::{Kind, Rule};
 
@@ -172,7 +172,9 @@ impl Kind {
             .find(|field| name == field.name())
     }
 
-    fn is_list_name(self, name: &[u8]) -> bool {
+    fn is_list_name(self, name: &[u8]) -> bool
+        ensures { result ≡ is_name_of_list (list_name self) name.now }
+    {
         match self.list_name() {
             None => false,
             Some(own) => name == own,

@@ -1,5 +1,5 @@
 //! Lists of a bounded length.
-ghost use Rattle.std.specs.Prelude.{◌≡◌, ◌<◌, ◌≤◌, ◌++◌, [], ◌∷◌, length, take, is_ok, if◌then◌else◌, remove, slice_set, slice_index_or, slice_get, Some, IfOk, vec_len};
+ghost use Rattle.std.specs.Prelude.{◌≡◌, ◌<◌, ◌≤◌, ◌++◌, [], ◌∷◌, length, is_ok, if◌then◌else◌, remove, slice_set, slice_index_or, slice_get, Some, IfOk};
 
 use std::alloc::{AllocError, Global};
 use std::marker::Model;
@@ -95,19 +95,22 @@ impl<T: Drop> Listing<T> {
         Ok(())
     }
 
+    /// Puts the items of another list last. After a fault the list is as before, and those are gone.
+    pub fn append(&mut self, mut other: Listing<T>) -> Result<(), AllocError>
+        ensures { self.new ≡ (if is_ok result then self.old ++ other else self.old) }
+    {
+        if self.items.len() + other.items.len() > LISTING_MAX {
+            return Err(AllocError);
+        }
+        self.items.append(&mut other.items)
+    }
+
     /// Puts an item in the place of another.
     pub fn replace(&mut self, place: usize, item: T)
         requires { place < length self.old }
         ensures { self.new ≡ slice_set self.old place item }
     {
         self.items[place] = item;
-    }
-
-    /// Keeps the first items alone.
-    pub fn truncate(&mut self, len: usize)
-        ensures { self.new ≡ take len self.old }
-    {
-        self.items.truncate(len);
     }
 }
 
