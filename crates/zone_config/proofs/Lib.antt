@@ -1,3 +1,4 @@
 mod Examples
 pub mod Lists
 pub mod Properties
+pub mod Resources

@@ -53,7 +53,7 @@ bytes_eq-swap xs ys h =
     ] refl
 
 -- each of a list is allowed
-all-push : {A : Type 0} (p : A → Bool) (xs : List A) (x : A) → list_all p xs ≡ true → p x ≡ true → list_all p (xs ++ x ∷ []) ≡ true
+pub all-push : {A : Type 0} (p : A → Bool) (xs : List A) (x : A) → list_all p xs ≡ true → p x ≡ true → list_all p (xs ++ x ∷ []) ≡ true
 all-push p xs x h g = list_all-append p xs (x ∷ []) ∙ both_true _ _ h (both_true _ _ g refl)
 
 pub all-remove : {A : Type 0} (p : A → Bool) (xs : List A) (i : ℕ) → list_all p xs ≡ true → list_all p (remove xs i) ≡ true
@@ -62,7 +62,7 @@ all-remove p [] (suc i) h = refl
 all-remove p (x ∷ xs) zero h = rest_true (p x) _ h
 all-remove p (x ∷ xs) (suc i) h = both_true _ _ (first_true _ _ h) (all-remove p xs i (rest_true (p x) _ h))
 
-all-set : {A : Type 0} (p : A → Bool) (xs : List A) (i : ℕ) (x : A) → list_all p xs ≡ true → p x ≡ true → list_all p (slice_set xs i x) ≡ true
+pub all-set : {A : Type 0} (p : A → Bool) (xs : List A) (i : ℕ) (x : A) → list_all p xs ≡ true → p x ≡ true → list_all p (slice_set xs i x) ≡ true
 all-set p [] i x h g = refl
 all-set p (y ∷ ys) zero x h g = both_true _ _ g (rest_true (p y) _ h)
 all-set p (y ∷ ys) (suc i) x h g = both_true _ _ (first_true _ _ h) (all-set p ys i x (rest_true (p y) _ h) g)

@@ -9,7 +9,6 @@ use Rattle.config_terms.specs.declared.fault.ConfigFault.TheVariants.{UnknownPro
 use Rattle.config_terms.specs.declared.terms.Limit.{Limit}
 use Rattle.config_terms.specs.declared.terms.Rctl.{Rctl}
 use Rattle.config_terms.specs.declared.terms.Resource.TheVariants as resource
-use Rattle.config_terms.specs.Edits.{same_bool}
 use Rattle.config_terms.specs.Numbers.{number_of}
 use Rattle.config_terms.specs.Rules.{obeys}
 use Rattle.zone_config.specs.declared.terms.Contents.{Contents}
@@ -33,10 +32,13 @@ alias_rctl a n = record { name = rctl_name a; values = record { limit = n; deny 
 abbrev pub is_named_for : Alias → Rctl → Bool
 is_named_for a r = bytes_eq r.name (rctl_name a)
 
+abbrev pub has_action : Bool → Limit → Bool
+has_action deny v = if v.deny then deny else not deny
+
 -- one value, with this action
 abbrev pub is_single : Bool → List Limit → Bool
 is_single deny [] = false
-is_single deny (v ∷ []) = same_bool v.deny deny
+is_single deny (v ∷ []) = has_action deny v
 is_single deny (v ∷ w ∷ vs) = false
 
 -- whether an rctl of the alias's name has another form

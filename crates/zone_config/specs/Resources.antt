@@ -1,5 +1,5 @@
 -- What adding, replacing, removing and finding a resource make of a configuration, or why they are refused.
-use Rattle.std.specs.Prelude.{ℕ, List, [], ◌∷◌, ◌++◌, length, Bool, not, nat_le, Option, Some, None, Result, Err, remove, slice_get, slice_set, option_map, if◌then◌else◌}
+use Rattle.std.specs.Prelude.{◌≡◌, ℕ, List, [], ◌∷◌, ◌++◌, length, Bool, not, nat_le, Option, Some, None, Result, Err, remove, slice_get, slice_set, option_map, if◌then◌else◌}
 use Rattle.zonecfg_lex.specs.declared.values.Pair.{Pair}
 use Rattle.config_terms.specs.declared.fault.ConfigFault.{ConfigFault}
 use Rattle.config_terms.specs.declared.fault.ConfigFault.TheVariants.{BadValue, Duplicate, TooMany}
@@ -10,6 +10,7 @@ use Rattle.config_terms.specs.declared.terms.Resource.TheVariants.{Fs, Net, Devi
 use Rattle.config_terms.specs.Allowed.{is_allowed, is_taken, options_passed}
 use Rattle.config_terms.specs.Fields.{attr_shown, fs_shown, net_shown, rctl_shown, text_shown}
 use Rattle.config_terms.specs.Matches.{has_all, only_place}
+use Rattle.config_terms.specs.Texts.{attr_text, dataset_text, device_text, fs_text, net_text, rctl_text}
 use Rattle.zone_config.specs.declared.terms.Contents.{Contents}
 use Rattle.zone_config.specs.Export.{sized}
 use Rattle.zone_config.specs.Sound.{count}
@@ -101,3 +102,17 @@ found kind.Device wanted c = only_place (λ m. has_all kind.Device wanted (text_
 found kind.Rctl wanted c = only_place (λ r. has_all kind.Rctl wanted (rctl_shown r)) c.rctl
 found kind.Attr wanted c = only_place (λ a. has_all kind.Attr wanted (attr_shown a)) c.attr
 found kind.Dataset wanted c = only_place (λ d. has_all kind.Dataset wanted (text_shown d)) c.dataset
+
+-- the text of the resource of a kind at a place
+abbrev pub text_at : ℕ → Kind → Contents → Option (List ℕ)
+text_at place kind.Fs c = option_map fs_text (slice_get c.fs place)
+text_at place kind.Net c = option_map net_text (slice_get c.net place)
+text_at place kind.Device c = option_map device_text (slice_get c.device place)
+text_at place kind.Rctl c = option_map rctl_text (slice_get c.rctl place)
+text_at place kind.Attr c = option_map attr_text (slice_get c.attr place)
+text_at place kind.Dataset c = option_map dataset_text (slice_get c.dataset place)
+
+-- how long a text is that is there
+abbrev pub IsLengthOf : ℕ → Option (List ℕ) → Type 0
+IsLengthOf n None = ⊥
+IsLengthOf n (Some text) = n ≡ length text
