@@ -44,20 +44,20 @@ one_of_two false true h g = refl
 one_of_two false false h g = absurd (cc)
 
 -- a value that its rule allows shows as it was given
-pub shown-obeyed : (p : Property) (v : List ℕ) (c : Contents) → obeys (property_rule p) v ≡ true → shown p (with_value p v c) ≡ v
+pub shown_obeyed : (p : Property) (v : List ℕ) (c : Contents) → obeys (property_rule p) v ≡ true → shown p (with_value p v c) ≡ v
 unfolding obeys
-shown-obeyed Zonepath v c h = kept_path-shown v
-shown-obeyed Brand v c h = refl
-shown-obeyed Autoboot v c h =
+shown_obeyed Zonepath v c h = kept_path-shown v
+shown_obeyed Brand v c h = refl
+shown_obeyed Autoboot v c h =
     elim (bytes_eq v (codes "true")) as (λ b. bytes_eq v (codes "true") ≡ b → bool_text b ≡ v) [
       | true ↦ λ e. sym ((bytes_eq-Decides v (codes "true")).0 e)
       | false ↦ λ e. sym ((bytes_eq-Decides v (codes "false")).0 (one_of_two _ _ h e))
     ] refl
-shown-obeyed Bootargs v c h = refl
-shown-obeyed Pool v c h = refl
-shown-obeyed Limitpriv v c h = refl
-shown-obeyed SchedulingClass v c h = refl
-shown-obeyed IpType v c h =
+shown_obeyed Bootargs v c h = refl
+shown_obeyed Pool v c h = refl
+shown_obeyed Limitpriv v c h = refl
+shown_obeyed SchedulingClass v c h = refl
+shown_obeyed IpType v c h =
     elim (bytes_eq v (codes "exclusive")) as (λ b. bytes_eq v (codes "exclusive") ≡ b → ip_text (cond b Exclusive Shared) ≡ v) [
       | true ↦ λ e. sym ((bytes_eq-Decides v (codes "exclusive")).0 e)
       | false ↦ λ e. sym ((bytes_eq-Decides v (codes "shared")).0 (first_of_two _ _ h e))
@@ -67,39 +67,39 @@ shown-obeyed IpType v c h =
       first_of_two true b h g = refl
       first_of_two false true h g = absurd (cc)
       first_of_two false false h g = absurd (cc)
-shown-obeyed Hostid v c h = refl
-shown-obeyed FsAllowed v c h = refl
+shown_obeyed Hostid v c h = refl
+shown_obeyed FsAllowed v c h = refl
 
 -- and so does the text of a property that is not set
-pub shown-unset : (p : Property) (c : Contents) → shown p (with_value p (unset_text p) c) ≡ unset_text p
-shown-unset Zonepath c = refl
-shown-unset Brand c = refl
-shown-unset Autoboot c = refl
-shown-unset Bootargs c = refl
-shown-unset Pool c = refl
-shown-unset Limitpriv c = refl
-shown-unset SchedulingClass c = refl
-shown-unset IpType c = refl
-shown-unset Hostid c = refl
-shown-unset FsAllowed c = refl
+pub shown_unset : (p : Property) (c : Contents) → shown p (with_value p (unset_text p) c) ≡ unset_text p
+shown_unset Zonepath c = refl
+shown_unset Brand c = refl
+shown_unset Autoboot c = refl
+shown_unset Bootargs c = refl
+shown_unset Pool c = refl
+shown_unset Limitpriv c = refl
+shown_unset SchedulingClass c = refl
+shown_unset IpType c = refl
+shown_unset Hostid c = refl
+shown_unset FsAllowed c = refl
 
-pub fits-obeyed : (r : Rule) (v : List ℕ) → obeys r v ≡ true → IsTrue (fits r v)
+pub fits_obeyed : (r : Rule) (v : List ℕ) → obeys r v ≡ true → IsTrue (fits r v)
 unfolding fits
-fits-obeyed r v h =
+fits_obeyed r v h =
     elim (length v == 0) as (λ b. (b || obeys r v) ≡ true) [ true ↦ refl | false ↦ h ]
 
-pub fits-unset : (p : Property) → IsTrue (fits (property_rule p) (unset_text p))
+pub fits_unset : (p : Property) → IsTrue (fits (property_rule p) (unset_text p))
 unfolding fits obeys
-fits-unset Zonepath = refl
-fits-unset Brand = refl
-fits-unset Autoboot = refl
-fits-unset Bootargs = refl
-fits-unset Pool = refl
-fits-unset Limitpriv = refl
-fits-unset SchedulingClass = refl
-fits-unset IpType = refl
-fits-unset Hostid = refl
-fits-unset FsAllowed = refl
+fits_unset Zonepath = refl
+fits_unset Brand = refl
+fits_unset Autoboot = refl
+fits_unset Bootargs = refl
+fits_unset Pool = refl
+fits_unset Limitpriv = refl
+fits_unset SchedulingClass = refl
+fits_unset IpType = refl
+fits_unset Hostid = refl
+fits_unset FsAllowed = refl
 
 -- the lines of the properties, where one is given a value
 lines-with : (p : Property) (v : List ℕ) (c : Contents)
@@ -219,9 +219,9 @@ pub record Measures (old line size text : ℕ) : Type 0 where
   pub within : old ≤ size
   pub now : size - old + line ≡ text
 
-pub size-with : (p : Property) (v : List ℕ) (c : Contents) (size : ℕ) → IsKept c size → shown p (with_value p v c) ≡ v
+pub size_with : (p : Property) (v : List ℕ) (c : Contents) (size : ℕ) → IsKept c size → shown p (with_value p v c) ≡ v
     → Measures (length (setting (property_name p) (shown p c))) (length (setting (property_name p) v)) size (length (export_text (with_value p v c)))
-size-with p v c size k e =
+size_with p v c size k e =
     let now = export_text-length (with_value p v c) in
     let then = export_text-length c in
     let lines = lines-with p v c in
@@ -230,9 +230,9 @@ size-with p v c size k e =
     let within = line_within p c in
     record { within = omega (arith, k.measured); now = omega (arith, k.measured) }
 
-pub kept-with : (p : Property) (v : List ℕ) (c : Contents) (size n : ℕ) → IsKept c size → shown p (with_value p v c) ≡ v → IsTrue (fits (property_rule p) v)
+pub kept_with : (p : Property) (v : List ℕ) (c : Contents) (size n : ℕ) → IsKept c size → shown p (with_value p v c) ≡ v → IsTrue (fits (property_rule p) v)
     → n ≡ length (export_text (with_value p v c)) → n ≤ 32768 → IsKept (with_value p v c) n
-kept-with p v c size n k e fit measured short =
+kept_with p v c size n k e fit measured short =
     let s = k.sound in
     record {
       measured = measured;
@@ -249,7 +249,7 @@ unfolding setting count export_text
 blank_kept = record {
   measured = refl;
   sound = record {
-    properties = record { values = fits-unset; zonepath = λ h. cc };
+    properties = record { values = fits_unset; zonepath = λ h. cc };
     resources = record {
       fs = record { each = refl; once = refl };
       net = record { each = refl; once = refl };

@@ -132,19 +132,19 @@ kept-same c d n s same resources measured short = record {
   };
 }
 
-pub kept-added : (r : Resource) (c : Contents) (size n : ℕ) → IsKept c size → is_allowed r ≡ true → has_taken r c ≡ false → limit_passed r c ≡ None
+pub kept_added : (r : Resource) (c : Contents) (size n : ℕ) → IsKept c size → is_allowed r ≡ true → has_taken r c ≡ false → limit_passed r c ≡ None
     → n ≡ length (export_text (added r c)) → n ≤ 32768 → IsKept (added r c) n
-kept-added r c size n k a t l e short =
+kept_added r c size n k a t l e short =
     let room : (count c < 256) × (fs_passed r c ≡ None) = no_limit (count c) (fs_passed r c) l in
     kept-same c (added r c) n k.sound (same-added r c) (sound-added r c k.sound.resources a t (omega (arith, count-added r c, room.0)) room.1) e short
 
-pub size-added : (r : Resource) (c : Contents) (size : ℕ) → IsKept c size → size + length (resource_text r) ≡ length (export_text (added r c))
-size-added (Fs f) c size k = let more = text-push fs_text c.fs f in omega (arith, k.measured, export_text-length c, export_text-length (added (Fs f) c))
-size-added (Net n) c size k = let more = text-push net_text c.net n in omega (arith, k.measured, export_text-length c, export_text-length (added (Net n) c))
-size-added (Device m) c size k = let more = text-push device_text c.device m in omega (arith, k.measured, export_text-length c, export_text-length (added (Device m) c))
-size-added (Rctl r) c size k = let more = text-push rctl_text c.rctl r in omega (arith, k.measured, export_text-length c, export_text-length (added (Rctl r) c))
-size-added (Attr a) c size k = let more = text-push attr_text c.attr a in omega (arith, k.measured, export_text-length c, export_text-length (added (Attr a) c))
-size-added (Dataset d) c size k = let more = text-push dataset_text c.dataset d in omega (arith, k.measured, export_text-length c, export_text-length (added (Dataset d) c))
+pub size_added : (r : Resource) (c : Contents) (size : ℕ) → IsKept c size → size + length (resource_text r) ≡ length (export_text (added r c))
+size_added (Fs f) c size k = let more = text-push fs_text c.fs f in omega (arith, k.measured, export_text-length c, export_text-length (added (Fs f) c))
+size_added (Net n) c size k = let more = text-push net_text c.net n in omega (arith, k.measured, export_text-length c, export_text-length (added (Net n) c))
+size_added (Device m) c size k = let more = text-push device_text c.device m in omega (arith, k.measured, export_text-length c, export_text-length (added (Device m) c))
+size_added (Rctl r) c size k = let more = text-push rctl_text c.rctl r in omega (arith, k.measured, export_text-length c, export_text-length (added (Rctl r) c))
+size_added (Attr a) c size k = let more = text-push attr_text c.attr a in omega (arith, k.measured, export_text-length c, export_text-length (added (Attr a) c))
+size_added (Dataset d) c size k = let more = text-push dataset_text c.dataset d in omega (arith, k.measured, export_text-length c, export_text-length (added (Dataset d) c))
 
 -- a resource in the place of another
 sound-replaced : (r : Resource) (place : ℕ) (c : Contents) → HasSoundResources c → is_allowed r ≡ true → has_taken_but place r c ≡ false → options_passed r ≡ None
@@ -172,9 +172,9 @@ same-replaced (Rctl r) place c = same-lists c _ _ _ _ _ _
 same-replaced (Attr a) place c = same-lists c _ _ _ _ _ _
 same-replaced (Dataset d) place c = same-lists c _ _ _ _ _ _
 
-pub kept-replaced : (r : Resource) (place : ℕ) (c : Contents) (size n : ℕ) → IsKept c size → is_allowed r ≡ true → has_taken_but place r c ≡ false
+pub kept_replaced : (r : Resource) (place : ℕ) (c : Contents) (size n : ℕ) → IsKept c size → is_allowed r ≡ true → has_taken_but place r c ≡ false
     → options_passed r ≡ None → n ≡ length (export_text (replaced place r c)) → n ≤ 32768 → IsKept (replaced place r c) n
-kept-replaced r place c size n k a t l e short =
+kept_replaced r place c size n k a t l e short =
     kept-same c (replaced place r c) n k.sound (same-replaced r place c) (sound-replaced r place c k.sound.resources a t l) e short
 
 some_image : {A : Type 0} (f : A → List ℕ) (o : Option A) (t : List ℕ) → option_map f o ≡ Some t → (x : A) × ((o ≡ Some x) × (f x ≡ t))
@@ -222,9 +222,9 @@ size-set (Dataset d) place c t size k h =
     record { within = omega (arith, k.measured); now = omega (arith, k.measured) }
 
 -- the same in the form of the code
-pub size-replaced : (r : Resource) (place : ℕ) (c : Contents) (size old : ℕ) → IsKept c size → IsLengthOf old (text_at place (kind_of r) c)
+pub size_replaced : (r : Resource) (place : ℕ) (c : Contents) (size old : ℕ) → IsKept c size → IsLengthOf old (text_at place (kind_of r) c)
     → Measures old (length (resource_text r)) size (length (export_text (replaced place r c)))
-size-replaced r place c size old k h =
+size_replaced r place c size old k h =
     elim (text_at place (kind_of r) c) as (λ o. text_at place (kind_of r) c ≡ o → IsLengthOf old o → Measures old (length (resource_text r)) size (length (export_text (replaced place r c)))) [
       | None ↦ λ _ g. absurd g
       | Some t ↦ λ is g. rw g (size-set r place c t size k is)

@@ -52,6 +52,10 @@ abbrev pub ip_text : ip.IpType → List ℕ
 ip_text Shared = codes "shared"
 ip_text Exclusive = codes "exclusive"
 
+-- the ip-type that a text is
+abbrev pub ip_type : List ℕ → ip.IpType
+ip_type text = if bytes_eq text (codes "exclusive") then Exclusive else Shared
+
 -- the text of a property: empty where it is not set
 abbrev pub shown : Property → Contents → List ℕ
 shown Zonepath c = path_text c.zonepath
@@ -85,7 +89,7 @@ with_value Bootargs value c = record c { bootargs = value }
 with_value Pool value c = record c { pool = value }
 with_value Limitpriv value c = record c { limitpriv = value }
 with_value SchedulingClass value c = record c { class = value }
-with_value IpType value c = record c { ip = if bytes_eq value (codes "exclusive") then Exclusive else Shared }
+with_value IpType value c = record c { ip = ip_type value }
 with_value Hostid value c = record c { hostid = value }
 with_value FsAllowed value c = record c { fs_allowed = value }
 

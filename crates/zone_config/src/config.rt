@@ -1,18 +1,18 @@
 //! Configurations that are sound.
-ghost use Rattle.std.specs.Prelude.{◌≡◌, ◌<◌, None, Some, IfOk, IsTrue, OnErr, Err, position};
-ghost use Rattle.config_terms.specs.Changes.{Changes};
-ghost use Rattle.config_terms.specs.Resource.{kind_of, resource_fits};
+ghost use Rattle.std.specs.Prelude.{◌≡◌, ◌<◌, Err, IfOk, IsTrue, None, OnErr, Some, false};
+ghost use Rattle.config_terms.specs.Allowed.{is_allowed, options_passed};
+ghost use Rattle.config_terms.specs.Edits.{Changes, ChangesSurely};
+ghost use Rattle.config_terms.specs.Fields.{kind_of};
 ghost use Rattle.config_terms.specs.declared.fault.ConfigFault.TheVariants.{Memory};
-ghost use Rattle.config_terms.specs.declared.terms.Resource.TheVariants as resource;
-ghost use Rattle.zone_config.specs.Edits.{alias_cleared, alias_set, is_held, place_of, property_set, with_property, without_property};
+ghost use Rattle.zone_config.specs.Edits.{alias_cleared, alias_set, property_set, with_property, without_property};
 ghost use Rattle.zone_config.specs.Export.{sized};
-ghost use Rattle.zone_config.specs.Property.{blank, with_value, without_value};
-ghost use Rattle.zone_config.specs.Resources.{added, count_of, found, is_taken, is_taken_but, limit_passed, own_limit_passed, removed, replaced, unless_passed, with_replaced, with_resource};
-ghost use Rattle.zone_config.specs.Sound.{IsKept, IsSound};
+ghost use Rattle.zone_config.specs.Property.{blank, without_value};
+ghost use Rattle.zone_config.specs.Resources.{added, count_of, found, has_taken, has_taken_but, limit_passed, removed, replaced, unless_passed, with_replaced, with_resource};
+ghost use Rattle.zone_config.specs.Sound.{IsSound};
 
-use crate::sizes::{size_added, size_replaced, size_with, size_without};
+use crate::sizes::{size_added, size_replaced, size_with};
 use crate::{Alias, Contents, Property, Setting};
-use config_terms::{ConfigFault, IpType, Kind, Listing, Resource, Twin};
+use config_terms::{ConfigFault, Entry, Kind, Resource, Twin, entry_length, number_of};
 use std::alloc::Global;
 use std::marker::Model;
 use std::ops::Deref;
@@ -111,7 +111,7 @@ impl ZoneConfig {
     /// after each all is as before.
     #[tactic(auto, unfolding(crate::specs::Edits::without_property))]
     pub fn clear_property(&mut self, alloc: Global, name: &[u8]) -> Result<(), ConfigFault>
-        ensures { ChangesExactly self.old self.new result (without_property name.now self.old) }
+        ensures { ChangesSurely self.old self.new result (without_property name.now self.old) }
     {
         match Setting::named(name) {
             None => Err(ConfigFault::UnknownProperty),
@@ -129,25 +129,151 @@ impl ZoneConfig {
         if !resource.is_allowed() {
             return Err(ConfigFault::BadValue);
         }
-        if self.contents.is_taken(&resource) {
+        if self.contents.has_taken(&resource) {
             return Err(ConfigFault::Duplicate);
         }
         self.put_last(resource)
     }
 
-    /// Puts a resource in the place of another of its kind. Faults come in the order 23, 24, 27, 29, and
-    /// after each all is as before. It takes no memory.
+    /// Puts a resource in the place of another of its kind. It takes no memory. Faults come in the order
+    /// 23, 24, 27, 29, and after each all is as before.
     #[tactic(auto, unfolding(crate::specs::Resources::with_replaced))]
     pub fn replace_resource(&mut self, place: u32, resource: Resource) -> Result<(), ConfigFault>
         requires { place < count_of (kind_of resource) self.old }
-        ensures { Changes self.old self.new result (with_replaced place resource self.old) }
+        ensures { ChangesSurely self.old self.new result (with_replaced place resource self.old) }
     {
+        let place = place as usize;
         if !resource.is_allowed() {
             return Err(ConfigFault::BadValue);
         }
-        if self.contents.is_taken_but(place as usize, &resource) {
+        if self.contents.has_taken_but(place, &resource) {
             return Err(ConfigFault::Duplicate);
         }
-        self.put_in_place(place as usize, resource)
+        if let Some(limit) = resource.options_passed() {
+            return Err(ConfigFault::TooMany(limit));
+        }
+        self.put_in_place(place, resource)
+    }
+
+    /// Takes the resource of a kind at a place out. It takes no memory.
+    pub fn remove_resource(&mut self, kind: Kind, place: u32) -> Resource
+        requires { place < count_of kind self.old }
+        ensures { removed kind place self.old ≡ Some (result, self.new) }
+    {
+        self.take(kind, place as usize)
+    }
+
+    /// The place of the one resource of a kind that each wanted pair matches, or 25, or 26 with how many
+    /// there are. It takes no memory.
+    pub fn find_resource(&self, kind: Kind, wanted: &[Pair]) -> Result<u32, ConfigFault>
+        ensures answer { result ≡ found kind wanted.now self.now }
+        ensures inside { IfOk result (λ place. place < count_of kind self.now) }
+    {
+        let place = self.contents.find(kind, wanted)?;
+        Ok(place as u32)
+    }
+
+    fn set_kept(
+        &mut self,
+        alloc: Global,
+        property: Property,
+        value: &Text,
+    ) -> Result<(), ConfigFault>
+        ensures { Changes self.old self.new result (property_set property value.now self.old) }
+    {
+        if !property.rule().allows(value.bytes()) {
+            return Err(ConfigFault::BadValue);
+        }
+        let size = size_with(&self.contents, self.size, property, value.bytes());
+        if size > TEXT_MAX {
+            return Err(ConfigFault::TooLarge(size));
+        }
+        self.contents.put(alloc, property, value)?;
+        self.size = size;
+        Ok(())
+    }
+
+    fn clear_kept(&mut self, alloc: Global, property: Property) -> Result<(), ConfigFault>
+        ensures { ChangesSurely self.old self.new result (sized (without_value property self.old)) }
+    {
+        let size = size_with(&self.contents, self.size, property, property.unset_text());
+        if size > TEXT_MAX {
+            return Err(ConfigFault::TooLarge(size));
+        }
+        self.contents.unset(alloc, property);
+        self.size = size;
+        Ok(())
+    }
+
+    fn put_last(&mut self, resource: Resource) -> Result<(), ConfigFault>
+        requires allowed { IsTrue (is_allowed resource) }
+        requires free { has_taken resource self.old ≡ false }
+        ensures { Changes self.old self.new result (unless_passed (limit_passed resource self.old) (added resource self.old)) }
+    {
+        if let Some(limit) = self.contents.limit_passed(&resource) {
+            return Err(ConfigFault::TooMany(limit));
+        }
+        let size = size_added(&self.contents, self.size, &resource);
+        if size > TEXT_MAX {
+            return Err(ConfigFault::TooLarge(size));
+        }
+        self.contents.add(resource)?;
+        self.size = size;
+        Ok(())
+    }
+
+    fn put_in_place(&mut self, place: usize, resource: Resource) -> Result<(), ConfigFault>
+        requires place { place < count_of (kind_of resource) self.old }
+        requires allowed { IsTrue (is_allowed resource) }
+        requires free { has_taken_but place resource self.old ≡ false }
+        requires few { options_passed resource ≡ None }
+        ensures { ChangesSurely self.old self.new result (sized (replaced place resource self.old)) }
+    {
+        let size = size_replaced(&self.contents, self.size, place, &resource);
+        if size > TEXT_MAX {
+            return Err(ConfigFault::TooLarge(size));
+        }
+        self.contents.replace(place, resource);
+        self.size = size;
+        Ok(())
+    }
+
+    #[tactic(auto, unfolding(crate::specs::Edits::alias_set))]
+    fn set_alias(&mut self, alloc: Global, alias: Alias, value: &Text) -> Result<(), ConfigFault>
+        ensures { Changes self.old self.new result (alias_set alias value.now self.old) }
+    {
+        let Some(limit) = number_of(value.bytes()) else {
+            return Err(ConfigFault::BadValue);
+        };
+        if alias.is_held(self.contents.rctl.as_slice()) {
+            return Err(ConfigFault::AliasHeld);
+        }
+        let rctl = Resource::Rctl(alias.rctl(alloc, limit)?);
+        match alias.place(self.contents.rctl.as_slice()) {
+            Some(place) => self.put_in_place(place, rctl),
+            None => self.put_last(rctl),
+        }
+    }
+
+    #[tactic(auto, unfolding(crate::specs::Edits::alias_cleared))]
+    fn clear_alias(&mut self, alias: Alias) -> Result<(), ConfigFault>
+        ensures { ChangesSurely self.old self.new result (alias_cleared alias self.old) }
+    {
+        if alias.is_held(self.contents.rctl.as_slice()) {
+            return Err(ConfigFault::AliasHeld);
+        }
+        if let Some(place) = alias.place(self.contents.rctl.as_slice()) {
+            let _rctl = self.take(Kind::Rctl, place);
+        }
+        Ok(())
+    }
+
+    fn take(&mut self, kind: Kind, place: usize) -> Resource
+        requires { place < count_of kind self.old }
+        ensures { removed kind place self.old ≡ Some (result, self.new) }
+    {
+        let resource = self.contents.remove(kind, place);
+        self.size -= entry_length(resource.kind(), &resource);
+        resource
     }
 }

@@ -1,11 +1,9 @@
-//! The properties of the global scope: their names, their rules, and what each shows.
-ghost use Rattle.std.specs.Prelude.{◌≡◌, ◌≤◌, IsTrue, OnErr, OnOk, length};
-ghost use Rattle.zone_config.specs.Property.{alias_name, bool_text, denies, ip_text, property_name, property_rule, rctl_name, setting_name, setting_named, shown, unset_text, with_value, without_value};
+//! The names of the global scope, and what each stands for.
+ghost use Rattle.std.specs.Prelude.{◌≡◌, ◌≤◌, length};
+ghost use Rattle.zone_config.specs.Property.{alias_name, denies, property_name, property_rule, rctl_name, setting_name, setting_named, unset_text};
 
-use crate::{Alias, Contents, Property, Setting};
-use config_terms::{IpType, Rule, path_text};
-use std::alloc::{AllocError, Global};
-use zn_base::{AbsPath, Text};
+use crate::{Alias, Property, Setting};
+use config_terms::Rule;
 
 // Each name of the global scope.
 const SETTINGS: [Setting; 13] = [
@@ -121,41 +119,5 @@ impl Setting {
             .iter()
             .copied()
             .find(|setting| setting.name() == name)
-    }
-}
-
-fn bool_text(value: bool) -> &'static [u8]
-    ensures { result.now ≡ bool_text value }
-{
-    if value { b"true" } else { b"false" }
-}
-
-fn ip_text(value: IpType) -> &'static [u8]
-    ensures { result.now ≡ ip_text value }
-{
-    match value {
-        IpType::Shared => b"shared",
-        IpType::Exclusive => b"exclusive",
-    }
-}
-
-impl Contents {
-    /// The text of a property: empty where it is not set.
-    pub fn shown(&self, property: Property) -> &[u8]
-        ensures text { result.now ≡ shown property self.now }
-        ensures short { length result.now ≤ 4200 }
-    {
-        match property {
-            Property::Zonepath => path_text(&self.zonepath),
-            Property::Brand => self.brand.bytes(),
-            Property::Autoboot => bool_text(self.autoboot),
-            Property::Bootargs => self.bootargs.bytes(),
-            Property::Pool => self.pool.bytes(),
-            Property::Limitpriv => self.limitpriv.bytes(),
-            Property::SchedulingClass => self.class.bytes(),
-            Property::IpType => ip_text(self.ip),
-            Property::Hostid => self.hostid.bytes(),
-            Property::FsAllowed => self.fs_allowed.bytes(),
-        }
     }
 }
