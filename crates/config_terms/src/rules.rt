@@ -108,6 +108,7 @@ fn begins_alphanumeric(value: &[u8]) -> bool
     }
 }
 
+#[tactic(auto, unfolding(crate::specs::Rules::obeys))]
 fn is_attribute_name(value: &[u8]) -> bool
     ensures { result ≡ obeys Rule.AttributeName value.now }
 {
