@@ -3,9 +3,16 @@
 //! text), and each call changes it as one definition says or leaves it as it was.
 #![tactic(auto)]
 
-mod config;
-mod property;
 mod terms;
+mod property;
+mod alias;
+mod contents;
+mod resources;
+mod sizes;
+mod config;
+mod printing;
 
+pub use config::{ZoneConfig, blank};
 pub use config_terms::{Attr, ConfigFault, Fs, IpType, Kind, Limit, Listing, Net, Rctl, Resource};
+pub use printing::export;
 pub use terms::{Alias, Contents, Property, Setting};

@@ -1,10 +1,12 @@
 -- A configuration over a property that is given a value.
-use Rattle.std.proofs.Common.{◌≡◌, ◌≢◌, ◌⊎◌, inl, inr, ◌≤◌, ◌+◌, ◌-◌, ℕ, Bool, true, false, cond, List, [], ◌∷◌, ◌++◌, ◌||◌, ◌&&◌, length, Option, Some, None, refl, ap, sym, ◌∙◌, arith, length-append, codes, IsTrue}
+use Rattle.std.proofs.Common.{◌≡◌, ◌≢◌, ◌⊎◌, inl, inr, ◌≤◌, ◌+◌, ◌-◌, ℕ, Bool, true, false, cond, List, [], ◌∷◌, ◌++◌, ◌||◌, ◌&&◌, length, Option, Some, None, refl, ap, sym, subst, ◌∙◌, arith, length-append, codes, IsTrue}
 use Rattle.std.specs.Prelude.{◌==◌}
 use Rattle.std.specs.List.{flat_map, list_any}
 use Rattle.std.specs.Str.{bytes_eq}
 use Rattle.std.proofs.lemmas.Slice.Eq.{bytes_eq-Decides}
+use Rattle.zn_base.specs.Path.{is_path}
 use Rattle.config_terms.specs.declared.rules.Rule.{Rule}
+use Rattle.config_terms.specs.declared.rules.Rule.TheVariants.{OwnPath, RootedPath}
 use Rattle.config_terms.specs.declared.terms.Attr as attr
 use Rattle.config_terms.specs.declared.terms.Fs as fs
 use Rattle.config_terms.specs.declared.terms.Net as net
@@ -20,6 +22,7 @@ use Rattle.zone_config.specs.declared.terms.Property.TheVariants.{Zonepath, Bran
 use Rattle.zone_config.specs.Property.{blank, bool_text, ip_text, properties, property_name, property_rule, shown, unset_text, with_value}
 use Rattle.zone_config.specs.Export.{export_text, property_line}
 use Rattle.zone_config.specs.Sound.{HasSoundProperties, HasSoundResources, IsKept, IsSound, count}
+use Rattle.zone_config.proofs.Lists.{first_true}
 
 -- the export text, part by part
 pub export_text-length : (c : Contents)
@@ -87,6 +90,15 @@ pub fits_obeyed : (r : Rule) (v : List ℕ) → obeys r v ≡ true → IsTrue (f
 unfolding fits
 fits_obeyed r v h =
     elim (length v == 0) as (λ b. (b || obeys r v) ≡ true) [ true ↦ refl | false ↦ h ]
+
+-- a path that a zone may have is one
+own_path_fits : (v : List ℕ) → obeys OwnPath v ≡ true → IsTrue (fits RootedPath v)
+unfolding obeys fits
+own_path_fits v h =
+    elim (length v == 0) as (λ b. (b || is_path v) ≡ true) [ true ↦ refl | false ↦ first_true (is_path v) _ h ]
+
+pub own_path_given : (p : Property) (v : List ℕ) → p ≡ Zonepath → IsTrue (obeys (property_rule p) v) → IsTrue (fits RootedPath v)
+own_path_given p v e h = own_path_fits v (subst (λ (q : Property). obeys (property_rule q) v ≡ true) e h)
 
 pub fits_unset : (p : Property) → IsTrue (fits (property_rule p) (unset_text p))
 unfolding fits obeys
