@@ -1,3 +1,5 @@
-pub mod Names
-pub mod Kept
-pub mod Settings
+mod Examples
+pub mod Lists
+pub mod PropertyEdits
+pub mod ResourceEdits
+pub mod Aliases
