@@ -1,3 +1,4 @@
 pub mod Short
 pub mod Digits
 pub mod Paths
+mod Examples
