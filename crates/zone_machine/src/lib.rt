@@ -1,5 +1,7 @@
 //! The zone machine: sessions type lines, zones' daemons take turns, and each such event has one subject,
-//! one grant and one reply. The definitions in `specs/` say what an event does to the state of all zones.
+//! one grant and one reply. The definitions in `specs/` say what an event does to the state of all zones. A
+//! `Machine` stands for such a state: its `step` answers the entry that they give, and leaves it standing for
+//! the state after.
 #![tactic(auto)]
 
 mod acts;

@@ -36,7 +36,9 @@ fn text(alloc: Global, bytes: &[u8]) -> Result<Text, AllocError>
 // A step is done, with what it did to the objects, and the plan goes on behind it.
 fn advanced(job: &mut Job, objects: ObjectEdit, shown: Step) -> Result<Work, AllocError>
     requires { job.old.at < length job.old.steps.items }
-    ensures { IfOk result (CarriesOut (λ d. bare (advance d (job_seen job.old) (rest_of job.old) (object_edits objects) shown)) job.new) }
+    ensures { IfOk result (CarriesOut
+        (λ d. bare (advance d (job_seen job.old) (rest_of job.old) (object_edits objects) shown))
+        job.new) }
 {
     job.count(&shown)?;
     job.at += 1;
@@ -50,7 +52,9 @@ fn advanced(job: &mut Job, objects: ObjectEdit, shown: Step) -> Result<Work, All
 
 // The same where the plan stays where it is.
 fn counted(job: &mut Job, objects: ObjectEdit, shown: Step) -> Result<Work, AllocError>
-    ensures { IfOk result (CarriesOut (λ d. bare (advance d (job_seen job.old) (job_seen job.old).left (object_edits objects) shown)) job.new) }
+    ensures { IfOk result (CarriesOut
+        (λ d. bare (advance d (job_seen job.old) (job_seen job.old).left (object_edits objects) shown))
+        job.new) }
 {
     job.count(&shown)?;
     Ok(Work {
@@ -64,7 +68,9 @@ fn counted(job: &mut Job, objects: ObjectEdit, shown: Step) -> Result<Work, Allo
 // A step is done, and something came with its grant.
 fn arrived(job: &mut Job, came: Came, shown: Step) -> Result<Work, AllocError>
     requires { job.old.at < length job.old.steps.items }
-    ensures { IfOk result (CarriesOut (λ d. record { came = Some (arrival_of came); effect = advance d (job_seen job.old) (rest_of job.old) [] shown }) job.new) }
+    ensures { IfOk result (CarriesOut
+        (λ d. record { came = Some (arrival_of came); effect = advance d (job_seen job.old) (rest_of job.old) [] shown })
+        job.new) }
 {
     job.count(&shown)?;
     job.at += 1;
@@ -88,7 +94,10 @@ fn failed(job: &mut Job, outcome: Outcome) -> Work
 // The zone gets its id.
 fn give_zid(job: &mut Job, grant: Grant) -> Result<Work, AllocError>
     requires { job.old.at < length job.old.steps.items }
-    ensures { IfOk result (CarriesOut (λ d. act_of (asking d (job_seen job.old) (rest_of job.old) (An_id (record { zid = 0 })) A_zid (λ n. Step.Zid (Some n))) grant) job.new) }
+    ensures { IfOk result (CarriesOut
+        (λ d. act_of (asking d (job_seen job.old) (rest_of job.old)
+        (An_id (record { zid = 0 })) A_zid (λ n. Step.Zid (Some n))) grant)
+        job.new) }
 {
     match number_in(grant) {
         Ok(zid) => arrived(job, Came::Id(Id { zid }), Step::Zid(Some(zid))),
@@ -105,7 +114,10 @@ fn commit_state(
     grant: Grant,
 ) -> Result<Work, AllocError>
     requires { job.old.at < length job.old.steps.items }
-    ensures { IfOk result (CarriesOut (λ d. act_of (asking d (job_seen job.old) (rest_of job.old) (A_record (λ n. Some (record row.now { state = to }))) A_serial (λ n. Step.Record to)) grant) job.new) }
+    ensures { IfOk result (CarriesOut
+        (λ d. act_of (asking d (job_seen job.old) (rest_of job.old)
+        (A_record (λ n. Some (record row.now { state = to }))) A_serial (λ n. Step.Record to)) grant)
+        job.new) }
 {
     match number_in(grant) {
         Ok(_) => {
@@ -123,7 +135,10 @@ fn commit_state(
 // The first process begins.
 fn start_init(job: &mut Job, alloc: Global, grant: Grant) -> Result<Work, AllocError>
     requires { job.old.at < length job.old.steps.items }
-    ensures { IfOk result (CarriesOut (λ d. act_of (asking d (job_seen job.old) (rest_of job.old) (A_process init_process) A_pid (λ n. Step.Init (Some n))) grant) job.new) }
+    ensures { IfOk result (CarriesOut
+        (λ d. act_of (asking d (job_seen job.old) (rest_of job.old)
+        (A_process init_process) A_pid (λ n. Step.Init (Some n))) grant)
+        job.new) }
 {
     match number_in(grant) {
         Ok(pid) => {
@@ -172,7 +187,10 @@ fn root_mount(alloc: Global, config: &Config) -> Result<Mount, AllocError>
 // The zone's root is mounted.
 fn mount_root(job: &mut Job, alloc: Global) -> Result<Work, AllocError>
     requires { job.old.at < length job.old.steps.items }
-    ensures { IfOk result (CarriesOut (λ d. bare (advance d (job_seen job.old) (rest_of job.old) (Of_mounts (Come (root_mount job.old.config)) ∷ []) Step.Root)) job.new) }
+    ensures { IfOk result (CarriesOut
+        (λ d. bare (advance d (job_seen job.old) (rest_of job.old)
+        (Of_mounts (Come (root_mount job.old.config)) ∷ []) Step.Root))
+        job.new) }
 {
     let mount = root_mount(alloc, &job.config)?;
     advanced(job, ObjectEdit::Mount(mount), Step::Root)
@@ -194,7 +212,9 @@ fn enter_state(
     to: ZoneState,
 ) -> Result<Work, AllocError>
     requires { job.old.at < length job.old.steps.items }
-    ensures { IfOk result (λ w. (d : state.Desk) → bare (advance (record d { active = active_after to }) (job_seen job.old) (rest_of job.old) [] (Step.State to)) ≡ work_act w (record d { job = Some (job_seen job.new); active = active.new })) }
+    ensures { IfOk result (λ w. (d : state.Desk)
+        → bare (advance (record d { active = active_after to }) (job_seen job.old) (rest_of job.old) [] (Step.State to))
+        ≡ work_act w (record d { job = Some (job_seen job.new); active = active.new })) }
 {
     let work = advanced(job, ObjectEdit::Nothing, Step::State(to))?;
     *active = active_after(to);
@@ -204,7 +224,10 @@ fn enter_state(
 // All processes end. So many that their count is no `u32` don't fit into memory.
 fn kill_all(job: &mut Job, count: usize) -> Result<Work, AllocError>
     requires { job.old.at < length job.old.steps.items }
-    ensures { IfOk result (CarriesOut (λ d. bare (advance d (job_seen job.old) (rest_of job.old) (Processes_go all_of ∷ []) (Step.Kill (Some count)))) job.new) }
+    ensures { IfOk result (CarriesOut
+        (λ d. bare (advance d (job_seen job.old) (rest_of job.old)
+        (Processes_go all_of ∷ []) (Step.Kill (Some count))))
+        job.new) }
 {
     match u32::try_from(count) {
         Ok(count) => advanced(job, ObjectEdit::EndProcesses, Step::Kill(Some(count))),
@@ -214,7 +237,10 @@ fn kill_all(job: &mut Job, count: usize) -> Result<Work, AllocError>
 
 // One mount goes, and the plan stays where it is.
 fn unmount(job: &mut Job, alloc: Global, dir: AbsPath) -> Result<Work, AllocError>
-    ensures { IfOk result (CarriesOut (λ d. bare (advance d (job_seen job.old) (job_seen job.old).left (Of_mounts (Go (is_at dir)) ∷ []) (Step.Unmount (Some dir)))) job.new) }
+    ensures { IfOk result (CarriesOut
+        (λ d. bare (advance d (job_seen job.old) (job_seen job.old).left
+        (Of_mounts (Go (is_at dir)) ∷ []) (Step.Unmount (Some dir))))
+        job.new) }
 {
     let gone = dir.copy(alloc)?;
     counted(job, ObjectEdit::Unmount(gone), Step::Unmount(Some(dir)))
@@ -223,7 +249,9 @@ fn unmount(job: &mut Job, alloc: Global, dir: AbsPath) -> Result<Work, AllocErro
 // The zone gives its id back.
 fn free_zid(job: &mut Job, zid: Option<u32>) -> Result<Work, AllocError>
     requires { job.old.at < length job.old.steps.items }
-    ensures { IfOk result (CarriesOut (λ d. bare (advance d (job_seen job.old) (rest_of job.old) (Ids_go all_of ∷ []) (Step.ZidBack zid))) job.new) }
+    ensures { IfOk result (CarriesOut
+        (λ d. bare (advance d (job_seen job.old) (rest_of job.old) (Ids_go all_of ∷ []) (Step.ZidBack zid)))
+        job.new) }
 {
     advanced(job, ObjectEdit::EndIds, Step::ZidBack(zid))
 }
@@ -256,7 +284,9 @@ fn next_step(job: &Job) -> &Step
 // One mount goes, where one is left.
 fn unmount_last(job: &mut Job, alloc: Global, seen: Seen) -> Result<Work, AllocError>
     requires { IsSome seen.last_dir }
-    ensures { IfOk result (λ w. (v : View) (d : state.Desk) (next : Decision) (g : A_grant) → Sees v.world seen → act_of (unmount d (job_seen job.old) (job_seen job.old).left next (last_dir v.world.mounts)) g ≡ work_act w (record d { job = Some (job_seen job.new) })) }
+    ensures { IfOk result (λ w. (v : View) (d : state.Desk) (next : Decision) (g : A_grant) → Sees v.world seen
+        → act_of (unmount d (job_seen job.old) (job_seen job.old).left next (last_dir v.world.mounts)) g
+        ≡ work_act w (record d { job = Some (job_seen job.new) })) }
 {
     match seen.last_dir {
         Some(dir) => unmount(job, alloc, dir),
@@ -274,7 +304,9 @@ pub(crate) fn step(
     grant: Grant,
 ) -> Result<Work, AllocError>
     requires { CanStep job.old seen }
-    ensures { IfOk result (λ w. (v : View) (d : state.Desk) → Sees v.world seen → d.active ≡ active.old → act_of (step v d (job_seen job.old) row.now (job_seen job.old).left) grant ≡ work_act w (record d { job = Some (job_seen job.new); active = active.new })) }
+    ensures { IfOk result (λ w. (v : View) (d : state.Desk) → Sees v.world seen → d.active ≡ active.old
+        → act_of (step v d (job_seen job.old) row.now (job_seen job.old).left) grant
+        ≡ work_act w (record d { job = Some (job_seen job.new); active = active.new })) }
 {
     match next_step(job) {
         Step::Hook(change) => {
@@ -307,7 +339,9 @@ pub(crate) fn step(
 
 /// The plan without the unmounts that stand next, where no mount is left.
 pub(crate) fn pass_unmounts(job: &mut Job, seen: &Seen)
-    ensures passed { (v : View) (d : state.Desk) (row : record_types.Record) → Sees v.world seen.now → step v d (job_seen job.new) row (job_seen job.new).left ≡ step v d (job_seen job.old) row (job_seen job.old).left }
+    ensures passed { (v : View) (d : state.Desk) (row : record_types.Record) → Sees v.world seen.now
+        → step v d (job_seen job.new) row (job_seen job.new).left
+        ≡ step v d (job_seen job.old) row (job_seen job.old).left }
     ensures mounted { has_unmount (job_seen job.new).left ≡ true → IsSome seen.now.last_dir }
     ensures ticket { job.new.ticket ≡ job.old.ticket }
     ensures ending { job.new.ending ≡ job.old.ending }

@@ -107,8 +107,10 @@ impl Tables {
         grant: Grant,
     ) -> Result<Head, AllocError>
         requires { subject_in self.old event.now ≡ Subject.Zone zone.now }
-        ensures head { IfOk result (λ head. says head ≡ (act_of (decide_in zone.now self.old event.now) grant).effect.reply) }
-        ensures state { OnOk result (Acts zone.now (session_number event.now) (act_of (decide_in zone.now self.old event.now) grant) self.old self.new) }
+        ensures head { IfOk result (λ head. says head
+            ≡ (act_of (decide_in zone.now self.old event.now) grant).effect.reply) }
+        ensures state { OnOk result (Acts zone.now (session_number event.now)
+            (act_of (decide_in zone.now self.old event.now) grant) self.old self.new) }
     {
         match event {
             Event::Session { number, text } => {

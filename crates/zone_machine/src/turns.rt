@@ -37,7 +37,9 @@ fn begin(
     kind: RequestKind,
     row: &Record,
 ) -> Result<Work, AllocError>
-    ensures { IfOk result (λ w. bare (begin (desk_seen desk.old) ticket kind (state_now row.now (desk_seen desk.old)) row.now.config) ≡ work_act w (desk_seen desk.new)) }
+    ensures { IfOk result (λ w.
+        bare (begin (desk_seen desk.old) ticket kind (state_now row.now (desk_seen desk.old)) row.now.config)
+        ≡ work_act w (desk_seen desk.new)) }
 {
     let state = match desk.active {
         Some(state) => state,
@@ -68,7 +70,8 @@ fn take_first(waiting: &mut Vec<(u32, RequestKind)>) -> (u32, RequestKind)
 // The next request that waits begins.
 fn begin_next(desk: &mut Desk, alloc: Global, row: &Record) -> Result<Work, AllocError>
     requires { 0 < length desk.old.waiting.items }
-    ensures { IfOk result (λ w. bare (next_request (desk_seen desk.old) (desk_seen desk.old).waiting row.now) ≡ work_act w (desk_seen desk.new)) }
+    ensures { IfOk result (λ w. bare (next_request (desk_seen desk.old) (desk_seen desk.old).waiting row.now)
+        ≡ work_act w (desk_seen desk.new)) }
 {
     let (ticket, kind) = take_first(&mut desk.waiting);
     begin(desk, alloc, ticket, kind, row)
@@ -93,7 +96,9 @@ fn take_back(job: &mut Job) -> Option<Step>
 
 // One step back, or the end of the request where none is left.
 fn undo(desk: &mut Desk, alloc: Global, job: Job, outcome: Outcome) -> Result<Work, AllocError>
-    ensures { IfOk result (λ w. (o : Option state.Job) → bare (undo (record (desk_seen desk.old) { job = o }) (job_seen job) outcome (job_seen job).undo) ≡ work_act w (desk_seen desk.new)) }
+    ensures { IfOk result (λ w. (o : Option state.Job)
+        → bare (undo (record (desk_seen desk.old) { job = o }) (job_seen job) outcome (job_seen job).undo)
+        ≡ work_act w (desk_seen desk.new)) }
 {
     let mut job = job;
     match take_back(&mut job) {
@@ -119,7 +124,9 @@ fn follow_plan(
     row: &Record,
     grant: Grant,
 ) -> Result<Work, AllocError>
-    ensures { IfOk result (λ w. (o : Option state.Job) → FollowsView seen (λ v. step v (record (desk_seen desk.old) { job = o }) (job_seen job) row.now (job_seen job).left) grant (desk_seen desk.new) w) }
+    ensures { IfOk result (λ w. (o : Option state.Job) → FollowsView seen
+        (λ v. step v (record (desk_seen desk.old) { job = o }) (job_seen job) row.now (job_seen job).left)
+        grant (desk_seen desk.new) w) }
 {
     let mut job = job;
     pass_unmounts(&mut job, &seen);
@@ -140,7 +147,9 @@ fn go_on(
     row: &Record,
     grant: Grant,
 ) -> Result<Work, AllocError>
-    ensures { IfOk result (λ w. (o : Option state.Job) → FollowsView seen (λ v. goes_on v (record (desk_seen desk.old) { job = o }) (job_seen job) row.now (job_seen job).ending) grant (desk_seen desk.new) w) }
+    ensures { IfOk result (λ w. (o : Option state.Job) → FollowsView seen
+        (λ v. goes_on v (record (desk_seen desk.old) { job = o }) (job_seen job) row.now (job_seen job).ending)
+        grant (desk_seen desk.new) w) }
 {
     match job.ending {
         Some(outcome) => undo(desk, alloc, job, outcome),
@@ -157,7 +166,9 @@ pub(crate) fn turn(
     grant: Grant,
 ) -> Result<Work, AllocError>
     requires { HasWork (desk_seen desk.old) }
-    ensures { IfOk result (FollowsView seen (λ v. turn_at v (desk_seen desk.old) (desk_seen desk.old).job row.now) grant (desk_seen desk.new)) }
+    ensures { IfOk result (FollowsView seen
+        (λ v. turn_at v (desk_seen desk.old) (desk_seen desk.old).job row.now)
+        grant (desk_seen desk.new)) }
 {
     match desk.job.take() {
         Some(job) => go_on(desk, alloc, job, seen, row, grant),
