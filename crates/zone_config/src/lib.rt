@@ -16,3 +16,6 @@ pub use config::{ZoneConfig, blank};
 pub use config_terms::{Attr, ConfigFault, Fs, IpType, Kind, Limit, Listing, Net, Rctl, Resource};
 pub use printing::export;
 pub use terms::{Alias, Contents, Property, Setting};
+
+#[cfg(test)]
+mod tests;
