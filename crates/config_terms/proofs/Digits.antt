@@ -1,6 +1,6 @@
 -- A number grows with each of its digits.
-use Rattle.std.proofs.Common.{◌≡◌, ◌+◌, ◌-◌, ◌*◌, ◌^◌, ◌≤◌, ◌<◌, ℕ, suc, List, [], ◌∷◌, Bool, true, false, cond, not, ◌&&◌, length, Option, Some, None, drop, get_or, drop-cons, refl, sym, arith, nat_lt}
-use Rattle.std.specs.Prelude.{nat_le, ◌==◌, SomeIff}
+use Rattle.std.proofs.Common.{◌≡◌, ◌+◌, ◌-◌, ◌*◌, ◌^◌, ◌≤◌, ◌<◌, ℕ, suc, List, [], ◌∷◌, Bool, true, false, ◌&&◌, length, Option, Some, None, drop, get_or, drop-cons, refl, arith}
+use Rattle.std.specs.Prelude.{nat_le, SomeIff}
 use Rattle.std.specs.Char.{is_ascii_digit}
 use Rattle.std.specs.List.{list_all}
 use Rattle.std.proofs.lemmas.Bool.Decides.{nat_tests}

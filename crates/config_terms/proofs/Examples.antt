@@ -1,12 +1,12 @@
 -- What the definitions say of some values and resources.
-use Rattle.std.proofs.Common.{◌≡◌, ℕ, List, [], ◌∷◌, ◌++◌, true, false, Option, Some, None, Ok, Err, codes, replicate, refl}
+use Rattle.std.proofs.Common.{◌≡◌, ℕ, List, [], ◌∷◌, true, false, Some, None, Ok, Err, codes, replicate, refl}
 use Rattle.std.specs.Fmt.{digits}
 use Rattle.zonecfg_lex.specs.declared.values.Pair.{Pair}
 use Rattle.zonecfg_lex.specs.declared.values.Value.TheVariants.{Simple, Complex, List as Items}
 use Rattle.config_terms.specs.declared.fault.ConfigFault.TheVariants.{UnknownProperty, BadValue, NoMatch, SeveralMatch, TooMany}
 use Rattle.config_terms.specs.declared.rules.Rule.TheVariants as rule
 use Rattle.config_terms.specs.declared.terms.Kind.TheVariants as kind
-use Rattle.config_terms.specs.declared.terms.Resource.TheVariants.{Fs, Net, Device, Rctl, Attr, Dataset}
+use Rattle.config_terms.specs.declared.terms.Resource.TheVariants.{Fs, Rctl, Attr}
 use Rattle.config_terms.specs.declared.terms.Fs as fs
 use Rattle.config_terms.specs.declared.terms.Rctl as rctl
 use Rattle.config_terms.specs.Numbers.{number_of}

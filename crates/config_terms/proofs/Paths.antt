@@ -1,5 +1,5 @@
 -- A text that fits the rule of a path, and isn't empty, is one.
-use Rattle.std.proofs.Common.{◌≡◌, ◌⊎◌, inl, inr, ℕ, Bool, true, false, ◌||◌, List, [], ◌∷◌, length, Result, Ok, Err, IsTrue, refl}
+use Rattle.std.proofs.Common.{◌≡◌, inl, inr, ℕ, Bool, true, false, ◌||◌, List, length, Result, Ok, Err, IsTrue, refl}
 use Rattle.std.specs.Prelude.{◌==◌, is_ok}
 use Rattle.zn_base.specs.declared.path.PathFault.{PathFault}
 use Rattle.zn_base.specs.declared.path.PathFault.TheVariants.{Memory}

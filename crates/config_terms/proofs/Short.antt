@@ -1,6 +1,6 @@
 -- How long a text and a path are at most.
-use Rattle.std.proofs.Common.{◌≡◌, ◌≤◌, ◌<◌, ℕ, Bool, true, false, cond, not, List, length, Option, Some, None, Result, Ok, Err, IsTrue, refl, arith, nat_lt}
-use Rattle.std.specs.Prelude.{nat_le, is_ok, position}
+use Rattle.std.proofs.Common.{◌≡◌, ◌≤◌, ℕ, true, false, cond, not, List, length, Option, Some, None, Ok, Err, IsTrue, refl, arith, nat_lt}
+use Rattle.std.specs.Prelude.{is_ok, position}
 use Rattle.std.proofs.lemmas.Bool.Decides.{nat_tests}
 use Rattle.zn_base.specs.declared.text.TextFault.{TextFault}
 use Rattle.zn_base.specs.declared.text.TextFault.TheVariants.{TextLong}

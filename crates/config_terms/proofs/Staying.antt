@@ -1,6 +1,6 @@
 -- An edit leaves an allowed resource allowed.
-use Rattle.std.proofs.Common.{◌≡◌, ◌≤◌, ◌<◌, ◌⊎◌, inl, inr, ℕ, zero, suc, codes, Bool, true, false, cond, not, ◌&&◌, ◌||◌, List, [], ◌∷◌, ◌++◌, length, take, drop, Option, Some, None, Result, Ok, Err, IsTrue, refl, sym, ap, subst, arith}
-use Rattle.std.specs.Prelude.{◌==◌, nat_le, position, remove, option_map, option_and_then, ok_or}
+use Rattle.std.proofs.Common.{◌≡◌, inl, inr, ℕ, zero, suc, codes, Bool, true, false, cond, ◌&&◌, List, [], ◌∷◌, ◌++◌, Option, Some, None, Result, Ok, Err, IsTrue, refl, subst, arith}
+use Rattle.std.specs.Prelude.{position, remove, option_map, option_and_then, ok_or}
 use Rattle.std.proofs.lemmas.Bool.Decides.{nat_tests}
 use Rattle.std.proofs.lemmas.List.Folds.{list_all-append}
 use Rattle.std.specs.List.{list_all}
@@ -10,7 +10,7 @@ use Rattle.zonecfg_lex.specs.declared.values.Pair.{Pair}
 use Rattle.zonecfg_lex.specs.declared.values.Value.{Value}
 use Rattle.zonecfg_lex.specs.declared.values.Value.TheVariants.{Simple as Text, Complex, List as Items}
 use Rattle.config_terms.specs.declared.fault.ConfigFault.{ConfigFault}
-use Rattle.config_terms.specs.declared.fault.ConfigFault.TheVariants.{UnknownProperty, BadValue, NoMatch, TooMany}
+use Rattle.config_terms.specs.declared.fault.ConfigFault.TheVariants.{BadValue, NoMatch, TooMany}
 use Rattle.config_terms.specs.declared.fields.Field.{Field}
 use Rattle.config_terms.specs.declared.fields.Field.TheVariants.{FsDir, FsSpecial, FsRaw, FsType, NetAddress, NetAllowed, NetPhysical, NetDefrouter, DeviceMatch, RctlName, AttrName, AttrType, AttrValue, DatasetName}
 use Rattle.config_terms.specs.declared.fields.Named.{Named}
@@ -31,7 +31,7 @@ use Rattle.config_terms.specs.Numbers.{digits_value, has_no_leading_zero, is_lim
 use Rattle.config_terms.specs.Rules.{obeys, fits}
 use Rattle.config_terms.specs.Fields.{field_rule, path_text, named, kind_of, fs_shown, net_shown, text_shown, rctl_shown, attr_shown}
 use Rattle.config_terms.specs.Allowed.{is_allowed_limit, is_kept_path, fields_fit, entry_allowed, is_allowed}
-use Rattle.config_terms.specs.Edits.{empty, kept_path, fs_with, net_with, device_with, rctl_with, attr_with, dataset_with, with_field, field_set, option_texts, options_given, are_limit_pairs, limit_of_pairs, limit_of, limit_given, without_first, without_each, edited, passes_options, options_edited, same_limit, limits_edited, and_then, fs_edited, rctl_edited, list_edited, without_list, put_in, with_property, cleared_in, without_property, edited_in, with_value, without_value}
+use Rattle.config_terms.specs.Edits.{empty, kept_path, fs_with, net_with, device_with, rctl_with, attr_with, dataset_with, with_field, field_set, option_texts, options_given, are_limit_pairs, limit_of_pairs, limit_given, without_first, without_each, edited, passes_options, options_edited, same_limit, limits_edited, and_then, fs_edited, rctl_edited, list_edited, without_list, put_in, with_property, cleared_in, without_property, edited_in, with_value, without_value}
 use Rattle.config_terms.specs.Staying.{IsEdited}
 use Rattle.config_terms.proofs.Paths.{obeyed_fits}
 

@@ -1,5 +1,5 @@
 -- What each edit makes of one resource.
-use Rattle.std.specs.Prelude.{◌≡◌, ℕ, List, [], ◌∷◌, ◌++◌, length, Bool, true, false, nat_lt, nat_eq, not, ◌&&◌, ◌||◌, ◌==◌, Option, Some, None, Result, Ok, Err, codes, position, remove, option_map, option_and_then, ok_or, if◌then◌else◌}
+use Rattle.std.specs.Prelude.{◌≡◌, ℕ, List, [], ◌∷◌, ◌++◌, length, Bool, false, nat_lt, ◌&&◌, ◌==◌, Option, Some, None, Result, Ok, Err, codes, position, remove, option_map, option_and_then, ok_or, if◌then◌else◌}
 use Rattle.std.specs.List.{list_all}
 use mathlib.Core.Bool.{beq}
 use Rattle.std.specs.Str.{bytes_eq}

@@ -1,5 +1,5 @@
 -- Decimal numbers as zonecfg(8) takes them: from 1 to 18446744073709551615, without leading zero.
-use Rattle.std.specs.Prelude.{ℕ, List, [], ◌∷◌, length, Bool, false, nat_le, not, ◌+◌, ◌-◌, ◌*◌, ◌&&◌, ◌==◌, Option, Some, None, if◌then◌else◌}
+use Rattle.std.specs.Prelude.{ℕ, List, [], ◌∷◌, Bool, false, nat_le, not, ◌+◌, ◌-◌, ◌*◌, ◌&&◌, ◌==◌, Option, Some, None, if◌then◌else◌}
 use Rattle.std.specs.Char.{is_ascii_digit}
 use Rattle.std.specs.List.{list_all}
 

@@ -1,6 +1,4 @@
-use Rattle.std.proofs.Common.{◌≡◌, false, length, sym, ◌∙◌}
-use Rattle.std.specs.Prelude.{◌==◌}
-use Rattle.zn_base.specs.declared.path.PathFault.TheVariants.{Memory}
+use Rattle.std.proofs.Common.{sym, ◌∙◌}
 use Rattle.config_terms.proofs.Paths.{reads_path}
 use Rattle.config_terms.proofs.given.path_kept.Goals as goal
 
