@@ -3,3 +3,4 @@ pub mod Lists
 pub mod PropertyEdits
 pub mod ResourceEdits
 pub mod Aliases
+pub mod Settings

@@ -10,10 +10,12 @@ mod contents;
 mod resources;
 mod sizes;
 mod config;
+mod laws;
 mod printing;
 
 pub use config::{ZoneConfig, blank};
 pub use config_terms::{Attr, ConfigFault, Fs, IpType, Kind, Limit, Listing, Net, Rctl, Resource};
+pub use laws::sets_where_allowed;
 pub use printing::export;
 pub use terms::{Alias, Contents, Property, Setting};
 
