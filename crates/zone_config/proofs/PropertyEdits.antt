@@ -65,11 +65,11 @@ shown_obeyed IpType v c h =
       | true ↦ λ e. sym ((bytes_eq-Decides v (codes "exclusive")).0 e)
       | false ↦ λ e. sym ((bytes_eq-Decides v (codes "shared")).0 (first_of_two _ _ h e))
     ] refl
-    where
-      first_of_two : (a b : Bool) → (a || (b || false)) ≡ true → b ≡ false → a ≡ true
-      first_of_two true b h g = refl
-      first_of_two false true h g = absurd (cc)
-      first_of_two false false h g = absurd (cc)
+  where
+    first_of_two : (a b : Bool) → (a || (b || false)) ≡ true → b ≡ false → a ≡ true
+    first_of_two true b h g = refl
+    first_of_two false true h g = absurd (cc)
+    first_of_two false false h g = absurd (cc)
 shown_obeyed Hostid v c h = refl
 shown_obeyed FsAllowed v c h = refl
 

@@ -3,15 +3,15 @@
 //! text), and each call changes it as one definition says or leaves it as it was.
 #![tactic(auto)]
 
-mod terms;
-mod property;
 mod alias;
-mod contents;
-mod resources;
-mod sizes;
 mod config;
+mod contents;
 mod laws;
 mod printing;
+mod property;
+mod resources;
+mod sizes;
+mod terms;
 
 pub use config::{ZoneConfig, blank};
 pub use config_terms::{Attr, ConfigFault, Fs, IpType, Kind, Limit, Listing, Net, Rctl, Resource};

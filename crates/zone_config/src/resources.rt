@@ -5,9 +5,7 @@ ghost use Rattle.zone_config.specs.Resources.{IsLengthOf, added, count_of, found
 ghost use Rattle.zone_config.specs.Sound.{count};
 
 use crate::Contents;
-use config_terms::{
-    ConfigFault, Kind, Resource, entry_length, find_entry, is_taken, is_taken_but,
-};
+use config_terms::{ConfigFault, Kind, Resource, entry_length, find_entry, is_taken, is_taken_but};
 use std::alloc::AllocError;
 use zonecfg_lex::Pair;
 

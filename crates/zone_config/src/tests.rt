@@ -13,7 +13,12 @@ set autoboot=false
 set ip-type=shared
 ";
 
-fn set(alloc: Global, config: &mut ZoneConfig, name: &[u8], text: &[u8]) -> Result<(), ConfigFault> {
+fn set(
+    alloc: Global,
+    config: &mut ZoneConfig,
+    name: &[u8],
+    text: &[u8],
+) -> Result<(), ConfigFault> {
     match Text::read(alloc, text) {
         Ok(text) => config.set_property(alloc, name, &Value::Simple(text)),
         Err(_) => Err(ConfigFault::Memory),
@@ -46,7 +51,12 @@ fn web_has_87_bytes(rt: HostRuntime) -> Result<(), Fail> {
 // Each property with a value that it takes, one that it refuses, and whether an empty one unsets it.
 const PROPERTIES: [(&[u8], &[u8], &[u8], bool); 13] = [
     (b"zonepath", b"/z", b"/", false),
-    (b"brand", b"a.b_c-1", b"123456789012345678901234567890123", true),
+    (
+        b"brand",
+        b"a.b_c-1",
+        b"123456789012345678901234567890123",
+        true,
+    ),
     (b"autoboot", b"true", b"yes", false),
     (b"bootargs", b"-m verbose", b"-m \"x\"", true),
     (b"pool", b"p1", b"a b", true),
@@ -55,7 +65,12 @@ const PROPERTIES: [(&[u8], &[u8], &[u8], bool); 13] = [
     (b"ip-type", b"exclusive", b"both", false),
     (b"hostid", b"80f0c086", b"ffffffff", true),
     (b"fs-allowed", b"ufs,pcfs", b"\"ufs", true),
-    (b"cpu-shares", b"18446744073709551615", b"18446744073709551616", false),
+    (
+        b"cpu-shares",
+        b"18446744073709551615",
+        b"18446744073709551616",
+        false,
+    ),
     (b"max-lwps", b"1", b"0", false),
     (b"max-processes", b"300", b"03", false),
 ];
@@ -162,8 +177,14 @@ fn resources_come_and_go(rt: HostRuntime) -> Result<(), Fail> {
     config.add_resource(fs(rt.alloc(), b"/usr")?)?;
     config.add_resource(fs(rt.alloc(), b"/opt")?)?;
     let typed = wanted(rt.alloc(), b"type", b"lofs")?;
-    assert_eq!(rt; config.find_resource(Kind::Fs, &typed), Err(ConfigFault::SeveralMatch(2)));
-    assert_eq!(rt; config.find_resource(Kind::Net, &typed), Err(ConfigFault::NoMatch));
+    assert_eq!(rt;
+        config.find_resource(Kind::Fs, &typed),
+        Err(ConfigFault::SeveralMatch(2))
+    );
+    assert_eq!(rt;
+        config.find_resource(Kind::Net, &typed),
+        Err(ConfigFault::NoMatch)
+    );
     let opt = wanted(rt.alloc(), b"dir", b"/opt")?;
     let place = config.find_resource(Kind::Fs, &opt)?;
     assert_eq!(rt; place, 1);
@@ -183,7 +204,8 @@ end
 add dataset
 set name=rpool/a
 end
-".as_slice();
+"
+        .as_slice();
     assert_eq!(rt; export(rt.alloc(), &config)?.as_slice(), text);
     Ok(())
 }
