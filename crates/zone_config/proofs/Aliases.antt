@@ -75,7 +75,7 @@ pub none_passes : {A : Type 0} (p : A → Bool) (xs : List A) → position p xs 
 none_passes p xs h = none_from p 0 xs (sym (position_from-zero p xs) ∙ h)
 
 -- a list without, and with another in place of, the item in the middle
-remove-middle : {A : Type 0} (front : List A) (x : A) (back : List A) → remove (front ++ x ∷ back) (length front) ≡ front ++ back
+pub remove-middle : {A : Type 0} (front : List A) (x : A) (back : List A) → remove (front ++ x ∷ back) (length front) ≡ front ++ back
 remove-middle [] x back = refl
 remove-middle (y ∷ front) x back = ap (λ ys. y ∷ ys) (remove-middle front x back)
 
@@ -96,7 +96,7 @@ none_behind key k xs i h s =
     ap (λ l. has_key key l s.back) (sym same) ∙ false_if_not _ (first_true _ _ middle)
 
 -- nor has one of the rest
-key_taken_once : {A : Type 0} (key : A → List ℕ) (k : List ℕ) (xs : List A) (i : ℕ) → are_distinct key xs ≡ true → Parts (λ x. bytes_eq (key x) k) xs i
+pub key_taken_once : {A : Type 0} (key : A → List ℕ) (k : List ℕ) (xs : List A) (i : ℕ) → are_distinct key xs ≡ true → Parts (λ x. bytes_eq (key x) k) xs i
     → has_key key k (remove xs i) ≡ false
 key_taken_once key k xs i h s =
     rw (s.are, s.place, remove-middle s.front s.it s.back) (list_any-append (λ x. bytes_eq (key x) k) s.front s.back ∙ both_false _ _ s.none (none_behind key k xs i h s))

@@ -4,3 +4,4 @@ pub mod PropertyEdits
 pub mod ResourceEdits
 pub mod Aliases
 pub mod Settings
+pub mod Clearing

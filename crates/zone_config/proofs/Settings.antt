@@ -32,7 +32,7 @@ use Rattle.zone_config.proofs.PropertyEdits.{Lists, lists, lists-with, shown-wit
 use Rattle.zone_config.proofs.Aliases.{Parts, none_behind, none_passes, parted, slice_set-middle}
 
 -- what a bound on the text leaves
-fits_in : (c d : Contents) → sized c ≡ Ok d → d ≡ c
+pub fits_in : (c d : Contents) → sized c ≡ Ok d → d ≡ c
 fits_in c d h =
     elim (nat_lt 32768 (length (export_text c))) as (λ b. cond b (Err (fault.TooLarge (length (export_text c)))) (Ok c) ≡ Ok d → d ≡ c) [
       | true ↦ λ g. absurd (cc)
@@ -54,9 +54,9 @@ property-Ok p v c d h =
       | false ↦ λ e g. absurd (cc)
     ] refl h
 
-shows_text : (p : Property) (v : List ℕ) (c : Contents) → obeys (property_rule p) v ≡ true → ShowsText p v c (with_value p v c)
+pub shows_text : (p : Property) (v : List ℕ) (c : Contents) → shown p (with_value p v c) ≡ v → ShowsText p v c (with_value p v c)
 shows_text p v c h = record {
-  given = shown_obeyed p v c h;
+  given = h;
   others = λ q differ. elim (shown-with p q v c) [ inl same ↦ absurd (differ same) | inr as_before ↦ as_before ];
   same = ap (λ (l : Lists). map resource.Fs l.0 ++ map resource.Net l.1 ++ map resource.Device l.2 ++ map resource.Rctl l.3 ++ map resource.Attr l.4 ++ map resource.Dataset l.5) (lists-with p v c);
 }
@@ -69,14 +69,14 @@ record HasOne {A : Type 0} (p : A → Bool) (xs ys : List A) (x : A) : Type 0 wh
   given : filter p ys ≡ x ∷ []
   others : filter (λ y. not (p y)) ys ≡ filter (λ y. not (p y)) xs
 
-filter-none : {A : Type 0} (p : A → Bool) (xs : List A) → list_any p xs ≡ false → filter p xs ≡ []
+pub filter-none : {A : Type 0} (p : A → Bool) (xs : List A) → list_any p xs ≡ false → filter p xs ≡ []
 filter-none p [] h = refl
 filter-none p (x ∷ xs) h = rw (first_false (p x) _ h) (filter-none p xs (rest_false (p x) _ h))
 
 filter-kept : {A : Type 0} (p : A → Bool) (x : A) (xs : List A) → p x ≡ true → filter p (x ∷ xs) ≡ x ∷ filter p xs
 filter-kept p x xs h = rw h refl
 
-filter-dropped : {A : Type 0} (p : A → Bool) (x : A) (xs : List A) → p x ≡ false → filter p (x ∷ xs) ≡ filter p xs
+pub filter-dropped : {A : Type 0} (p : A → Bool) (x : A) (xs : List A) → p x ≡ false → filter p (x ∷ xs) ≡ filter p xs
 filter-dropped p x xs h = rw h refl
 
 one_in_place : {A : Type 0} (p : A → Bool) (xs : List A) (i : ℕ) (x : A) (s : Parts p xs i) → list_any p s.back ≡ false → p x ≡ true → HasOne p xs (slice_set xs i x) x
@@ -175,7 +175,7 @@ setting-put : (t : Setting) (text : List ℕ) (c d : Contents) → IsSound c →
 unfolding alias_set
 setting-put (Kept p) text c d s h =
     let put = property-Ok p text c d h in
-    record { allowed = put.0; shows = subst (ShowsText p text c) (sym put.1) (shows_text p text c put.0) }
+    record { allowed = put.0; shows = subst (ShowsText p text c) (sym put.1) (shows_text p text c (shown_obeyed p text c put.0)) }
 setting-put (Aliased a) text c d s h = limit-put a text (number_of text) c d s refl h
 
 named-put : (o : Option Setting) (value : Value) (c d : Contents) → IsSound c → named_set o value c ≡ Ok d → Put o value c d
