@@ -87,15 +87,19 @@ distinct-behind : {A : Type 0} (key : A → List ℕ) (front back : List A) → 
 distinct-behind key [] back h = h
 distinct-behind key (y ∷ front) back h = distinct-behind key front back (rest_true (not (has_key key (key y) (front ++ back))) _ h)
 
--- in a list whose keys are distinct, none but the first of a key has it
+-- in a list whose keys are distinct, none behind the first of a key has it
+pub none_behind : {A : Type 0} (key : A → List ℕ) (k : List ℕ) (xs : List A) (i : ℕ) → are_distinct key xs ≡ true → (s : Parts (λ x. bytes_eq (key x) k) xs i)
+    → has_key key k s.back ≡ false
+none_behind key k xs i h s =
+    let same = (bytes_eq-Decides (key s.it) k).0 s.first in
+    let middle = distinct-behind key s.front (s.it ∷ s.back) (ap (are_distinct key) (sym s.are) ∙ h) in
+    ap (λ l. has_key key l s.back) (sym same) ∙ false_if_not _ (first_true _ _ middle)
+
+-- nor has one of the rest
 pub key_taken_once : {A : Type 0} (key : A → List ℕ) (k : List ℕ) (xs : List A) (i : ℕ) → are_distinct key xs ≡ true → Parts (λ x. bytes_eq (key x) k) xs i
     → has_key key k (remove xs i) ≡ false
 key_taken_once key k xs i h s =
-    let same = (bytes_eq-Decides (key s.it) k).0 s.first in
-    let middle = distinct-behind key s.front (s.it ∷ s.back) (ap (are_distinct key) (sym s.are) ∙ h) in
-    let behind : has_key key (key s.it) s.back ≡ false = false_if_not _ (first_true _ _ middle) in
-    let behind' : has_key key k s.back ≡ false = ap (λ l. has_key key l s.back) (sym same) ∙ behind in
-    rw (s.are, s.place, remove-middle s.front s.it s.back) (list_any-append (λ x. bytes_eq (key x) k) s.front s.back ∙ both_false _ _ s.none behind')
+    rw (s.are, s.place, remove-middle s.front s.it s.back) (list_any-append (λ x. bytes_eq (key x) k) s.front s.back ∙ both_false _ _ s.none (none_behind key k xs i h s))
 
 -- the rctl of an alias's name
 pub place_within : (a : Alias) (rctls : List Rctl) (i : ℕ) → place_of a rctls ≡ Some i → i < length rctls

@@ -3,3 +3,5 @@ pub mod Lists
 pub mod PropertyEdits
 pub mod ResourceEdits
 pub mod Aliases
+pub mod Settings
+pub mod Clearing

@@ -6,6 +6,7 @@
 mod alias;
 mod config;
 mod contents;
+mod laws;
 mod printing;
 mod property;
 mod resources;
@@ -14,6 +15,7 @@ mod terms;
 
 pub use config::{ZoneConfig, blank};
 pub use config_terms::{Attr, ConfigFault, Fs, IpType, Kind, Limit, Listing, Net, Rctl, Resource};
+pub use laws::{clears_where_named, sets_where_allowed};
 pub use printing::export;
 pub use terms::{Alias, Contents, Property, Setting};
 
