@@ -84,9 +84,9 @@ lowest bits small some =
     let below : n < 40 = elim (nat_lt n 40) as (λ v. nat_lt n 40 ≡ v → n < 40) [
       | true ↦ λ e. grind (arith, nat_tests)
       | false ↦ λ e.
-        let past : 40 ≤ n = grind (arith, nat_tests) in
-        let zero : bit_at bits n ≡ 0 = bit_at_above bits 40 n small past in
-        absurd (omega (arith, zero, low.1))
+          let past : 40 ≤ n = grind (arith, nat_tests) in
+          let zero : bit_at bits n ≡ 0 = bit_at_above bits 40 n small past in
+          absurd (omega (arith, zero, low.1))
     ] refl in
     (below, eq-eqb _ _ low.1, λ k before. rw (low.2 k before) refl)
 
@@ -102,18 +102,18 @@ bits-within a b small_a small_b =
     let rest = bit_and a (2 ^ 64 - 1 - b) in
     elim (nat_eq rest 0) as (λ v. nat_eq rest 0 ≡ v → v ≡ within (set_of_bits a) (set_of_bits b)) [
       | true ↦ λ e.
-        let none : rest ≡ 0 = eqb-true rest 0 e in
-        sym (all_of_set (bit a) (has (set_of (bit b))) (λ n below here.
-            let gone : min (bit_at a n) (1 - bit_at b n) ≡ 0 = sym (bit-without a b n small_b below) ∙ ap (λ m. bit_at m n) none ∙ bit_at-zero n in
-            let one : bit_at a n ≡ 1 = eqb-true _ _ here in
-            has-set_of-below (bit b) n below ∙ eq-eqb _ _ (omega (arith, bit_at-lt b n))))
+          let none : rest ≡ 0 = eqb-true rest 0 e in
+          sym (all_of_set (bit a) (has (set_of (bit b))) (λ n below here.
+          let gone : min (bit_at a n) (1 - bit_at b n) ≡ 0 = sym (bit-without a b n small_b below) ∙ ap (λ m. bit_at m n) none ∙ bit_at-zero n in
+          let one : bit_at a n ≡ 1 = eqb-true _ _ here in
+          has-set_of-below (bit b) n below ∙ eq-eqb _ _ (omega (arith, bit_at-lt b n))))
       | false ↦ λ e.
-        let some : 0 < rest = grind (arith, nat_tests) in
-        let small : rest < 2 ^ 40 = omega (arith, and_le_l a (2 ^ 64 - 1 - b)) in
-        let low = lowest rest small some in
-        let n = trailing_zeros w64 rest in
-        let left : min (bit_at a n) (1 - bit_at b n) ≡ 1 = sym (bit-without a b n small_b low.0) ∙ eqb-true _ _ low.1 in
-        let here : bit a n ≡ true = eq-eqb _ _ (omega (arith, bit_at-lt a n)) in
-        let out : bit b n ≡ false = ne_eqb _ _ (λ same. omega arith) in
-        sym (one_of_set_fails (bit a) (has (set_of (bit b))) n low.0 here (has-set_of-below (bit b) n low.0 ∙ out))
+          let some : 0 < rest = grind (arith, nat_tests) in
+          let small : rest < 2 ^ 40 = omega (arith, and_le_l a (2 ^ 64 - 1 - b)) in
+          let low = lowest rest small some in
+          let n = trailing_zeros w64 rest in
+          let left : min (bit_at a n) (1 - bit_at b n) ≡ 1 = sym (bit-without a b n small_b low.0) ∙ eqb-true _ _ low.1 in
+          let here : bit a n ≡ true = eq-eqb _ _ (omega (arith, bit_at-lt a n)) in
+          let out : bit b n ≡ false = ne_eqb _ _ (λ same. omega arith) in
+          sym (one_of_set_fails (bit a) (has (set_of (bit b))) n low.0 here (has-set_of-below (bit b) n low.0 ∙ out))
     ] refl

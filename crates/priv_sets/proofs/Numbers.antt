@@ -53,13 +53,13 @@ first_from p from zero n after below here before = absurd (omega arith)
 first_from p from (suc count) n after below here before =
     elim (from == n) as (λ v. (from == n) ≡ v → slice_get (filter p (numbers_from from (suc count))) 0 ≡ Some n) [
       | true ↦ λ e.
-        let same : from ≡ n = eqb-true from n e in
-        let passes : p from ≡ true = ap p same ∙ here in
-        rw passes (ap Some same)
+          let same : from ≡ n = eqb-true from n e in
+          let passes : p from ≡ true = ap p same ∙ here in
+          rw passes (ap Some same)
       | false ↦ λ e.
-        let other : from < n = grind (arith, nat_tests) in
-        let fails : p from ≡ false = before from (omega arith) other in
-        rw fails (first_from p (from + 1) count n (omega arith) (omega arith) here (λ k low high. before k (omega arith) high))
+          let other : from < n = grind (arith, nat_tests) in
+          let fails : p from ≡ false = before from (omega arith) other in
+          rw fails (first_from p (from + 1) count n (omega arith) (omega arith) here (λ k low high. before k (omega arith) high))
     ] refl
 
 pub first_of : (p : ℕ → Bool) (n : ℕ) → n < 40 → p n ≡ true → ((k : ℕ) → k < n → p k ≡ false) → slice_get (set_of p) 0 ≡ Some n
@@ -93,17 +93,17 @@ one_fails p q from zero n after below here out = absurd (omega arith)
 one_fails p q from (suc count) n after below here out =
     elim (from == n) as (λ v. (from == n) ≡ v → list_all q (filter p (numbers_from from (suc count))) ≡ false) [
       | true ↦ λ e.
-        let same : from ≡ n = eqb-true from n e in
-        let passes : p from ≡ true = ap p same ∙ here in
-        let fails : q from ≡ false = ap q same ∙ out in
-        rw (passes, fails) refl
+          let same : from ≡ n = eqb-true from n e in
+          let passes : p from ≡ true = ap p same ∙ here in
+          let fails : q from ≡ false = ap q same ∙ out in
+          rw (passes, fails) refl
       | false ↦ λ e.
-        let other : from < n = grind (arith, nat_tests) in
-        let rest = one_fails p q (from + 1) count n (omega arith) (omega arith) here out in
-        elim (p from) as (λ v. list_all q (cond v (from ∷ filter p (numbers_from (from + 1) count)) (filter p (numbers_from (from + 1) count))) ≡ false) [
-          | true ↦ and_right (q from) _ rest
-          | false ↦ rest
-        ]
+          let other : from < n = grind (arith, nat_tests) in
+          let rest = one_fails p q (from + 1) count n (omega arith) (omega arith) here out in
+          elim (p from) as (λ v. list_all q (cond v (from ∷ filter p (numbers_from (from + 1) count)) (filter p (numbers_from (from + 1) count))) ≡ false) [
+            | true ↦ and_right (q from) _ rest
+            | false ↦ rest
+          ]
     ] refl
 
 pub one_of_set_fails : (p q : ℕ → Bool) (n : ℕ) → n < 40 → p n ≡ true → q n ≡ false → list_all q (set_of p) ≡ false

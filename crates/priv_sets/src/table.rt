@@ -22,46 +22,166 @@ pub(crate) struct Privilege {
 
 // The privileges of privileges(7) that this profile knows; a privilege's number is its place.
 pub(crate) static PRIVILEGES: [Privilege; COUNT] = [
-    Privilege { name: "contract_event", class: Class::Default },
-    Privilege { name: "contract_identity", class: Class::Default },
-    Privilege { name: "contract_observer", class: Class::Default },
-    Privilege { name: "cpc_cpu", class: Class::Optional },
-    Privilege { name: "dtrace_kernel", class: Class::Prohibited },
-    Privilege { name: "dtrace_proc", class: Class::Optional },
-    Privilege { name: "dtrace_user", class: Class::Optional },
-    Privilege { name: "file_chown", class: Class::Default },
-    Privilege { name: "file_chown_self", class: Class::Default },
-    Privilege { name: "file_dac_execute", class: Class::Default },
-    Privilege { name: "file_dac_read", class: Class::Default },
-    Privilege { name: "file_dac_search", class: Class::Default },
-    Privilege { name: "file_dac_write", class: Class::Default },
-    Privilege { name: "file_link_any", class: Class::Default },
-    Privilege { name: "file_owner", class: Class::Default },
-    Privilege { name: "file_setid", class: Class::Default },
-    Privilege { name: "ipc_dac_read", class: Class::Default },
-    Privilege { name: "ipc_dac_write", class: Class::Default },
-    Privilege { name: "ipc_owner", class: Class::Default },
-    Privilege { name: "net_icmpaccess", class: Class::Default },
-    Privilege { name: "net_privaddr", class: Class::Default },
-    Privilege { name: "net_rawaccess", class: Class::Optional },
-    Privilege { name: "proc_audit", class: Class::Default },
-    Privilege { name: "proc_chroot", class: Class::Default },
-    Privilege { name: "proc_clock_highres", class: Class::Optional },
-    Privilege { name: "proc_exec", class: Class::Required },
-    Privilege { name: "proc_fork", class: Class::Required },
-    Privilege { name: "proc_info", class: Class::Default },
-    Privilege { name: "proc_lock_memory", class: Class::Optional },
-    Privilege { name: "proc_owner", class: Class::Default },
-    Privilege { name: "proc_session", class: Class::Default },
-    Privilege { name: "proc_setid", class: Class::Default },
-    Privilege { name: "proc_taskid", class: Class::Default },
-    Privilege { name: "proc_zone", class: Class::Prohibited },
-    Privilege { name: "sys_acct", class: Class::Default },
-    Privilege { name: "sys_admin", class: Class::Default },
-    Privilege { name: "sys_config", class: Class::Prohibited },
-    Privilege { name: "sys_devices", class: Class::Prohibited },
-    Privilege { name: "sys_mount", class: Class::Required },
-    Privilege { name: "sys_time", class: Class::Optional },
+    Privilege {
+        name: "contract_event",
+        class: Class::Default,
+    },
+    Privilege {
+        name: "contract_identity",
+        class: Class::Default,
+    },
+    Privilege {
+        name: "contract_observer",
+        class: Class::Default,
+    },
+    Privilege {
+        name: "cpc_cpu",
+        class: Class::Optional,
+    },
+    Privilege {
+        name: "dtrace_kernel",
+        class: Class::Prohibited,
+    },
+    Privilege {
+        name: "dtrace_proc",
+        class: Class::Optional,
+    },
+    Privilege {
+        name: "dtrace_user",
+        class: Class::Optional,
+    },
+    Privilege {
+        name: "file_chown",
+        class: Class::Default,
+    },
+    Privilege {
+        name: "file_chown_self",
+        class: Class::Default,
+    },
+    Privilege {
+        name: "file_dac_execute",
+        class: Class::Default,
+    },
+    Privilege {
+        name: "file_dac_read",
+        class: Class::Default,
+    },
+    Privilege {
+        name: "file_dac_search",
+        class: Class::Default,
+    },
+    Privilege {
+        name: "file_dac_write",
+        class: Class::Default,
+    },
+    Privilege {
+        name: "file_link_any",
+        class: Class::Default,
+    },
+    Privilege {
+        name: "file_owner",
+        class: Class::Default,
+    },
+    Privilege {
+        name: "file_setid",
+        class: Class::Default,
+    },
+    Privilege {
+        name: "ipc_dac_read",
+        class: Class::Default,
+    },
+    Privilege {
+        name: "ipc_dac_write",
+        class: Class::Default,
+    },
+    Privilege {
+        name: "ipc_owner",
+        class: Class::Default,
+    },
+    Privilege {
+        name: "net_icmpaccess",
+        class: Class::Default,
+    },
+    Privilege {
+        name: "net_privaddr",
+        class: Class::Default,
+    },
+    Privilege {
+        name: "net_rawaccess",
+        class: Class::Optional,
+    },
+    Privilege {
+        name: "proc_audit",
+        class: Class::Default,
+    },
+    Privilege {
+        name: "proc_chroot",
+        class: Class::Default,
+    },
+    Privilege {
+        name: "proc_clock_highres",
+        class: Class::Optional,
+    },
+    Privilege {
+        name: "proc_exec",
+        class: Class::Required,
+    },
+    Privilege {
+        name: "proc_fork",
+        class: Class::Required,
+    },
+    Privilege {
+        name: "proc_info",
+        class: Class::Default,
+    },
+    Privilege {
+        name: "proc_lock_memory",
+        class: Class::Optional,
+    },
+    Privilege {
+        name: "proc_owner",
+        class: Class::Default,
+    },
+    Privilege {
+        name: "proc_session",
+        class: Class::Default,
+    },
+    Privilege {
+        name: "proc_setid",
+        class: Class::Default,
+    },
+    Privilege {
+        name: "proc_taskid",
+        class: Class::Default,
+    },
+    Privilege {
+        name: "proc_zone",
+        class: Class::Prohibited,
+    },
+    Privilege {
+        name: "sys_acct",
+        class: Class::Default,
+    },
+    Privilege {
+        name: "sys_admin",
+        class: Class::Default,
+    },
+    Privilege {
+        name: "sys_config",
+        class: Class::Prohibited,
+    },
+    Privilege {
+        name: "sys_devices",
+        class: Class::Prohibited,
+    },
+    Privilege {
+        name: "sys_mount",
+        class: Class::Required,
+    },
+    Privilege {
+        name: "sys_time",
+        class: Class::Optional,
+    },
 ];
 
 pub(crate) fn privileges() -> &'static [Privilege]
