@@ -1,14 +1,14 @@
 -- Tokens that apply from left to right, and the last one that covers a privilege.
-use Rattle.std.proofs.Common.{◌≡◌, ◌∙◌, ◌+◌, ◌-◌, ◌<◌, ◌≤◌, ℕ, Bool, true, false, not, ◌&&◌, ◌||◌, cond, nat_lt, List, [], ◌∷◌, Option, Some, None, Result, Ok, Err, filter, length, map, take, drop, refl, sym, ap, arith, slice_range, length-drop}
+use Rattle.std.proofs.Common.{◌≡◌, ◌∙◌, ◌+◌, ◌-◌, ◌<◌, ◌≤◌, ℕ, Bool, true, false, not, ◌&&◌, ◌||◌, cond, List, [], ◌∷◌, Some, None, Result, Ok, Err, filter, length, map, take, drop, refl, sym, ap, arith, slice_range, length-drop}
 use Rattle.std.specs.Prelude.{◌==◌}
-use Rattle.std.specs.List.{position, slice_split}
+use Rattle.std.specs.List.{position}
 use Rattle.std.proofs.lemmas.Bool.{lt-ltb, le-ltb}
 use Rattle.std.proofs.Math.Bool.{or-true, or-false, and-true, and-false}
 use Rattle.priv_sets.specs.declared.limit.PrivFault.TheVariants.{PrivWord}
 use Rattle.priv_sets.specs.declared.limit.PrivFault.{PrivFault}
 use Rattle.priv_sets.specs.declared.limit.Rule.{Rule}
 use Rattle.priv_sets.specs.Sets.{set_of, has, union, without}
-use Rattle.priv_sets.specs.Limit.{applied, is_comma, is_in, last_or, rule_of, rules_from, set_of_rules, with_rule, words_behind, words_from}
+use Rattle.priv_sets.specs.Limit.{applied, is_comma, last_or, rule_of, rules_from, set_of_rules, with_rule, words_behind, words_from}
 use Rattle.zn_base.proofs.Splits.{split_some, split_none}
 use Rattle.std.proofs.lemmas.List.{drop-drop, length-take-le, take_all}
 use Rattle.priv_sets.proofs.Numbers.{set_of_same, set_of-has, has-set_of-below}

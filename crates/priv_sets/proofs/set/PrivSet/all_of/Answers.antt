@@ -1,5 +1,5 @@
 use Rattle.std.proofs.Common.{◌≡◌, ◌∙◌, ap, arith}
-use Rattle.priv_sets.specs.Sets.{all_of, only, union}
+use Rattle.priv_sets.specs.Sets.{all_of, union}
 use Rattle.priv_sets.specs.Table.{is_of}
 use Rattle.priv_sets.proofs.Classes.{below, below-all, below-more, below-none, below-same}
 use Rattle.priv_sets.proofs.set.PrivSet.all_of.Goals as goal
