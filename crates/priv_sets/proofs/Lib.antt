@@ -1,3 +1,7 @@
 pub mod Rows
 pub mod Numbers
 pub mod Bits
+pub mod Tokens
+pub mod Classes
+pub mod Printed
+mod Examples

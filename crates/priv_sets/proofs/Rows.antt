@@ -1,5 +1,5 @@
 -- Rows of the table.
-use Rattle.std.proofs.Common.{◌≡◌, ◌<◌, ◌∙◌, ◌+◌, ℕ, Bool, cond, nat_lt, not, List, [], ◌∷◌, Some, None, Option, length, map, refl, sym, ap, subst, arith}
+use Rattle.std.proofs.Common.{◌≡◌, ◌<◌, ◌∙◌, ◌+◌, ℕ, Bool, cond, not, List, [], ◌∷◌, Some, length, map, refl, sym, ap, arith}
 use Rattle.std.specs.List.{position, position_or_len, prefix_len, slice_get}
 use Rattle.std.specs.Option.{option_map}
 use Rattle.std.specs.Str.{bytes_eq}
@@ -7,7 +7,7 @@ use Rattle.std.proofs.lemmas.List.{length-map}
 use Rattle.std.proofs.lemmas.Option.{slice_get-map, cond_some}
 use Rattle.std.proofs.lemmas.Bool.{ltb-true}
 use Rattle.priv_sets.specs.declared.table.Privilege.{Privilege}
-use Rattle.priv_sets.specs.Table.{privileges, number_of, Row}
+use Rattle.priv_sets.specs.Table.{privileges, number_of}
 use Rattle.priv_sets.specs.Rows.{row_of}
 
 pub length_of_privileges : length privileges ≡ 40

@@ -1,5 +1,5 @@
 -- The limit set that a limitpriv text denotes, or its first fault.
-use Rattle.std.specs.Prelude.{ℕ, List, [], ◌∷◌, ◌+◌, ◌==◌, Bool, true, false, ◌&&◌, ◌||◌, Option, Some, None, Result, Ok, Err, codes, drop, filter, length, map, slice_get, if◌then◌else◌}
+use Rattle.std.specs.Prelude.{ℕ, List, [], ◌∷◌, ◌+◌, ◌==◌, Bool, true, false, ◌&&◌, ◌||◌, Option, Some, None, Result, Ok, Err, codes, drop, filter, length, map, nat_lt, slice_get, if◌then◌else◌}
 use Rattle.std.specs.List.{slice_split}
 use Rattle.std.specs.Str.{bytes_eq}
 use Rattle.priv_sets.specs.declared.limit.PrivFault.{PrivFault}
@@ -63,6 +63,10 @@ set_of_words words = set_of_rules (rules_from 0 words)
 unfoldable pub words_from : List ℕ → ℕ → List (List ℕ)
 words_from text place = slice_split is_comma (drop place text)
 
+-- the tokens behind one that ends at a place
+unfoldable pub words_behind : List ℕ → ℕ → List (List ℕ)
+words_behind text end = if nat_lt end (length text) then words_from text (end + 1) else []
+
 abbrev pub unless_prohibited : Option ℕ → List ℕ → Result (List ℕ) PrivFault
 unless_prohibited (Some n) set = Err (PrivProhibited n)
 unless_prohibited None set = Ok set
@@ -80,14 +84,14 @@ judged_if_read (Ok set) = judged set
 judged_if_read (Err fault) = Err fault
 
 -- the empty text means `default`
-abbrev pub words_of : List ℕ → List (List ℕ)
-words_of [] = codes "default" ∷ []
-words_of (b ∷ bytes) = words_from (b ∷ bytes) 0
+abbrev pub spoken : List ℕ → List ℕ
+spoken [] = codes "default"
+spoken (b ∷ bytes) = b ∷ bytes
 
 -- the limit set, or the first token that says nothing, or the first privilege that is missing, or the first
 -- that is prohibited
 unfoldable pub limit_of : List ℕ → Result (List ℕ) PrivFault
-limit_of text = judged_if_read (set_of_words (words_of text))
+limit_of text = judged_if_read (set_of_words (words_from (spoken text) 0))
 
 -- a set after one more token
 unfoldable pub applied : Rule → List ℕ → List ℕ

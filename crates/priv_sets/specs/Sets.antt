@@ -1,5 +1,5 @@
 -- Sets of privileges: the numbers that are in them, in the table's order.
-use Rattle.std.specs.Prelude.{ℕ, zero, suc, List, [], ◌∷◌, ◌+◌, ◌==◌, Bool, true, not, ◌&&◌, ◌||◌, filter, map}
+use Rattle.std.specs.Prelude.{ℕ, zero, suc, List, [], ◌∷◌, ◌+◌, ◌++◌, ◌==◌, Bool, true, not, ◌&&◌, ◌||◌, filter, map}
 use Rattle.std.specs.List.{join_with_byte, list_all, list_any}
 use Rattle.std.specs.Int.{bit_at}
 use Rattle.priv_sets.specs.declared.table.Class.{Class}
@@ -49,3 +49,8 @@ print_of set = join_with_byte 44 (map name_of set)
 -- the privileges whose bits are set in a number
 unfoldable pub set_of_bits : ℕ → List ℕ
 set_of_bits bits = set_of (λ n. bit_at bits n == 1)
+
+-- a text with a name behind it, and a comma between the two where there is a text
+abbrev pub with_name : List ℕ → List ℕ → List ℕ
+with_name [] name = name
+with_name (b ∷ text) name = (b ∷ text) ++ (44 ∷ name)

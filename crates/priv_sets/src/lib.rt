@@ -9,3 +9,6 @@ mod table;
 pub use limit::{PrivFault, limit_of};
 pub use set::PrivSet;
 pub use table::{COUNT, number_of};
+
+#[cfg(test)]
+mod tests;

@@ -1,6 +1,6 @@
 //! The limit set that a limitpriv text denotes.
-ghost use Rattle.std.specs.Prelude.{◌≡◌, ◌+◌, ◌<◌, ◌≤◌, ◌∷◌, [], length, position, slice_range};
-ghost use Rattle.priv_sets.specs.Limit.{applied, is_comma, judged, limit_of, named, rule_of, set_of_words, words_from};
+ghost use Rattle.std.specs.Prelude.{◌≡◌, ◌≤◌, ◌∷◌, length, position, slice_range};
+ghost use Rattle.priv_sets.specs.Limit.{applied, is_comma, judged, limit_of, named, rule_of, set_of_words, spoken, words_behind, words_from};
 
 use crate::set::PrivSet;
 use crate::table::{Class, name_text, number_of};
@@ -28,6 +28,7 @@ pub(crate) struct Rule {
 }
 
 // What a token without its sign covers.
+#[tactic(auto, unfolding(crate::specs::Limit::named))]
 fn named(word: &[u8]) -> Option<PrivSet>
     ensures { result ≡ named word.now }
 {
@@ -40,6 +41,7 @@ fn named(word: &[u8]) -> Option<PrivSet>
     }
 }
 
+#[tactic(auto, unfolding(crate::specs::Limit::rule_of))]
 fn rule_of(is_first: bool, word: &[u8]) -> Option<Rule>
     ensures { result ≡ rule_of is_first word.now }
 {
@@ -59,6 +61,7 @@ fn rule_of(is_first: bool, word: &[u8]) -> Option<Rule>
     }
 }
 
+#[tactic(auto, unfolding(crate::specs::Limit::applied))]
 fn applied(rule: &Rule, set: &PrivSet) -> PrivSet
     ensures { result ≡ applied rule.now set.now }
 {
@@ -80,8 +83,7 @@ fn token_end(text: &[u8], place: usize) -> usize
     requires { place ≤ length text.now }
     ensures after { place ≤ result }
     ensures within { result ≤ length text.now }
-    ensures between { result < length text.now → words_from text.now place ≡ slice_range text.now place result ∷ words_from text.now (result + 1) }
-    ensures last { result ≡ length text.now → words_from text.now place ≡ slice_range text.now place result ∷ [] }
+    ensures token { words_from text.now place ≡ slice_range text.now place result ∷ words_behind text.now result }
 {
     match next_comma(&text[place..]) {
         Some(size) => place + size,
@@ -109,6 +111,7 @@ fn set_of_words(text: &[u8]) -> Result<PrivSet, PrivFault>
 }
 
 // The set, where it has what it must and nothing that it must not have.
+#[tactic(auto, unfolding(crate::specs::Limit::judged))]
 fn judged(set: PrivSet) -> Result<PrivSet, PrivFault>
     ensures { result ≡ judged set }
 {
@@ -121,16 +124,24 @@ fn judged(set: PrivSet) -> Result<PrivSet, PrivFault>
     Ok(set)
 }
 
+fn spoken(text: &[u8]) -> &[u8]
+    ensures { result.now ≡ spoken text.now }
+{
+    match text {
+        [] => b"default",
+        _ => text,
+    }
+}
+
 /// The limit set that a limitpriv text denotes: its tokens, with a comma between two, are `default` (only as
 /// the first), `all` and names of privileges(7), the last two with `!` or `-` before them to take away. They
 /// apply from left to right, and the empty text means `default`. It takes no memory.
+#[tactic(auto, unfolding(crate::specs::Limit::limit_of))]
 pub fn limit_of(text: &[u8]) -> Result<PrivSet, PrivFault>
     ensures { result ≡ limit_of text.now }
 {
-    let set = if text.is_empty() {
-        set_of_words(b"default")?
-    } else {
-        set_of_words(text)?
-    };
-    judged(set)
+    match set_of_words(spoken(text)) {
+        Ok(set) => judged(set),
+        Err(fault) => Err(fault),
+    }
 }

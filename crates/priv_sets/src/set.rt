@@ -1,7 +1,7 @@
 //! Sets of privileges.
-ghost use Rattle.std.specs.Prelude.{◌≡◌, ◌<◌, [], IfOk, slice_get};
+ghost use Rattle.std.specs.Prelude.{◌≡◌, ◌<◌, [], IfOk, OnOk, slice_get};
 ghost use Rattle.priv_sets.specs.declared.table.Class.TheVariants.{Default, Required};
-ghost use Rattle.priv_sets.specs.Sets.{all_of, both, default_set, everything, has, only, print_of, union, within, without};
+ghost use Rattle.priv_sets.specs.Sets.{all_of, both, default_set, everything, has, only, print_of, set_of_bits, union, with_name, within, without};
 
 use crate::table::{Class, is_of, row};
 use std::alloc::{AllocError, Global};
@@ -23,6 +23,24 @@ impl Model for PrivSet {
     ghost view = { λ s. set_of_bits s.bits };
 
     ghost invariant = { λ s. s.bits < 2 ^ 40 };
+}
+
+// Whether the bit of a number is set.
+fn is_set(bits: u64, number: u8) -> bool
+    ensures { result ≡ has (set_of_bits bits) number }
+{
+    number < 40 && bits >> number & 1 == 1
+}
+
+// Appends a name, behind a comma where others stand before it.
+fn push_name(text: &mut Vec<u8>, name: &[u8]) -> Result<(), AllocError>
+    ensures { OnOk result (text.new.items ≡ with_name text.old.items name.now) }
+{
+    if !text.is_empty() {
+        text.push(b',')?;
+    }
+    text.extend_from_slice(name)?;
+    Ok(())
 }
 
 impl PrivSet {
@@ -78,7 +96,7 @@ impl PrivSet {
     pub fn has(&self, number: u8) -> bool
         ensures { result ≡ has self.now number }
     {
-        number < 40 && self.bits >> number & 1 == 1
+        is_set(self.bits, number)
     }
 
     /// Whether all that is in this set is in the other one.
@@ -111,6 +129,7 @@ impl PrivSet {
         set
     }
 
+    #[tactic(auto, unfolding(crate::specs::Sets::default_set))]
     pub(crate) fn default_set() -> PrivSet
         ensures { result ≡ default_set }
     {
@@ -121,13 +140,11 @@ impl PrivSet {
     pub fn print(&self, alloc: Global) -> Result<Vec<u8>, AllocError>
         ensures { IfOk result (λ text. text.items ≡ print_of self.now) }
     {
+        let bits = self.bits;
         let mut text = Vec::new(alloc);
         for number in 0..40 {
-            if self.has(number) {
-                if !text.is_empty() {
-                    text.push(b',')?;
-                }
-                text.extend_from_slice(row(number).name.as_bytes())?;
+            if is_set(bits, number) {
+                push_name(&mut text, row(number).name.as_bytes())?;
             }
         }
         Ok(text)

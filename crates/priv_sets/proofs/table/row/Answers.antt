@@ -1,4 +1,4 @@
-use Rattle.std.proofs.Common.{◌<◌, arith, length, rules}
+use Rattle.std.proofs.Common.{◌<◌, arith, length}
 use Rattle.std.proofs.lemmas.Option.{slice_get-get_or}
 use Rattle.priv_sets.proofs.Rows.{count_of_rows, row_at}
 use Rattle.priv_sets.proofs.table.row.Goals as goal

@@ -1,4 +1,4 @@
-use Rattle.std.proofs.Common.{◌≡◌, [], sym, arith}
+use Rattle.std.proofs.Common.{◌≡◌, [], refl, sym, arith}
 use Rattle.priv_sets.proofs.Bits.{bits-none, first-bits}
 use Rattle.priv_sets.proofs.set.PrivSet.first.Goals as goal
 
