@@ -49,6 +49,7 @@ pub fn blank(alloc: Global) -> ZoneConfig
 {
     ZoneConfig {
         contents: Contents::blank(alloc),
+        // `create -b`, and the lines of autoboot and ip-type.
         size: 48,
     }
 }
