@@ -2,8 +2,10 @@
 //! flaw of the list of all flaws, in their order, or Ok exactly where that list is empty.
 #![tactic(auto)]
 
+mod config;
 mod flaw;
 mod resources;
 mod values;
 
+pub use config::{matches, verify};
 pub use flaw::Flaw;

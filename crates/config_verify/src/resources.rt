@@ -1,9 +1,9 @@
 //! The flaws of resources.
-ghost use Rattle.std.specs.Prelude.{◌≡◌, [], not};
+ghost use Rattle.std.specs.Prelude.{◌≡◌, ◌<◌, ◌≤◌, ◌^◌, ◌&&◌, ◌||◌, [], bytes_eq, length, not};
 ghost use Rattle.std.specs.List.{flat_map, list_any};
-ghost use Rattle.config_terms.specs.declared.fields.Field.TheVariants.{NetPhysical};
-ghost use Rattle.config_verify.specs.Flaws.{claimed, dir_flaws, each_behind, first, flaws_of_attr, flaws_of_dataset, flaws_of_device, flaws_of_fs, flaws_of_net, flaws_of_rctl, has_dir, has_form, has_special, is_claimed, needed, needs_address, is_unset, Finds};
-ghost use Rattle.config_verify.specs.Values.{is_address, is_plain_address};
+ghost use Rattle.config_verify.specs.declared.flaw.Flaw.TheVariants.{AttrForm, BadAddress, NetForm};
+ghost use Rattle.config_verify.specs.Flaws.{claimed, dir_flaws, each_behind, flaws_of_attr, flaws_of_dataset, flaws_of_device, flaws_of_fs, flaws_of_net, flaws_of_rctl, has_dir, has_form, has_special, is_claimed, is_unset, needed, unless, Finds};
+ghost use Rattle.config_verify.specs.Values.{is_address, is_of_form, is_plain_address};
 
 use crate::Flaw;
 use crate::values::{is_address, is_of_form, is_plain_address, without_prefix};
@@ -12,7 +12,7 @@ use std::alloc::Global;
 use zn_base::{AbsPath, Text, is_path};
 
 fn needed(is_set: bool, kind: Kind, name: Named) -> Result<(), Flaw>
-    ensures { result ≡ first (needed is_set kind name) }
+    ensures { Finds (needed is_set kind name) result }
 {
     if is_set {
         Ok(())
@@ -72,11 +72,179 @@ fn flaw_of_fs(alloc: Global, before: &[Fs], fs: &Fs) -> Result<(), Flaw>
     dir_flaw(alloc, before, &fs.dir)
 }
 
-pub(crate) fn flaw_of_all_fs(alloc: Global, all: &[Fs]) -> Result<(), Flaw>
+pub(crate) fn flaw_of_mounts(alloc: Global, all: &[Fs]) -> Result<(), Flaw>
     ensures { Finds (each_behind flaws_of_fs [] all.now) result }
 {
     for place in 0..all.len() {
         flaw_of_fs(alloc, &all[..place], &all[place])?;
+    }
+    Ok(())
+}
+
+fn claimed(ip: IpType, net: &Net) -> &[u8]
+    ensures { result.now ≡ claimed ip net.now }
+{
+    match ip {
+        IpType::Exclusive => net.physical.bytes(),
+        IpType::Shared => without_prefix(net.address.bytes()),
+    }
+}
+
+fn has_form(ip: IpType, net: &Net) -> bool
+    ensures { result ≡ has_form ip net.now }
+{
+    match ip {
+        IpType::Shared => is_set(&net.address) && !is_set(&net.allowed),
+        IpType::Exclusive => !is_set(&net.address),
+    }
+}
+
+fn some_claims(ip: IpType, before: &[Net], item: &[u8]) -> bool
+    ensures { result ≡ list_any (λ m. bytes_eq (claimed ip m) item.now) before.now }
+{
+    before.iter().any(|net| claimed(ip, net) == item)
+}
+
+#[tactic(auto, unfolding(crate::specs::Flaws::is_claimed))]
+fn is_claimed(ip: IpType, before: &[Net], net: &Net) -> bool
+    ensures { result ≡ is_claimed ip before.now net.now }
+{
+    let item = claimed(ip, net);
+    !item.is_empty() && some_claims(ip, before, item)
+}
+
+fn suits(ip: IpType, before: &[Net], net: &Net) -> bool
+    ensures { result ≡ (has_form ip net.now && not (is_claimed ip before.now net.now)) }
+{
+    has_form(ip, net) && !is_claimed(ip, before, net)
+}
+
+fn form_flaw(suits: bool, place: usize) -> Result<(), Flaw>
+    requires { place < 2 ^ 32 }
+    ensures { Finds (unless suits (NetForm place)) result }
+{
+    if suits {
+        Ok(())
+    } else {
+        Err(Flaw::NetForm(place as u32))
+    }
+}
+
+fn is_unset_or_address(text: &Text) -> bool
+    ensures { result ≡ (is_unset text.now || is_address text.now) }
+{
+    !is_set(text) || is_address(text.bytes())
+}
+
+fn is_unset_or_router(text: &Text) -> bool
+    ensures { result ≡ (is_unset text.now || is_plain_address text.now) }
+{
+    !is_set(text) || is_plain_address(text.bytes())
+}
+
+fn address_flaw(alloc: Global, is_right: bool, text: &Text) -> Result<(), Flaw>
+    ensures { Finds (unless is_right (BadAddress text.now)) result }
+{
+    if is_right {
+        Ok(())
+    } else {
+        Err(Flaw::BadAddress(text.copy(alloc)?))
+    }
+}
+
+fn flaw_of_net(alloc: Global, ip: IpType, before: &[Net], net: &Net) -> Result<(), Flaw>
+    requires { length before.now < 2 ^ 32 }
+    ensures { Finds (flaws_of_net ip before.now net.now) result }
+{
+    needed(is_set(&net.physical), Kind::Net, Named::One(Field::NetPhysical))?;
+    form_flaw(suits(ip, before, net), before.len())?;
+    address_flaw(alloc, is_unset_or_address(&net.address), &net.address)?;
+    address_flaw(alloc, is_unset_or_address(&net.allowed), &net.allowed)?;
+    address_flaw(alloc, is_unset_or_router(&net.defrouter), &net.defrouter)
+}
+
+pub(crate) fn flaw_of_nets(alloc: Global, ip: IpType, all: &[Net]) -> Result<(), Flaw>
+    requires { length all.now ≤ 4294967295 }
+    ensures { Finds (each_behind (flaws_of_net ip) [] all.now) result }
+{
+    for place in 0..all.len() {
+        flaw_of_net(alloc, ip, &all[..place], &all[place])?;
+    }
+    Ok(())
+}
+
+#[tactic(auto, unfolding(crate::specs::Flaws::flaws_of_device))]
+fn flaw_of_device(device: &Text) -> Result<(), Flaw>
+    ensures { Finds (flaws_of_device device.now) result }
+{
+    needed(is_set(device), Kind::Device, Named::One(Field::DeviceMatch))
+}
+
+pub(crate) fn flaw_of_devices(all: &[Text]) -> Result<(), Flaw>
+    ensures { Finds (flat_map flaws_of_device all.now) result }
+{
+    for place in 0..all.len() {
+        flaw_of_device(&all[place])?;
+    }
+    Ok(())
+}
+
+fn flaw_of_rctl(rctl: &Rctl) -> Result<(), Flaw>
+    ensures { Finds (flaws_of_rctl rctl.now) result }
+{
+    needed(is_set(&rctl.name), Kind::Rctl, Named::One(Field::RctlName))?;
+    needed(rctl.values.len() > 0, Kind::Rctl, Named::Many)
+}
+
+pub(crate) fn flaw_of_rctls(all: &[Rctl]) -> Result<(), Flaw>
+    ensures { Finds (flat_map flaws_of_rctl all.now) result }
+{
+    for place in 0..all.len() {
+        flaw_of_rctl(&all[place])?;
+    }
+    Ok(())
+}
+
+fn value_flaw(alloc: Global, attr: &Attr) -> Result<(), Flaw>
+    ensures { Finds (unless (is_of_form attr.now.form attr.now.value) (AttrForm attr.now.name)) result }
+{
+    if is_of_form(attr.form.bytes(), attr.value.bytes()) {
+        Ok(())
+    } else {
+        Err(Flaw::AttrForm(attr.name.copy(alloc)?))
+    }
+}
+
+fn flaw_of_attr(alloc: Global, attr: &Attr) -> Result<(), Flaw>
+    ensures { Finds (flaws_of_attr attr.now) result }
+{
+    needed(is_set(&attr.name), Kind::Attr, Named::One(Field::AttrName))?;
+    needed(is_set(&attr.form), Kind::Attr, Named::One(Field::AttrType))?;
+    needed(is_set(&attr.value), Kind::Attr, Named::One(Field::AttrValue))?;
+    value_flaw(alloc, attr)
+}
+
+pub(crate) fn flaw_of_attrs(alloc: Global, all: &[Attr]) -> Result<(), Flaw>
+    ensures { Finds (flat_map flaws_of_attr all.now) result }
+{
+    for place in 0..all.len() {
+        flaw_of_attr(alloc, &all[place])?;
+    }
+    Ok(())
+}
+
+#[tactic(auto, unfolding(crate::specs::Flaws::flaws_of_dataset))]
+fn flaw_of_dataset(dataset: &Text) -> Result<(), Flaw>
+    ensures { Finds (flaws_of_dataset dataset.now) result }
+{
+    needed(is_set(dataset), Kind::Dataset, Named::One(Field::DatasetName))
+}
+
+pub(crate) fn flaw_of_datasets(all: &[Text]) -> Result<(), Flaw>
+    ensures { Finds (flat_map flaws_of_dataset all.now) result }
+{
+    for place in 0..all.len() {
+        flaw_of_dataset(&all[place])?;
     }
     Ok(())
 }

@@ -1,5 +1,5 @@
 //! Addresses, and the values of attributes.
-ghost use Rattle.std.specs.Prelude.{◌≡◌, ◌+◌, ◌<◌, ◌≤◌, drop, length, nat_le, position};
+ghost use Rattle.std.specs.Prelude.{◌≡◌, ◌+◌, ◌<◌, ◌&&◌, drop, length, position};
 ghost use Rattle.std.specs.Char.{is_ascii_digit};
 ghost use Rattle.std.specs.List.{list_all};
 ghost use Rattle.zn_base.specs.Path.{is_slash};
@@ -39,6 +39,13 @@ fn behind(text: &[u8], place: usize) -> &[u8]
     &text[place + 1..]
 }
 
+fn are_octets(first: &[u8], second: &[u8], third: &[u8], last: &[u8]) -> bool
+    ensures { result ≡ (is_up_to 255 first.now && is_up_to 255 second.now && is_up_to 255 third.now && is_up_to 255 last.now) }
+{
+    is_up_to(255, first) && is_up_to(255, second) && is_up_to(255, third) && is_up_to(255, last)
+}
+
+#[tactic(auto, using(crate::proofs::Addresses::no_dot, crate::proofs::Addresses::one_dot, crate::proofs::Addresses::two_dots, crate::proofs::Addresses::four_dots, crate::proofs::Addresses::three_dots))]
 pub(crate) fn is_plain_address(text: &[u8]) -> bool
     ensures { result ≡ is_plain_address text.now }
 {
@@ -54,11 +61,15 @@ pub(crate) fn is_plain_address(text: &[u8]) -> bool
         return false;
     };
     let last = behind(last_two, third);
-    next_dot(last).is_none()
-        && is_up_to(255, &text[..first])
-        && is_up_to(255, &last_three[..second])
-        && is_up_to(255, &last_two[..third])
-        && is_up_to(255, last)
+    if next_dot(last).is_some() {
+        return false;
+    }
+    are_octets(
+        &text[..first],
+        &last_three[..second],
+        &last_two[..third],
+        last,
+    )
 }
 
 #[tactic(auto, unfolding(crate::specs::Values::is_address))]

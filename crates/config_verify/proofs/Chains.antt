@@ -1,0 +1,32 @@
+-- The first of several flaws.
+use Rattle.std.proofs.Common.{◌≡◌, ◌∙◌, ◌+◌, ◌++◌, ◌<◌, ◌≤◌, ◌⊎◌, ℕ, List, [], ◌∷◌, Option, Some, None, Result, Ok, Err, length, get_or, take, drop, refl, sym, ap, inl, inr, subst, arith, append-nil}
+use Rattle.std.specs.List.{flat_map}
+use Rattle.std.proofs.lemmas.List.{drop_more, drop_all, take_more}
+use Rattle.config_verify.specs.declared.flaw.Flaw.{Flaw}
+use Rattle.config_verify.specs.declared.flaw.Flaw.TheVariants.{Memory}
+use Rattle.config_verify.specs.Flaws.{each_behind, first, Finds}
+
+-- a flaw of the first of two lists is the first flaw
+pub fails : (a b : List Flaw) (e : Flaw) → Finds a (Err e) → Finds (a ++ b) (Err e)
+fails [] b e (inl memory) = inl memory
+fails [] b e (inr said) = cc
+fails (flaw ∷ a) b e h = h
+
+-- where the first has none, it is that of the second
+pub passes : (a b : List Flaw) (x : Unit {0}) (answer : Result (Unit {0}) Flaw) → Finds a (Ok x) → Finds b answer → Finds (a ++ b) answer
+passes [] b x answer h found = found
+passes (flaw ∷ a) b x answer h found = cc
+
+pub alone : (a : List Flaw) (answer : Result (Unit {0}) Flaw) → Finds a answer → Finds (a ++ []) answer
+alone a answer h = rw append-nil h
+
+-- the flaws from a place of a list on
+pub each_at : {A : Type 0} (flaws : List A → A → List Flaw) (xs : List A) (place : ℕ) (d : A) → place < length xs
+    → each_behind flaws (take place xs) (drop place xs) ≡ flaws (take place xs) (get_or xs place d) ++ each_behind flaws (take (place + 1) xs) (drop (place + 1) xs)
+each_at flaws xs place d inside =
+    ap (each_behind flaws (take place xs)) (drop_more xs place d inside)
+    ∙ ap (λ before. flaws (take place xs) (get_or xs place d) ++ each_behind flaws before (drop (place + 1) xs)) (sym (take_more xs place d inside))
+
+pub flat_at : {A : Type 0} (flaws : A → List Flaw) (xs : List A) (place : ℕ) (d : A) → place < length xs
+    → flat_map flaws (drop place xs) ≡ flaws (get_or xs place d) ++ flat_map flaws (drop (place + 1) xs)
+flat_at flaws xs place d inside = ap (flat_map flaws) (drop_more xs place d inside)
