@@ -2,23 +2,30 @@
 use Rattle.std.proofs.Common.{◌≡◌, ◌∙◌, ◌+◌, ◌++◌, ◌<◌, ◌≤◌, ◌⊎◌, ℕ, List, [], ◌∷◌, Option, Some, None, Result, Ok, Err, length, get_or, take, drop, refl, sym, ap, inl, inr, subst, arith, append-nil}
 use Rattle.std.specs.List.{flat_map}
 use Rattle.std.proofs.lemmas.List.{drop_more, drop_all, take_more}
+use Rattle.zn_base.specs.Answers.{AnswersUnless}
 use Rattle.config_verify.specs.declared.flaw.Flaw.{Flaw}
 use Rattle.config_verify.specs.declared.flaw.Flaw.TheVariants.{Memory}
 use Rattle.config_verify.specs.Flaws.{each_behind, first, Finds}
 
 -- a flaw of the first of two lists is the first flaw
-pub fails : (a b : List Flaw) (e : Flaw) → Finds a (Err e) → Finds (a ++ b) (Err e)
-fails [] b e (inl memory) = inl memory
-fails [] b e (inr said) = cc
-fails (flaw ∷ a) b e h = h
+fails_in : (a b : List Flaw) (e : Flaw) → AnswersUnless Memory (first a) (Err e) → AnswersUnless Memory (first (a ++ b)) (Err e)
+fails_in [] b e (inl memory) = inl memory
+fails_in [] b e (inr said) = absurd (cc)
+fails_in (flaw ∷ a) b e h = h
+
+pub fails : {a b : List Flaw} {e : Flaw} → Finds a (Err e) → Finds (a ++ b) (Err e)
+fails {a} {b} {e} h = record { answers = fails_in a b e h.answers }
 
 -- where the first has none, it is that of the second
-pub passes : (a b : List Flaw) (x : Unit {0}) (answer : Result (Unit {0}) Flaw) → Finds a (Ok x) → Finds b answer → Finds (a ++ b) answer
-passes [] b x answer h found = found
-passes (flaw ∷ a) b x answer h found = cc
+passes_in : (a b : List Flaw) (x : Unit {0}) (answer : Result (Unit {0}) Flaw) → first a ≡ Ok x → AnswersUnless Memory (first b) answer → AnswersUnless Memory (first (a ++ b)) answer
+passes_in [] b x answer h found = found
+passes_in (flaw ∷ a) b x answer h found = absurd (cc)
 
-pub alone : (a : List Flaw) (answer : Result (Unit {0}) Flaw) → Finds a answer → Finds (a ++ []) answer
-alone a answer h = rw append-nil h
+pub passes : {a b : List Flaw} {x : Unit {0}} {answer : Result (Unit {0}) Flaw} → Finds a (Ok x) → Finds b answer → Finds (a ++ b) answer
+passes {a} {b} {x} {answer} h found = record { answers = passes_in a b x answer h.answers found.answers }
+
+pub alone : {a : List Flaw} {answer : Result (Unit {0}) Flaw} → Finds a answer → Finds (a ++ []) answer
+alone {a} h = rw append-nil h
 
 -- the flaws from a place of a list on
 pub each_at : {A : Type 0} (flaws : List A → A → List Flaw) (xs : List A) (place : ℕ) (d : A) → place < length xs

@@ -31,6 +31,9 @@ unless holds flaw = if holds then [] else flaw ∷ []
 abbrev pub needed : Bool → Kind → Named → List Flaw
 needed is_set k name = unless is_set (MissingProperty k name)
 
+abbrev pub needs_text : List ℕ → Kind → Named → List Flaw
+needs_text text k name = needed (not (is_unset text)) k name
+
 -- the flaws of each of a list, given those before it
 abbrev pub each_behind : {A : Type 0} → (List A → A → List Flaw) → List A → List A → List Flaw
 each_behind flaws before [] = []
@@ -56,7 +59,7 @@ unfoldable pub flaws_of_fs : List fs.Fs → fs.Fs → List Flaw
 flaws_of_fs before f =
     needed (is_some f.dir) kind.Fs (One FsDir)
     ++ (needed (has_special f) kind.Fs (One FsSpecial)
-    ++ (needed (not (is_unset f.fstype)) kind.Fs (One FsType)
+    ++ (needs_text f.fstype kind.Fs (One FsType)
     ++ dir_flaws before f.dir))
 
 -- what a net takes for its zone alone: an interface, or in a shared zone an address
@@ -72,33 +75,36 @@ has_form Exclusive n = is_unset n.address
 unfoldable pub is_claimed : IpType → List net.Net → net.Net → Bool
 is_claimed ip before n = not (is_unset (claimed ip n)) && list_any (λ m. bytes_eq (claimed ip m) (claimed ip n)) before
 
+abbrev pub form_flaws : IpType → List net.Net → net.Net → List Flaw
+form_flaws ip before n = unless (has_form ip n && not (is_claimed ip before n)) (NetForm (length before))
+
 abbrev pub needs_address : (List ℕ → Bool) → List ℕ → List Flaw
 needs_address is_right text = unless (is_unset text || is_right text) (BadAddress text)
 
 unfoldable pub flaws_of_net : IpType → List net.Net → net.Net → List Flaw
 flaws_of_net ip before n =
-    needed (not (is_unset n.physical)) kind.Net (One NetPhysical)
-    ++ (unless (has_form ip n && not (is_claimed ip before n)) (NetForm (length before))
+    needs_text n.physical kind.Net (One NetPhysical)
+    ++ (form_flaws ip before n
     ++ (needs_address is_address n.address
     ++ (needs_address is_address n.allowed
     ++ needs_address is_plain_address n.defrouter)))
 
 unfoldable pub flaws_of_device : List ℕ → List Flaw
-flaws_of_device device = needed (not (is_unset device)) kind.Device (One DeviceMatch)
+flaws_of_device device = needs_text device kind.Device (One DeviceMatch)
 
 unfoldable pub flaws_of_rctl : rctl.Rctl → List Flaw
 flaws_of_rctl r =
-    needed (not (is_unset r.name)) kind.Rctl (One RctlName) ++ needed (not (length r.values == 0)) kind.Rctl Many
+    needs_text r.name kind.Rctl (One RctlName) ++ needed (not (length r.values == 0)) kind.Rctl Many
 
 unfoldable pub flaws_of_attr : attr.Attr → List Flaw
 flaws_of_attr a =
-    needed (not (is_unset a.name)) kind.Attr (One AttrName)
-    ++ (needed (not (is_unset a.form)) kind.Attr (One AttrType)
-    ++ (needed (not (is_unset a.value)) kind.Attr (One AttrValue)
+    needs_text a.name kind.Attr (One AttrName)
+    ++ (needs_text a.form kind.Attr (One AttrType)
+    ++ (needs_text a.value kind.Attr (One AttrValue)
     ++ unless (is_of_form a.form a.value) (AttrForm a.name)))
 
 unfoldable pub flaws_of_dataset : List ℕ → List Flaw
-flaws_of_dataset dataset = needed (not (is_unset dataset)) kind.Dataset (One DatasetName)
+flaws_of_dataset dataset = needs_text dataset kind.Dataset (One DatasetName)
 
 abbrev pub joined : List (List Flaw) → List Flaw
 joined [] = []
@@ -124,5 +130,5 @@ first [] = Ok tt
 first (flaw ∷ flaws) = Err flaw
 
 -- an answer is the first of some flaws, or Ok where there is none, or want of memory
-abbrev pub Finds : List Flaw → Result (Unit {0}) Flaw → Type 0
-Finds flaws answer = AnswersUnless Memory (first flaws) answer
+pub record Finds (flaws : List Flaw) (answer : Result (Unit {0}) Flaw) : Type 0 where
+  pub answers : AnswersUnless Memory (first flaws) answer

@@ -1,8 +1,11 @@
 //! The flaws of resources.
-ghost use Rattle.std.specs.Prelude.{◌≡◌, ◌<◌, ◌≤◌, ◌^◌, ◌&&◌, ◌||◌, [], bytes_eq, length, not};
+ghost use Rattle.std.specs.Prelude.{◌≡◌, ◌<◌, ◌≤◌, ◌^◌, ◌&&◌, ◌==◌, [], bytes_eq, is_some, length, not};
 ghost use Rattle.std.specs.List.{flat_map, list_any};
-ghost use Rattle.config_verify.specs.declared.flaw.Flaw.TheVariants.{AttrForm, BadAddress, NetForm};
-ghost use Rattle.config_verify.specs.Flaws.{claimed, dir_flaws, each_behind, flaws_of_attr, flaws_of_dataset, flaws_of_device, flaws_of_fs, flaws_of_net, flaws_of_rctl, has_dir, has_form, has_special, is_claimed, is_unset, needed, unless, Finds};
+ghost use Rattle.config_terms.specs.declared.fields.Field.TheVariants.{FsDir, FsSpecial};
+ghost use Rattle.config_terms.specs.declared.fields.Named.TheVariants.{Many, One};
+ghost use Rattle.config_terms.specs.declared.terms.Kind.TheVariants as kind;
+ghost use Rattle.config_verify.specs.declared.flaw.Flaw.TheVariants.{AttrForm};
+ghost use Rattle.config_verify.specs.Flaws.{claimed, dir_flaws, each_behind, flaws_of_attr, flaws_of_dataset, flaws_of_device, flaws_of_fs, flaws_of_net, flaws_of_rctl, form_flaws, has_dir, has_form, has_special, is_claimed, is_unset, needed, needs_address, needs_text, unless, Finds};
 ghost use Rattle.config_verify.specs.Values.{is_address, is_of_form, is_plain_address};
 
 use crate::Flaw;
@@ -26,6 +29,12 @@ fn is_set(text: &Text) -> bool
     ensures { result ≡ not (is_unset text.now) }
 {
     !text.bytes().is_empty()
+}
+
+fn needs_text(text: &Text, kind: Kind, name: Named) -> Result<(), Flaw>
+    ensures { Finds (needs_text text.now kind name) result }
+{
+    needed(is_set(text), kind, name)
 }
 
 #[tactic(auto, unfolding(crate::specs::Flaws::has_special))]
@@ -63,12 +72,24 @@ fn dir_flaw(alloc: Global, before: &[Fs], dir: &Option<AbsPath>) -> Result<(), F
     Ok(())
 }
 
+fn needs_dir(fs: &Fs) -> Result<(), Flaw>
+    ensures { Finds (needed (is_some fs.now.dir) kind.Fs (One FsDir)) result }
+{
+    needed(fs.dir.is_some(), Kind::Fs, Named::One(Field::FsDir))
+}
+
+fn needs_special(fs: &Fs) -> Result<(), Flaw>
+    ensures { Finds (needed (has_special fs.now) kind.Fs (One FsSpecial)) result }
+{
+    needed(has_special(fs), Kind::Fs, Named::One(Field::FsSpecial))
+}
+
 fn flaw_of_fs(alloc: Global, before: &[Fs], fs: &Fs) -> Result<(), Flaw>
     ensures { Finds (flaws_of_fs before.now fs.now) result }
 {
-    needed(fs.dir.is_some(), Kind::Fs, Named::One(Field::FsDir))?;
-    needed(has_special(fs), Kind::Fs, Named::One(Field::FsSpecial))?;
-    needed(is_set(&fs.fstype), Kind::Fs, Named::One(Field::FsType))?;
+    needs_dir(fs)?;
+    needs_special(fs)?;
+    needs_text(&fs.fstype, Kind::Fs, Named::One(Field::FsType))?;
     dir_flaw(alloc, before, &fs.dir)
 }
 
@@ -119,33 +140,31 @@ fn suits(ip: IpType, before: &[Net], net: &Net) -> bool
     has_form(ip, net) && !is_claimed(ip, before, net)
 }
 
-fn form_flaw(suits: bool, place: usize) -> Result<(), Flaw>
-    requires { place < 2 ^ 32 }
-    ensures { Finds (unless suits (NetForm place)) result }
+fn form_flaw(ip: IpType, before: &[Net], net: &Net) -> Result<(), Flaw>
+    requires { length before.now < 2 ^ 32 }
+    ensures { Finds (form_flaws ip before.now net.now) result }
 {
-    if suits {
+    if suits(ip, before, net) {
         Ok(())
     } else {
-        Err(Flaw::NetForm(place as u32))
+        Err(Flaw::NetForm(before.len() as u32))
     }
 }
 
-fn is_unset_or_address(text: &Text) -> bool
-    ensures { result ≡ (is_unset text.now || is_address text.now) }
+fn needs_address(alloc: Global, text: &Text) -> Result<(), Flaw>
+    ensures { Finds (needs_address is_address text.now) result }
 {
-    !is_set(text) || is_address(text.bytes())
+    if !is_set(text) || is_address(text.bytes()) {
+        Ok(())
+    } else {
+        Err(Flaw::BadAddress(text.copy(alloc)?))
+    }
 }
 
-fn is_unset_or_router(text: &Text) -> bool
-    ensures { result ≡ (is_unset text.now || is_plain_address text.now) }
+fn needs_router(alloc: Global, text: &Text) -> Result<(), Flaw>
+    ensures { Finds (needs_address is_plain_address text.now) result }
 {
-    !is_set(text) || is_plain_address(text.bytes())
-}
-
-fn address_flaw(alloc: Global, is_right: bool, text: &Text) -> Result<(), Flaw>
-    ensures { Finds (unless is_right (BadAddress text.now)) result }
-{
-    if is_right {
+    if !is_set(text) || is_plain_address(text.bytes()) {
         Ok(())
     } else {
         Err(Flaw::BadAddress(text.copy(alloc)?))
@@ -156,11 +175,11 @@ fn flaw_of_net(alloc: Global, ip: IpType, before: &[Net], net: &Net) -> Result<(
     requires { length before.now < 2 ^ 32 }
     ensures { Finds (flaws_of_net ip before.now net.now) result }
 {
-    needed(is_set(&net.physical), Kind::Net, Named::One(Field::NetPhysical))?;
-    form_flaw(suits(ip, before, net), before.len())?;
-    address_flaw(alloc, is_unset_or_address(&net.address), &net.address)?;
-    address_flaw(alloc, is_unset_or_address(&net.allowed), &net.allowed)?;
-    address_flaw(alloc, is_unset_or_router(&net.defrouter), &net.defrouter)
+    needs_text(&net.physical, Kind::Net, Named::One(Field::NetPhysical))?;
+    form_flaw(ip, before, net)?;
+    needs_address(alloc, &net.address)?;
+    needs_address(alloc, &net.allowed)?;
+    needs_router(alloc, &net.defrouter)
 }
 
 pub(crate) fn flaw_of_nets(alloc: Global, ip: IpType, all: &[Net]) -> Result<(), Flaw>
@@ -177,7 +196,7 @@ pub(crate) fn flaw_of_nets(alloc: Global, ip: IpType, all: &[Net]) -> Result<(),
 fn flaw_of_device(device: &Text) -> Result<(), Flaw>
     ensures { Finds (flaws_of_device device.now) result }
 {
-    needed(is_set(device), Kind::Device, Named::One(Field::DeviceMatch))
+    needs_text(device, Kind::Device, Named::One(Field::DeviceMatch))
 }
 
 pub(crate) fn flaw_of_devices(all: &[Text]) -> Result<(), Flaw>
@@ -189,11 +208,17 @@ pub(crate) fn flaw_of_devices(all: &[Text]) -> Result<(), Flaw>
     Ok(())
 }
 
+fn needs_values(rctl: &Rctl) -> Result<(), Flaw>
+    ensures { Finds (needed (not (length rctl.now.values == 0)) kind.Rctl Many) result }
+{
+    needed(rctl.values.len() != 0, Kind::Rctl, Named::Many)
+}
+
 fn flaw_of_rctl(rctl: &Rctl) -> Result<(), Flaw>
     ensures { Finds (flaws_of_rctl rctl.now) result }
 {
-    needed(is_set(&rctl.name), Kind::Rctl, Named::One(Field::RctlName))?;
-    needed(rctl.values.len() > 0, Kind::Rctl, Named::Many)
+    needs_text(&rctl.name, Kind::Rctl, Named::One(Field::RctlName))?;
+    needs_values(rctl)
 }
 
 pub(crate) fn flaw_of_rctls(all: &[Rctl]) -> Result<(), Flaw>
@@ -218,9 +243,9 @@ fn value_flaw(alloc: Global, attr: &Attr) -> Result<(), Flaw>
 fn flaw_of_attr(alloc: Global, attr: &Attr) -> Result<(), Flaw>
     ensures { Finds (flaws_of_attr attr.now) result }
 {
-    needed(is_set(&attr.name), Kind::Attr, Named::One(Field::AttrName))?;
-    needed(is_set(&attr.form), Kind::Attr, Named::One(Field::AttrType))?;
-    needed(is_set(&attr.value), Kind::Attr, Named::One(Field::AttrValue))?;
+    needs_text(&attr.name, Kind::Attr, Named::One(Field::AttrName))?;
+    needs_text(&attr.form, Kind::Attr, Named::One(Field::AttrType))?;
+    needs_text(&attr.value, Kind::Attr, Named::One(Field::AttrValue))?;
     value_flaw(alloc, attr)
 }
 
@@ -237,7 +262,7 @@ pub(crate) fn flaw_of_attrs(alloc: Global, all: &[Attr]) -> Result<(), Flaw>
 fn flaw_of_dataset(dataset: &Text) -> Result<(), Flaw>
     ensures { Finds (flaws_of_dataset dataset.now) result }
 {
-    needed(is_set(dataset), Kind::Dataset, Named::One(Field::DatasetName))
+    needs_text(dataset, Kind::Dataset, Named::One(Field::DatasetName))
 }
 
 pub(crate) fn flaw_of_datasets(all: &[Text]) -> Result<(), Flaw>

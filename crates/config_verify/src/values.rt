@@ -61,15 +61,15 @@ pub(crate) fn is_plain_address(text: &[u8]) -> bool
         return false;
     };
     let last = behind(last_two, third);
-    if next_dot(last).is_some() {
-        return false;
+    match next_dot(last) {
+        Some(_) => false,
+        None => are_octets(
+            &text[..first],
+            &last_three[..second],
+            &last_two[..third],
+            last,
+        ),
     }
-    are_octets(
-        &text[..first],
-        &last_three[..second],
-        &last_two[..third],
-        last,
-    )
 }
 
 #[tactic(auto, unfolding(crate::specs::Values::is_address))]
