@@ -39,12 +39,9 @@ fn brand_flaw(alloc: Global, brand: &Text, brands: &[Text]) -> Result<(), Flaw>
     }
 }
 
-/// The first flaw of a configuration, where it has one: of its zonepath, of its brand, which has to be one of
-/// those given, and then of its file systems, nets, devices, resource controls, attributes and datasets.
-pub fn verify(alloc: Global, config: &ZoneConfig, brands: &[Text]) -> Result<(), Flaw>
-    ensures { Finds (flaws brands.now config.now) result }
+fn first_flaw(alloc: Global, contents: &Contents, brands: &[Text]) -> Result<(), Flaw>
+    ensures { Finds (flaws brands.now contents.now) result }
 {
-    let contents = config.contents();
     zonepath_flaw(contents)?;
     brand_flaw(alloc, &contents.brand, brands)?;
     flaw_of_mounts(alloc, contents.fs.as_slice())?;
@@ -53,6 +50,14 @@ pub fn verify(alloc: Global, config: &ZoneConfig, brands: &[Text]) -> Result<(),
     flaw_of_rctls(contents.rctl.as_slice())?;
     flaw_of_attrs(alloc, contents.attr.as_slice())?;
     flaw_of_datasets(contents.dataset.as_slice())
+}
+
+/// The first flaw of a configuration, where it has one: of its zonepath, of its brand, which has to be one of
+/// those given, and then of its file systems, nets, devices, resource controls, attributes and datasets.
+pub fn verify(alloc: Global, config: &ZoneConfig, brands: &[Text]) -> Result<(), Flaw>
+    ensures { Finds (flaws brands.now config.now) result }
+{
+    first_flaw(alloc, config.contents(), brands)
 }
 
 /// Whether a device's match fits the path of a device, as `glob` says. It takes no memory.

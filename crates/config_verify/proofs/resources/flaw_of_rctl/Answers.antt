@@ -7,7 +7,7 @@ pub returns-in_err-needs_text : goal.returns-in_err-needs_text
 unfolding flaws_of_rctl
 returns-in_err-needs_text c =
     let p = err_from_is_err_and c.from_residual.result c.from_residual.ensures.1 in
-    rw (p.1, p.2) (fails c.in_err-needs_text.ensures)
+    rw (p.1, p.2) (fails _ c.in_err-needs_text.ensures)
 
 pub returns : goal.returns
 unfolding flaws_of_rctl
