@@ -114,15 +114,15 @@ joined (flaws ∷ groups) = flaws ++ joined groups
 unfoldable pub flaws : List (List ℕ) → Contents → List Flaw
 flaws brands c =
     joined (
-      unless (is_some c.zonepath) NoZonepath
-      ∷ unless (list_any (bytes_eq c.brand) brands) (UnknownBrand c.brand)
-      ∷ each_behind flaws_of_fs [] c.fs
-      ∷ each_behind (flaws_of_net c.ip) [] c.net
-      ∷ flat_map flaws_of_device c.device
-      ∷ flat_map flaws_of_rctl c.rctl
-      ∷ flat_map flaws_of_attr c.attr
-      ∷ flat_map flaws_of_dataset c.dataset
-      ∷ [])
+    unless (is_some c.zonepath) NoZonepath
+    ∷ unless (list_any (bytes_eq c.brand) brands) (UnknownBrand c.brand)
+    ∷ each_behind flaws_of_fs [] c.fs
+    ∷ each_behind (flaws_of_net c.ip) [] c.net
+    ∷ flat_map flaws_of_device c.device
+    ∷ flat_map flaws_of_rctl c.rctl
+    ∷ flat_map flaws_of_attr c.attr
+    ∷ flat_map flaws_of_dataset c.dataset
+    ∷ [])
 
 -- the first of some flaws, where there is one
 abbrev pub first : List Flaw → Result (Unit {0}) Flaw

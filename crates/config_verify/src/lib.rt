@@ -9,3 +9,6 @@ mod values;
 
 pub use config::{matches, verify};
 pub use flaw::Flaw;
+
+#[cfg(test)]
+mod tests;

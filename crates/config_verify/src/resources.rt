@@ -41,8 +41,7 @@ fn needs_text(text: &Text, kind: Kind, name: Named) -> Result<(), Flaw>
 fn has_special(fs: &Fs) -> bool
     ensures { result ≡ has_special fs.now }
 {
-    is_set(&fs.special)
-        && (fs.fstype.bytes() != b"lofs".as_slice() || is_path(fs.special.bytes()))
+    is_set(&fs.special) && (fs.fstype.bytes() != b"lofs".as_slice() || is_path(fs.special.bytes()))
 }
 
 fn has_dir(fs: &Fs, dir: &[u8]) -> bool
