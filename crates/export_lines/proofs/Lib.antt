@@ -1,0 +1,4 @@
+pub mod Cuts
+pub mod Again
+pub mod Pieces
+pub mod Texts
