@@ -2,3 +2,4 @@ pub mod Cuts
 pub mod Again
 pub mod Pieces
 pub mod Texts
+pub mod Printable
