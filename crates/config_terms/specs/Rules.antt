@@ -1,6 +1,6 @@
 -- What a value may be.
-use Rattle.std.specs.Prelude.{ℕ, List, [], ◌∷◌, length, take, Bool, true, false, nat_le, not, is_some, ◌&&◌, ◌||◌, ◌==◌, codes}
-use Rattle.std.specs.List.{list_all, list_any}
+use Rattle.std.specs.Prelude.{ℕ, List, [], ◌∷◌, length, Bool, true, false, nat_le, nat_eq, not, is_some, ◌&&◌, ◌||◌, ◌==◌, codes}
+use Rattle.std.specs.List.{list_all, list_any, starts_with}
 use Rattle.std.specs.Str.{bytes_eq}
 use Rattle.zn_base.specs.Path.{is_path}
 use Rattle.config_terms.specs.declared.rules.Rule.{Rule}
@@ -53,7 +53,7 @@ obeys TypeWord value = is_run is_alphanumeric 1 15 value
 obeys OptionWord value = is_run is_option_byte 1 63 value
 obeys ControlName value = is_run is_name_byte 1 63 value
 obeys AttributeName value =
-    is_run is_name_byte 1 63 value && begins_in is_alphanumeric value && not (bytes_eq (take 4 value) (codes "zone"))
+    is_run is_name_byte 1 63 value && begins_in is_alphanumeric value && not (starts_with nat_eq value (codes "zone"))
 obeys AttributeForm value = is_one_of (codes "int" ∷ codes "uint" ∷ codes "boolean" ∷ codes "string" ∷ []) value
 
 -- unset, or a value that the rule allows

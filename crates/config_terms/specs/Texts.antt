@@ -52,10 +52,13 @@ unfoldable pub options_text : List (List ℕ) → List ℕ
 options_text [] = codes "[]"
 options_text (o ∷ os) = bracketed o os
 
+abbrev pub bracketed_line : List ℕ → List (List ℕ) → List ℕ
+bracketed_line o os = joined (codes "add options " ∷ bracketed o os ∷ codes "\n" ∷ [])
+
 -- the line of the options, where there are any
 unfoldable pub options_line : List (List ℕ) → List ℕ
 options_line [] = []
-options_line (o ∷ os) = joined (codes "add options " ∷ options_text (o ∷ os) ∷ codes "\n" ∷ [])
+options_line (o ∷ os) = bracketed_line o os
 
 -- the lines of the simple properties of a kind, by what each shows
 unfoldable pub settings : Kind → (Field → List ℕ) → List ℕ

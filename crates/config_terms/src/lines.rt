@@ -1,7 +1,7 @@
 //! The lines of lists, and how long they are.
 ghost use Rattle.std.specs.Prelude.{◌≡◌, ◌+◌, ◌*◌, ◌^◌, ◌≤◌, ◌++◌, ◌∷◌, length, OnOk};
 ghost use Rattle.std.specs.List.{flat_map};
-ghost use Rattle.config_terms.specs.Texts.{action, limit_text, limit_line, limit_lines, bracketed, options_text, options_line};
+ghost use Rattle.config_terms.specs.Texts.{action, limit_text, limit_line, limit_lines, bracketed, bracketed_line, options_text, options_line};
 
 use crate::texts::{bytes_of, push_pieces};
 use crate::Limit;
@@ -128,29 +128,27 @@ pub fn push_options(out: &mut Vec<u8>, options: &[Text]) -> Result<(), AllocErro
     push_bracketed(out, first.bytes(), more)
 }
 
-#[tactic(auto, unfolding(crate::specs::Texts::options_text))]
-fn options_length(options: &[Text]) -> usize
-    requires { length options.now ≤ 4294967295 }
-    ensures same { result ≡ length (options_text options.now) }
-    ensures bound { result ≤ 2 ^ 45 }
+fn push_bracketed_line(
+    out: &mut Vec<u8>,
+    first: &[u8],
+    more: &[Text],
+) -> Result<(), AllocError>
+    ensures { OnOk result (out.new.items ≡ out.old.items ++ bracketed_line first.now more.now) }
 {
-    let [first, more @ ..] = options else {
-        return 2;
-    };
-    2 + bytes_of(first).len() + more_options_length(more)
+    out.extend_from_slice(b"add options ")?;
+    push_bracketed(out, first, more)?;
+    out.push(b'\n')?;
+    Ok(())
 }
 
 #[tactic(auto, unfolding(crate::specs::Texts::options_line))]
 pub(crate) fn push_options_line(out: &mut Vec<u8>, options: &[Text]) -> Result<(), AllocError>
     ensures { OnOk result (out.new.items ≡ out.old.items ++ options_line options.now) }
 {
-    if options.is_empty() {
+    let [first, more @ ..] = options else {
         return Ok(());
-    }
-    out.extend_from_slice(b"add options ")?;
-    push_options(out, options)?;
-    out.push(b'\n')?;
-    Ok(())
+    };
+    push_bracketed_line(out, first.bytes(), more)
 }
 
 #[tactic(auto, unfolding(crate::specs::Texts::options_line))]
@@ -159,8 +157,8 @@ pub(crate) fn options_line_length(options: &[Text]) -> usize
     ensures same { result ≡ length (options_line options.now) }
     ensures bound { result ≤ 2 ^ 46 }
 {
-    if options.is_empty() {
+    let [first, more @ ..] = options else {
         return 0;
-    }
-    13 + options_length(options)
+    };
+    15 + bytes_of(first).len() + more_options_length(more)
 }

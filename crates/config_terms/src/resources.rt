@@ -174,11 +174,12 @@ impl Resource {
         let Value::Simple(text) = value else {
             return Err(ConfigFault::BadValue);
         };
-        if !field.rule().allows(text.bytes()) {
+        let bytes = text.bytes();
+        if !field.rule().allows(bytes) {
             return Err(ConfigFault::BadValue);
         }
         match field {
-            Field::FsDir => self.put_dir(path_kept(alloc, text.bytes())?),
+            Field::FsDir => self.put_dir(path_kept(alloc, bytes)?),
             _ => self.put(field, text.copy(alloc)?),
         }
         Ok(())
