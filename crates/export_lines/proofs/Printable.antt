@@ -142,6 +142,9 @@ abbrev pub IsOfText : Rule → Type 0
 IsOfText Number = ⊥
 IsOfText rule = Unit {0}
 
+first_holds : (a b : Bool) → (a && b) ≡ true → a ≡ true
+first_holds a b h = let h : (a ≡ true) × (b ≡ true) = and_parts a b h in h.0
+
 -- what a rule allows is a text
 pub obeys-text : (rule : Rule) (v : List ℕ) → IsOfText rule → obeys rule v ≡ true → is_text v ≡ true
 unfolding obeys
@@ -157,9 +160,8 @@ obeys-text TypeWord v t h = run_text is_alphanumeric 1 15 v letter (omega arith)
 obeys-text OptionWord v t h = run_text is_option_byte 1 63 v option_byte (omega arith) h
 obeys-text ControlName v t h = run_text is_name_byte 1 63 v name_byte (omega arith) h
 obeys-text AttributeName v t h =
-    let h : ((is_run is_name_byte 1 63 v && begins_in is_alphanumeric v) ≡ true) × (not (bytes_eq (take 4 v) (codes "zone")) ≡ true) = and_parts _ _ h in
-    let g : (is_run is_name_byte 1 63 v ≡ true) × (begins_in is_alphanumeric v ≡ true) = and_parts _ _ h.0 in
-    run_text is_name_byte 1 63 v name_byte (omega arith) g.0
+    let named : (is_run is_name_byte 1 63 v && begins_in is_alphanumeric v) ≡ true = first_holds _ _ h in
+    run_text is_name_byte 1 63 v name_byte (omega arith) (first_holds _ _ named)
 obeys-text AttributeForm v t h = word_text (codes "int" ∷ codes "uint" ∷ codes "boolean" ∷ codes "string" ∷ []) v refl h
 
 -- each command of some is plain

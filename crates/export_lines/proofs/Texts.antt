@@ -4,7 +4,7 @@ use Rattle.std.specs.Prelude.{map}
 use Rattle.std.specs.List.{flat_map}
 use Rattle.std.proofs.lemmas.List.Concat.{flat_map-append}
 use Rattle.config_terms.specs.Fields.{attr_shown, field_name, fields_of, fs_shown, kind_name, net_shown, rctl_shown, text_shown}
-use Rattle.config_terms.specs.Texts.{attr_text, dataset_text, device_text, entry_text, fs_text, limit_line, limit_lines, limit_text, net_text, options_line, rctl_text, setting, settings}
+use Rattle.config_terms.specs.Texts.{attr_text, dataset_text, device_text, entry_text, fs_text, limit_line, limit_lines, limit_text, net_text, options_line, options_text, rctl_text, setting, settings}
 use Rattle.config_terms.specs.declared.fields.Field.{Field}
 use Rattle.config_terms.specs.declared.terms.Kind.{Kind}
 use Rattle.config_terms.specs.declared.terms.Limit.{Limit}
@@ -30,7 +30,7 @@ text-where_set name [] = refl
 text-where_set name (b ∷ value) = simp (append_assoc, append-nil) refl
 
 text-where_any : (options : List (List ℕ)) → text_of (where_any options) ≡ options_line options
-unfolding options_line
+unfolding options_line options_text
 text-where_any [] = refl
 text-where_any (o ∷ options) = simp (append_assoc, append-nil) refl
 

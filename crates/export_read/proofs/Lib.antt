@@ -1,1 +1,5 @@
+mod Examples
 pub mod Fresh
+pub mod Walks
+pub mod Tables
+pub mod Globals
