@@ -180,7 +180,7 @@ module _ (c : Contents) (sound : IsSound c) where
     unset = unset_in_both c;
     next = with_value;
     step = step;
-    begins = begins;
+    begins = λ done rest p b v s e between bare is. begins (done ++ p ∷ []) rest s (append_assoc done (p ∷ []) rest ∙ e) between bare;
   }
 
   least_bare : IsBare least
@@ -189,3 +189,59 @@ module _ (c : Contents) (sound : IsSound c) where
   -- the properties of the scope, and what they make
   pub walk_properties : Reaches shows closed IsBare least c properties (Create ∷ []) least (flat_map (property_commands c) properties)
   walk_properties = walk_rows property_name shows closed IsBare least c properties (Create ∷ []) table [] properties least refl (record { given = refl; unset = refl }) least_bare
+
+same_path : (p q : Option (List ℕ)) → path_text p ≡ path_text q → p ≢ Some [] → q ≢ Some [] → p ≡ q
+same_path None None e h g = refl
+same_path None (Some []) e h g = absurd (g refl)
+same_path None (Some (b ∷ v)) e h g = absurd (cc)
+same_path (Some []) q e h g = absurd (h refl)
+same_path (Some (b ∷ v)) None e h g = absurd (cc)
+same_path (Some (b ∷ v)) (Some w) e h g = ap (λ (t : List ℕ). Some t) e
+
+same_flag : (a b : Bool) → bool_text a ≡ bool_text b → a ≡ b
+same_flag true true e = refl
+same_flag true false e = cc
+same_flag false true e = cc
+same_flag false false e = refl
+
+same_ip : (i j : Ip) → ip_text i ≡ ip_text j → i ≡ j
+same_ip Shared Shared e = refl
+same_ip Shared Exclusive e = cc
+same_ip Exclusive Shared e = cc
+same_ip Exclusive Exclusive e = refl
+
+-- a configuration's properties alone
+abbrev pub without_resources : Contents → Contents
+without_resources c = record c { fs = []; net = []; device = []; rctl = []; attr = []; dataset = [] }
+
+-- a configuration without resources that shows what another shows has the properties of that one
+pub same_properties : (c e : Contents) → c.zonepath ≢ Some [] → IsBare e → map (shows e) properties ≡ map (shows c) properties → e ≡ without_resources c
+same_properties c e set bare h =
+    let zonepath = same_path e.zonepath c.zonepath (cc) bare.zonepath set in
+    let brand : e.brand ≡ c.brand = cc in
+    let autoboot = same_flag e.autoboot c.autoboot (cc) in
+    let bootargs : e.bootargs ≡ c.bootargs = cc in
+    let pool : e.pool ≡ c.pool = cc in
+    let limitpriv : e.limitpriv ≡ c.limitpriv = cc in
+    let class : e.class ≡ c.class = cc in
+    let ip = same_ip e.ip c.ip (cc) in
+    let hostid : e.hostid ≡ c.hostid = cc in
+    let fs_allowed : e.fs_allowed ≡ c.fs_allowed = cc in
+    λ i. record {
+      zonepath = zonepath i;
+      brand = brand i;
+      autoboot = autoboot i;
+      bootargs = bootargs i;
+      pool = pool i;
+      limitpriv = limitpriv i;
+      class = class i;
+      ip = ip i;
+      hostid = hostid i;
+      fs_allowed = fs_allowed i;
+      fs = ap (λ (l : Lists). l.0) bare.lists i;
+      net = ap (λ (l : Lists). l.1) bare.lists i;
+      device = ap (λ (l : Lists). l.2) bare.lists i;
+      rctl = ap (λ (l : Lists). l.3) bare.lists i;
+      attr = ap (λ (l : Lists). l.4) bare.lists i;
+      dataset = ap (λ (l : Lists). l.5) bare.lists i;
+    }

@@ -3,3 +3,4 @@ pub mod Fresh
 pub mod Walks
 pub mod Tables
 pub mod Globals
+pub mod Forms

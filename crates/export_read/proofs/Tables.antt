@@ -120,7 +120,8 @@ pub record IsTable {P S : Type 0} (name : P → List ℕ) (shown : S → P → L
   pub next : P → List ℕ → S → S
   pub step : (done rest : List P) (p : P) (b : ℕ) (v : List ℕ) (s : S) → done ++ p ∷ rest ≡ table → IsBetween shown base goal done (p ∷ rest) s → stays s → shown goal p ≡ b ∷ v
       → IsStep name shown wrap stays p (b ∷ v) s (next p (b ∷ v) s)
-  pub begins : (done rest : List P) (s : S) → done ++ rest ≡ table → IsBetween shown base goal done rest s → stays s → Begins (q ++ flat_map (row_commands name shown goal) done) (wrap s)
+  pub begins : (done rest : List P) (p : P) (b : ℕ) (v : List ℕ) (s : S) → done ++ p ∷ rest ≡ table → IsBetween shown base goal (done ++ p ∷ []) rest s → stays s → shown goal p ≡ b ∷ v
+      → Begins (q ++ flat_map (row_commands name shown goal) (done ++ p ∷ [])) (wrap s)
 
 module _ {P S : Type 0} (name : P → List ℕ) (shown : S → P → List ℕ) (wrap : S → Draft) (stays : S → Type 0) (base goal : S) (table : List P) (q : List Command) (T : IsTable name shown wrap stays base goal table q) where
   abbrev commands : P → List Command
@@ -156,7 +157,7 @@ module _ {P S : Type 0} (name : P → List ℕ) (shown : S → P → List ℕ) (
             let W : List Command → Type 0 = λ l. Walks l (wrap t) (flat_map commands rest) (wrap on.end) in
             record {
               end = on.end;
-              walks = (wrap t, step.is_put, subst B here (T.begins (done ++ p ∷ []) rest t go now step.kept), subst W here on.walks);
+              walks = (wrap t, step.is_put, subst B here (T.begins done rest p b v t e now step.kept is), subst W here on.walks);
               all = on.all;
               kept = on.kept;
             }
