@@ -190,7 +190,7 @@ module _ (c : Contents) (sound : IsSound c) where
   pub walk_properties : Reaches shows closed IsBare least c properties (Create ∷ []) least (flat_map (property_commands c) properties)
   walk_properties = walk_rows property_name shows closed IsBare least c properties (Create ∷ []) table [] properties least refl (record { given = refl; unset = refl }) least_bare
 
-same_path : (p q : Option (List ℕ)) → path_text p ≡ path_text q → p ≢ Some [] → q ≢ Some [] → p ≡ q
+pub same_path : (p q : Option (List ℕ)) → path_text p ≡ path_text q → p ≢ Some [] → q ≢ Some [] → p ≡ q
 same_path None None e h g = refl
 same_path None (Some []) e h g = absurd (g refl)
 same_path None (Some (b ∷ v)) e h g = absurd (cc)

@@ -4,3 +4,4 @@ pub mod Walks
 pub mod Tables
 pub mod Globals
 pub mod Forms
+pub mod KindForms
