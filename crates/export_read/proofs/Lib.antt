@@ -5,3 +5,4 @@ pub mod Tables
 pub mod Globals
 pub mod Forms
 pub mod KindForms
+pub mod Places
