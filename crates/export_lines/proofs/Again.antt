@@ -106,7 +106,7 @@ options_again o os h =
         ap (λ l. slice_split is_comma (without_last l)) whole ∙ ap (slice_split is_comma) (last_off (o ++ flat_map (λ x. 44 ∷ x) os) 93) ∙ split_piece o (flat_map (λ x. 44 ∷ x) os) os clean.0 (split_rest os clean.1) in
     rw (cut, h.0) refl
 
-own : IsNumeralModel (λ ds. list_all is_ascii_digit ds ≡ true) (digits_value 0)
+pub own : IsNumeralModel (λ ds. list_all is_ascii_digit ds ≡ true) (digits_value 0)
 own = numerals_by_fold (λ ds. list_all is_ascii_digit ds ≡ true) (search rules) digits_value (search rules)
 
 -- bytes of one class are none of another that it lacks

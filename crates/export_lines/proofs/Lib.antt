@@ -3,3 +3,4 @@ pub mod Again
 pub mod Pieces
 pub mod Texts
 pub mod Printable
+pub mod Rows

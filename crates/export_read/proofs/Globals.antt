@@ -41,7 +41,7 @@ nothing_behind : (text : List ℕ) → text ++ [] ++ [] ++ [] ++ [] ++ [] ++ [] 
 nothing_behind text = simp append-nil refl
 
 -- its text has the lines of its properties alone
-bare_text : (s : Contents) → IsBare s → export_text s ≡ codes "create -b\n" ++ flat_map (property_line s) properties
+pub bare_text : (s : Contents) → IsBare s → export_text s ≡ codes "create -b\n" ++ flat_map (property_line s) properties
 unfolding export_text
 bare_text s bare =
     let fs = ap (λ (l : Lists). l.0) bare.lists in

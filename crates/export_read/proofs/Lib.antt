@@ -6,3 +6,4 @@ pub mod Globals
 pub mod Forms
 pub mod KindForms
 pub mod Places
+pub mod Whole

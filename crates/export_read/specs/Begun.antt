@@ -1,5 +1,5 @@
 -- Which lines begin an export text.
-use Rattle.std.specs.Prelude.{◌≡◌, ℕ, List, [], ◌∷◌, ◌++◌, ◌+◌, ◌<◌, ◌≤◌, length, take, Bool, Option, Some, None, true, false, if◌then◌else◌}
+use Rattle.std.specs.Prelude.{◌≡◌, ℕ, List, ◌++◌, ◌+◌, ◌<◌, ◌≤◌, length, take}
 use Rattle.config_terms.specs.declared.fault.ConfigFault.{ConfigFault}
 use Rattle.config_terms.specs.declared.fault.ConfigFault.TheVariants.{Memory, NotExport}
 use Rattle.export_lines.specs.Lines.{lines_of}
@@ -11,17 +11,28 @@ use Rattle.zone_config.specs.declared.terms.Contents.{Contents}
 pub record BeginsSome (text : List ℕ) (n : ℕ) : Type 0 where
   pub config : Contents
   pub sound : IsSound config
-  pub here : n ≤ length (lines_of text)
-  pub there : n ≤ length (lines_of (export_text config))
-  pub same : take n (lines_of text) ≡ take n (lines_of (export_text config))
+  pub inside : n ≤ length (lines_of text)
+  pub rest : List (List ℕ)
+  pub same : lines_of (export_text config) ≡ take n (lines_of text) ++ rest
 
 -- one more than the greatest number of leading lines of a text that begin some export text
 pub record IsAstray (text : List ℕ) (n : ℕ) : Type 0 where
   pub before : (m : ℕ) × (n ≡ m + 1) × BeginsSome text m
   pub greatest : (m : ℕ) → BeginsSome text m → m < n
 
--- why a text is not read: its line, or want of memory
+-- why a text is not read: the line, or want of memory
 abbrev pub IsFaultOf : List ℕ → ConfigFault → Type 0
 IsFaultOf text Memory = Unit {0}
 IsFaultOf text (NotExport n) = IsAstray text n
 IsFaultOf text _ = ⊥
+
+-- bytes that begin the export text of a sound configuration
+pub record IsFront (bytes : List ℕ) : Type 0 where
+  pub config : Contents
+  pub sound : IsSound config
+  pub tail : List ℕ
+  pub begins : export_text config ≡ bytes ++ tail
+
+-- two configurations with one export text are equal
+abbrev pub ExportTextsDiffer : Type 0
+ExportTextsDiffer = (c d : Contents) → IsSound c → IsSound d → export_text c ≡ export_text d → c ≡ d

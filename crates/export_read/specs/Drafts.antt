@@ -1,6 +1,8 @@
 -- What each line makes of a configuration that is being read.
-use Rattle.std.specs.Prelude.{◌≡◌, ℕ, List, [], ◌∷◌, ◌++◌, Bool, true, Option, Some, None, option_and_then, option_map, if◌then◌else◌}
+use Rattle.std.specs.Prelude.{◌≡◌, ℕ, List, [], ◌∷◌, ◌++◌, Bool, true, false, nat_eq, Option, Some, None, option_and_then, option_map, if◌then◌else◌}
+use Rattle.std.specs.List.{starts_with}
 use Rattle.std.specs.Result.{result_ok}
+use Rattle.std.specs.Str.{bytes_eq}
 use Rattle.zonecfg_lex.specs.declared.values.Value.TheVariants.{Simple}
 use Rattle.config_terms.specs.Edits.{empty, with_property as with_own}
 use Rattle.config_terms.specs.Fields.{field_name, field_rule, key_field, kind_of}
@@ -8,10 +10,12 @@ use Rattle.config_terms.specs.declared.fields.Field.{Field}
 use Rattle.config_terms.specs.declared.terms.Limit.{Limit}
 use Rattle.config_terms.specs.declared.terms.Resource.{Resource}
 use Rattle.config_terms.specs.declared.terms.Resource.TheVariants.{Fs, Rctl}
+use Rattle.export_lines.specs.Lines.{lines_of}
 use Rattle.export_lines.specs.Reading.{command_of}
 use Rattle.export_lines.specs.declared.command.Command.{Command}
 use Rattle.export_lines.specs.declared.command.Command.TheVariants.{Create, Set, Open, Options, Value, End}
 use Rattle.zone_config.specs.Edits.{with_property}
+use Rattle.zone_config.specs.Export.{export_text}
 use Rattle.zone_config.specs.Property.{blank}
 use Rattle.zone_config.specs.Resources.{has_taken, with_resource}
 use Rattle.zone_config.specs.declared.terms.Contents.{Contents}
@@ -76,3 +80,23 @@ completed d = completed_by d.resource d.config
 unfoldable pub drafted : List (List ℕ) → Draft → Option Draft
 drafted [] d = Some d
 drafted (line ∷ lines) d = option_and_then (drafted lines) (option_and_then (λ x. put x d) (command_of line))
+
+abbrev pub begun_by : List ℕ → Option Contents → Bool
+begun_by bytes None = false
+begun_by bytes (Some c) = starts_with nat_eq (export_text c) bytes
+
+-- whether some whole lines begin an export text
+unfoldable pub is_begun : List ℕ → Bool
+is_begun bytes = begun_by bytes (option_and_then completed (drafted (lines_of bytes) start))
+
+abbrev pub if_printed : List ℕ → Option Resource → Contents → Option Contents
+if_printed bytes None c = if bytes_eq (export_text c) bytes then Some c else None
+if_printed bytes (Some r) c = None
+
+abbrev pub config_in : List ℕ → Option Draft → Option Contents
+config_in bytes None = None
+config_in bytes (Some d) = if_printed bytes d.resource d.config
+
+-- the configuration whose export text the bytes are, if there is one
+unfoldable pub config_of : List ℕ → Option Contents
+config_of bytes = config_in bytes (drafted (lines_of bytes) start)
