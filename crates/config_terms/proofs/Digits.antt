@@ -38,10 +38,10 @@ limit_is n low high = grind (arith, nat_tests)
 no_limit : (n : ℕ) → (n < 2 ^ 64 → ⊥) → is_limit n ≡ false
 no_limit n high =
     let past : nat_le n 18446744073709551615 ≡ false =
-        elim (nat_le n 18446744073709551615) as (λ b. nat_le n 18446744073709551615 ≡ b → b ≡ false) [
-          | true ↦ λ e. absurd (high (grind (arith, nat_tests)))
-          | false ↦ λ _. refl
-        ] refl in
+    elim (nat_le n 18446744073709551615) as (λ b. nat_le n 18446744073709551615 ≡ b → b ≡ false) [
+      | true ↦ λ e. absurd (high (grind (arith, nat_tests)))
+      | false ↦ λ _. refl
+    ] refl in
     elim (nat_le 1 n) as (λ b. (b && nat_le n 18446744073709551615) ≡ false) [ true ↦ past | false ↦ refl ]
 
 -- what digits without leading zero say, where it fits

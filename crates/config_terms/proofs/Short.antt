@@ -23,8 +23,8 @@ text_short t h = let short = unless_long (position (λ b. not (is_text_byte b)) 
 pub path_short : (p : List ℕ) → IsTrue (is_path p) → length p ≤ 4200
 path_short p h =
     let short : nat_lt 1023 (length p) ≡ false =
-        elim (nat_lt 1023 (length p)) as (λ b. is_ok {T = List ℕ} {E = PathFault} (cond b (Err PathLong) (path_from_root p)) ≡ true → b ≡ false) [
-          | true ↦ λ f. absurd (cc)
-          | false ↦ λ _. refl
-        ] h in
+    elim (nat_lt 1023 (length p)) as (λ b. is_ok {T = List ℕ} {E = PathFault} (cond b (Err PathLong) (path_from_root p)) ≡ true → b ≡ false) [
+      | true ↦ λ f. absurd (cc)
+      | false ↦ λ _. refl
+    ] h in
     grind (arith, nat_tests)

@@ -5,3 +5,4 @@ pub mod Texts
 pub mod Allowed
 pub mod Matches
 pub mod Edits
+pub mod Staying

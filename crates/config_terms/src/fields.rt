@@ -119,12 +119,7 @@ impl Kind {
         ensures few { length result.now ≤ 4 }
     {
         match self {
-            Kind::Fs => &[
-                Field::FsDir,
-                Field::FsSpecial,
-                Field::FsRaw,
-                Field::FsType,
-            ],
+            Kind::Fs => &[Field::FsDir, Field::FsSpecial, Field::FsRaw, Field::FsType],
             Kind::Net => &[
                 Field::NetAddress,
                 Field::NetAllowed,

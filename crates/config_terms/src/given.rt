@@ -5,10 +5,10 @@ ghost use Rattle.config_terms.specs.declared.rules.Rule.TheVariants.{RootedPath}
 ghost use Rattle.config_terms.specs.Rules.{fits};
 ghost use Rattle.config_terms.specs.Edits.{kept_path, option_texts, options_given, is_pair, is_action, are_limit_pairs, limit_of_pairs, limit_of, limit_given};
 
+use crate::Limit;
 use crate::allowed::are_options;
 use crate::lists::ListEdit;
 use crate::numbers::number_of;
-use crate::Limit;
 use std::alloc::{AllocError, Global};
 use std::slice::from_ref;
 use zn_base::{AbsPath, PathFault, Text};
@@ -17,7 +17,11 @@ use zonecfg_lex::{Pair, Value};
 fn option_texts(texts: &[Text]) -> Option<&[Text]>
     ensures { option_copied result ≡ option_texts texts.now }
 {
-    if are_options(texts) { Some(texts) } else { None }
+    if are_options(texts) {
+        Some(texts)
+    } else {
+        None
+    }
 }
 
 /// The options that a value gives. An empty text gives none where they are put.

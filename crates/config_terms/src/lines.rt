@@ -3,8 +3,8 @@ ghost use Rattle.std.specs.Prelude.{◌≡◌, ◌+◌, ◌*◌, ◌^◌, ◌≤
 ghost use Rattle.std.specs.List.{flat_map};
 ghost use Rattle.config_terms.specs.Texts.{action, limit_text, limit_line, limit_lines, bracketed, bracketed_line, options_text, options_line};
 
-use crate::texts::{bytes_of, push_pieces};
 use crate::Limit;
+use crate::texts::{bytes_of, push_pieces};
 use itoa::Buffer;
 use std::alloc::AllocError;
 use zn_base::Text;
@@ -128,11 +128,7 @@ pub fn push_options(out: &mut Vec<u8>, options: &[Text]) -> Result<(), AllocErro
     push_bracketed(out, first.bytes(), more)
 }
 
-fn push_bracketed_line(
-    out: &mut Vec<u8>,
-    first: &[u8],
-    more: &[Text],
-) -> Result<(), AllocError>
+fn push_bracketed_line(out: &mut Vec<u8>, first: &[u8], more: &[Text]) -> Result<(), AllocError>
     ensures { OnOk result (out.new.items ≡ out.old.items ++ bracketed_line first.now more.now) }
 {
     out.extend_from_slice(b"add options ")?;

@@ -50,11 +50,7 @@ fn twins<T: Item>(alloc: Global, items: &[T]) -> Result<Listing<T>, AllocError>
     Ok(list)
 }
 
-fn add_all<T: Item>(
-    alloc: Global,
-    list: &mut Listing<T>,
-    items: &[T],
-) -> Result<(), AllocError>
+fn add_all<T: Item>(alloc: Global, list: &mut Listing<T>, items: &[T]) -> Result<(), AllocError>
     ensures ok { OnOk result (list.new ≡ list.old ++ items.now) }
     ensures err { OnErr result (list.new ≡ list.old) }
 {

@@ -3,19 +3,13 @@ ghost use Rattle.std.specs.Prelude.{◌≡◌, ◌+◌, ◌*◌, ◌^◌, ◌≤
 ghost use Rattle.std.specs.List.{flat_map};
 ghost use Rattle.config_terms.specs.Texts.{settings, entry_text};
 
-use crate::lines::{
-    limit_lines_length, options_line_length, push_limit_lines, push_options_line,
-};
+use crate::lines::{limit_lines_length, options_line_length, push_limit_lines, push_options_line};
 use crate::texts::{push_pieces, push_setting, setting_length};
 use crate::{Entry, Kind};
 use std::alloc::AllocError;
 
 #[tactic(auto, unfolding(crate::specs::Texts::settings))]
-fn push_settings<T: Entry>(
-    out: &mut Vec<u8>,
-    kind: Kind,
-    entry: &T,
-) -> Result<(), AllocError>
+fn push_settings<T: Entry>(out: &mut Vec<u8>, kind: Kind, entry: &T) -> Result<(), AllocError>
     ensures { OnOk result (out.new.items ≡ out.old.items ++ settings kind (T.shown entry.now)) }
 {
     for field in kind.fields() {
@@ -38,11 +32,7 @@ fn settings_length<T: Entry>(kind: Kind, entry: &T) -> usize
 
 /// Puts the text of a resource behind `out`: `add KIND`, the properties that are set, `end` (zonecfg(8)).
 #[tactic(auto, unfolding(crate::specs::Texts::entry_text))]
-pub fn push_entry<T: Entry>(
-    out: &mut Vec<u8>,
-    kind: Kind,
-    entry: &T,
-) -> Result<(), AllocError>
+pub fn push_entry<T: Entry>(out: &mut Vec<u8>, kind: Kind, entry: &T) -> Result<(), AllocError>
     ensures { OnOk result (out.new.items ≡ out.old.items ++ entry_text kind (T.shown entry.now) (T.options entry.now) (T.values entry.now)) }
 {
     push_pieces(out, &[b"add ", kind.name(), b"\n"])?;

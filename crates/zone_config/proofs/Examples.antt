@@ -11,7 +11,7 @@ use Rattle.config_terms.specs.Rules.{obeys, fits}
 use Rattle.config_terms.specs.Texts.{setting, settings, entry_text, limit_lines, limit_line, limit_text, options_line, options_text}
 use Rattle.zone_config.specs.declared.terms.Contents.{Contents}
 use Rattle.zone_config.specs.Property.{blank, setting_named}
-use Rattle.zone_config.specs.Export.{export_text, sized}
+use Rattle.zone_config.specs.Export.{export_text}
 use Rattle.zone_config.specs.Sound.{count}
 use Rattle.zone_config.specs.Resources.{found, removed, with_resource, with_replaced}
 use Rattle.zone_config.specs.Edits.{with_property, without_property, alias_set, alias_cleared}
@@ -20,7 +20,7 @@ abbrev web : Contents
 web = record blank { zonepath = Some (codes "/zones/web"); brand = codes "ipkg" }
 
 web_is_set : with_property (codes "zonepath") (Simple (codes "/zones/web")) (record blank { brand = codes "ipkg" }) ≡ Ok web
-unfolding with_property setting_named obeys sized export_text setting
+unfolding with_property setting_named obeys export_text setting
 web_is_set = refl
 
 web_text : export_text web ≡ codes "create -b\nset zonepath=/zones/web\nset brand=ipkg\nset autoboot=false\nset ip-type=shared\n"

@@ -1,5 +1,6 @@
 mod Examples
 pub mod Lists
-pub mod Properties
-pub mod Resources
+pub mod PropertyEdits
+pub mod ResourceEdits
 pub mod Aliases
+pub mod Settings

@@ -25,5 +25,5 @@ abbrev pub unless_larger : ℕ → Contents → Result Contents ConfigFault
 unless_larger size c = if nat_lt text_max size then Err (TooLarge size) else Ok c
 
 -- the configuration, unless its export text is too long
-unfoldable pub sized : Contents → Result Contents ConfigFault
+abbrev pub sized : Contents → Result Contents ConfigFault
 sized c = unless_larger (length (export_text c)) c

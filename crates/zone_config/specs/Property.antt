@@ -72,8 +72,22 @@ shown FsAllowed c = c.fs_allowed
 -- nothing is set
 abbrev pub blank : Contents
 blank = record {
-  zonepath = None; brand = []; autoboot = false; bootargs = []; pool = []; limitpriv = []; class = []; ip = Shared; hostid = [];
-  fs_allowed = []; fs = []; net = []; device = []; rctl = []; attr = []; dataset = [];
+  zonepath = None;
+  brand = [];
+  autoboot = false;
+  bootargs = [];
+  pool = [];
+  limitpriv = [];
+  class = [];
+  ip = Shared;
+  hostid = [];
+  fs_allowed = [];
+  fs = [];
+  net = [];
+  device = [];
+  rctl = [];
+  attr = [];
+  dataset = [];
 }
 
 -- what a property shows while it is not set

@@ -1,5 +1,5 @@
 -- What a user of `set_property` relies on.
-use Rattle.std.specs.Prelude.{◌≡◌, ◌≢◌, ℕ, List, [], ◌∷◌, ◌++◌, Bool, false, not, filter, is_some, map, Option, Some, None, Result, Ok, Err, OnOk, IsTrue}
+use Rattle.std.specs.Prelude.{◌≡◌, ◌≢◌, ℕ, List, [], ◌∷◌, ◌++◌, Bool, false, not, filter, is_some, map, Option, Some, Result, IfErr, OnOk, IsTrue, ◌<◌}
 use Rattle.zonecfg_lex.specs.declared.values.Value.{Value}
 use Rattle.zonecfg_lex.specs.declared.values.Value.TheVariants.{Simple}
 use Rattle.config_terms.specs.declared.fault.ConfigFault.{ConfigFault}
@@ -51,19 +51,18 @@ Shows (Some (Kept p)) (Simple text) old new = ShowsText p text old new
 Shows (Some (Aliased a)) (Simple text) old new = ShowsLimit a text old new
 Shows s value old new = ⊥
 
--- the refusals that are left where a value is allowed: an rctl holds the alias, or there is no room
-abbrev pub LacksRoom : Result (Unit {0}) ConfigFault → Type 0
-LacksRoom (Ok _) = Unit {0}
-LacksRoom (Err Memory) = Unit {0}
-LacksRoom (Err AliasHeld) = Unit {0}
-LacksRoom (Err (TooMany limit)) = limit ≡ 256
-LacksRoom (Err (TooLarge size)) = Unit {0}
-LacksRoom (Err fault) = ⊥
+-- the refusals that are left where a value is allowed: an rctl of another form holds the alias, or there is no room
+abbrev pub IsWantOfRoom : ConfigFault → Type 0
+IsWantOfRoom Memory = Unit {0}
+IsWantOfRoom AliasHeld = Unit {0}
+IsWantOfRoom (TooMany limit) = limit ≡ 256
+IsWantOfRoom (TooLarge size) = 32768 < size
+IsWantOfRoom fault = ⊥
 
 -- it succeeds only where the value is allowed; there it is refused only for want of room; and then the value shows
 pub record Sets (name : List ℕ) (value : Value) (old new : Contents) (result : Result (Unit {0}) ConfigFault) : Type 0 where
   pub allowed : OnOk result (IsTrue (is_settable name value))
-  pub refused : IsTrue (is_settable name value) → LacksRoom result
+  pub refused : IsTrue (is_settable name value) → IfErr result IsWantOfRoom
   pub shows : OnOk result (Shows (setting_named name) value old new)
 
 abbrev pub SetsWhereAllowed : Type 0

@@ -3,9 +3,21 @@
 //! text), and each call changes it as one definition says or leaves it as it was.
 #![tactic(auto)]
 
+mod alias;
 mod config;
+mod contents;
+mod laws;
+mod printing;
 mod property;
+mod resources;
+mod sizes;
 mod terms;
 
+pub use config::{ZoneConfig, blank};
 pub use config_terms::{Attr, ConfigFault, Fs, IpType, Kind, Limit, Listing, Net, Rctl, Resource};
+pub use laws::sets_where_allowed;
+pub use printing::export;
 pub use terms::{Alias, Contents, Property, Setting};
+
+#[cfg(test)]
+mod tests;

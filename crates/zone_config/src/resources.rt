@@ -5,9 +5,7 @@ ghost use Rattle.zone_config.specs.Resources.{IsLengthOf, added, count_of, found
 ghost use Rattle.zone_config.specs.Sound.{count};
 
 use crate::Contents;
-use config_terms::{
-    ConfigFault, Kind, Resource, entry_length, find_entry, is_taken, is_taken_but,
-};
+use config_terms::{ConfigFault, Kind, Resource, entry_length, find_entry, is_taken, is_taken_but};
 use std::alloc::AllocError;
 use zonecfg_lex::Pair;
 
@@ -152,12 +150,12 @@ impl Contents {
         ensures inside { IfOk result (λ place. place < count_of kind self.now) }
     {
         match kind {
-            Kind::Fs => find_entry(kind, self.fs.as_slice(), wanted),
-            Kind::Net => find_entry(kind, self.net.as_slice(), wanted),
-            Kind::Device => find_entry(kind, self.device.as_slice(), wanted),
-            Kind::Rctl => find_entry(kind, self.rctl.as_slice(), wanted),
-            Kind::Attr => find_entry(kind, self.attr.as_slice(), wanted),
-            Kind::Dataset => find_entry(kind, self.dataset.as_slice(), wanted),
+            Kind::Fs => find_entry(Kind::Fs, self.fs.as_slice(), wanted),
+            Kind::Net => find_entry(Kind::Net, self.net.as_slice(), wanted),
+            Kind::Device => find_entry(Kind::Device, self.device.as_slice(), wanted),
+            Kind::Rctl => find_entry(Kind::Rctl, self.rctl.as_slice(), wanted),
+            Kind::Attr => find_entry(Kind::Attr, self.attr.as_slice(), wanted),
+            Kind::Dataset => find_entry(Kind::Dataset, self.dataset.as_slice(), wanted),
         }
     }
 }

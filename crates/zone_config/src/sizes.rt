@@ -10,7 +10,7 @@ use crate::{Contents, Property};
 use config_terms::{Resource, entry_length, setting_length};
 
 /// The length once a property shows a value.
-#[tactic(auto, using(crate::proofs::Properties::size_with))]
+#[tactic(auto, using(crate::proofs::PropertyEdits::size_with))]
 pub fn size_with(contents: &Contents, size: usize, property: Property, value: &[u8]) -> usize
     requires kept { IsKept contents.now size }
     requires shows { shown property (with_value property value.now contents.now) ≡ value.now }
@@ -22,7 +22,7 @@ pub fn size_with(contents: &Contents, size: usize, property: Property, value: &[
 }
 
 /// The length once there is one more resource.
-#[tactic(auto, using(crate::proofs::Resources::size_added))]
+#[tactic(auto, using(crate::proofs::ResourceEdits::size_added))]
 pub fn size_added(contents: &Contents, size: usize, resource: &Resource) -> usize
     requires { IsKept contents.now size }
     ensures { result ≡ length (export_text (added resource.now contents.now)) }
@@ -31,7 +31,7 @@ pub fn size_added(contents: &Contents, size: usize, resource: &Resource) -> usiz
 }
 
 /// The length once a resource has the place of another of its kind.
-#[tactic(auto, using(crate::proofs::Resources::size_replaced))]
+#[tactic(auto, using(crate::proofs::ResourceEdits::size_replaced))]
 pub fn size_replaced(contents: &Contents, size: usize, place: usize, resource: &Resource) -> usize
     requires kept { IsKept contents.now size }
     requires place { place < count_of (kind_of resource.now) contents.now }

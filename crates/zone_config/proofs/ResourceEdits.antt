@@ -22,7 +22,7 @@ use Rattle.zone_config.specs.Export.{export_text}
 use Rattle.zone_config.specs.Sound.{HasSoundProperties, AreSound, HasSoundResources, IsKept, IsSound, count}
 use Rattle.zone_config.specs.Resources.{added, count_of, fs_passed, has_taken, has_taken_but, limit_passed, removed, replaced, text_at, IsLengthOf}
 use Rattle.zone_config.proofs.Lists.{all-push, all-remove, all-set, length-remove_one, length-slice_set, sound-push, sound-remove, sound-set, text-push, text-remove, text-set, text_within}
-use Rattle.zone_config.proofs.Properties.{Measures, export_text-length}
+use Rattle.zone_config.proofs.PropertyEdits.{Measures, export_text-length}
 
 -- what a configuration shows is no matter of its lists
 pub shown-lists : (q : Property) (c : Contents) (fs : List fs.Fs) (net : List net.Net) (device : List (List ℕ)) (rctl : List rctl.Rctl) (attr : List attr.Attr) (dataset : List (List ℕ))
@@ -314,3 +314,13 @@ leaves kind.Device i c d r size k h = image_case (slice_get c.device i) (λ m. (
 leaves kind.Rctl i c d r size k h = image_case (slice_get c.rctl i) (λ x. (Rctl x, record c { rctl = remove c.rctl i })) r d size (λ x g. leaves_rctl c i x size k g) h
 leaves kind.Attr i c d r size k h = image_case (slice_get c.attr i) (λ a. (Attr a, record c { attr = remove c.attr i })) r d size (λ a g. leaves_attr c i a size k g) h
 leaves kind.Dataset i c d r size k h = image_case (slice_get c.dataset i) (λ x. (Dataset x, record c { dataset = remove c.dataset i })) r d size (λ x g. leaves_dataset c i x size k g) h
+
+-- a place in a kind is small
+pub count_of_within : (k : Kind) (c : Contents) (size : ℕ) → IsKept c size → count_of k c ≤ 256
+unfolding count
+count_of_within kind.Fs c size k = omega (arith, k.sound.resources.few)
+count_of_within kind.Net c size k = omega (arith, k.sound.resources.few)
+count_of_within kind.Device c size k = omega (arith, k.sound.resources.few)
+count_of_within kind.Rctl c size k = omega (arith, k.sound.resources.few)
+count_of_within kind.Attr c size k = omega (arith, k.sound.resources.few)
+count_of_within kind.Dataset c size k = omega (arith, k.sound.resources.few)

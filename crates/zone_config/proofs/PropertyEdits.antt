@@ -1,10 +1,12 @@
 -- A configuration over a property that is given a value.
-use Rattle.std.proofs.Common.{◌≡◌, ◌≢◌, ◌⊎◌, inl, inr, ◌≤◌, ◌+◌, ◌-◌, ℕ, Bool, true, false, cond, List, [], ◌∷◌, ◌++◌, ◌||◌, ◌&&◌, length, Option, Some, None, refl, ap, sym, ◌∙◌, arith, length-append, codes, IsTrue}
+use Rattle.std.proofs.Common.{◌≡◌, ◌≢◌, ◌⊎◌, inl, inr, ◌≤◌, ◌+◌, ◌-◌, ℕ, Bool, true, false, cond, List, [], ◌∷◌, ◌++◌, ◌||◌, ◌&&◌, length, Option, Some, None, refl, ap, sym, subst, ◌∙◌, arith, length-append, codes, IsTrue}
 use Rattle.std.specs.Prelude.{◌==◌}
 use Rattle.std.specs.List.{flat_map, list_any}
 use Rattle.std.specs.Str.{bytes_eq}
 use Rattle.std.proofs.lemmas.Slice.Eq.{bytes_eq-Decides}
+use Rattle.zn_base.specs.Path.{is_path}
 use Rattle.config_terms.specs.declared.rules.Rule.{Rule}
+use Rattle.config_terms.specs.declared.rules.Rule.TheVariants.{OwnPath, RootedPath}
 use Rattle.config_terms.specs.declared.terms.Attr as attr
 use Rattle.config_terms.specs.declared.terms.Fs as fs
 use Rattle.config_terms.specs.declared.terms.Net as net
@@ -20,6 +22,7 @@ use Rattle.zone_config.specs.declared.terms.Property.TheVariants.{Zonepath, Bran
 use Rattle.zone_config.specs.Property.{blank, bool_text, ip_text, properties, property_name, property_rule, shown, unset_text, with_value}
 use Rattle.zone_config.specs.Export.{export_text, property_line}
 use Rattle.zone_config.specs.Sound.{HasSoundProperties, HasSoundResources, IsKept, IsSound, count}
+use Rattle.zone_config.proofs.Lists.{first_true}
 
 -- the export text, part by part
 pub export_text-length : (c : Contents)
@@ -62,11 +65,11 @@ shown_obeyed IpType v c h =
       | true ↦ λ e. sym ((bytes_eq-Decides v (codes "exclusive")).0 e)
       | false ↦ λ e. sym ((bytes_eq-Decides v (codes "shared")).0 (first_of_two _ _ h e))
     ] refl
-    where
-      first_of_two : (a b : Bool) → (a || (b || false)) ≡ true → b ≡ false → a ≡ true
-      first_of_two true b h g = refl
-      first_of_two false true h g = absurd (cc)
-      first_of_two false false h g = absurd (cc)
+  where
+    first_of_two : (a b : Bool) → (a || (b || false)) ≡ true → b ≡ false → a ≡ true
+    first_of_two true b h g = refl
+    first_of_two false true h g = absurd (cc)
+    first_of_two false false h g = absurd (cc)
 shown_obeyed Hostid v c h = refl
 shown_obeyed FsAllowed v c h = refl
 
@@ -87,6 +90,15 @@ pub fits_obeyed : (r : Rule) (v : List ℕ) → obeys r v ≡ true → IsTrue (f
 unfolding fits
 fits_obeyed r v h =
     elim (length v == 0) as (λ b. (b || obeys r v) ≡ true) [ true ↦ refl | false ↦ h ]
+
+-- a path that a zone may have is one
+own_path_fits : (v : List ℕ) → obeys OwnPath v ≡ true → IsTrue (fits RootedPath v)
+unfolding obeys fits
+own_path_fits v h =
+    elim (length v == 0) as (λ b. (b || is_path v) ≡ true) [ true ↦ refl | false ↦ first_true (is_path v) _ h ]
+
+pub own_path_given : (p : Property) (v : List ℕ) → p ≡ Zonepath → IsTrue (obeys (property_rule p) v) → IsTrue (fits RootedPath v)
+own_path_given p v e h = own_path_fits v (subst (λ (q : Property). obeys (property_rule q) v ≡ true) e h)
 
 pub fits_unset : (p : Property) → IsTrue (fits (property_rule p) (unset_text p))
 unfolding fits obeys
