@@ -7,3 +7,4 @@ pub mod Forms
 pub mod KindForms
 pub mod Places
 pub mod Whole
+pub mod Refusals

@@ -1,10 +1,88 @@
-//! A configuration that is being read.
-use config_terms::Resource;
+//! A configuration that is being read, line by line.
+ghost use Rattle.std.specs.Prelude.{◌≡◌, None, Some, option_and_then, option_map};
+ghost use Rattle.std.specs.Result.{result_ok};
+ghost use Rattle.zonecfg_lex.specs.declared.values.Value.TheVariants.{Simple};
+ghost use Rattle.config_terms.specs.Edits.{with_property as with_own};
+ghost use Rattle.zone_config.specs.Edits.{with_property};
+ghost use Rattle.zone_config.specs.Resources.{with_resource};
+ghost use Rattle.export_read.specs.Drafts.{closed, ended_in, opened, put, set_in, with_limit, with_options};
+ghost use Rattle.export_read.specs.Halts.{Puts};
+
+use crate::halt::{Halt, halt_of};
+use config_terms::{Limit, Listing, Resource};
+use export_lines::Command;
+use std::alloc::Global;
+use zn_base::Text;
 use zone_config::ZoneConfig;
+use zonecfg_lex::Value;
 
 /// What the lines so far make: a configuration, and the resource that is open.
 #[derive(Drop)]
 pub struct Draft {
     pub config: ZoneConfig,
     pub resource: Option<Resource>,
+}
+
+#[tactic(auto, using(crate::proofs::Refusals::done, crate::proofs::Refusals::refused))]
+fn with_property(
+    alloc: Global,
+    mut config: ZoneConfig,
+    name: &[u8],
+    value: Text,
+) -> Result<ZoneConfig, Halt>
+    ensures { Puts (result_ok (with_property name.now (Simple value) config)) result }
+{
+    match config.set_property(alloc, name, &Value::Simple(value)) {
+        Ok(()) => Ok(config),
+        Err(fault) => Err(halt_of(fault)),
+    }
+}
+
+#[tactic(auto, using(crate::proofs::Refusals::done, crate::proofs::Refusals::refused))]
+fn with_own(
+    alloc: Global,
+    mut resource: Resource,
+    name: &[u8],
+    value: Text,
+) -> Result<Resource, Halt>
+    ensures { Puts (result_ok (with_own name.now (Simple value) resource)) result }
+{
+    match resource.set_property(alloc, name, &Value::Simple(value)) {
+        Ok(()) => Ok(resource),
+        Err(fault) => Err(halt_of(fault)),
+    }
+}
+
+#[tactic(auto, using(crate::proofs::Refusals::done, crate::proofs::Refusals::refused))]
+fn with_resource(mut config: ZoneConfig, resource: Resource) -> Result<ZoneConfig, Halt>
+    ensures { Puts (result_ok (with_resource resource config)) result }
+{
+    match config.add_resource(resource) {
+        Ok(()) => Ok(config),
+        Err(fault) => Err(halt_of(fault)),
+    }
+}
+
+fn with_options(resource: Resource, options: Listing<Text>) -> Result<Resource, Halt>
+    ensures { Puts (with_options options resource) result }
+{
+    match resource {
+        Resource::Fs(mut fs) => {
+            fs.options = options;
+            Ok(Resource::Fs(fs))
+        }
+        _ => Err(Halt::Refused),
+    }
+}
+
+fn with_limit(resource: Resource, limit: Limit) -> Result<Resource, Halt>
+    ensures { Puts (with_limit limit resource) result }
+{
+    match resource {
+        Resource::Rctl(mut rctl) => {
+            rctl.values.push(limit)?;
+            Ok(Resource::Rctl(rctl))
+        }
+        _ => Err(Halt::Refused),
+    }
 }

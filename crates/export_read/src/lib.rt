@@ -3,3 +3,6 @@
 #![tactic(auto)]
 
 mod draft;
+mod halt;
+
+pub use halt::Halt;
