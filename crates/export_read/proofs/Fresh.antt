@@ -1,5 +1,5 @@
 -- A shortest name that is free.
-use Rattle.std.proofs.Common.{◌≡◌, ◌≤◌, ◌<◌, ◌+◌, ◌-◌, zero, suc, ℕ, Bool, true, false, cond, not, List, [], ◌∷◌, ◌++◌, ◌||◌, ◌&&◌, length, take, drop, Option, Some, None, refl, ap, sym, subst, ◌∙◌, arith, length-append, codes, ◌⊎◌, inl, inr}
+use Rattle.std.proofs.Common.{◌≡◌, ◌≤◌, ◌<◌, ◌+◌, ◌-◌, zero, suc, ℕ, Bool, true, false, cond, not, List, [], ◌∷◌, ◌++◌, ◌||◌, ◌&&◌, length, take, drop, Option, Some, None, refl, ap, sym, subst, ◌∙◌, arith, length-append, append-nil, codes, ◌⊎◌, inl, inr}
 use Rattle.std.specs.Prelude.{◌==◌, nat_le, nat_lt, map, find, unwrap_or, filter}
 use Rattle.std.specs.List.{list_any, list_all}
 use Rattle.std.specs.Str.{bytes_eq}
@@ -11,7 +11,49 @@ use Rattle.config_terms.specs.Rules.{fits, obeys}
 use Rattle.config_terms.specs.Texts.{is_bare_byte, setting, value_text}
 use Rattle.config_terms.specs.declared.rules.Rule.{Rule}
 use Rattle.config_terms.specs.declared.rules.Rule.TheVariants.{Simple, ControlName, AttributeName}
-use Rattle.export_read.specs.Names.{bare_bytes, fresh, is_free, one_byte, short_names, two_bytes}
+use Rattle.export_read.specs.Names.{bare_bytes, fresh, is_free, name_by, pair_by}
+
+abbrev one_byte : List (List ℕ)
+one_byte = map (λ b. b ∷ []) bare_bytes
+
+abbrev two_bytes : ℕ → List (List ℕ)
+two_bytes a = map (λ b. a ∷ (b ∷ [])) bare_bytes
+
+-- the names that are tried, in order: of each rule more than there may be resources
+abbrev short_names : List (List ℕ)
+short_names = [] ∷ (one_byte ++ (two_bytes 97 ++ (two_bytes 98 ++ (two_bytes 99 ++ two_bytes 100))))
+
+abbrev first_of : (List ℕ → Bool) → List (List ℕ) → List ℕ
+first_of p names = unwrap_or (find p names) []
+
+-- the first of some names that are made of bytes, or the first behind them
+first_made : (p : List ℕ → Bool) (f : ℕ → List ℕ) (bs : List ℕ) (names : List (List ℕ)) → first_of p (map f bs ++ names) ≡ elim (find (λ b. p (f b)) bs) as (λ _. List ℕ) [ Some b ↦ f b | None ↦ first_of p names ]
+first_made p f [] names = refl
+first_made p f (b ∷ bs) names =
+    elim (p (f b)) as (λ v. unwrap_or (cond v (Some (f b)) (find p (map f bs ++ names))) [] ≡ elim (cond v (Some b) (find (λ b. p (f b)) bs)) as (λ _. List ℕ) [ Some b ↦ f b | None ↦ first_of p names ]) [
+      | true ↦ refl
+      | false ↦ first_made p f bs names
+    ]
+
+pairs_found : (p : List ℕ → Bool) (a : ℕ) (firsts : List ℕ) (names : List (List ℕ)) → pair_by p firsts ≡ first_of p names → pair_by p (a ∷ firsts) ≡ first_of p (two_bytes a ++ names)
+pairs_found p a firsts names h =
+    elim (find (λ b. p (a ∷ (b ∷ []))) bare_bytes) as (λ o. elim o as (λ _. List ℕ) [ Some b ↦ a ∷ (b ∷ []) | None ↦ pair_by p firsts ] ≡ elim o as (λ _. List ℕ) [ Some b ↦ a ∷ (b ∷ []) | None ↦ first_of p names ]) [
+      | Some b ↦ refl
+      | None ↦ h
+    ] ∙ sym (first_made p (λ b. a ∷ (b ∷ [])) bare_bytes names)
+
+name_found : (p : List ℕ → Bool) → name_by p ≡ first_of p short_names
+name_found p =
+    let last : pair_by p (codes "d") ≡ first_of p (two_bytes 100) = pairs_found p 100 [] [] refl ∙ ap (first_of p) (append-nil (two_bytes 100)) in
+    let pairs = pairs_found p 97 (codes "bcd") (two_bytes 98 ++ (two_bytes 99 ++ two_bytes 100)) (pairs_found p 98 (codes "cd") (two_bytes 99 ++ two_bytes 100) (pairs_found p 99 (codes "d") (two_bytes 100) last)) in
+    elim (p []) as (λ v. cond v [] (elim (find (λ b. p (b ∷ [])) bare_bytes) as (λ _. List ℕ) [ Some b ↦ b ∷ [] | None ↦ pair_by p (codes "abcd") ]) ≡ unwrap_or (cond v (Some []) (find p (one_byte ++ (two_bytes 97 ++ (two_bytes 98 ++ (two_bytes 99 ++ two_bytes 100)))))) []) [
+      | true ↦ refl
+      | false ↦
+          elim (find (λ b. p (b ∷ [])) bare_bytes) as (λ o. elim o as (λ _. List ℕ) [ Some b ↦ b ∷ [] | None ↦ pair_by p (codes "abcd") ] ≡ elim o as (λ _. List ℕ) [ Some b ↦ b ∷ [] | None ↦ first_of p (two_bytes 97 ++ (two_bytes 98 ++ (two_bytes 99 ++ two_bytes 100))) ]) [
+            | Some b ↦ refl
+            | None ↦ pairs
+          ] ∙ sym (first_made p (λ b. b ∷ []) bare_bytes (two_bytes 97 ++ (two_bytes 98 ++ (two_bytes 99 ++ two_bytes 100))))
+    ]
 
 -- the rules of names by which resources are told apart
 abbrev pub IsOfNames : Rule → Type 0
@@ -114,7 +156,8 @@ pub fresh_free : {A : Type 0} (key : A → List ℕ) (rule : Rule) (xs : List A)
 unfolding fresh
 fresh_free key rule xs names few =
     let used : List ℕ → Bool = λ n. has_key key n xs in
-    elim (list_any (is_free rule used) short_names) as (λ v. list_any (is_free rule used) short_names ≡ v → is_free rule used (unwrap_or (find (is_free rule used) short_names) []) ≡ true) [
+    ap (is_free rule used) (name_found (is_free rule used))
+    ∙ elim (list_any (is_free rule used) short_names) as (λ v. list_any (is_free rule used) short_names ≡ v → is_free rule used (unwrap_or (find (is_free rule used) short_names) []) ≡ true) [
       | true ↦ λ e. found (is_free rule used) [] short_names e
       | false ↦ λ e.
           let p = pigeon key (allowed rule) xs (allowed_distinct rule names) (none_free rule used short_names e) in
@@ -216,9 +259,10 @@ least_name p b w free =
 
 pub fresh_least : (key : List ℕ) (rule : Rule) (used : List ℕ → Bool) (name : List ℕ) → is_free rule used name ≡ true → length (setting key (fresh rule used)) ≤ length (setting key name)
 unfolding fresh setting
-fresh_least key rule used [] h = rw h (omega arith)
+fresh_least key rule used [] h = rw (name_found (is_free rule used), h) (omega arith)
 fresh_least key rule used (b ∷ w) h =
+    let same = ap (λ v. length (setting key v)) (name_found (is_free rule used)) in
     let upper = setting-most key (unwrap_or (find (is_free rule used) short_names) []) in
     let lower = setting-least key b w in
     let least = least_name (is_free rule used) b w h in
-    omega (arith, upper, lower, least)
+    omega (arith, same, upper, lower, least)

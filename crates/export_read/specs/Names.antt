@@ -1,5 +1,5 @@
 -- A shortest name that no resource of its kind has.
-use Rattle.std.specs.Prelude.{ℕ, List, [], ◌∷◌, ◌++◌, map, Bool, false, not, ◌&&◌, find, unwrap_or, codes}
+use Rattle.std.specs.Prelude.{ℕ, List, [], ◌∷◌, Bool, false, not, ◌&&◌, Some, None, find, codes, if◌then◌else◌}
 use Rattle.config_terms.specs.Allowed.{has_key}
 use Rattle.config_terms.specs.Fields.{attr_shown, field_rule, key_field, rctl_shown, text_shown}
 use Rattle.config_terms.specs.Rules.{fits}
@@ -12,22 +12,23 @@ use Rattle.zone_config.specs.declared.terms.Contents.{Contents}
 abbrev pub bare_bytes : List ℕ
 bare_bytes = codes "ABCDEFGHIJKLMNOPQRSTUVWXYZabcdefghijklmnopqrstuvwxyz0123456789_-./:,*?!@+%"
 
-abbrev pub one_byte : List (List ℕ)
-one_byte = map (λ b. b ∷ []) bare_bytes
-
-abbrev pub two_bytes : ℕ → List (List ℕ)
-two_bytes a = map (λ b. a ∷ (b ∷ [])) bare_bytes
-
--- names, shortest first: of each rule more than there may be resources
-abbrev pub short_names : List (List ℕ)
-short_names = [] ∷ (one_byte ++ (two_bytes 97 ++ (two_bytes 98 ++ (two_bytes 99 ++ two_bytes 100))))
-
 -- a name that a rule allows, or none at all, and that is not used
 abbrev pub is_free : Rule → (List ℕ → Bool) → List ℕ → Bool
 is_free rule used name = fits rule name && not (used name)
 
+-- the first of two bytes that is free
+abbrev pub pair_by : (List ℕ → Bool) → List ℕ → List ℕ
+pair_by free [] = []
+pair_by free (a ∷ firsts) = elim (find (λ b. free (a ∷ (b ∷ []))) bare_bytes) [ Some b ↦ a ∷ (b ∷ []) | None ↦ pair_by free firsts ]
+
+-- no name, or the first of one byte, or the first of two, that is free
+abbrev pub name_by : (List ℕ → Bool) → List ℕ
+name_by free =
+    if free [] then []
+    else elim (find (λ b. free (b ∷ [])) bare_bytes) [ Some b ↦ b ∷ [] | None ↦ pair_by free (codes "abcd") ]
+
 unfoldable pub fresh : Rule → (List ℕ → Bool) → List ℕ
-fresh rule used = unwrap_or (find (is_free rule used) short_names) []
+fresh rule used = name_by (is_free rule used)
 
 -- whether a resource shows a name in a property by which resources are told apart
 abbrev pub is_used : Field → Contents → List ℕ → Bool

@@ -86,3 +86,80 @@ fn with_limit(resource: Resource, limit: Limit) -> Result<Resource, Halt>
         _ => Err(Halt::Refused),
     }
 }
+
+fn opened(resource: Option<Resource>) -> Result<Resource, Halt>
+    ensures { Puts resource result }
+{
+    match resource {
+        Some(resource) => Ok(resource),
+        None => Err(Halt::Refused),
+    }
+}
+
+impl Draft {
+    fn with(config: ZoneConfig, resource: Resource) -> Draft
+        ensures { result ≡ opened config resource }
+    {
+        Draft {
+            config,
+            resource: Some(resource),
+        }
+    }
+
+    fn closed(config: ZoneConfig) -> Draft
+        ensures { result ≡ closed config }
+    {
+        Draft {
+            config,
+            resource: None,
+        }
+    }
+
+    fn set(self, alloc: Global, name: &[u8], value: Text) -> Result<Draft, Halt>
+        ensures { Puts (set_in self.resource name.now value self.config) result }
+    {
+        let Draft { config, resource } = self;
+        match resource {
+            None => Ok(Draft::closed(with_property(alloc, config, name, value)?)),
+            Some(resource) => Ok(Draft::with(config, with_own(alloc, resource, name, value)?)),
+        }
+    }
+
+    fn set_options(self, options: Listing<Text>) -> Result<Draft, Halt>
+        ensures { Puts (option_map (opened self.config) (option_and_then (with_options options) self.resource)) result }
+    {
+        let Draft { config, resource } = self;
+        let resource = with_options(opened(resource)?, options)?;
+        Ok(Draft::with(config, resource))
+    }
+
+    fn add_limit(self, limit: Limit) -> Result<Draft, Halt>
+        ensures { Puts (option_map (opened self.config) (option_and_then (with_limit limit) self.resource)) result }
+    {
+        let Draft { config, resource } = self;
+        let resource = with_limit(opened(resource)?, limit)?;
+        Ok(Draft::with(config, resource))
+    }
+
+    fn end(self) -> Result<Draft, Halt>
+        ensures { Puts (option_and_then (ended_in self.config) self.resource) result }
+    {
+        let Draft { config, resource } = self;
+        let config = with_resource(config, opened(resource)?)?;
+        Ok(Draft::closed(config))
+    }
+
+    /// The draft after a command.
+    pub fn put(self, alloc: Global, command: Command) -> Result<Draft, Halt>
+        ensures { Puts (put command self) result }
+    {
+        match command {
+            Command::Create => Ok(self),
+            Command::Set(name, value) => self.set(alloc, name.bytes(), value),
+            Command::Open(kind) => Ok(Draft::with(self.config, Resource::empty(alloc, kind))),
+            Command::Options(options) => self.set_options(options),
+            Command::Value(limit) => self.add_limit(limit),
+            Command::End => self.end(),
+        }
+    }
+}
