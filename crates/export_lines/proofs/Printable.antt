@@ -222,6 +222,9 @@ field_row AttrType = (refl, refl, tt)
 field_row AttrValue = (refl, refl, tt)
 field_row DatasetName = (refl, refl, tt)
 
+pub field_of_text : (f : Field) → IsOfText (field_rule f)
+field_of_text f = let row = field_row f in row.2
+
 option_no_comma : (b : ℕ) → is_option_byte b ≡ true → is_comma b ≡ false
 option_no_comma b h = grind (arith, nat_tests)
 

@@ -8,3 +8,6 @@ pub mod KindForms
 pub mod Places
 pub mod Whole
 pub mod Refusals
+pub mod Printing
+pub mod Steps
+pub mod ReadBack

@@ -24,7 +24,7 @@ pub struct Draft {
 }
 
 #[tactic(auto, using(crate::proofs::Refusals::done, crate::proofs::Refusals::refused))]
-fn with_property(
+pub fn with_property(
     alloc: Global,
     mut config: ZoneConfig,
     name: &[u8],
@@ -39,7 +39,7 @@ fn with_property(
 }
 
 #[tactic(auto, using(crate::proofs::Refusals::done, crate::proofs::Refusals::refused))]
-fn with_own(
+pub fn with_own(
     alloc: Global,
     mut resource: Resource,
     name: &[u8],
@@ -54,7 +54,7 @@ fn with_own(
 }
 
 #[tactic(auto, using(crate::proofs::Refusals::done, crate::proofs::Refusals::refused))]
-fn with_resource(mut config: ZoneConfig, resource: Resource) -> Result<ZoneConfig, Halt>
+pub fn with_resource(mut config: ZoneConfig, resource: Resource) -> Result<ZoneConfig, Halt>
     ensures { Puts (result_ok (with_resource resource config)) result }
 {
     match config.add_resource(resource) {

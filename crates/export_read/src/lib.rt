@@ -2,7 +2,11 @@
 //! are, and else the line at which they stop being the beginning of any.
 #![tactic(auto)]
 
+mod complete;
 mod draft;
 mod halt;
+mod lines;
+mod names;
+mod reader;
 
-pub use halt::Halt;
+pub use reader::read_export;
