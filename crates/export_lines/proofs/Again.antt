@@ -44,8 +44,8 @@ bare_again [] h = refl
 bare_again (b ∷ bytes) h =
     elim (b == 34) as (λ v. (b == 34) ≡ v → cond v (without_last bytes) (b ∷ bytes) ≡ b ∷ bytes) [
       | true ↦ λ e. let is : b ≡ 34 = grind (arith, nat_tests) in
-        let P : ℕ → Type 0 = λ c. (is_bare_byte c && list_all is_bare_byte bytes) ≡ true in
-        absurd (false≢true (subst P is h))
+          let P : ℕ → Type 0 = λ c. (is_bare_byte c && list_all is_bare_byte bytes) ≡ true in
+          absurd (false≢true (subst P is h))
       | false ↦ λ e. refl
     ] refl
 
@@ -103,7 +103,7 @@ options_again o os h =
     let clean : (list_any is_comma o ≡ false) × (list_any (list_any is_comma) os ≡ false) = or_parts (list_any is_comma o) (list_any (list_any is_comma) os) h.1 in
     let whole : o ++ (flat_map (λ x. 44 ∷ x) os ++ codes "]") ≡ (o ++ flat_map (λ x. 44 ∷ x) os) ++ 93 ∷ [] = sym (append_assoc o (flat_map (λ x. 44 ∷ x) os) (codes "]")) in
     let cut : slice_split is_comma (without_last (o ++ (flat_map (λ x. 44 ∷ x) os ++ codes "]"))) ≡ o ∷ os =
-        ap (λ l. slice_split is_comma (without_last l)) whole ∙ ap (slice_split is_comma) (last_off (o ++ flat_map (λ x. 44 ∷ x) os) 93) ∙ split_piece o (flat_map (λ x. 44 ∷ x) os) os clean.0 (split_rest os clean.1) in
+    ap (λ l. slice_split is_comma (without_last l)) whole ∙ ap (slice_split is_comma) (last_off (o ++ flat_map (λ x. 44 ∷ x) os) 93) ∙ split_piece o (flat_map (λ x. 44 ∷ x) os) os clean.0 (split_rest os clean.1) in
     rw (cut, h.0) refl
 
 pub own : IsNumeralModel (λ ds. list_all is_ascii_digit ds ≡ true) (digits_value 0)

@@ -254,22 +254,26 @@ pub plain-entry : (k : Kind) (shown : Field → List ℕ) (options : List (List 
 unfolding entry_allowed fields_fit
 plain-entry k shown options values h =
     let h : ((list_all (λ f. fits (field_rule f) (shown f)) (fields_of k) && list_all (obeys OptionWord) options) ≡ true) × (list_all is_allowed_limit values ≡ true) = and_parts _ _ h in
-    let g : (list_all (λ f. fits (field_rule f) (shown f)) (fields_of k) ≡ true) × (list_all (obeys OptionWord) options ≡ true) = and_parts _ _ h.0 in
-    (tt, plain-append _ _ (plain-each (λ f. where_set (field_name f) (shown f)) (λ f. fits (field_rule f) (shown f)) (λ f fit. row_plain (field_name f) (field_rule f) (shown f) (field_row f) fit) (fields_of k) g.0)
-        (plain-append (where_any options) (map (λ v. Value v) values ++ End ∷ []) (any_plain options g.1) (plain-append (map (λ v. Value v) values) (End ∷ []) (values_plain values h.1) (tt, tt))))
+    let g : (list_all (λ f. fits (field_rule f) (shown f)) (fields_of k) ≡ true) × (list_all (obeys OptionWord) options ≡ true) = and_parts _ _ h.0 in (
+      tt,
+      plain-append _ _ (plain-each (λ f. where_set (field_name f) (shown f)) (λ f. fits (field_rule f) (shown f)) (λ f fit. row_plain (field_name f) (field_rule f) (shown f) (field_row f) fit) (fields_of k) g.0)
+          (plain-append (where_any options) (map (λ v. Value v) values ++ End ∷ []) (any_plain options g.1) (plain-append (map (λ v. Value v) values) (End ∷ []) (values_plain values h.1) (tt, tt))),
+    )
 
 -- each line of a sound configuration says its command
 pub plain-script : (c : Contents) → IsSound c → ArePlain (script c)
 unfolding script
 plain-script c s =
-    let r = s.resources in
-    (tt, plain-append _ _ (all_properties properties)
-        (plain-append _ _ (plain-each fs_commands fs_allowed (λ f h. plain-entry _ _ _ _ (let g : (is_kept_path f.dir ≡ true) × (entry_allowed kind.Fs (fs_shown f) f.options [] ≡ true) = and_parts _ _ h in g.1)) c.fs r.fs.each)
-        (plain-append _ _ (plain-each net_commands net_allowed (λ n h. plain-entry _ _ _ _ h) c.net r.net.each)
-        (plain-append _ _ (plain-each device_commands device_allowed (λ m h. plain-entry _ _ _ _ h) c.device r.device.each)
-        (plain-append _ _ (plain-each rctl_commands rctl_allowed (λ r h. plain-entry _ _ _ _ h) c.rctl r.rctl.each)
-        (plain-append _ _ (plain-each attr_commands attr_allowed (λ a h. plain-entry _ _ _ _ h) c.attr r.attr.each)
-            (plain-each dataset_commands dataset_allowed (λ d h. plain-entry _ _ _ _ h) c.dataset r.dataset.each)))))))
+    let r = s.resources in (
+      tt,
+      plain-append _ _ (all_properties properties)
+          (plain-append _ _ (plain-each fs_commands fs_allowed (λ f h. plain-entry _ _ _ _ (let g : (is_kept_path f.dir ≡ true) × (entry_allowed kind.Fs (fs_shown f) f.options [] ≡ true) = and_parts _ _ h in g.1)) c.fs r.fs.each)
+          (plain-append _ _ (plain-each net_commands net_allowed (λ n h. plain-entry _ _ _ _ h) c.net r.net.each)
+          (plain-append _ _ (plain-each device_commands device_allowed (λ m h. plain-entry _ _ _ _ h) c.device r.device.each)
+          (plain-append _ _ (plain-each rctl_commands rctl_allowed (λ r h. plain-entry _ _ _ _ h) c.rctl r.rctl.each)
+          (plain-append _ _ (plain-each attr_commands attr_allowed (λ a h. plain-entry _ _ _ _ h) c.attr r.attr.each)
+          (plain-each dataset_commands dataset_allowed (λ d h. plain-entry _ _ _ _ h) c.dataset r.dataset.each)))))),
+    )
   where
     all_properties : (ps : List Property) → ArePlain (flat_map (property_commands c) ps)
     all_properties [] = tt

@@ -40,7 +40,7 @@ none_bad (b ∷ xs) h =
 text_bytes : (xs : List ℕ) → is_text xs ≡ true → list_all is_text_byte xs ≡ true
 text_bytes xs h =
     elim (nat_lt (position_or_len (λ b. not (is_text_byte b)) xs) (length xs)) as (λ v. nat_lt (position_or_len (λ b. not (is_text_byte b)) xs) (length xs) ≡ v
-        → is_ok (text_unless (cond v (Some (position_or_len (λ b. not (is_text_byte b)) xs)) None) xs) ≡ true → list_all is_text_byte xs ≡ true) [
+    → is_ok (text_unless (cond v (Some (position_or_len (λ b. not (is_text_byte b)) xs)) None) xs) ≡ true → list_all is_text_byte xs ≡ true) [
       | true ↦ λ e g. absurd (cc)
       | false ↦ λ e g. none_bad xs e
     ] refl h

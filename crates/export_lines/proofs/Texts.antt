@@ -47,9 +47,9 @@ pub text-entry : (k : Kind) (shown : Field → List ℕ) (options : List (List �
 unfolding entry_text settings
 text-entry k shown options values =
     let body = text-both (flat_map (λ f. where_set (field_name f) (shown f)) (fields_of k)) (where_any options ++ (map (λ v. Value v) values ++ End ∷ [])) _ _
-            (text-each (λ f. where_set (field_name f) (shown f)) (λ f. setting (field_name f) (shown f)) (λ f. text-where_set (field_name f) (shown f)) (fields_of k))
-            (text-both (where_any options) (map (λ v. Value v) values ++ End ∷ []) _ _ (text-where_any options)
-                (text-both (map (λ v. Value v) values) (End ∷ []) _ (codes "end\n") (text-values values) refl)) in
+    (text-each (λ f. where_set (field_name f) (shown f)) (λ f. setting (field_name f) (shown f)) (λ f. text-where_set (field_name f) (shown f)) (fields_of k))
+    (text-both (where_any options) (map (λ v. Value v) values ++ End ∷ []) _ _ (text-where_any options)
+    (text-both (map (λ v. Value v) values) (End ∷ []) _ (codes "end\n") (text-values values) refl)) in
     ap (λ l. codes "add " ++ l) (append_assoc (kind_name k) (10 ∷ []) _ ∙ ap (λ l. kind_name k ++ 10 ∷ l) body)
 
 regroup : (a b c d e f g h : List ℕ) → a ++ (b ++ (c ++ (d ++ (e ++ (f ++ (g ++ h)))))) ≡ a ++ b ++ c ++ d ++ e ++ f ++ g ++ h
@@ -60,12 +60,12 @@ pub text-script : (c : Contents) → text_of (script c) ≡ export_text c
 unfolding script export_text
 text-script c =
     ap (λ l. codes "create -b\n" ++ l)
-        (text-both _ _ _ _ (text-each (property_commands c) (property_line c) (λ p. text-where_set _ _) properties)
-        (text-both _ _ _ _ (text-each fs_commands fs_text (λ f. text-entry _ _ _ _) c.fs)
-        (text-both _ _ _ _ (text-each net_commands net_text (λ n. text-entry _ _ _ _) c.net)
-        (text-both _ _ _ _ (text-each device_commands device_text (λ m. text-entry _ _ _ _) c.device)
-        (text-both _ _ _ _ (text-each rctl_commands rctl_text (λ r. text-entry _ _ _ _) c.rctl)
-        (text-both _ _ _ _ (text-each attr_commands attr_text (λ a. text-entry _ _ _ _) c.attr)
-            (text-each dataset_commands dataset_text (λ d. text-entry _ _ _ _) c.dataset)))))))
+    (text-both _ _ _ _ (text-each (property_commands c) (property_line c) (λ p. text-where_set _ _) properties)
+    (text-both _ _ _ _ (text-each fs_commands fs_text (λ f. text-entry _ _ _ _) c.fs)
+    (text-both _ _ _ _ (text-each net_commands net_text (λ n. text-entry _ _ _ _) c.net)
+    (text-both _ _ _ _ (text-each device_commands device_text (λ m. text-entry _ _ _ _) c.device)
+    (text-both _ _ _ _ (text-each rctl_commands rctl_text (λ r. text-entry _ _ _ _) c.rctl)
+    (text-both _ _ _ _ (text-each attr_commands attr_text (λ a. text-entry _ _ _ _) c.attr)
+    (text-each dataset_commands dataset_text (λ d. text-entry _ _ _ _) c.dataset)))))))
     ∙ regroup (codes "create -b\n") (flat_map (property_line c) properties) (flat_map fs_text c.fs) (flat_map net_text c.net) (flat_map device_text c.device)
-        (flat_map rctl_text c.rctl) (flat_map attr_text c.attr) (flat_map dataset_text c.dataset)
+    (flat_map rctl_text c.rctl) (flat_map attr_text c.attr) (flat_map dataset_text c.dataset)

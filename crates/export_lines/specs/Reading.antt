@@ -48,7 +48,7 @@ options_of bytes = option_map (λ options. Options options) (texts_among (slice_
 abbrev pub limit_of : List ℕ → Option Command
 limit_of bytes =
     option_map (λ n. Value (record { limit = n; deny = bytes_eq (after_first is_comma bytes) (codes "action=deny)") }))
-        (number_of (before_first is_comma bytes))
+    (number_of (before_first is_comma bytes))
 
 abbrev pub opening_of : List ℕ → Option Command
 opening_of bytes = option_map (λ kind. Open kind) (kind_named bytes)
@@ -58,7 +58,16 @@ unfoldable pub command_of : List ℕ → Option Command
 command_of line =
     if bytes_eq line (codes "create -b") then Some Create
     else (if bytes_eq line (codes "end") then Some End
-    else elim (behind (codes "set ") line) [ Some bytes ↦ setting_of bytes | None ↦
-        elim (behind (codes "add options [") line) [ Some bytes ↦ options_of bytes | None ↦
-            elim (behind (codes "add value (priv=privileged,limit=") line) [ Some bytes ↦ limit_of bytes | None ↦
-                elim (behind (codes "add ") line) [ Some bytes ↦ opening_of bytes | None ↦ None ] ] ] ])
+    else elim (behind (codes "set ") line) [
+      | Some bytes ↦ setting_of bytes
+      | None ↦
+          elim (behind (codes "add options [") line) [
+            | Some bytes ↦ options_of bytes
+            | None ↦
+                elim (behind (codes "add value (priv=privileged,limit=") line) [
+                  | Some bytes ↦ limit_of bytes
+                  | None ↦
+                      elim (behind (codes "add ") line) [ Some bytes ↦ opening_of bytes | None ↦ None ]
+                ]
+          ]
+    ])

@@ -140,9 +140,11 @@ module _ {A : Type 0} (k : Kind) (wrap : A → Resource) (shown : A → Field �
         let rest = flat_map commands post ++ behind in
         let a = ap (λ l. length (text_of l)) e ∙ ap length (text-append done (End ∷ [])) ∙ length-append (text_of done) (text_of (End ∷ [])) in
         let b = ap (λ l. length (text_of (l ++ rest))) g ∙ ap (λ l. length (text_of l)) (append_assoc done (more ++ End ∷ []) rest) ∙ ap length (text-append done ((more ++ End ∷ []) ++ rest)) ∙ length-append (text_of done) (text_of ((more ++ End ∷ []) ++ rest)) in
-        let less = end_last more rest in
-        (now (pre ++ y ∷ []), completes y good free few (omega (arith, a, b, less)),
-            (text_of (End ∷ []), text_with y ∙ ap (λ l. text_of (before ++ l)) e ∙ ap text_of (sym (append_assoc before done (End ∷ []))) ∙ text-append (before ++ done) (End ∷ [])))
+        let less = end_last more rest in (
+          now (pre ++ y ∷ []),
+          completes y good free few (omega (arith, a, b, less)),
+          (text_of (End ∷ []), text_with y ∙ ap (λ l. text_of (before ++ l)) e ∙ ap text_of (sym (append_assoc before done (End ∷ []))) ∙ text-append (before ++ done) (End ∷ [])),
+        )
 
     -- while its properties are set, a resource has no list
     record IsOpen (a : A) : Type 0 where
@@ -160,10 +162,10 @@ module _ {A : Type 0} (k : Kind) (wrap : A → Resource) (shown : A → Field �
     open_commands : (t : A) (done rest : List Field) (s : A) → done ++ rest ≡ fields_of k → IsBetween shown nothing t done rest s → IsOpen s → commands s ≡ (Open k ∷ flat_map (rows t) done) ++ End ∷ []
     open_commands t done rest s e between is_open =
         let fields : flat_map (rows s) (fields_of k) ≡ flat_map (rows t) done =
-            ap (flat_map (rows s)) (sym e) ∙ flat_map-append (rows s) done rest
-            ∙ ap (λ l. l ++ flat_map (rows s) rest) (same_commands field_name shown s t done between.given)
-            ∙ ap (λ l. flat_map (rows t) done ++ l) (same_commands field_name shown s nothing rest between.unset ∙ nothing_rows rest)
-            ∙ append-nil (flat_map (rows t) done) in
+        ap (flat_map (rows s)) (sym e) ∙ flat_map-append (rows s) done rest
+        ∙ ap (λ l. l ++ flat_map (rows s) rest) (same_commands field_name shown s t done between.given)
+        ∙ ap (λ l. flat_map (rows t) done ++ l) (same_commands field_name shown s nothing rest between.unset ∙ nothing_rows rest)
+        ∙ append-nil (flat_map (rows t) done) in
         ap (λ l. Open k ∷ (l ++ (where_any (options s) ++ (map (λ v. Value v) (values s) ++ End ∷ [])))) fields
         ∙ ap (λ l. Open k ∷ (flat_map (rows t) done ++ (where_any l ++ (map (λ v. Value v) (values s) ++ End ∷ [])))) is_open.lacks_options
         ∙ ap (λ l. Open k ∷ (flat_map (rows t) done ++ (map (λ v. Value v) l ++ End ∷ []))) is_open.lacks_values
@@ -175,7 +177,7 @@ module _ {A : Type 0} (k : Kind) (wrap : A → Resource) (shown : A → Field �
         ap (λ l. Open k ∷ (flat_map (rows x) l ++ lists)) (sym e) ∙ ap (λ l. Open k ∷ (l ++ lists)) (flat_map-append (rows x) done rest)
         ∙ ap (λ l. Open k ∷ l) (append_assoc (flat_map (rows x) done) (flat_map (rows x) rest) lists)
         ∙ ap (λ l. Open k ∷ (flat_map (rows x) done ++ l)) (ap (λ l. flat_map (rows x) rest ++ l) (sym (append_assoc (where_any (options x)) (map (λ v. Value v) (values x)) (End ∷ [])))
-            ∙ sym (append_assoc (flat_map (rows x) rest) (where_any (options x) ++ map (λ v. Value v) (values x)) (End ∷ [])))
+        ∙ sym (append_assoc (flat_map (rows x) rest) (where_any (options x) ++ map (λ v. Value v) (values x)) (End ∷ [])))
 
     abbrev fit : A → Field → Bool
     fit a f = fits (field_rule f) (shown a f)
@@ -196,8 +198,8 @@ module _ {A : Type 0} (k : Kind) (wrap : A → Resource) (shown : A → Field �
     unfolding entry_allowed fields_fit
     open_allowed t done rest s e between is_open fitting =
         let fields : list_all (fit s) (fields_of k) ≡ true =
-            ap (list_all (fit s)) (sym e) ∙ list_all-append (fit s) done rest ∙ ap (λ b. b && list_all (fit s) rest) (fit_alike s t done between.given ∙ fitting)
-            ∙ fit_alike s nothing rest between.unset ∙ nothing_fits rest in
+        ap (list_all (fit s)) (sym e) ∙ list_all-append (fit s) done rest ∙ ap (λ b. b && list_all (fit s) rest) (fit_alike s t done between.given ∙ fitting)
+        ∙ fit_alike s nothing rest between.unset ∙ nothing_fits rest in
         rw (is_open.is_whole, fields, is_open.lacks_options, is_open.lacks_values) refl
 
     -- a row of the kind is found by its name, and set where the value is allowed
@@ -272,10 +274,10 @@ module _ {A : Type 0} (k : Kind) (wrap : A → Resource) (shown : A → Field �
           let e : (done ++ p ∷ []) ++ rest ≡ fields_of k = append_assoc done (p ∷ []) rest ∙ e in
           let B : List Command → Type 0 = λ l. Begins l (opened (now pre) (wrap s)) in
           subst B (sym (append_assoc before (Open k ∷ []) (flat_map (rows x) (done ++ p ∷ []))))
-              (begins_so s (Open k ∷ flat_map (rows x) (done ++ p ∷ [])) (flat_map (rows x) rest ++ (where_any (options x) ++ map (λ v. Value v) (values x)))
-                  (open_commands x (done ++ p ∷ []) rest s e between is_open) (goal_commands (done ++ p ∷ []) rest e)
-                  (open_allowed x (done ++ p ∷ []) rest s e between is_open (fits_before (done ++ p ∷ []) rest e))
-                  (taken_alike s (λ f others first. first_is done rest others p f s (e ∙ first) between.given)) (few_open s is_open))
+          (begins_so s (Open k ∷ flat_map (rows x) (done ++ p ∷ [])) (flat_map (rows x) rest ++ (where_any (options x) ++ map (λ v. Value v) (values x)))
+          (open_commands x (done ++ p ∷ []) rest s e between is_open) (goal_commands (done ++ p ∷ []) rest e)
+          (open_allowed x (done ++ p ∷ []) rest s e between is_open (fits_before (done ++ p ∷ []) rest e))
+          (taken_alike s (λ f others first. first_is done rest others p f s (e ∙ first) between.given)) (few_open s is_open))
 
       -- the properties are walked
       walk_fields : Reaches shown (λ a. opened (now pre) (wrap a)) IsOpen nothing x (fields_of k) (before ++ Open k ∷ []) nothing (flat_map (rows x) (fields_of k))
@@ -289,14 +291,14 @@ module _ {A : Type 0} (k : Kind) (wrap : A → Resource) (shown : A → Field �
           } in
           let R : List Command → Type 0 = λ q. Reaches shown (λ a. opened (now pre) (wrap a)) IsOpen nothing x (fields_of k) q nothing (flat_map (rows x) (fields_of k)) in
           subst R (append-nil (before ++ Open k ∷ []))
-              (walk_rows field_name shown (λ a. opened (now pre) (wrap a)) IsOpen nothing x (fields_of k) (before ++ Open k ∷ []) table [] (fields_of k) nothing refl (record { given = refl; unset = refl }) nothing_open)
+          (walk_rows field_name shown (λ a. opened (now pre) (wrap a)) IsOpen nothing x (fields_of k) (before ++ Open k ∷ []) table [] (fields_of k) nothing refl (record { given = refl; unset = refl }) nothing_open)
 
       -- opening a resource whose name is not taken
       opens_free : is_taken shown k nothing pre ≡ false → Begins (before ++ Open k ∷ []) (opened (now pre) (wrap nothing))
       opens_free none =
           begins_so nothing (Open k ∷ []) (flat_map (rows x) (fields_of k) ++ (where_any (options x) ++ map (λ v. Value v) (values x)))
-              (open_commands x [] (fields_of k) nothing refl (record { given = refl; unset = refl }) nothing_open) (goal_commands [] (fields_of k) refl)
-              (open_allowed x [] (fields_of k) nothing refl (record { given = refl; unset = refl }) nothing_open refl) none (few_open nothing nothing_open)
+          (open_commands x [] (fields_of k) nothing refl (record { given = refl; unset = refl }) nothing_open) (goal_commands [] (fields_of k) refl)
+          (open_allowed x [] (fields_of k) nothing refl (record { given = refl; unset = refl }) nothing_open refl) none (few_open nothing nothing_open)
 
       -- the name of the goal is free
       free_goal : (f : Field) (others : List Field) → [] ++ f ∷ others ≡ fields_of k → is_taken shown k x pre ≡ has_key (λ a. shown a f) (shown x f) pre
@@ -316,7 +318,7 @@ module _ {A : Type 0} (k : Kind) (wrap : A → Resource) (shown : A → Field �
           let more = flat_map (rows x) others ++ (where_any (options x) ++ map (λ v. Value v) (values x)) in
           let a = ap (λ l. length (text_of l)) named_y ∙ ap length (text-append (Open k ∷ flat_map (rows y) (f ∷ [])) (End ∷ [])) ∙ length-append (text_of (Open k ∷ flat_map (rows y) (f ∷ []))) (text_of (End ∷ [])) in
           let b = ap (λ l. length (text_of (l ++ rest))) (goal_commands (f ∷ []) others e) ∙ ap (λ l. length (text_of l)) (append_assoc (Open k ∷ flat_map (rows x) (f ∷ [])) (more ++ End ∷ []) rest)
-              ∙ ap length (text-append (Open k ∷ flat_map (rows x) (f ∷ [])) ((more ++ End ∷ []) ++ rest)) ∙ length-append (text_of (Open k ∷ flat_map (rows x) (f ∷ []))) (text_of ((more ++ End ∷ []) ++ rest)) in
+          ∙ ap length (text-append (Open k ∷ flat_map (rows x) (f ∷ [])) ((more ++ End ∷ []) ++ rest)) ∙ length-append (text_of (Open k ∷ flat_map (rows x) (f ∷ []))) (text_of ((more ++ End ∷ []) ++ rest)) in
           let last = end_last more rest in
           let at_y = head_length f (shown y f) in
           let at_x = head_length f (shown x f) in
@@ -344,7 +346,7 @@ module _ {A : Type 0} (k : Kind) (wrap : A → Resource) (shown : A → Field �
           let y = put_field f name nothing in
           let own : shown y f ≡ name = own_at [] first.0 f name nothing e in
           let between : IsBetween shown nothing y (f ∷ []) first.0 y =
-              one_more field_name shown nothing y [] first.0 f nothing y (ap (are_distinct field_name) e ∙ F.distinct) (record { given = refl; unset = refl }) refl (λ g. F.others f g name nothing) in
+          one_more field_name shown nothing y [] first.0 f nothing y (ap (are_distinct field_name) e ∙ F.distinct) (record { given = refl; unset = refl }) refl (λ g. F.others f g name nothing) in
           let is_open = open_with f name nothing nothing_open in
           let fits_y : list_all (fit y) (f ∷ []) ≡ true = rw own (rw is_fresh.0 refl) in
           let good_y = open_allowed y (f ∷ []) first.0 y e between is_open fits_y in
@@ -352,11 +354,16 @@ module _ {A : Type 0} (k : Kind) (wrap : A → Resource) (shown : A → Field �
           let named_y = open_commands y (f ∷ []) first.0 y e between is_open in
           let less = shorter f first.0 y e named_y (ap (λ v. length (setting (field_name f) v)) own) (fresh_least (field_name f) (field_rule f) used (shown x f) (free_goal f first.0 e (by_key x))) in
           let renamed : named_in (now pre) (wrap nothing) ≡ Some (wrap y) =
-              rw (P.taken pre nothing, taken, F.kind nothing, is, P.used pre f is, sets [] first.0 f name nothing e allowed_name) refl in
-          let added_y = can_add y good_y free_y (few_open y is_open) less in
-          (now (pre ++ y ∷ []), rw renamed (rw added_y refl),
-              (text_of (flat_map (rows y) (f ∷ []) ++ End ∷ []), text_with y ∙ ap (λ l. text_of (before ++ l)) named_y
-                  ∙ ap text_of (sym (append_assoc before (Open k ∷ []) (flat_map (rows y) (f ∷ []) ++ End ∷ []))) ∙ text-append (before ++ Open k ∷ []) (flat_map (rows y) (f ∷ []) ++ End ∷ [])))
+          rw (P.taken pre nothing, taken, F.kind nothing, is, P.used pre f is, sets [] first.0 f name nothing e allowed_name) refl in
+          let added_y = can_add y good_y free_y (few_open y is_open) less in (
+            now (pre ++ y ∷ []),
+            rw renamed (rw added_y refl),
+            (
+              text_of (flat_map (rows y) (f ∷ []) ++ End ∷ []),
+              text_with y ∙ ap (λ l. text_of (before ++ l)) named_y
+                  ∙ ap text_of (sym (append_assoc before (Open k ∷ []) (flat_map (rows y) (f ∷ []) ++ End ∷ []))) ∙ text-append (before ++ Open k ∷ []) (flat_map (rows y) (f ∷ []) ++ End ∷ []),
+            ),
+          )
 
       -- a resource whose simple properties are all set, with its options, and some of its values
       record IsFilled (done : List Limit) (a : A) : Type 0 where
@@ -374,7 +381,7 @@ module _ {A : Type 0} (k : Kind) (wrap : A → Resource) (shown : A → Field �
           ∙ ap (λ l. Open k ∷ (flat_map (rows x) (fields_of k) ++ (where_any l ++ (map (λ v. Value v) (values a) ++ End ∷ [])))) is_filled.has_options
           ∙ ap (λ l. Open k ∷ (flat_map (rows x) (fields_of k) ++ (where_any (options x) ++ (map (λ v. Value v) l ++ End ∷ [])))) is_filled.has_values
           ∙ ap (λ l. Open k ∷ l) (ap (λ l. flat_map (rows x) (fields_of k) ++ l) (sym (append_assoc (where_any (options x)) (map (λ v. Value v) done) (End ∷ [])))
-              ∙ sym (append_assoc (flat_map (rows x) (fields_of k)) (where_any (options x) ++ map (λ v. Value v) done) (End ∷ [])))
+          ∙ sym (append_assoc (flat_map (rows x) (fields_of k)) (where_any (options x) ++ map (λ v. Value v) done) (End ∷ [])))
 
       goal_filled : (done rest : List Limit) → done ++ rest ≡ values x → commands x ≡ filled done ++ (map (λ v. Value v) rest ++ End ∷ [])
       goal_filled done rest e =
@@ -403,7 +410,7 @@ module _ {A : Type 0} (k : Kind) (wrap : A → Resource) (shown : A → Field �
       filled_begins : (done rest : List Limit) (a : A) → done ++ rest ≡ values x → IsFilled done a → Begins (before ++ filled done) (opened (now pre) (wrap a))
       filled_begins done rest a e is_filled =
           begins_so a (filled done) (map (λ v. Value v) rest) (filled_commands done a is_filled) (goal_filled done rest e) (filled_allowed done rest a e is_filled)
-              (taken_alike a (λ f others first. head_alike a f others first is_filled.shows)) (ap (λ o. nat_lt 32 (length o)) is_filled.has_options ∙ few)
+          (taken_alike a (λ f others first. head_alike a f others first is_filled.shows)) (ap (λ o. nat_lt 32 (length o)) is_filled.has_options ∙ few)
 
       -- the values of the list are walked
       record Fills (q : List Command) (a : A) (xs : List Command) : Type 0 where
@@ -426,10 +433,10 @@ module _ {A : Type 0} (k : Kind) (wrap : A → Resource) (shown : A → Field �
           } in
           let on = walk_values (done ++ v ∷ []) rest b.0 go is_more in
           let here : before ++ filled (done ++ v ∷ []) ≡ (before ++ filled done) ++ Value v ∷ [] =
-              ap (λ l. before ++ (Open k ∷ (flat_map (rows x) (fields_of k) ++ (where_any (options x) ++ l)))) (map-append (λ v. Value v) done (v ∷ []))
-              ∙ ap (λ l. before ++ (Open k ∷ (flat_map (rows x) (fields_of k) ++ l))) (sym (append_assoc (where_any (options x)) (map (λ v. Value v) done) (Value v ∷ [])))
-              ∙ ap (λ l. before ++ (Open k ∷ l)) (sym (append_assoc (flat_map (rows x) (fields_of k)) (where_any (options x) ++ map (λ v. Value v) done) (Value v ∷ [])))
-              ∙ sym (append_assoc before (filled done) (Value v ∷ [])) in
+          ap (λ l. before ++ (Open k ∷ (flat_map (rows x) (fields_of k) ++ (where_any (options x) ++ l)))) (map-append (λ v. Value v) done (v ∷ []))
+          ∙ ap (λ l. before ++ (Open k ∷ (flat_map (rows x) (fields_of k) ++ l))) (sym (append_assoc (where_any (options x)) (map (λ v. Value v) done) (Value v ∷ [])))
+          ∙ ap (λ l. before ++ (Open k ∷ l)) (sym (append_assoc (flat_map (rows x) (fields_of k)) (where_any (options x) ++ map (λ v. Value v) done) (Value v ∷ [])))
+          ∙ sym (append_assoc before (filled done) (Value v ∷ [])) in
           let B : List Command → Type 0 = λ l. Begins l (opened (now pre) (wrap b.0)) in
           let W : List Command → Type 0 = λ l. Walks l (opened (now pre) (wrap b.0)) (map (λ v. Value v) rest) (opened (now pre) (wrap on.end)) in
           record {
@@ -457,9 +464,9 @@ module _ {A : Type 0} (k : Kind) (wrap : A → Resource) (shown : A → Field �
                   is_full = b.5 ∙ is_open.is_whole;
                 } in
                 let here : before ++ filled [] ≡ ((before ++ Open k ∷ []) ++ flat_map (rows x) (fields_of k)) ++ Options (o ∷ os) ∷ [] =
-                    ap (λ l. before ++ (Open k ∷ (flat_map (rows x) (fields_of k) ++ (where_any l ++ [])))) is
-                    ∙ sym (append_assoc before (Open k ∷ []) (flat_map (rows x) (fields_of k) ++ Options (o ∷ os) ∷ []))
-                    ∙ sym (append_assoc (before ++ Open k ∷ []) (flat_map (rows x) (fields_of k)) (Options (o ∷ os) ∷ [])) in
+                ap (λ l. before ++ (Open k ∷ (flat_map (rows x) (fields_of k) ++ (where_any l ++ [])))) is
+                ∙ sym (append_assoc before (Open k ∷ []) (flat_map (rows x) (fields_of k) ++ Options (o ∷ os) ∷ []))
+                ∙ sym (append_assoc (before ++ Open k ∷ []) (flat_map (rows x) (fields_of k)) (Options (o ∷ os) ∷ [])) in
                 let B : List Command → Type 0 = λ l. Begins l (opened (now pre) (wrap b.0)) in
                 record {
                   next = b.0;
@@ -505,7 +512,7 @@ module _ {A : Type 0} (k : Kind) (wrap : A → Resource) (shown : A → Field �
           let last : before ++ commands x ≡ ((before ++ filled []) ++ V) ++ End ∷ [] = regroup_end before (Open k ∷ []) R O V (End ∷ []) in
           let ends : Begins (((before ++ filled []) ++ V) ++ End ∷ []) done = (now (pre ++ x ∷ []), refl, ([], text_with x ∙ ap text_of last ∙ sym (append-nil (text_of (((before ++ filled []) ++ V) ++ End ∷ []))))) in
           let w3 : Walks (before ++ filled []) (D optioned.next) (V ++ End ∷ []) done =
-              walk-then V (End ∷ []) (before ++ filled []) (D optioned.next) (D valued.end) done valued.walks (walk-one ((before ++ filled []) ++ V) End (D valued.end) done (closes valued.end valued.full) ends) in
+          walk-then V (End ∷ []) (before ++ filled []) (D optioned.next) (D valued.end) done valued.walks (walk-one ((before ++ filled []) ++ V) End (D valued.end) done (closes valued.end valued.full) ends) in
           let W : List Command → Type 0 = λ q. Walks q (D optioned.next) (V ++ End ∷ []) done in
           let w2 = walk-then O (V ++ End ∷ []) (q0 ++ R) (D fields.end) (D optioned.next) done optioned.leads (subst W here w3) in
           let w1 = walk-then R (O ++ (V ++ End ∷ [])) q0 (D nothing) (D fields.end) done fields.walks w2 in

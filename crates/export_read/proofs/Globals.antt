@@ -157,10 +157,15 @@ module _ (c : Contents) (sound : IsSound c) where
   unfolding completed
   begins done rest s e between bare =
       let lines = between_lines property_name shows least c done rest properties s e between in
-      let said : text_of (flat_map (property_commands c) done) ≡ flat_map (property_line c) done = text-each (property_commands c) (property_line c) (λ p. text-where_set _ _) done in
-      (s, refl, (flat_map (property_line least) rest,
+      let said : text_of (flat_map (property_commands c) done) ≡ flat_map (property_line c) done = text-each (property_commands c) (property_line c) (λ p. text-where_set _ _) done in (
+        s,
+        refl,
+        (
+          flat_map (property_line least) rest,
           bare_text s bare ∙ ap (λ l. codes "create -b\n" ++ l) lines ∙ sym (append_assoc (codes "create -b\n") (flat_map (property_line c) done) (flat_map (property_line least) rest))
-          ∙ ap (λ l. (codes "create -b\n" ++ l) ++ flat_map (property_line least) rest) (sym said)))
+              ∙ ap (λ l. (codes "create -b\n" ++ l) ++ flat_map (property_line least) rest) (sym said),
+        ),
+      )
 
   step : (done rest : List Property) (p : Property) (b : ℕ) (v : List ℕ) (s : Contents) → done ++ p ∷ rest ≡ properties → Between done (p ∷ rest) s → IsBare s → shown p c ≡ b ∷ v
       → IsStep property_name shows closed IsBare p (b ∷ v) s (with_value p (b ∷ v) s)

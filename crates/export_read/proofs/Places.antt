@@ -59,12 +59,12 @@ module _ {A : Type 0} (k : Kind) (wrap : A → Resource) (shown : A → Field �
   walk_kind P each once few =
       let W : List Command → Type 0 = λ q. Walks q (closed (now [])) (flat_map (λ a. entry_commands k (shown a) (options a) (values a)) all) (closed (now all)) in
       subst W (append-nil front) (walk-each (λ a. entry_commands k (shown a) (options a) (values a)) (λ xs. closed (now xs)) front all [] all refl
-          (λ pre post x at.
-              let good = one_passes (λ a. is_allowed (wrap a)) pre post x (ap (list_all (λ a. is_allowed (wrap a))) at ∙ each) in
-              let free = not_taken_before shown k pre post x (ap (are_told_apart shown k) at ∙ once) in
-              let small = one_passes (λ a. nat_le (length (options a)) 32) pre post x (ap (list_all (λ a. nat_le (length (options a)) 32)) at ∙ few) in
-              let less : nat_lt 32 (length (options x)) ≡ false = grind (arith, nat_tests) in
-              walk_resource k wrap shown options values put_field whole nothing F c now front behind all P pre post x at (sym (F.judged x) ∙ good) free less))
+      (λ pre post x at.
+      let good = one_passes (λ a. is_allowed (wrap a)) pre post x (ap (list_all (λ a. is_allowed (wrap a))) at ∙ each) in
+      let free = not_taken_before shown k pre post x (ap (are_told_apart shown k) at ∙ once) in
+      let small = one_passes (λ a. nat_le (length (options a)) 32) pre post x (ap (list_all (λ a. nat_le (length (options a)) 32)) at ∙ few) in
+      let less : nat_lt 32 (length (options x)) ≡ false = grind (arith, nat_tests) in
+      walk_resource k wrap shown options values put_field whole nothing F c now front behind all P pre post x at (sym (F.judged x) ∙ good) free less))
 
 length_at : {A : Type 0} (pre post all : List A) (x : A) → pre ++ x ∷ post ≡ all → length all ≡ length pre + suc (length post)
 length_at pre post all x at = ap length (sym at) ∙ length-append pre (x ∷ post)
@@ -167,12 +167,12 @@ module _ (c : Contents) (sound : IsSound c) where
     used = λ xs f h. absurd (cc);
     room = λ pre post x at. let n = length_at pre post c.fs x at in let m = few in omega (arith, n, m);
     limit = λ pre post x y at less.
-      let n = length_at pre post c.fs x at in
-      let m = few in
-      let k = sound.resources.few_fs in
-      let all : nat_le 256 (length pre + 0 + 0 + 0 + 0 + 0) ≡ false = grind (arith, nat_tests) in
-      let own : nat_le 100 (length pre) ≡ false = grind (arith, nat_tests) in
-      rw (all, own, less) refl;
+        let n = length_at pre post c.fs x at in
+        let m = few in
+        let k = sound.resources.few_fs in
+        let all : nat_le 256 (length pre + 0 + 0 + 0 + 0 + 0) ≡ false = grind (arith, nat_tests) in
+        let own : nat_le 100 (length pre) ≡ false = grind (arith, nat_tests) in
+        rw (all, own, less) refl;
   }
 
   net_place : IsPlace kind.Net Net net_shown no_options net_commands c now_net (H ++ F) (D ++ (R ++ (A ++ S))) c.net
@@ -186,10 +186,10 @@ module _ (c : Contents) (sound : IsSound c) where
     used = λ xs f h. absurd (cc);
     room = λ pre post x at. let n = length_at pre post c.net x at in let m = few in omega (arith, n, m);
     limit = λ pre post x y at less.
-      let n = length_at pre post c.net x at in
-      let m = few in
-      let all : nat_le 256 (length c.fs + length pre + 0 + 0 + 0 + 0) ≡ false = grind (arith, nat_tests) in
-      rw all refl;
+        let n = length_at pre post c.net x at in
+        let m = few in
+        let all : nat_le 256 (length c.fs + length pre + 0 + 0 + 0 + 0) ≡ false = grind (arith, nat_tests) in
+        rw all refl;
   }
 
   device_place : IsPlace kind.Device Device device_shown no_options device_commands c now_device ((H ++ F) ++ N) (R ++ (A ++ S)) c.device
@@ -203,10 +203,10 @@ module _ (c : Contents) (sound : IsSound c) where
     used = λ xs f h. let is : DeviceMatch ≡ f = cc in subst (λ g. is_used g (now_device xs) ≡ (λ n. has_key (λ a. device_shown a g) n xs)) is refl;
     room = λ pre post x at. let n = length_at pre post c.device x at in let m = few in omega (arith, n, m);
     limit = λ pre post x y at less.
-      let n = length_at pre post c.device x at in
-      let m = few in
-      let all : nat_le 256 (length c.fs + length c.net + length pre + 0 + 0 + 0) ≡ false = grind (arith, nat_tests) in
-      rw all refl;
+        let n = length_at pre post c.device x at in
+        let m = few in
+        let all : nat_le 256 (length c.fs + length c.net + length pre + 0 + 0 + 0) ≡ false = grind (arith, nat_tests) in
+        rw all refl;
   }
     where
       four : (a b c d : List Command) → a ++ (b ++ (c ++ d)) ≡ ((a ++ b) ++ c) ++ d
@@ -223,10 +223,10 @@ module _ (c : Contents) (sound : IsSound c) where
     used = λ xs f h. let is : RctlName ≡ f = cc in subst (λ g. is_used g (now_rctl xs) ≡ (λ n. has_key (λ a. rctl_shown a g) n xs)) is refl;
     room = λ pre post x at. let n = length_at pre post c.rctl x at in let m = few in omega (arith, n, m);
     limit = λ pre post x y at less.
-      let n = length_at pre post c.rctl x at in
-      let m = few in
-      let all : nat_le 256 (length c.fs + length c.net + length c.device + length pre + 0 + 0) ≡ false = grind (arith, nat_tests) in
-      rw all refl;
+        let n = length_at pre post c.rctl x at in
+        let m = few in
+        let all : nat_le 256 (length c.fs + length c.net + length c.device + length pre + 0 + 0) ≡ false = grind (arith, nat_tests) in
+        rw all refl;
   }
     where
       five : (a b c d e : List Command) → a ++ (b ++ (c ++ (d ++ e))) ≡ (((a ++ b) ++ c) ++ d) ++ e
@@ -243,10 +243,10 @@ module _ (c : Contents) (sound : IsSound c) where
     used = λ xs f h. let is : AttrName ≡ f = cc in subst (λ g. is_used g (now_attr xs) ≡ (λ n. has_key (λ a. attr_shown a g) n xs)) is refl;
     room = λ pre post x at. let n = length_at pre post c.attr x at in let m = few in omega (arith, n, m);
     limit = λ pre post x y at less.
-      let n = length_at pre post c.attr x at in
-      let m = few in
-      let all : nat_le 256 (length c.fs + length c.net + length c.device + length c.rctl + length pre + 0) ≡ false = grind (arith, nat_tests) in
-      rw all refl;
+        let n = length_at pre post c.attr x at in
+        let m = few in
+        let all : nat_le 256 (length c.fs + length c.net + length c.device + length c.rctl + length pre + 0) ≡ false = grind (arith, nat_tests) in
+        rw all refl;
   }
     where
       six : (a b c d e f : List Command) → a ++ (b ++ (c ++ (d ++ (e ++ f)))) ≡ ((((a ++ b) ++ c) ++ d) ++ e) ++ f
@@ -263,10 +263,10 @@ module _ (c : Contents) (sound : IsSound c) where
     used = λ xs f h. let is : DatasetName ≡ f = cc in subst (λ g. is_used g (now_dataset xs) ≡ (λ n. has_key (λ a. dataset_shown a g) n xs)) is refl;
     room = λ pre post x at. let n = length_at pre post c.dataset x at in let m = few in omega (arith, n, m);
     limit = λ pre post x y at less.
-      let n = length_at pre post c.dataset x at in
-      let m = few in
-      let all : nat_le 256 (length c.fs + length c.net + length c.device + length c.rctl + length c.attr + length pre) ≡ false = grind (arith, nat_tests) in
-      rw all refl;
+        let n = length_at pre post c.dataset x at in
+        let m = few in
+        let all : nat_le 256 (length c.fs + length c.net + length c.device + length c.rctl + length c.attr + length pre) ≡ false = grind (arith, nat_tests) in
+        rw all refl;
   }
 
   small_lists : {B : Type 0} (xs : List B) → list_all (λ a. nat_le (length (no_options a)) 32) xs ≡ true
@@ -284,7 +284,7 @@ module _ (c : Contents) (sound : IsSound c) where
       let attr = walk_kind kind.Attr Attr attr_shown no_options no_values attr_with always_whole no_attr attr_form c now_attr ((((H ++ F) ++ N) ++ D) ++ R) S c.attr attr_place r.attr.each r.attr.once (small_lists c.attr) in
       let dataset = walk_kind kind.Dataset Dataset dataset_shown no_options no_values dataset_with always_whole [] dataset_form c now_dataset (((((H ++ F) ++ N) ++ D) ++ R) ++ A) [] c.dataset dataset_place r.dataset.each r.dataset.once (small_lists c.dataset) in
       walk-then F (N ++ (D ++ (R ++ (A ++ S)))) H (closed (without_resources c)) (closed (now_fs c.fs)) (closed c) fs
-          (walk-then N (D ++ (R ++ (A ++ S))) (H ++ F) (closed (now_fs c.fs)) (closed (now_net c.net)) (closed c) net
-              (walk-then D (R ++ (A ++ S)) ((H ++ F) ++ N) (closed (now_net c.net)) (closed (now_device c.device)) (closed c) device
-                  (walk-then R (A ++ S) (((H ++ F) ++ N) ++ D) (closed (now_device c.device)) (closed (now_rctl c.rctl)) (closed c) rctl
-                      (walk-then A S ((((H ++ F) ++ N) ++ D) ++ R) (closed (now_rctl c.rctl)) (closed (now_attr c.attr)) (closed c) attr dataset))))
+      (walk-then N (D ++ (R ++ (A ++ S))) (H ++ F) (closed (now_fs c.fs)) (closed (now_net c.net)) (closed c) net
+      (walk-then D (R ++ (A ++ S)) ((H ++ F) ++ N) (closed (now_net c.net)) (closed (now_device c.device)) (closed c) device
+      (walk-then R (A ++ S) (((H ++ F) ++ N) ++ D) (closed (now_device c.device)) (closed (now_rctl c.rctl)) (closed c) rctl
+      (walk-then A S ((((H ++ F) ++ N) ++ D) ++ R) (closed (now_rctl c.rctl)) (closed (now_attr c.attr)) (closed c) attr dataset))))

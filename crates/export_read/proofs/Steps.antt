@@ -1,5 +1,5 @@
 -- The first line of some bytes, and those behind it.
-use Rattle.std.proofs.Common.{◌≡◌, ◌≤◌, ◌<◌, ◌+◌, ◌-◌, zero, suc, ℕ, Bool, true, false, cond, List, [], ◌∷◌, ◌++◌, length, length-drop, take, drop, Option, Some, None, Result, Ok, Err, refl, ap, sym, ◌∙◌, arith, append_assoc, append-nil}
+use Rattle.std.proofs.Common.{◌≡◌, ◌≤◌, ◌<◌, ◌+◌, ◌-◌, zero, suc, ℕ, Bool, true, false, cond, List, [], ◌∷◌, ◌++◌, length, length-drop, take, drop, Option, Some, None, Result, Ok, Err, refl, ap, sym, subst, ◌∙◌, arith, append_assoc, append-nil}
 use Rattle.std.specs.Prelude.{◌==◌, not, option_and_then}
 use Rattle.std.specs.List.{after_first, before_first, flat_map, position_or_len}
 use Rattle.export_lines.specs.Lines.{ended, is_newline, lines_of, with_first}
@@ -22,7 +22,7 @@ cut_first b [] =
     elim (is_newline b) as (λ v. cond v ([] ∷ []) ((b ∷ []) ∷ []) ≡ take (cond (not v) 1 0) (b ∷ []) ∷ lines_of (drop (cond (not v) 1 0 + 1) (b ∷ []))) [ true ↦ refl | false ↦ refl ]
 cut_first b (c ∷ bytes) =
     elim (is_newline b) as (λ v. cond v ([] ∷ lines_of (c ∷ bytes)) (with_first b (lines_of (c ∷ bytes)))
-        ≡ take (cond (not v) (1 + position_or_len is_newline (c ∷ bytes)) 0) (b ∷ (c ∷ bytes)) ∷ lines_of (drop (cond (not v) (1 + position_or_len is_newline (c ∷ bytes)) 0 + 1) (b ∷ (c ∷ bytes)))) [
+    ≡ take (cond (not v) (1 + position_or_len is_newline (c ∷ bytes)) 0) (b ∷ (c ∷ bytes)) ∷ lines_of (drop (cond (not v) (1 + position_or_len is_newline (c ∷ bytes)) 0 + 1) (b ∷ (c ∷ bytes)))) [
       | true ↦ refl
       | false ↦
           let n : 1 + position_or_len is_newline (c ∷ bytes) ≡ suc (position_or_len is_newline (c ∷ bytes)) = omega arith in
@@ -64,11 +64,18 @@ unfolding drafted
 line_put bytes d e h is = ap (λ l. drafted l d) (cut_line bytes h) ∙ ap (option_and_then (drafted (lines_of (behind bytes)))) is
 
 -- one that is not ends the reading
-pub line_halted : (bytes : List ℕ) (d : Draft) (halt : Halt) (whole : Option Draft) → 0 < length bytes → (let r : Result Draft Halt = Err halt in Puts (option_and_then (λ x. put x d) (command_of (first bytes))) r)
+halts : (bytes : List ℕ) (d : Draft) (halt : Halt) (whole : Option Draft) → 0 < length bytes → (let r : Result Draft Halt = Err halt in Puts (option_and_then (λ x. put x d) (command_of (first bytes))) r)
     → drafted (lines_of bytes) d ≡ whole → (let r : Result Draft Halt = Err halt in Puts whole r)
 unfolding drafted
-line_halted bytes d Memory whole h is e = tt
-line_halted bytes d Refused whole h is e = sym e ∙ ap (λ l. drafted l d) (cut_line bytes h) ∙ ap (option_and_then (drafted (lines_of (behind bytes)))) is
+halts bytes d Memory whole h is e = tt
+halts bytes d Refused whole h is e = sym e ∙ ap (λ l. drafted l d) (cut_line bytes h) ∙ ap (option_and_then (drafted (lines_of (behind bytes)))) is
+
+pub line_halted : (bytes line : List ℕ) (d : Draft) (halt : Halt) (whole : Option Draft) → 0 < length bytes → line ≡ first bytes
+    → (let r : Result Draft Halt = Err halt in Puts (option_and_then (λ x. put x d) (command_of line)) r) → drafted (lines_of bytes) d ≡ whole → (let r : Result Draft Halt = Err halt in Puts whole r)
+line_halted bytes line d halt whole some is h e =
+    let r : Result Draft Halt = Err halt in
+    let P : List ℕ → Type 0 = λ l. Puts (option_and_then (λ x. put x d) (command_of l)) r in
+    halts bytes d halt whole some (subst P is h) e
 
 pub lines_end : (bytes : List ℕ) (d : Draft) → length bytes ≡ 0 → drafted (lines_of bytes) d ≡ Some d
 unfolding drafted

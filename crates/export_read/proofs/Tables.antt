@@ -137,7 +137,7 @@ module _ {P S : Type 0} (name : P → List ℕ) (shown : S → P → List ℕ) (
   walk_rows done (p ∷ rest) s e between kept =
       let go : (done ++ p ∷ []) ++ rest ≡ table = append_assoc done (p ∷ []) rest ∙ e in
       let more : q ++ flat_map commands (done ++ p ∷ []) ≡ (q ++ flat_map commands done) ++ commands p =
-          ap (λ l. q ++ l) (flat_map-append commands done (p ∷ []) ∙ ap (λ l. flat_map commands done ++ l) (append-nil (commands p))) ∙ sym (append_assoc q (flat_map commands done) (commands p)) in
+      ap (λ l. q ++ l) (flat_map-append commands done (p ∷ []) ∙ ap (λ l. flat_map commands done ++ l) (append-nil (commands p))) ∙ sym (append_assoc q (flat_map commands done) (commands p)) in
       let apart : are_distinct name (done ++ p ∷ rest) ≡ true = ap (are_distinct name) e ∙ T.distinct in
       elim (shown goal p) as (λ v. shown goal p ≡ v → Reaches shown wrap stays base goal table (q ++ flat_map commands done) s (where_set (name p) v ++ flat_map commands rest)) [
         | [] ↦ λ is.

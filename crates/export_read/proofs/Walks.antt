@@ -39,9 +39,9 @@ walk-each commands state q all pre [] e each = ap state (sym (append-nil pre))
 walk-each {A} commands state q all pre (x ∷ xs) e each =
     let go : pre ++ x ∷ xs ≡ (pre ++ x ∷ []) ++ xs = sym (append_assoc pre (x ∷ []) xs) in
     let more : q ++ flat_map commands (pre ++ x ∷ []) ≡ (q ++ flat_map commands pre) ++ commands x =
-        ap (λ l. q ++ l) (flat_map-append commands pre (x ∷ []) ∙ ap (λ l. flat_map commands pre ++ l) (append-nil (commands x)))
-        ∙ sym (append_assoc q (flat_map commands pre) (commands x)) in
+    ap (λ l. q ++ l) (flat_map-append commands pre (x ∷ []) ∙ ap (λ l. flat_map commands pre ++ l) (append-nil (commands x)))
+    ∙ sym (append_assoc q (flat_map commands pre) (commands x)) in
     let W : List Command → Type 0 = λ l. Walks l (state (pre ++ x ∷ [])) (flat_map commands xs) (state ((pre ++ x ∷ []) ++ xs)) in
     let E : List A → Type 0 = λ l. Walks (q ++ flat_map commands pre) (state pre) (commands x ++ flat_map commands xs) (state l) in
     subst E (sym go) (walk-then (commands x) (flat_map commands xs) (q ++ flat_map commands pre) (state pre) (state (pre ++ x ∷ [])) (state ((pre ++ x ∷ []) ++ xs))
-        (each pre xs x e) (subst W more (walk-each commands state q all (pre ++ x ∷ []) xs (sym go ∙ e) each)))
+    (each pre xs x e) (subst W more (walk-each commands state q all (pre ++ x ∷ []) xs (sym go ∙ e) each)))

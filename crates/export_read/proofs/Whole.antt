@@ -41,7 +41,7 @@ walk c sound =
     let bare = same_properties c globals.end sound.properties.zonepath globals.kept globals.all.given in
     let W : Contents → Type 0 = λ s. Walks (Create ∷ []) start P (closed s) in
     walk-then (Create ∷ []) (P ++ R) [] start start (closed c) (walk-one [] Create start start refl start_begins)
-        (walk-then P R (Create ∷ []) start (closed (without_resources c)) (closed c) (subst W bare globals.walks) (walk_resources c sound))
+    (walk-then P R (Create ∷ []) start (closed (without_resources c)) (closed c) (subst W bare globals.walks) (walk_resources c sound))
 
 -- a walk is a run over the lines
 drafted-walk : (xs q : List Command) (d e : Draft) (more : List (List ℕ)) → ArePlain xs → Walks q d xs e → drafted (map line_of xs ++ more) d ≡ drafted more e
@@ -132,7 +132,7 @@ begun_again text n b =
     let at = stop piece.front piece.behind [] start (closed c) nothing_begins (subst W piece.whole (walk c b.sound)) in
     let whole : ended L ≡ text_of piece.front = ap ended (sym piece.are) ∙ ended-map piece.front in
     let lines : lines_of (ended L) ≡ map line_of piece.front ++ [] =
-        ap (λ l. lines_of (ended l)) (sym piece.are) ∙ ap lines_of (sym (append-nil (ended (map line_of piece.front)))) ∙ lines_of-ended (map line_of piece.front) [] (plain_lines piece.front plain) in
+    ap (λ l. lines_of (ended l)) (sym piece.are) ∙ ap lines_of (sym (append-nil (ended (map line_of piece.front)))) ∙ lines_of-ended (map line_of piece.front) [] (plain_lines piece.front plain) in
     let run = ap (λ l. drafted l start) lines ∙ drafted-walk piece.front [] start at.end [] plain at.walks in
     let done = at.begins in
     ap (λ o. begun_by (ended L) (option_and_then completed o)) run ∙ ap (begun_by (ended L)) done.1

@@ -62,12 +62,7 @@ pub fn text(alloc: Global, bytes: &[u8]) -> Result<Text, AllocError>
 
 // The first free name of two bytes that begins with one of some.
 #[tactic(auto, using(crate::proofs::Printing::found_pair))]
-fn pair(
-    alloc: Global,
-    contents: &Contents,
-    key: Field,
-    firsts: &[u8],
-) -> Result<Text, AllocError>
+fn pair(alloc: Global, contents: &Contents, key: Field, firsts: &[u8]) -> Result<Text, AllocError>
     ensures { IfOk result (λ name. name ≡ pair_by (is_free (field_rule key) (is_used key contents.now)) firsts.now) }
 {
     let [first, rest @ ..] = firsts else {

@@ -47,7 +47,7 @@ fn put_line(alloc: Global, draft: Draft, line: &[u8]) -> Result<Draft, Halt>
 }
 
 // What all lines make.
-#[tactic(auto, using(crate::proofs::Steps::line_put, crate::proofs::Steps::line_halted, crate::proofs::Steps::lines_end, crate::proofs::Steps::behind_less))]
+#[tactic(auto, using(crate::proofs::Steps::line_put, crate::proofs::Steps::lines_end, crate::proofs::Steps::behind_less))]
 fn drafted(alloc: Global, text: &[u8]) -> Result<Draft, Halt>
     ensures { Puts (drafted (lines_of text.now) start) result }
 {
