@@ -16,12 +16,14 @@ use Rattle.config_terms.specs.Texts.{action, is_bare_byte, limit_text, options_t
 use Rattle.config_terms.specs.declared.terms.Kind.{Kind}
 use Rattle.config_terms.specs.declared.terms.Kind.TheVariants as kind
 use Rattle.config_terms.specs.declared.terms.Limit.{Limit}
-use Rattle.export_lines.proofs.Again.{IsPlain, none_of, own}
+use Rattle.export_lines.proofs.Again.{IsPlain, command_again, none_of, own}
 use Rattle.export_lines.proofs.Cuts.{AreLines, IsOneLine, lines_of-ended}
 use Rattle.export_lines.proofs.Printable.{ArePlain, plain-script}
 use Rattle.export_lines.proofs.Texts.{text-script}
 use Rattle.export_lines.specs.Commands.{line_of, script, text_of}
 use Rattle.export_lines.specs.Lines.{ended, is_newline, lines_of}
+use Rattle.export_lines.specs.Reading.{command_of}
+use Rattle.export_lines.specs.Saying.{LinesSayTheirCommands}
 use Rattle.export_lines.specs.declared.command.Command.{Command}
 use Rattle.export_lines.specs.declared.command.Command.TheVariants.{Create, Set, Open, Options, Value, End}
 use Rattle.zone_config.specs.Export.{export_text}
@@ -113,3 +115,11 @@ pub lines-script : (c : Contents) → IsSound c → lines_of (export_text c) ≡
 lines-script c sound =
     ap lines_of (sym (text-script c) ∙ sym (ended-map (script c)) ∙ sym (append-nil (ended (map line_of (script c)))))
     ∙ lines_of-ended (map line_of (script c)) [] (plain_lines (script c) (plain-script c sound)) ∙ append-nil (map line_of (script c))
+
+say_commands : (xs : List Command) → ArePlain xs → map command_of (map line_of xs) ≡ map (λ x. Some x) xs
+say_commands [] h = refl
+say_commands (x ∷ xs) h = ap (λ o. o ∷ map command_of (map line_of xs)) (command_again x h.0) ∙ ap (λ l. Some x ∷ l) (say_commands xs h.1)
+
+-- and what they say
+pub says_script : LinesSayTheirCommands
+says_script c sound = record { lines = lines-script c sound; commands = ap (map command_of) (lines-script c sound) ∙ say_commands (script c) (plain-script c sound) }
