@@ -71,6 +71,47 @@ fn each_rule_takes_a_good_value_and_no_bad_one(rt: HostRuntime) {
     assert!(rt; Rule::ShortName.allows(b"") && !Rule::Number.allows(b"0"));
 }
 
+fn fresh(alloc: Global, kind: Kind) -> Resource {
+    Resource::empty(alloc, kind)
+}
+
+fn length_of(resource: &Resource) -> usize {
+    entry_length(resource.kind(), resource)
+}
+
+fn shows(rt: &impl Abort, alloc: Global, resource: &Resource, wanted: &[u8]) -> Result<(), Fail> {
+    assert_eq!(rt; length_of(resource), wanted.len());
+    let text = printed(alloc, resource)?;
+    assert_eq!(rt; text.as_slice(), wanted);
+    Ok(())
+}
+
+fn edited(
+    alloc: Global,
+    resource: &mut Resource,
+    edit: ListEdit,
+    name: &[u8],
+    value: Value,
+) -> Result<(), ConfigFault> {
+    match edit {
+        ListEdit::Put => resource.set_property(alloc, name, &value),
+        ListEdit::Add => resource.add_value(alloc, name, &value),
+        ListEdit::Remove => resource.remove_value(alloc, name, &value),
+    }
+}
+
+fn cleared(alloc: Global, resource: &mut Resource, name: &[u8]) -> Result<(), ConfigFault> {
+    resource.clear_property(alloc, name)
+}
+
+fn is_of(resource: &Resource, kind: Kind) -> bool {
+    resource.is_allowed() && Kind::with_name(kind.name()) == Some(resource.kind())
+}
+
+fn twin(alloc: Global, resource: &Resource) -> Result<Resource, Fail> {
+    Ok(resource.twin(alloc)?)
+}
+
 fn prints(
     rt: &impl Abort,
     alloc: Global,
@@ -78,21 +119,23 @@ fn prints(
     settings: &[(&[u8], &[u8])],
     wanted: &[u8],
 ) -> Result<(), Fail> {
-    let mut resource = Resource::empty(alloc, kind);
+    let mut resource = fresh(alloc, kind);
     for (name, value) in settings {
-        resource.set_property(alloc, name, &simple(alloc, value)?)?;
+        edited(
+            alloc,
+            &mut resource,
+            ListEdit::Put,
+            name,
+            simple(alloc, value)?,
+        )?;
     }
-    assert!(rt; resource.is_allowed() && Kind::with_name(kind.name()) == Some(kind));
-    assert_eq!(rt; entry_length(kind, &resource), wanted.len());
-    let text = printed(alloc, &resource.twin(alloc)?)?;
-    assert_eq!(rt; text.as_slice(), wanted);
+    assert!(rt; is_of(&resource, kind));
+    shows(rt, alloc, &twin(alloc, &resource)?, wanted)?;
     for (name, _) in settings {
-        resource.clear_property(alloc, name)?;
+        cleared(alloc, &mut resource, name)?;
     }
-    let cleared = printed(alloc, &resource)?;
-    let nothing = printed(alloc, &Resource::empty(alloc, kind))?;
-    assert_eq!(rt; cleared.as_slice(), nothing.as_slice());
-    Ok(())
+    let nothing = printed(alloc, &fresh(alloc, kind))?;
+    shows(rt, alloc, &resource, &nothing)
 }
 
 #[test]
@@ -139,31 +182,10 @@ fn resources_are_built_and_printed(rt: HostRuntime) -> Result<(), Fail> {
     )
 }
 
-fn shows(rt: &impl Abort, alloc: Global, resource: &Resource, wanted: &[u8]) -> Result<(), Fail> {
-    assert_eq!(rt; entry_length(resource.kind(), resource), wanted.len());
-    let text = printed(alloc, resource)?;
-    assert_eq!(rt; text.as_slice(), wanted);
-    Ok(())
-}
-
-fn edited(
-    alloc: Global,
-    resource: &mut Resource,
-    edit: ListEdit,
-    name: &[u8],
-    value: Value,
-) -> Result<(), ConfigFault> {
-    match edit {
-        ListEdit::Put => resource.set_property(alloc, name, &value),
-        ListEdit::Add => resource.add_value(alloc, name, &value),
-        ListEdit::Remove => resource.remove_value(alloc, name, &value),
-    }
-}
-
 #[test]
 fn options_are_edited(rt: HostRuntime) -> Result<(), Fail> {
     let alloc = rt.alloc();
-    let mut usr = Resource::empty(alloc, Kind::Fs);
+    let mut usr = fresh(alloc, Kind::Fs);
     let rows: [(ListEdit, &[&[u8]], Result<(), ConfigFault>); 6] = [
         (ListEdit::Add, &[b"ro", b"nodevices"], Ok(())),
         (ListEdit::Add, &[b"ro"], Ok(())),
@@ -199,7 +221,7 @@ fn options_are_edited(rt: HostRuntime) -> Result<(), Fail> {
 #[test]
 fn values_are_edited(rt: HostRuntime) -> Result<(), Fail> {
     let alloc = rt.alloc();
-    let mut lwps = Resource::empty(alloc, Kind::Rctl);
+    let mut lwps = fresh(alloc, Kind::Rctl);
     let rows: [(ListEdit, &[u8], &[u8], &[u8], Result<(), ConfigFault>); 5] = [
         (ListEdit::Add, b"value", b"20", b"none", Ok(())),
         (ListEdit::Add, b"value", b"300", b"deny", Ok(())),
@@ -255,6 +277,7 @@ fn matches_are_found(rt: HostRuntime) -> Result<(), Fail> {
     assert!(rt; !is_taken(Kind::Device, &fresh, devices.as_slice()));
     let taken = text(alloc, b"/dev/b")?;
     assert!(rt; is_taken(Kind::Device, &taken, devices.as_slice()));
+    assert_eq!(rt; devices.len(), 3);
     assert!(rt; !is_taken_but(Kind::Device, 1, &taken, devices.as_slice()));
     Ok(())
 }

@@ -77,7 +77,7 @@ opened_by (Assign name value) config = assigned name value config
 opened_by Unknown config = Err UnknownCommand
 
 -- what a line makes of what is open, or why it is refused
-abbrev pub edit_of : List ℕ → Option Contents → Result (Option Contents) EditFault
+unfoldable pub edit_of : List ℕ → Option Contents → Result (Option Contents) EditFault
 edit_of line config = opened_by (subcommand_of line) config
 
 -- the line was obeyed, or memory ran out, or it was refused; in these two cases what was open is as before

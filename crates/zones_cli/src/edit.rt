@@ -150,6 +150,7 @@ fn obey(
 }
 
 /// Does what a line says. A refused line leaves what is open as it was.
+#[tactic(auto, unfolding(crate::specs::Subcommands::edit_of))]
 pub fn edit(alloc: Global, zone: &mut Option<ZoneConfig>, line: &[u8]) -> Result<(), EditFault>
     requires { length line.now ≤ 4096 }
     ensures { Edits zone.old zone.new result (edit_of line.now zone.old) }
