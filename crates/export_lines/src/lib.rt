@@ -3,8 +3,8 @@
 #![tactic(auto)]
 
 mod command;
-mod reading;
 mod laws;
+mod reading;
 
 pub use command::Command;
 pub use laws::lines_say_their_commands;
@@ -19,7 +19,12 @@ mod tests {
     #[test]
     fn a_line_says_its_command(rt: HostRuntime) -> Result<(), Fail> {
         assert!(rt; matches!(command_of(rt.alloc(), b"create -b")?, Some(Command::Create)));
-        assert!(rt; matches!(command_of(rt.alloc(), b"add fs")?, Some(Command::Open(Kind::Fs))));
+        assert!(rt;
+            matches!(
+                command_of(rt.alloc(), b"add fs")?,
+                Some(Command::Open(Kind::Fs))
+            )
+        );
         assert!(rt; matches!(command_of(rt.alloc(), b"end")?, Some(Command::End)));
         assert!(rt; command_of(rt.alloc(), b"add zone")?.is_none());
         assert!(rt; command_of(rt.alloc(), b"set pool=\xff")?.is_none());
@@ -30,7 +35,10 @@ mod tests {
             }
             _ => panic!(rt; "no property"),
         }
-        match command_of(rt.alloc(), b"add value (priv=privileged,limit=10,action=none)")? {
+        match command_of(
+            rt.alloc(),
+            b"add value (priv=privileged,limit=10,action=none)",
+        )? {
             Some(Command::Value(value)) => assert!(rt; value.limit == 10 && !value.deny),
             _ => panic!(rt; "no value"),
         }
