@@ -1,10 +1,9 @@
 -- The line of a command says that command.
-use Rattle.std.proofs.Common.{◌≡◌, ◌≤◌, ◌<◌, ◌+◌, ◌-◌, ◌*◌, zero, suc, ℕ, Bool, true, false, cond, not, ◌&&◌, List, [], ◌∷◌, ◌++◌, length, take, drop, Option, Some, None, refl, ap, sym, subst, ◌∙◌, arith, append_assoc, append-nil, length-append, codes, rules, get_or, ◌^◌}
+use Rattle.std.proofs.Common.{◌≡◌, ◌<◌, ◌+◌, ◌-◌, suc, ℕ, Bool, true, false, cond, ◌&&◌, List, [], ◌∷◌, ◌++◌, length, drop, Some, refl, ap, sym, subst, ◌∙◌, arith, append_assoc, length-append, codes, rules, get_or, ◌^◌}
 use Rattle.std.specs.Str.{bytes_eq}
-use Rattle.std.specs.Prelude.{◌==◌, nat_le, decimal}
-use Rattle.std.specs.List.{list_all, list_any, flat_map, position_or_len, before_first, after_first, slice_split, onto_first}
-use Rattle.std.specs.Option.{option_map}
-use Rattle.std.proofs.lemmas.Bool.{false≢true, or_parts, and_parts, and_from}
+use Rattle.std.specs.Prelude.{◌==◌, decimal}
+use Rattle.std.specs.List.{list_all, list_any, flat_map, position_or_len, before_first, after_first, slice_split}
+use Rattle.std.proofs.lemmas.Bool.{false≢true, or_parts, and_parts}
 use Rattle.std.proofs.lemmas.Fmt.{digits_decimal, digits_value-decimal, first_decimal}
 use Rattle.std.proofs.lemmas.Str.Parse.{IsNumeralModel, numerals_by_fold}
 use Rattle.std.specs.Char.{is_ascii_digit}
@@ -17,7 +16,7 @@ use Rattle.config_terms.specs.declared.terms.Kind.{Kind}
 use Rattle.config_terms.specs.declared.terms.Kind.TheVariants as kind
 use Rattle.config_terms.specs.declared.terms.Limit.{Limit}
 use Rattle.export_lines.specs.Commands.{line_of}
-use Rattle.export_lines.specs.Reading.{is_equals, is_comma, without_last, unquoted, setting_of, options_of, limit_of, command_of}
+use Rattle.export_lines.specs.Reading.{is_equals, is_comma, without_last, unquoted, setting_of, limit_of, command_of}
 use Rattle.export_lines.specs.declared.command.Command.{Command}
 use Rattle.export_lines.specs.declared.command.Command.TheVariants.{Create, Set, Open, Options, Value, End}
 

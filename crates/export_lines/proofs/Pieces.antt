@@ -1,8 +1,7 @@
 -- Pieces of which each is a text.
-use Rattle.std.proofs.Common.{◌≡◌, ℕ, Bool, true, false, cond, ◌&&◌, ◌+◌, List, [], ◌∷◌, ◌++◌, take, drop, Option, Some, None, refl, ap, sym, ◌∙◌, append_assoc}
+use Rattle.std.proofs.Common.{◌≡◌, ℕ, true, false, cond, ◌+◌, List, [], ◌∷◌, ◌++◌, take, drop, Some, None, refl, ap, sym, ◌∙◌, append_assoc}
 use Rattle.std.specs.List.{list_all, position, slice_split}
 use Rattle.std.proofs.lemmas.List.Folds.{list_all-append}
-use Rattle.std.proofs.lemmas.Bool.{and_right, and_left}
 use Rattle.zn_base.specs.Text.{is_text}
 use Rattle.zn_base.proofs.Splits.{split_some, split_none}
 use Rattle.export_lines.specs.Reading.{is_comma, texts_among}

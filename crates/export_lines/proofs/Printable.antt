@@ -1,17 +1,17 @@
 -- What a rule allows is printable, and so is each line of a sound configuration.
-use Rattle.std.proofs.Common.{◌≡◌, ◌≤◌, ◌<◌, ◌+◌, ℕ, suc, Bool, true, false, cond, not, ◌&&◌, ◌||◌, List, [], ◌∷◌, ◌++◌, length, Option, Some, None, Result, Ok, Err, refl, ap, sym, ◌∙◌, arith, nat_lt, get_or, codes, inl, inr}
-use Rattle.std.specs.Prelude.{◌==◌, nat_le, is_ok, is_some, position, take, map}
+use Rattle.std.proofs.Common.{◌≡◌, ◌≤◌, ◌+◌, ℕ, suc, Bool, true, false, cond, not, ◌&&◌, List, [], ◌∷◌, ◌++◌, length, Option, Some, None, Err, refl, ap, ◌∙◌, arith, nat_lt, codes, inl, inr}
+use Rattle.std.specs.Prelude.{◌==◌, nat_le, is_ok, map}
 use Rattle.std.specs.List.{flat_map, list_all, list_any, position_or_len, slice_split, onto_first}
 use Rattle.std.specs.Str.{bytes_eq}
-use Rattle.std.proofs.lemmas.Bool.{and_parts, or_cases, or_parts, not-true}
+use Rattle.std.proofs.lemmas.Bool.{and_parts, or_cases}
 use Rattle.std.proofs.lemmas.Bool.Decides.{nat_tests}
 use Rattle.std.proofs.lemmas.Slice.Eq.{bytes_eq-Decides}
 use Rattle.zn_base.specs.declared.path.PathFault.TheVariants.{NotAbsolute, PathLong}
-use Rattle.zn_base.specs.Path.{first_bad, first_bad_below_root, is_component, is_component_byte, is_path, is_slash, path_from_root, path_of, path_unless}
-use Rattle.zn_base.specs.Text.{is_text, is_text_byte, text_of, text_unless}
+use Rattle.zn_base.specs.Path.{first_bad, first_bad_below_root, is_component, is_component_byte, is_path, is_slash, path_from_root, path_unless}
+use Rattle.zn_base.specs.Text.{is_text, is_text_byte}
 use Rattle.config_terms.specs.Allowed.{attr_allowed, dataset_allowed, device_allowed, entry_allowed, fields_fit, fs_allowed, is_allowed_limit, is_kept_path, net_allowed, rctl_allowed}
 use Rattle.config_terms.specs.Fields.{field_name, field_rule, fields_of, fs_shown}
-use Rattle.config_terms.specs.Numbers.{is_limit, number_of}
+use Rattle.config_terms.specs.Numbers.{is_limit}
 use Rattle.config_terms.specs.declared.fields.Field.{Field}
 use Rattle.config_terms.specs.declared.fields.Field.TheVariants.{FsDir, FsSpecial, FsRaw, FsType, NetAddress, NetAllowed, NetPhysical, NetDefrouter, DeviceMatch, RctlName, AttrName, AttrType, AttrValue, DatasetName}
 use Rattle.config_terms.specs.declared.terms.Kind.{Kind}

@@ -1,15 +1,13 @@
 -- The lines of a sound configuration's text are those of its script.
-use Rattle.std.proofs.Common.{◌≡◌, ◌<◌, ◌≤◌, ◌+◌, ◌^◌, suc, ℕ, Bool, true, false, cond, not, ◌&&◌, ◌||◌, List, [], ◌∷◌, ◌++◌, length, Option, Some, None, Ok, Err, refl, ap, sym, ◌∙◌, arith, append_assoc, append-nil, codes, nat_lt}
-use Rattle.std.specs.Prelude.{map, decimal, is_ok, position}
+use Rattle.std.proofs.Common.{◌≡◌, ◌<◌, ◌+◌, ◌^◌, suc, ℕ, Bool, true, false, cond, not, ◌&&◌, List, [], ◌∷◌, ◌++◌, length, Some, None, refl, ap, sym, ◌∙◌, arith, append-nil, codes, nat_lt}
+use Rattle.std.specs.Prelude.{map, decimal, is_ok}
 use Rattle.std.specs.Char.{is_ascii_digit}
-use Rattle.std.specs.List.{flat_map, list_all, list_any, position_or_len}
+use Rattle.std.specs.List.{flat_map, list_all, position_or_len}
 use Rattle.std.proofs.lemmas.Bool.{and_parts, or_from}
 use Rattle.std.proofs.lemmas.Bool.Decides.{nat_tests}
 use Rattle.std.proofs.lemmas.Fmt.{digits_decimal}
 use Rattle.std.proofs.lemmas.List.Folds.{list_any-append}
 use Rattle.zn_base.specs.Text.{is_text, is_text_byte, text_unless}
-use Rattle.zn_base.specs.declared.text.TextFault.{TextFault}
-use Rattle.zn_base.specs.declared.text.TextFault.TheVariants.{BadText, TextLong}
 use Rattle.config_terms.specs.Fields.{kind_name}
 use Rattle.config_terms.specs.Numbers.{is_limit}
 use Rattle.config_terms.specs.Texts.{action, is_bare_byte, limit_text, options_text, value_text}

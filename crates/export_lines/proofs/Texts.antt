@@ -1,9 +1,9 @@
 -- An export text is its script.
-use Rattle.std.proofs.Common.{◌≡◌, ℕ, List, [], ◌∷◌, ◌++◌, refl, ap, sym, ◌∙◌, append_assoc, append-nil, codes}
+use Rattle.std.proofs.Common.{◌≡◌, ℕ, List, [], ◌∷◌, ◌++◌, refl, ap, ◌∙◌, append_assoc, append-nil, codes}
 use Rattle.std.specs.Prelude.{map}
 use Rattle.std.specs.List.{flat_map}
 use Rattle.std.proofs.lemmas.List.Concat.{flat_map-append}
-use Rattle.config_terms.specs.Fields.{attr_shown, field_name, fields_of, fs_shown, kind_name, net_shown, rctl_shown, text_shown}
+use Rattle.config_terms.specs.Fields.{field_name, fields_of, kind_name}
 use Rattle.config_terms.specs.Texts.{attr_text, dataset_text, device_text, entry_text, fs_text, limit_line, limit_lines, limit_text, net_text, options_line, options_text, rctl_text, setting, settings}
 use Rattle.config_terms.specs.declared.fields.Field.{Field}
 use Rattle.config_terms.specs.declared.terms.Kind.{Kind}

@@ -7,7 +7,6 @@ use Rattle.std.specs.Str.{bytes_eq}
 use Rattle.zn_base.specs.Text.{is_text}
 use Rattle.config_terms.specs.Fields.{kind_named}
 use Rattle.config_terms.specs.Numbers.{number_of}
-use Rattle.config_terms.specs.declared.terms.Limit.{Limit}
 use Rattle.export_lines.specs.declared.command.Command.{Command}
 use Rattle.export_lines.specs.declared.command.Command.TheVariants.{Create, Set, Open, Options, Value, End}
 

@@ -1,21 +1,14 @@
 -- What the definitions say of some texts.
-use Rattle.std.proofs.Common.{◌≡◌, ℕ, List, ◌∷◌, [], Option, Some, None, codes, refl}
-use Rattle.std.specs.Prelude.{option_and_then, option_map, length, take}
-use Rattle.std.specs.Str.{bytes_eq}
-use Rattle.config_terms.specs.Allowed.{entry_allowed, fields_fit}
-use Rattle.config_terms.specs.Edits.{with_property as with_own}
-use Rattle.config_terms.specs.Rules.{fits, obeys}
-use Rattle.config_terms.specs.Texts.{entry_text, limit_line, limit_lines, limit_text, options_line, options_text, setting, settings}
+use Rattle.std.proofs.Common.{◌≡◌, ℕ, List, Option, Some, codes, refl}
+use Rattle.std.specs.Prelude.{option_and_then, option_map}
+use Rattle.config_terms.specs.Rules.{obeys}
+use Rattle.config_terms.specs.Texts.{setting}
 use Rattle.export_lines.specs.Lines.{lines_of}
 use Rattle.export_lines.specs.Reading.{command_of}
 use Rattle.zone_config.specs.Edits.{with_property}
 use Rattle.zone_config.specs.Export.{export_text}
 use Rattle.zone_config.specs.Property.{setting_named}
-use Rattle.zone_config.specs.Resources.{with_resource}
-use Rattle.zone_config.specs.Sound.{count}
-use Rattle.zone_config.specs.declared.terms.Contents.{Contents}
 use Rattle.export_read.specs.Drafts.{completed, drafted, start}
-use Rattle.export_read.specs.Names.{fresh}
 
 -- the text of the shortest configuration that some lines begin
 shortest : List ℕ → Option (List ℕ)

@@ -1,8 +1,7 @@
 -- One resource is walked, whatever its kind.
-use Rattle.std.proofs.Common.{◌≡◌, ◌≢◌, ◌≤◌, ◌+◌, ◌⊎◌, inl, inr, ℕ, Bool, true, false, cond, not, ◌&&◌, List, [], ◌∷◌, ◌++◌, length, Option, Some, None, Result, Ok, Err, refl, ap, sym, subst, ◌∙◌, arith, append_assoc, append-nil, length-append, codes}
-use Rattle.std.specs.Prelude.{map, nat_lt, find, option_map, option_and_then}
+use Rattle.std.proofs.Common.{◌≡◌, ◌≤◌, ◌+◌, ◌⊎◌, ℕ, Bool, true, false, not, ◌&&◌, List, [], ◌∷◌, ◌++◌, length, Some, None, Ok, refl, ap, sym, subst, ◌∙◌, arith, append_assoc, append-nil, length-append}
+use Rattle.std.specs.Prelude.{map, nat_lt, find}
 use Rattle.std.specs.List.{AllByRecursion, flat_map, list_all}
-use Rattle.std.specs.Result.{result_ok}
 use Rattle.std.specs.Str.{bytes_eq}
 use Rattle.std.proofs.lemmas.Bool.Decides.{nat_tests}
 use Rattle.std.proofs.lemmas.Bool.{and_parts, not-true}
@@ -12,21 +11,20 @@ use Rattle.std.proofs.lemmas.List.Folds.{list_all-append}
 use Rattle.zonecfg_lex.specs.declared.values.Value.TheVariants.{Simple}
 use Rattle.config_terms.specs.Allowed.{are_distinct, entry_allowed, fields_fit, has_key, is_allowed, is_allowed_limit, is_taken, is_taken_by}
 use Rattle.config_terms.specs.Edits.{empty, with_field, with_property as with_own}
-use Rattle.config_terms.specs.Fields.{field_name, field_named, field_rule, fields_of, key_field, kind_of, named}
+use Rattle.config_terms.specs.Fields.{field_name, field_named, field_rule, fields_of, key_field, kind_of}
 use Rattle.config_terms.specs.Rules.{fits, obeys}
 use Rattle.config_terms.specs.declared.fields.Field.{Field}
 use Rattle.config_terms.specs.Texts.{setting}
 use Rattle.config_terms.specs.declared.rules.Rule.{Rule}
 use Rattle.config_terms.specs.declared.rules.Rule.TheVariants.{OptionWord}
 use Rattle.config_terms.specs.declared.terms.Kind.{Kind}
-use Rattle.config_terms.specs.declared.terms.Kind.TheVariants as kind
 use Rattle.config_terms.specs.declared.terms.Limit.{Limit}
 use Rattle.config_terms.specs.declared.terms.Resource.{Resource}
 use Rattle.export_lines.proofs.Printable.{fits-set}
 use Rattle.export_lines.proofs.Texts.{text-append, text-where_set}
 use Rattle.export_lines.specs.Commands.{entry_commands, text_of, where_any, where_set}
 use Rattle.export_lines.specs.declared.command.Command.{Command}
-use Rattle.export_lines.specs.declared.command.Command.TheVariants.{Open, Set, Options, Value, End}
+use Rattle.export_lines.specs.declared.command.Command.TheVariants.{Open, Options, Value, End}
 use Rattle.zone_config.specs.Export.{export_text}
 use Rattle.zone_config.specs.Resources.{added, has_taken, limit_passed, with_resource}
 use Rattle.zone_config.specs.declared.terms.Contents.{Contents}

@@ -1,9 +1,8 @@
 -- The properties of the global scope are walked.
-use Rattle.std.proofs.Common.{◌≡◌, ◌≢◌, ◌≤◌, ◌+◌, ◌⊎◌, inl, inr, ℕ, Bool, true, false, cond, List, [], ◌∷◌, ◌++◌, length, Option, Some, None, Result, Ok, Err, refl, ap, sym, subst, ◌∙◌, arith, append_assoc, append-nil, length-append, codes}
+use Rattle.std.proofs.Common.{◌≡◌, ◌≢◌, ◌≤◌, ℕ, Bool, true, false, List, [], ◌∷◌, ◌++◌, length, Option, Some, None, refl, ap, sym, ◌∙◌, arith, append_assoc, append-nil, length-append, codes}
 use Rattle.std.specs.Prelude.{map, nat_lt}
 use Rattle.std.specs.List.{flat_map}
 use Rattle.std.proofs.lemmas.Bool.Decides.{nat_tests}
-use Rattle.zonecfg_lex.specs.declared.values.Value.TheVariants.{Simple}
 use Rattle.config_terms.specs.Edits.{kept_path}
 use Rattle.config_terms.specs.Fields.{path_text}
 use Rattle.config_terms.specs.Allowed.{are_distinct}
@@ -11,9 +10,9 @@ use Rattle.config_terms.specs.Rules.{fits, obeys}
 use Rattle.config_terms.specs.Texts.{setting}
 use Rattle.config_terms.specs.declared.terms.IpType.{IpType as Ip}
 use Rattle.config_terms.specs.declared.terms.IpType.TheVariants.{Shared, Exclusive}
-use Rattle.zone_config.specs.Edits.{property_set, with_property}
+use Rattle.zone_config.specs.Edits.{with_property}
 use Rattle.zone_config.specs.Export.{export_text, property_line}
-use Rattle.zone_config.specs.Property.{blank, bool_text, ip_text, properties, property_name, property_rule, setting_named, shown, with_value}
+use Rattle.zone_config.specs.Property.{bool_text, ip_text, properties, property_name, property_rule, setting_named, shown, with_value}
 use Rattle.zone_config.specs.Sound.{IsSound}
 use Rattle.zone_config.specs.declared.terms.Contents.{Contents}
 use Rattle.zone_config.specs.declared.terms.Property.{Property}
@@ -23,11 +22,10 @@ use Rattle.zone_config.proofs.PropertyEdits.{Lists, lists, lists-with, shown_obe
 use Rattle.export_lines.proofs.Printable.{fits-set}
 use Rattle.export_lines.proofs.Texts.{text-each, text-where_set}
 use Rattle.export_lines.specs.Commands.{property_commands, text_of}
-use Rattle.export_lines.specs.declared.command.Command.{Command}
 use Rattle.export_lines.specs.declared.command.Command.TheVariants.{Create, Set}
 use Rattle.export_read.specs.Drafts.{closed, completed, least, put}
-use Rattle.export_read.proofs.Tables.{IsBetween, IsStep, IsTable, Reaches, between_lines, between_short, one_more, row_commands, row_line, walk_rows}
-use Rattle.export_read.proofs.Walks.{Begins, Walks}
+use Rattle.export_read.proofs.Tables.{IsBetween, IsStep, IsTable, Reaches, between_lines, between_short, one_more, walk_rows}
+use Rattle.export_read.proofs.Walks.{Begins}
 
 abbrev shows : Contents → Property → List ℕ
 shows c p = shown p c

@@ -1,21 +1,18 @@
 -- What is known of each kind of resource.
-use Rattle.std.proofs.Common.{◌≡◌, ◌≢◌, ◌⊎◌, inl, inr, ℕ, suc, length, subst, arith, Bool, true, false, ◌&&◌, List, [], ◌∷◌, ◌++◌, Option, Some, None, refl, ap, sym, ◌∙◌}
+use Rattle.std.proofs.Common.{◌≡◌, ◌≢◌, ◌⊎◌, inl, inr, ℕ, suc, length, subst, arith, Bool, true, false, List, [], ◌∷◌, ◌++◌, Option, Some, None, refl, ap}
 use Rattle.std.specs.Prelude.{map, ◌==◌}
 use Rattle.std.proofs.lemmas.Bool.Decides.{nat_tests}
-use Rattle.std.proofs.lemmas.Bool.{and_parts}
 use Rattle.config_terms.specs.Allowed.{entry_allowed, fields_fit, is_kept_path}
 use Rattle.config_terms.specs.Edits.{attr_with, dataset_with, device_with, fs_with, kept_path, net_with, rctl_with}
-use Rattle.config_terms.specs.Fields.{attr_shown, field_rule, fields_of, fs_shown, key_field, net_shown, path_text, rctl_shown}
+use Rattle.config_terms.specs.Fields.{attr_shown, field_rule, fields_of, fs_shown, net_shown, path_text, rctl_shown}
 use Rattle.config_terms.specs.declared.fields.Field.{Field}
 use Rattle.config_terms.specs.declared.fields.Field.TheVariants.{FsDir, FsSpecial, FsRaw, FsType, NetAddress, NetAllowed, NetPhysical, NetDefrouter, DeviceMatch, RctlName, AttrName, AttrType, AttrValue, DatasetName}
 use Rattle.config_terms.specs.declared.terms.Attr as attr
 use Rattle.config_terms.specs.declared.terms.Fs as fs
-use Rattle.config_terms.specs.declared.terms.Kind.{Kind}
 use Rattle.config_terms.specs.declared.terms.Kind.TheVariants as kind
 use Rattle.config_terms.specs.declared.terms.Limit.{Limit}
 use Rattle.config_terms.specs.declared.terms.Net as net
 use Rattle.config_terms.specs.declared.terms.Rctl as rctl
-use Rattle.config_terms.specs.declared.terms.Resource.{Resource}
 use Rattle.config_terms.specs.declared.terms.Resource.TheVariants.{Fs, Net, Device, Rctl, Attr, Dataset}
 use Rattle.export_read.proofs.Forms.{IsForm}
 use Rattle.export_read.proofs.Fresh.{IsOfNames}

@@ -1,12 +1,12 @@
 -- Where the resources of each kind stand, and that all of a kind are walked.
-use Rattle.std.proofs.Common.{◌≡◌, ◌≤◌, ◌<◌, ◌+◌, suc, ℕ, Bool, true, false, ◌&&◌, List, [], ◌∷◌, ◌++◌, length, length-append, Option, Some, None, refl, ap, sym, subst, ◌∙◌, arith, append_assoc, append-nil}
-use Rattle.std.specs.Prelude.{map, nat_le, nat_lt}
+use Rattle.std.proofs.Common.{◌≡◌, ◌≤◌, ◌+◌, suc, ℕ, Bool, true, false, List, [], ◌∷◌, ◌++◌, length, length-append, Some, None, refl, ap, sym, subst, ◌∙◌, arith, append_assoc, append-nil}
+use Rattle.std.specs.Prelude.{nat_le, nat_lt}
 use Rattle.std.specs.List.{flat_map, list_all}
 use Rattle.std.proofs.lemmas.Bool.{and_parts}
 use Rattle.std.proofs.lemmas.Bool.Decides.{nat_tests}
 use Rattle.std.proofs.lemmas.List.Folds.{list_all-append}
-use Rattle.config_terms.specs.Allowed.{are_distinct, few_options, has_key, is_allowed, is_taken, is_taken_by}
-use Rattle.config_terms.specs.Fields.{attr_shown, fs_shown, key_field, net_shown, rctl_shown, text_shown}
+use Rattle.config_terms.specs.Allowed.{has_key, is_allowed, is_taken, is_taken_by}
+use Rattle.config_terms.specs.Fields.{attr_shown, fs_shown, key_field, net_shown, rctl_shown}
 use Rattle.config_terms.specs.declared.fields.Field.{Field}
 use Rattle.config_terms.specs.declared.fields.Field.TheVariants.{DeviceMatch, RctlName, AttrName, DatasetName}
 use Rattle.config_terms.specs.declared.terms.Attr as attr
@@ -25,7 +25,6 @@ use Rattle.export_lines.specs.declared.command.Command.{Command}
 use Rattle.export_lines.specs.declared.command.Command.TheVariants.{Create}
 use Rattle.zone_config.specs.Export.{export_text}
 use Rattle.zone_config.specs.Property.{properties}
-use Rattle.zone_config.specs.Resources.{limit_passed}
 use Rattle.zone_config.specs.Sound.{IsSound, are_distinct_in, are_told_apart, count}
 use Rattle.zone_config.specs.declared.terms.Contents.{Contents}
 use Rattle.export_read.specs.Drafts.{closed}

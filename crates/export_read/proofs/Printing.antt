@@ -1,5 +1,5 @@
 -- Names that are found are printable.
-use Rattle.std.proofs.Common.{◌≡◌, ◌⊎◌, inl, inr, ℕ, Bool, true, false, cond, not, ◌&&◌, List, [], ◌∷◌, Option, Some, None, Result, Ok, Err, refl, ap, sym, ◌∙◌}
+use Rattle.std.proofs.Common.{◌≡◌, inl, inr, ℕ, Bool, true, false, cond, not, List, [], ◌∷◌, Some, Ok, Err, refl, ap, sym, ◌∙◌}
 use Rattle.std.specs.Prelude.{find, is_ok}
 use Rattle.std.proofs.lemmas.Bool.{and_parts}
 use Rattle.zn_base.specs.Answers.{AnswersUnless}
@@ -10,7 +10,6 @@ use Rattle.zonecfg_lex.proofs.Printable.{text_in-Ok}
 use Rattle.config_terms.specs.Fields.{field_rule}
 use Rattle.config_terms.specs.Rules.{fits}
 use Rattle.config_terms.specs.declared.fields.Field.{Field}
-use Rattle.config_terms.specs.declared.fields.Field.TheVariants.{FsDir, FsSpecial, FsRaw, FsType, NetAddress, NetAllowed, NetPhysical, NetDefrouter, DeviceMatch, RctlName, AttrName, AttrType, AttrValue, DatasetName}
 use Rattle.export_lines.proofs.Printable.{fits-set, obeys-text, field_of_text}
 use Rattle.export_read.specs.Names.{bare_bytes, is_free}
 

@@ -1,7 +1,6 @@
 -- What the reader's parts come to.
-use Rattle.std.proofs.Common.{◌≡◌, ◌⊎◌, inl, inr, ◌≤◌, ◌<◌, ◌+◌, zero, suc, ℕ, Bool, true, false, List, [], ◌∷◌, ◌++◌, length, take, drop, Option, Some, None, Result, Ok, Err, refl, ap, sym, subst, ◌∙◌, arith, codes}
-use Rattle.std.specs.Prelude.{nat_eq, nat_le, ◌==◌}
-use Rattle.std.specs.Bool.{Decides}
+use Rattle.std.proofs.Common.{◌≡◌, inl, inr, ◌≤◌, ◌<◌, ◌+◌, ℕ, true, List, ◌++◌, length, take, drop, Some, None, Result, Ok, refl, ap, sym, ◌∙◌, arith, codes}
+use Rattle.std.specs.Prelude.{nat_eq}
 use Rattle.std.specs.List.{starts_with}
 use Rattle.std.specs.Result.{result_ok}
 use Rattle.std.proofs.lemmas.Bool.{cases_lt}
@@ -12,7 +11,7 @@ use Rattle.zonecfg_lex.specs.declared.values.Value.TheVariants.{Simple}
 use Rattle.config_terms.specs.Rules.{obeys}
 use Rattle.config_terms.specs.Texts.{setting}
 use Rattle.config_terms.specs.declared.fault.ConfigFault.{ConfigFault}
-use Rattle.config_terms.specs.declared.fault.ConfigFault.TheVariants.{Memory, NotExport}
+use Rattle.config_terms.specs.declared.fault.ConfigFault.TheVariants.{Memory}
 use Rattle.export_lines.specs.Lines.{lines_of}
 use Rattle.zone_config.specs.Edits.{with_property}
 use Rattle.zone_config.specs.Export.{export_text}

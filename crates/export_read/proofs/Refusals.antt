@@ -1,5 +1,5 @@
 -- What a call's answer means for the line that made it.
-use Rattle.std.proofs.Common.{◌≡◌, Option, Some, None, Result, Ok, Err, refl, ap}
+use Rattle.std.proofs.Common.{◌≡◌, Some, Result, Ok, Err, ap}
 use Rattle.std.specs.Result.{result_ok}
 use Rattle.config_terms.specs.Edits.{Changes}
 use Rattle.config_terms.specs.declared.fault.ConfigFault.{ConfigFault}

@@ -1,10 +1,9 @@
 -- The first line of some bytes, and those behind it.
-use Rattle.std.proofs.Common.{◌≡◌, ◌≤◌, ◌<◌, ◌+◌, ◌-◌, zero, suc, ℕ, Bool, true, false, cond, List, [], ◌∷◌, ◌++◌, length, length-drop, take, drop, Option, Some, None, Result, Ok, Err, refl, ap, sym, subst, ◌∙◌, arith, append_assoc, append-nil}
-use Rattle.std.specs.Prelude.{◌==◌, not, option_and_then}
-use Rattle.std.specs.List.{after_first, before_first, flat_map, position_or_len}
+use Rattle.std.proofs.Common.{◌≡◌, ◌≤◌, ◌<◌, ◌+◌, ◌-◌, zero, suc, ℕ, true, false, cond, List, [], ◌∷◌, ◌++◌, length, length-drop, take, drop, Option, Some, Result, Err, refl, ap, sym, subst, ◌∙◌, arith, append_assoc}
+use Rattle.std.specs.Prelude.{not, option_and_then}
+use Rattle.std.specs.List.{after_first, before_first, position_or_len}
 use Rattle.export_lines.specs.Lines.{ended, is_newline, lines_of, with_first}
 use Rattle.export_lines.specs.Reading.{command_of}
-use Rattle.export_lines.specs.declared.command.Command.{Command}
 use Rattle.export_read.specs.Drafts.{drafted, put}
 use Rattle.export_read.specs.Halts.{Puts}
 use Rattle.export_read.specs.declared.draft.Draft.{Draft}

@@ -1,7 +1,7 @@
 -- A table of properties, of which some are set and some are still as in the beginning.
-use Rattle.std.proofs.Common.{◌≡◌, ◌≤◌, ◌+◌, ◌⊎◌, inl, inr, ℕ, Bool, true, false, cond, not, ◌&&◌, ◌||◌, List, [], ◌∷◌, ◌++◌, length, Option, Some, None, refl, ap, sym, subst, ◌∙◌, arith, append_assoc, append-nil, length-append}
+use Rattle.std.proofs.Common.{◌≡◌, ◌≤◌, ◌⊎◌, inl, inr, ℕ, true, false, not, ◌||◌, List, [], ◌∷◌, ◌++◌, length, Some, refl, ap, sym, subst, ◌∙◌, arith, append_assoc, append-nil, length-append}
 use Rattle.std.specs.Prelude.{map, find}
-use Rattle.std.specs.List.{flat_map, list_all, list_any}
+use Rattle.std.specs.List.{flat_map}
 use Rattle.std.specs.Str.{bytes_eq}
 use Rattle.std.proofs.lemmas.Bool.{and_parts, false_from_ne_true, not-true, or_from, or_parts}
 use Rattle.std.proofs.lemmas.List.{map-append}
@@ -15,7 +15,7 @@ use Rattle.export_lines.specs.declared.command.Command.{Command}
 use Rattle.export_lines.specs.declared.command.Command.TheVariants.{Set}
 use Rattle.export_read.specs.Drafts.{put}
 use Rattle.export_read.specs.declared.draft.Draft.{Draft}
-use Rattle.export_read.proofs.Walks.{Begins, Walks, walk-one, walk-then}
+use Rattle.export_read.proofs.Walks.{Begins, Walks}
 
 eq_turned : (a b : List ℕ) → bytes_eq a b ≡ false → bytes_eq b a ≡ false
 eq_turned a b h = false_from_ne_true (bytes_eq b a) (λ e. let bad : bytes_eq a b ≡ true = (bytes_eq-Decides a b).1 (sym ((bytes_eq-Decides b a).0 e)) in absurd (cc))

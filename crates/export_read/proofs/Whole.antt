@@ -1,7 +1,7 @@
 -- Each script is walked to its end, and what follows for reading.
-use Rattle.std.proofs.Common.{◌≡◌, ◌≢◌, ◌≤◌, ◌<◌, ◌+◌, ◌-◌, ℕ, zero, suc, Bool, true, false, cond, List, [], ◌∷◌, ◌++◌, length, take, drop, Option, Some, None, refl, ap, sym, subst, ◌∙◌, arith, append_assoc, append-nil, length-append, codes}
+use Rattle.std.proofs.Common.{◌≡◌, ◌≤◌, ℕ, zero, suc, true, false, cond, List, [], ◌∷◌, ◌++◌, length, take, drop, Option, Some, None, refl, ap, sym, subst, ◌∙◌, arith, append_assoc, append-nil}
 use Rattle.std.specs.Prelude.{map, nat_eq, option_and_then}
-use Rattle.std.specs.List.{flat_map, list_all, list_any, starts_with}
+use Rattle.std.specs.List.{flat_map, starts_with}
 use Rattle.std.specs.Str.{bytes_eq}
 use Rattle.std.proofs.lemmas.List.{take-append-drop, take-take, take_at}
 use Rattle.std.proofs.lemmas.Slice.Eq.{bytes_eq-Decides}
@@ -12,7 +12,6 @@ use Rattle.export_lines.proofs.Printable.{ArePlain, plain-script}
 use Rattle.export_lines.proofs.Rows.{ended-map, lines-script, plain_lines}
 use Rattle.export_lines.specs.Commands.{attr_commands, dataset_commands, device_commands, fs_commands, line_of, net_commands, property_commands, rctl_commands, script, text_of}
 use Rattle.export_lines.specs.Lines.{ended, lines_of}
-use Rattle.export_lines.specs.Reading.{command_of}
 use Rattle.export_lines.specs.declared.command.Command.{Command}
 use Rattle.export_lines.specs.declared.command.Command.TheVariants.{Create}
 use Rattle.zone_config.specs.Export.{export_text, property_line}

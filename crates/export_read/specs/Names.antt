@@ -1,7 +1,7 @@
 -- A shortest name that no resource of its kind has.
 use Rattle.std.specs.Prelude.{ℕ, List, [], ◌∷◌, Bool, false, not, ◌&&◌, Some, None, find, codes, if◌then◌else◌}
 use Rattle.config_terms.specs.Allowed.{has_key}
-use Rattle.config_terms.specs.Fields.{attr_shown, field_rule, key_field, rctl_shown, text_shown}
+use Rattle.config_terms.specs.Fields.{attr_shown, rctl_shown, text_shown}
 use Rattle.config_terms.specs.Rules.{fits}
 use Rattle.config_terms.specs.declared.fields.Field.{Field}
 use Rattle.config_terms.specs.declared.fields.Field.TheVariants.{DeviceMatch, RctlName, AttrName, DatasetName}

@@ -1,4 +1,4 @@
-use Rattle.std.proofs.Common.{◌≡◌, ◌++◌, length, take}
+use Rattle.std.proofs.Common.{◌≡◌, ◌++◌, take}
 use Rattle.export_lines.specs.Lines.{ended, lines_of}
 use Rattle.export_read.proofs.lines.front.Given as goal
 
