@@ -1,5 +1,5 @@
 -- What the tokens of a subcommand say.
-use Rattle.std.specs.Prelude.{ℕ, List, [], ◌∷◌, Bool, true, false, not, ◌&&◌, Option, Some, None, if◌then◌else◌}
+use Rattle.std.specs.Prelude.{ℕ, List, [], ◌∷◌, Bool, true, false, ◌&&◌, Option, Some, None, if◌then◌else◌}
 use Rattle.std.specs.Str.{bytes_eq}
 use Rattle.zonecfg_lex.specs.declared.token.Token.{Token}
 use Rattle.zonecfg_lex.specs.declared.token.TokenKind.{TokenKind}

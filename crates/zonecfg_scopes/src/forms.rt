@@ -7,7 +7,9 @@ ghost use Rattle.zonecfg_scopes.specs.Forms.{add_of, alone, clear_of, command_of
 
 use crate::command::{Command, ListProperty, Matching, Topic};
 use crate::verb::Verb;
-use crate::words::{are_pairs, behind_flag, first_value_missed, has_flag, is_equals, is_word, said};
+use crate::words::{
+    are_pairs, behind_flag, first_value_missed, has_flag, is_equals, is_word, said,
+};
 use crate::{EditFault, Kind};
 use std::alloc::Global;
 use zonecfg_lex::{LexFault, Pair, Pairs, Token, given_text, pairs, part_tokens, value};
@@ -30,7 +32,10 @@ fn create(line: &[u8], args: &[Token]) -> Result<Command, EditFault>
     let force = has_flag(line, args, b"-F");
     let rest = behind_flag(line, args, b"-F");
     let bare = has_flag(line, rest, b"-b");
-    alone(behind_flag(line, rest, b"-b"), Command::Create { force, bare })
+    alone(
+        behind_flag(line, rest, b"-b"),
+        Command::Create { force, bare },
+    )
 }
 
 fn delete(line: &[u8], args: &[Token]) -> Result<Command, EditFault>
@@ -150,7 +155,10 @@ fn matching_by(
     if name_a_list(&pairs) {
         return Err(EditFault::Usage);
     }
-    Ok(Matching { kind, pairs: Pairs::new(pairs) })
+    Ok(Matching {
+        kind,
+        pairs: Pairs::new(pairs),
+    })
 }
 
 // `KIND` and pairs `NAME=VALUE`, of which none names a list.

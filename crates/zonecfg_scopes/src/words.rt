@@ -29,7 +29,11 @@ pub fn said(line: &[u8], token: Token) -> &[u8]
     requires { IsReadable line.now token }
     ensures { result.now ≡ said line.now token }
 {
-    if is_word(token) { token.text(line) } else { b"" }
+    if is_word(token) {
+        token.text(line)
+    } else {
+        b""
+    }
 }
 
 /// Whether a flag stands first.
