@@ -6,10 +6,12 @@ use Rattle.zonecfg_lex.specs.Tokens.{part_tokens_of, role_of}
 use Rattle.zonecfg_lex.specs.Value.{value_of}
 use Rattle.zonecfg_scopes.specs.declared.command.Command.TheVariants.{Blank, Add, Append, Create, Info, Remove, RemoveItem, Revert, Select, Set}
 use Rattle.zonecfg_scopes.specs.declared.command.ListProperty.TheVariants.{Options}
-use Rattle.zonecfg_scopes.specs.declared.command.Topic.TheVariants.{Property}
+use Rattle.zonecfg_scopes.specs.declared.command.Topic.TheVariants.{Setting}
 use Rattle.zonecfg_scopes.specs.declared.fault.EditFault.TheVariants.{Lex, UnknownCommand, Usage}
-use Rattle.zonecfg_scopes.specs.declared.kinds.Kind.TheVariants.{Attr, Fs, Net}
+use Rattle.config_terms.specs.declared.terms.Kind.TheVariants.{Attr, Fs, Net}
 use Rattle.zone_config.specs.declared.terms.Property.TheVariants.{Brand}
+use Rattle.zone_config.specs.declared.terms.Setting.TheVariants.{Kept}
+use Rattle.zone_config.specs.Property.{setting_named}
 use Rattle.zonecfg_scopes.specs.Commands.{verb_named}
 use Rattle.zonecfg_scopes.specs.Forms.{command_of, form_of}
 
@@ -85,12 +87,12 @@ item_removed : command_of (codes "remove options a") ≡ Ok (RemoveItem Options 
 unfolding command_of form_of part_tokens_of role_of value_of verb_named
 item_removed = refl
 
-shown : command_of (codes "info brand") ≡ Ok (Info (Property Brand))
-unfolding command_of form_of part_tokens_of role_of verb_named
+shown : command_of (codes "info brand") ≡ Ok (Info (Setting (Kept Brand)))
+unfolding command_of form_of part_tokens_of role_of setting_named verb_named
 shown = refl
 
 unknown_shown : command_of (codes "info zonename") ≡ Err Usage
-unfolding command_of form_of part_tokens_of role_of verb_named
+unfolding command_of form_of part_tokens_of role_of setting_named verb_named
 unknown_shown = refl
 
 unknown : command_of (codes "#add fs") ≡ Err UnknownCommand

@@ -2,15 +2,15 @@
 use Rattle.std.specs.Prelude.{ℕ, List, [], ◌∷◌, Option, Some, None, codes, find}
 use Rattle.std.specs.Option.{option_map}
 use Rattle.std.specs.Str.{bytes_eq}
-use Rattle.zone_config.specs.declared.terms.Property.{Property}
-use Rattle.zone_config.specs.Property.{property_named}
+use Rattle.config_terms.specs.Fields.{kind_named}
+use Rattle.zone_config.specs.declared.terms.Setting.{Setting}
+use Rattle.zone_config.specs.Property.{setting_named}
 use Rattle.zonecfg_scopes.specs.declared.command.ListProperty.{ListProperty}
 use Rattle.zonecfg_scopes.specs.declared.command.ListProperty.TheVariants.{Options, Value}
 use Rattle.zonecfg_scopes.specs.declared.command.Topic.{Topic}
 use Rattle.zonecfg_scopes.specs.declared.command.Topic.TheVariants as topic
 use Rattle.zonecfg_scopes.specs.declared.verb.Verb.{Verb}
 use Rattle.zonecfg_scopes.specs.declared.verb.Verb.TheVariants.{Add, Cancel, Clear, Commit, Create, Delete, End, Exit, Export, Help, Info, Remove, Revert, Select, Set, Verify}
-use Rattle.zonecfg_scopes.specs.Kinds.{kind_named}
 
 abbrev pub verb_name : Verb → List ℕ
 verb_name Add = codes "add"
@@ -47,10 +47,10 @@ list_name Value = codes "value"
 abbrev pub list_named : List ℕ → Option ListProperty
 list_named name = find (λ l. bytes_eq name (list_name l)) (Options ∷ Value ∷ [])
 
-abbrev pub topic_unless : Option Property → Option Topic → Option Topic
+abbrev pub topic_unless : Option Setting → Option Topic → Option Topic
 topic_unless None other = other
-topic_unless (Some p) other = Some (topic.Property p)
+topic_unless (Some setting) other = Some (topic.Setting setting)
 
 -- what `info` shows by a word: a property of the global scope, or the resources of a type
 abbrev pub topic_named : List ℕ → Option Topic
-topic_named name = topic_unless (property_named name) (option_map topic.Resources (kind_named name))
+topic_named name = topic_unless (setting_named name) (option_map topic.Resources (kind_named name))

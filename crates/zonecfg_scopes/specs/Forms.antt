@@ -1,6 +1,8 @@
 -- The subcommand that a line spells, or why it is none: a row for each word (zonecfg(8), SUBCOMMANDS).
 use Rattle.std.specs.Prelude.{ℕ, List, [], ◌∷◌, Bool, not, ◌&&◌, length, Option, Some, None, Result, Ok, Err, is_some, codes, if◌then◌else◌}
 use Rattle.std.specs.List.{list_any}
+use Rattle.config_terms.specs.declared.terms.Kind.{Kind}
+use Rattle.config_terms.specs.Fields.{kind_named}
 use Rattle.zonecfg_lex.specs.declared.fault.LexFault.{LexFault}
 use Rattle.zonecfg_lex.specs.declared.fault.LexFault.TheVariants.{NoValue}
 use Rattle.zonecfg_lex.specs.declared.token.Token.{Token}
@@ -16,12 +18,10 @@ use Rattle.zonecfg_scopes.specs.declared.command.Topic.{Topic}
 use Rattle.zonecfg_scopes.specs.declared.command.Topic.TheVariants.{Everything}
 use Rattle.zonecfg_scopes.specs.declared.fault.EditFault.{EditFault}
 use Rattle.zonecfg_scopes.specs.declared.fault.EditFault.TheVariants.{Lex, UnknownCommand, Usage}
-use Rattle.zonecfg_scopes.specs.declared.kinds.Kind.{Kind}
 use Rattle.zonecfg_scopes.specs.declared.verb.Verb.{Verb}
 use Rattle.zonecfg_scopes.specs.declared.verb.Verb.TheVariants as verb
 use Rattle.zonecfg_scopes.specs.Commands.{list_named, topic_named, verb_named}
 use Rattle.zonecfg_scopes.specs.Faults.{lexed}
-use Rattle.zonecfg_scopes.specs.Kinds.{kind_named}
 use Rattle.zonecfg_scopes.specs.Words.{are_pairs, behind_flag, first_value_missed, has_flag, is_equals, said}
 
 -- a subcommand with nothing behind it

@@ -1,10 +1,10 @@
 //! What a subcommand asks for.
 ghost use Rattle.std.specs.Prelude.{◌≡◌};
-ghost use Rattle.zonecfg_scopes.specs.Commands.{list_named, topic_named};
+ghost use Rattle.zonecfg_scopes.specs.Commands.{list_name, list_named, topic_named};
 
-use crate::Kind;
+use config_terms::Kind;
 use zn_base::Text;
-use zone_config::Property;
+use zone_config::Setting;
 use zonecfg_lex::{Pairs, Value};
 
 /// The properties of resources that hold a list: the options of an fs, the values of an rctl.
@@ -25,7 +25,7 @@ pub struct Matching {
 #[derive(Clone, Copy, Debug, PartialEq, Eq)]
 pub enum Topic {
     Everything,
-    Property(Property),
+    Setting(Setting),
     Resources(Kind),
 }
 
@@ -57,6 +57,16 @@ pub enum Command {
 }
 
 impl ListProperty {
+    /// Its name.
+    pub fn name(self) -> &'static [u8]
+        ensures { result.now ≡ list_name self }
+    {
+        match self {
+            ListProperty::Options => b"options",
+            ListProperty::Value => b"value",
+        }
+    }
+
     /// The property that a word names.
     pub fn named(name: &[u8]) -> Option<ListProperty>
         ensures { result ≡ list_named name.now }
@@ -76,9 +86,9 @@ impl Topic {
     pub fn named(name: &[u8]) -> Option<Topic>
         ensures { result ≡ topic_named name.now }
     {
-        match Property::named(name) {
-            Some(property) => Some(Topic::Property(property)),
-            None => Kind::named(name).map(Topic::Resources),
+        match Setting::named(name) {
+            Some(setting) => Some(Topic::Setting(setting)),
+            None => Kind::with_name(name).map(Topic::Resources),
         }
     }
 }

@@ -2,7 +2,7 @@
 ghost use Rattle.std.specs.Prelude.{◌≡◌};
 ghost use Rattle.zonecfg_scopes.specs.declared.fault.EditFault.TheVariants.{Memory};
 
-use crate::Kind;
+use config_terms::{ConfigFault, Kind};
 use std::alloc::{AllocError, AllocFailed};
 use thiserror::Error;
 use zonecfg_lex::LexFault;
@@ -38,6 +38,9 @@ pub enum EditFault {
     WrongScope(Scope),
     #[error("only with -F")]
     NeedForce,
+    /// What the configuration, or the open resource, refuses.
+    #[error("{0}")]
+    Config(ConfigFault),
 }
 
 impl From<AllocError> for EditFault {
@@ -57,6 +60,19 @@ impl From<LexFault> for EditFault {
         match fault {
             LexFault::Memory => EditFault::Memory,
             fault => EditFault::Lex(fault),
+        }
+    }
+}
+
+impl From<ConfigFault> for EditFault {
+    ghost use Rattle.zonecfg_scopes.specs.Faults.{passed_on};
+
+    ghost from_gives = { λ fault e. e ≡ passed_on fault };
+
+    fn from(fault: ConfigFault) -> Self {
+        match fault {
+            ConfigFault::Memory => EditFault::Memory,
+            fault => EditFault::Config(fault),
         }
     }
 }

@@ -10,7 +10,8 @@ use crate::verb::Verb;
 use crate::words::{
     are_pairs, behind_flag, first_value_missed, has_flag, is_equals, is_word, said,
 };
-use crate::{EditFault, Kind};
+use crate::EditFault;
+use config_terms::Kind;
 use std::alloc::Global;
 use zonecfg_lex::{LexFault, Pair, Pairs, Token, given_text, pairs, part_tokens, value};
 
@@ -75,7 +76,7 @@ fn add(alloc: Global, line: &[u8], args: &[Token]) -> Result<Command, EditFault>
     if let Some(list) = ListProperty::named(word) {
         return Ok(Command::Append(list, value(alloc, line, rest)?));
     }
-    match Kind::named(word) {
+    match Kind::with_name(word) {
         Some(kind) => alone(rest, Command::Add(kind)),
         None => Err(EditFault::Usage),
     }
@@ -172,7 +173,7 @@ fn matching(alloc: Global, line: &[u8], args: &[Token]) -> Result<Matching, Edit
     if let Some(place) = first_value_missed(line.len(), rest) {
         return Err(EditFault::Lex(LexFault::NoValue(place)));
     }
-    matching_by(alloc, Kind::named(said(line, *first)), line, rest)
+    matching_by(alloc, Kind::with_name(said(line, *first)), line, rest)
 }
 
 // `select KIND` and one pair or more.

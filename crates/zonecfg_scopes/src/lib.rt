@@ -6,11 +6,12 @@
 mod command;
 mod fault;
 mod forms;
-mod kinds;
+mod opened;
+mod removal;
 mod verb;
 mod words;
 
 pub use command::{Command, ListProperty, Matching, Topic};
 pub use fault::{EditFault, Scope};
 pub use forms::read_command;
-pub use kinds::Kind;
+pub use opened::{Opened, ResourceScope};

@@ -1,15 +1,17 @@
 -- What a line of `export` asks for, and what becomes of the configuration that is open (zonecfg(8), SUBCOMMANDS).
 use Rattle.std.specs.Prelude.{◌≡◌, ℕ, List, [], ◌∷◌, Bool, true, false, ◌&&◌, Option, Some, None, Result, Ok, Err, codes, if◌then◌else◌}
+use Rattle.std.specs.List.{list_any}
 use Rattle.std.specs.Str.{bytes_eq}
+use Rattle.zonecfg_lex.specs.declared.values.Value.TheVariants.{Simple}
 use Rattle.zonecfg_lex.specs.declared.fault.LexFault.{LexFault}
 use Rattle.zonecfg_lex.specs.declared.token.Token.{Token}
 use Rattle.zonecfg_lex.specs.declared.token.TokenKind.{TokenKind}
 use Rattle.zonecfg_lex.specs.declared.token.TokenKind.TheVariants.{Equals}
 use Rattle.zonecfg_lex.specs.Tokens.{is_comment, is_plain, is_word, text_of, tokens_of}
 use Rattle.zone_config.specs.declared.terms.Contents.{Contents}
-use Rattle.zone_config.specs.declared.terms.ConfigFault.{ConfigFault}
-use Rattle.zone_config.specs.declared.terms.ConfigFault.TheVariants.{UnknownProperty}
-use Rattle.zone_config.specs.Property.{blank, with_property}
+use Rattle.config_terms.specs.declared.fault.ConfigFault.{ConfigFault}
+use Rattle.zone_config.specs.Edits.{with_property}
+use Rattle.zone_config.specs.Property.{blank}
 use Rattle.zones_cli.specs.declared.edit.EditFault.{EditFault}
 use Rattle.zones_cli.specs.declared.edit.EditFault.TheVariants.{BadValue, Memory, UnknownCommand}
 
@@ -52,16 +54,20 @@ abbrev pub created : Option Contents → Result (Option Contents) EditFault
 created None = Ok (Some blank)
 created (Some contents) = Err UnknownCommand
 
--- a property that there is not makes the line no subcommand; else its value is refused
+-- the properties that `set` takes so far
+abbrev pub is_known : List ℕ → Bool
+is_known name = list_any (bytes_eq name) (codes "zonepath" ∷ codes "brand" ∷ codes "autoboot" ∷ [])
+
+-- a value may be refused
 abbrev pub changed : Result Contents ConfigFault → Result (Option Contents) EditFault
 changed (Ok contents) = Ok (Some contents)
-changed (Err UnknownProperty) = Err UnknownCommand
 changed (Err fault) = Err BadValue
 
 -- only what was created has properties
 abbrev pub assigned : List ℕ → List ℕ → Option Contents → Result (Option Contents) EditFault
 assigned name value None = Err UnknownCommand
-assigned name value (Some contents) = changed (with_property name value contents)
+assigned name value (Some contents) =
+    if is_known name then changed (with_property name (Simple value) contents) else Err UnknownCommand
 
 -- what a subcommand makes of what is open, or why it is refused
 abbrev pub opened_by : Subcommand → Option Contents → Result (Option Contents) EditFault

@@ -1,14 +1,17 @@
 //! What a line of `export` does to the configuration that is open: `create -b`, `set NAME=VALUE`, or
 //! nothing (zonecfg(8), SUBCOMMANDS).
-ghost use Rattle.std.specs.Prelude.{◌≡◌, ◌≤◌, length, All, IsTrue};
-ghost use Rattle.zonecfg_lex.specs.Tokens.{IsWithin, is_plain, is_word};
-ghost use Rattle.zones_cli.specs.Subcommands.{Edits, assigned, created, edit_of, fault_text, is_equals, opened_by, said_by, says};
+ghost use Rattle.std.specs.Prelude.{◌≡◌, ◌≤◌, length, All, Err, IfOk, IsTrue, OnErr};
+ghost use Rattle.zonecfg_lex.specs.declared.values.Value.TheVariants.{Simple};
+ghost use Rattle.zn_base.specs.Text.{is_text};
+ghost use Rattle.zonecfg_lex.specs.Tokens.{IsWithin, is_plain, is_word, text_of};
+ghost use Rattle.zones_cli.specs.Subcommands.{Edits, assigned, created, edit_of, fault_text, is_equals, is_known, opened_by, said_by, says};
 ghost use Rattle.zones_cli.specs.declared.edit.EditFault.TheVariants.{Memory};
 
 use std::alloc::{AllocError, Global};
 use thiserror::Error;
+use zn_base::{Text, TextFault};
 use zone_config::{ConfigFault, ZoneConfig, blank};
-use zonecfg_lex::{LexFault, Token, TokenKind, is_comment, is_plain, tokens};
+use zonecfg_lex::{LexFault, Token, TokenKind, Value, is_comment, is_plain, tokens};
 
 /// Why a line is refused. Where memory ran out the line may be tried again.
 #[derive(Clone, Copy, Debug, PartialEq, Eq, Error)]
@@ -71,22 +74,45 @@ fn create(alloc: Global, zone: &mut Option<ZoneConfig>) -> Result<(), EditFault>
     Ok(())
 }
 
+fn is_known(name: &[u8]) -> bool
+    ensures { result ≡ is_known name.now }
+{
+    name == b"zonepath".as_slice() || name == b"brand".as_slice() || name == b"autoboot".as_slice()
+}
+
+fn text_value(alloc: Global, value: &[u8]) -> Result<Value, EditFault>
+    requires { IsTrue (is_text value.now) }
+    ensures value { IfOk result (λ v. v ≡ Simple value.now) }
+    ensures memory { OnErr result (result ≡ Err EditFault.Memory) }
+{
+    match Text::read(alloc, value) {
+        Ok(text) => Ok(Value::Simple(text)),
+        Err(TextFault::Memory) => Err(EditFault::Memory),
+        Err(TextFault::BadText(_)) => unreachable!(),
+        Err(TextFault::TextLong) => unreachable!(),
+    }
+}
+
 fn assign(
     alloc: Global,
     zone: &mut Option<ZoneConfig>,
     name: &[u8],
     value: &[u8],
 ) -> Result<(), EditFault>
+    requires { IsTrue (is_text value.now) }
     ensures { Edits zone.old zone.new result (assigned name.now value.now zone.old) }
 {
     let Some(config) = zone else {
         return Err(EditFault::UnknownCommand);
     };
-    match config.set_property(alloc, name, value) {
+    if !is_known(name) {
+        return Err(EditFault::UnknownCommand);
+    }
+    let value = text_value(alloc, value)?;
+    match config.set_property(alloc, name, &value) {
         Ok(()) => Ok(()),
         Err(ConfigFault::Memory) => Err(EditFault::Memory),
-        Err(ConfigFault::UnknownProperty) => Err(EditFault::UnknownCommand),
-        Err(ConfigFault::BadValue) => Err(EditFault::BadValue),
+        Err(_) => Err(EditFault::BadValue),
     }
 }
 
@@ -97,7 +123,8 @@ fn obey(
     line: &[u8],
     tokens: &[Token],
 ) -> Result<(), EditFault>
-    requires { All (IsWithin (length line.now)) tokens.now }
+    requires within { All (IsWithin (length line.now)) tokens.now }
+    requires printable { All (λ t. IsTrue (is_text (text_of line.now t))) tokens.now }
     ensures { Edits zone.old zone.new result (opened_by (said_by line.now tokens.now) zone.old) }
 {
     match tokens {
