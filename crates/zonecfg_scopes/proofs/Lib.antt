@@ -1,0 +1,5 @@
+pub mod Reading
+mod Examples
+pub mod Steps
+pub mod Branded
+pub mod Removing

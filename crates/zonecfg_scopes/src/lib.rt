@@ -1,0 +1,17 @@
+//! The editor of zonecfg(8): subcommands that change the configuration that is open, or a resource of it.
+//! What is open after any list of subcommands is what that list denotes, and each refusal is the first
+//! whose cause stands.
+#![tactic(auto)]
+
+mod command;
+mod fault;
+mod forms;
+mod opened;
+mod removal;
+mod verb;
+mod words;
+
+pub use command::{Command, ListProperty, Matching, Topic};
+pub use fault::{EditFault, Scope};
+pub use forms::read_command;
+pub use opened::{Opened, ResourceScope};
