@@ -1,6 +1,6 @@
 //! Texts that are read, and lines that stop being the beginning of one.
 use crate::read_export;
-use std::alloc::{AllocError, Global};
+use std::alloc::Global;
 use std::test::Fail;
 use zone_config::{ConfigFault, export};
 
@@ -12,57 +12,47 @@ set ip-type=shared
 ";
 
 // Every property, and a resource of every kind.
-const LINES: [&[u8]; 37] = [
-    b"create -b",
-    b"set zonepath=/zones/web",
-    b"set brand=ipkg",
-    b"set autoboot=false",
-    b"set bootargs=\"-m verbose\"",
-    b"set pool=pool_default",
-    b"set limitpriv=default,!sys_time",
-    b"set scheduling-class=FSS",
-    b"set ip-type=exclusive",
-    b"set hostid=80f0c086",
-    b"set fs-allowed=ufs,pcfs",
-    b"add fs",
-    b"set dir=/data",
-    b"set special=/export/data",
-    b"set raw=/dev/rdsk/c0t0d0s0",
-    b"set type=lofs",
-    b"add options [ro,nodevices]",
-    b"end",
-    b"add net",
-    b"set physical=net0",
-    b"end",
-    b"add device",
-    b"end",
-    b"add device",
-    b"set match=/dev/zvol/*",
-    b"end",
-    b"add rctl",
-    b"set name=zone.cpu-shares",
-    b"add value (priv=privileged,limit=10,action=none)",
-    b"end",
-    b"add attr",
-    b"set name=comment",
-    b"set value=\"a web zone\"",
-    b"end",
-    b"add dataset",
-    b"set name=tank/web",
-    b"end",
-];
+const ALL: &[u8] = b"create -b
+set zonepath=/zones/web
+set brand=ipkg
+set autoboot=false
+set bootargs=\"-m verbose\"
+set pool=pool_default
+set limitpriv=default,!sys_time
+set scheduling-class=FSS
+set ip-type=exclusive
+set hostid=80f0c086
+set fs-allowed=ufs,pcfs
+add fs
+set dir=/data
+set special=/export/data
+set raw=/dev/rdsk/c0t0d0s0
+set type=lofs
+add options [ro,nodevices]
+end
+add net
+set physical=net0
+end
+add device
+end
+add device
+set match=/dev/zvol/*
+end
+add rctl
+set name=zone.cpu-shares
+add value (priv=privileged,limit=10,action=none)
+end
+add attr
+set name=comment
+set value=\"a web zone\"
+end
+add dataset
+set name=tank/web
+end
+";
 
-// How many lines of these are a whole text.
-const WHOLE: [usize; 9] = [9, 10, 11, 18, 21, 23, 26, 30, 34];
-
-fn joined(alloc: Global, lines: &[&[u8]]) -> Result<Vec<u8>, AllocError> {
-    let mut text = Vec::new(alloc);
-    for line in lines {
-        text.extend_from_slice(line)?;
-        text.push(b'\n')?;
-    }
-    Ok(text)
-}
+// How many of its first lines are a whole text.
+const WHOLE: &[usize] = &[9, 10, 11, 18, 21, 23, 26, 30, 34, 37];
 
 // The line of the fault, or 0 where there is none.
 fn line_of_fault(alloc: Global, text: &[u8]) -> Result<usize, ConfigFault> {
@@ -71,6 +61,41 @@ fn line_of_fault(alloc: Global, text: &[u8]) -> Result<usize, ConfigFault> {
         Err(ConfigFault::NotExport(line)) => Ok(line),
         Err(fault) => Err(fault),
     }
+}
+
+// Whether the first lines of a text, however many, are all told to be well begun, or read.
+fn fronts_are_told(alloc: Global, text: &[u8], whole: &[usize]) -> Result<bool, ConfigFault> {
+    let mut told = true;
+    let mut lines: usize = 0;
+    for (place, byte) in text.iter().enumerate() {
+        if *byte == b'\n' {
+            lines = lines.wrapping_add(1);
+            let line = line_of_fault(alloc, &text[..place + 1])?;
+            let expected = if whole.contains(&lines) {
+                0
+            } else {
+                lines.wrapping_add(1)
+            };
+            told = told && line == expected;
+        }
+    }
+    Ok(told)
+}
+
+// Whether a blank at the end of a line, whichever it is, is told.
+fn blanks_are_told(alloc: Global, text: &[u8]) -> Result<bool, ConfigFault> {
+    let mut told = true;
+    let mut lines: usize = 0;
+    for (place, byte) in text.iter().enumerate() {
+        if *byte == b'\n' {
+            lines = lines.wrapping_add(1);
+            let mut changed = Vec::from_slice(alloc, &text[..place])?;
+            changed.push(b' ')?;
+            changed.extend_from_slice(&text[place..])?;
+            told = told && line_of_fault(alloc, &changed)? == lines;
+        }
+    }
+    Ok(told)
 }
 
 #[test]
@@ -84,71 +109,34 @@ fn a_text_is_read_and_its_copy_exports_the_same(rt: HostRuntime) -> Result<(), F
 
 #[test]
 fn a_fault_has_its_line(rt: HostRuntime) -> Result<(), Fail> {
-    let faults = [
-        (b"".as_slice(), 1),
-        (
-            b"create -b\nset brand=ipkg\nset zonepath=/zones/web\nset autoboot=false\nset ip-type=shared\n",
-            3,
-        ),
-        (
-            b"create -b\nset zonepath=/zones/web\nset brand=ipkg\nset autoboot=false\n",
-            5,
-        ),
-        (b"create -b\nset autoboot=false\nset ip-type=shared", 4),
-        (b"create -b\nset autoboot=false\nset ip-type=shared\n\n", 4),
-        (b"create -b\nset brand=\"ipkg\"\nset autoboot=false\n", 2),
-        (b"create -b\nset auto", 2),
-    ];
-    for (text, line) in faults {
-        assert_eq!(rt; line_of_fault(rt.alloc(), text)?, line);
-    }
+    assert_eq!(rt; line_of_fault(rt.alloc(), b"")?, 1);
+    let exchanged =
+        b"create -b\nset brand=ipkg\nset zonepath=/zones/web\nset autoboot=false\nset ip-type=shared\n";
+    assert_eq!(rt; line_of_fault(rt.alloc(), exchanged)?, 3);
+    let too_short = b"create -b\nset zonepath=/zones/web\nset brand=ipkg\nset autoboot=false\n";
+    assert_eq!(rt; line_of_fault(rt.alloc(), too_short)?, 5);
+    let no_newline = b"create -b\nset autoboot=false\nset ip-type=shared";
+    assert_eq!(rt; line_of_fault(rt.alloc(), no_newline)?, 4);
+    let quoted = b"create -b\nset brand=\"ipkg\"\nset autoboot=false\n";
+    assert_eq!(rt; line_of_fault(rt.alloc(), quoted)?, 2);
+    assert_eq!(rt; line_of_fault(rt.alloc(), b"create -b\nset auto")?, 2);
     Ok(())
 }
 
 #[test]
-fn each_front_of_a_whole_text_begins_one(rt: HostRuntime) -> Result<(), Fail> {
-    for lines in 0..LINES.len() {
-        let text = joined(rt.alloc(), &LINES[..lines])?;
-        let line = if WHOLE.contains(&lines) { 0 } else { lines + 1 };
-        assert_eq!(rt; line_of_fault(rt.alloc(), &text)?, line);
-    }
-    let text = joined(rt.alloc(), &LINES)?;
-    let config = read_export(rt.alloc(), &text)?;
-    assert_eq!(rt; export(rt.alloc(), &config)?, text);
-    Ok(())
-}
-
-#[test]
-fn a_changed_line_is_told(rt: HostRuntime) -> Result<(), Fail> {
-    for place in 0..LINES.len() {
-        let mut text = joined(rt.alloc(), &LINES[..place])?;
-        text.extend_from_slice(LINES[place])?;
-        text.extend_from_slice(b" \n")?;
-        let rest = joined(rt.alloc(), &LINES[place + 1..])?;
-        text.extend_from_slice(&rest)?;
-        assert_eq!(rt; line_of_fault(rt.alloc(), &text)?, place + 1);
-    }
+fn each_line_of_a_whole_text_is_told(rt: HostRuntime) -> Result<(), Fail> {
+    assert!(rt; fronts_are_told(rt.alloc(), ALL, WHOLE)?);
+    assert!(rt; blanks_are_told(rt.alloc(), ALL)?);
     Ok(())
 }
 
 #[test]
 fn a_duplicate_is_told_at_its_name(rt: HostRuntime) -> Result<(), Fail> {
-    let lines = [
-        b"create -b".as_slice(),
-        b"set autoboot=true",
-        b"set ip-type=shared",
-        b"add attr",
-        b"end",
-        b"add attr",
-        b"set name=a",
-        b"end",
-        b"add attr",
-        b"set name=a",
-        b"end",
-    ];
-    let text = joined(rt.alloc(), &lines)?;
-    assert_eq!(rt; line_of_fault(rt.alloc(), &text)?, 10);
-    let twice_unnamed = joined(rt.alloc(), &lines[..6])?;
-    assert_eq!(rt; line_of_fault(rt.alloc(), &twice_unnamed)?, 7);
+    let named =
+        b"create -b\nset autoboot=true\nset ip-type=shared\nadd attr\nset name=a\nend\nadd attr\nset name=a\nend\n";
+    assert_eq!(rt; line_of_fault(rt.alloc(), named)?, 8);
+    let unnamed =
+        b"create -b\nset autoboot=true\nset ip-type=shared\nadd attr\nend\nadd attr\nend\n";
+    assert_eq!(rt; line_of_fault(rt.alloc(), unnamed)?, 7);
     Ok(())
 }
