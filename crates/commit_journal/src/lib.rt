@@ -5,9 +5,9 @@
 mod fault;
 mod laws;
 mod records;
-mod uuids;
 #[cfg(test)]
 mod tests;
+mod uuids;
 
 pub use fault::StoreFault;
 pub use laws::applies_one_by_one;
