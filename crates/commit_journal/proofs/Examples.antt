@@ -1,13 +1,13 @@
 -- What the definitions say of some commits.
-use Rattle.std.proofs.Common.{◌≡◌, ℕ, List, [], ◌∷◌, ◌++◌, length, Some, None, codes, true, false, refl}
+use Rattle.std.proofs.Common.{◌≡◌, ℕ, List, [], ◌∷◌, length, Some, None, codes, false, refl}
 use Rattle.uuid.specs.Text.{by_index}
-use Rattle.zn_base.specs.declared.state.ZoneState.TheVariants.{Configured, Incomplete, Installed}
+use Rattle.zn_base.specs.declared.state.ZoneState.TheVariants.{Configured}
 use Rattle.zn_base.specs.Owned_lists.{tag}
 use Rattle.zone_config.specs.Export.{export_text, setting}
 use Rattle.zone_config.specs.Property.{blank}
 use Rattle.commit_journal.specs.declared.records.Commit.{Commit}
 use Rattle.commit_journal.specs.declared.records.Record.{Record}
-use Rattle.commit_journal.specs.Bodies.{body_text, padded, record_text, stored_text}
+use Rattle.commit_journal.specs.Bodies.{body_text, padded, record_text}
 use Rattle.commit_journal.specs.Stored.{may_follow, stored}
 
 web_1 : Record

@@ -1,5 +1,5 @@
 -- The body of one record of a store, in form 1. The form is this project's own.
-use Rattle.std.specs.Prelude.{◌≡◌, ℕ, zero, suc, ◌+◌, ◌/◌, ◌%◌, ◌^◌, ◌<◌, ◌≤◌, List, [], ◌∷◌, ◌++◌, Option, Some, None, IsSome, IfSome, IsTrue, codes}
+use Rattle.std.specs.Prelude.{ℕ, zero, suc, ◌+◌, ◌/◌, ◌%◌, ◌^◌, ◌<◌, ◌≤◌, List, [], ◌∷◌, ◌++◌, Option, Some, None, IsSome, IfSome, IsTrue, codes}
 use Rattle.index_file.specs.Index.{IsUuid}
 use Rattle.uuid.specs.Text.{hyphenated_text, lower}
 use Rattle.zn_base.specs.Names.{is_name}

@@ -1,5 +1,5 @@
 -- What the bodies of a store say, and the first that says nothing.
-use Rattle.std.specs.Prelude.{◌≡◌, ℕ, ◌+◌, ◌-◌, ◌≤◌, List, ◌∷◌, ◌++◌, length, take, map, All, Bool, nat_le, Result, Ok, Err, IsTrue}
+use Rattle.std.specs.Prelude.{◌≡◌, ℕ, ◌+◌, ◌-◌, ◌≤◌, List, ◌∷◌, ◌++◌, length, take, map, All, Bool, nat_le, IsTrue}
 use Rattle.zone_disk.specs.Image.{BANK}
 use Rattle.commit_journal.specs.declared.records.Commit.{Commit}
 use Rattle.commit_journal.specs.Bodies.{body_text, IsCommit}
