@@ -3,3 +3,6 @@ mod Examples
 pub mod Steps
 pub mod Branded
 pub mod Removing
+pub mod SameKind
+pub mod InPlace
+pub mod Followed

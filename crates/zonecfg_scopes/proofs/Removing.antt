@@ -1,5 +1,5 @@
 -- All resources that match are removed from the last place to the first.
-use Rattle.std.proofs.Common.{◌≡◌, ℕ, zero, suc, ◌<◌, Bool, true, false, cond, not, List, [], ◌∷◌, Option, Some, None, length, refl, ap, sym, subst, arith, ◌∙◌}
+use Rattle.std.proofs.Common.{◌≡◌, ℕ, zero, suc, ◌-◌, ◌<◌, ◌≤◌, Bool, true, false, cond, not, List, [], ◌∷◌, Option, Some, None, length, refl, ap, sym, subst, arith, ◌∙◌}
 use Rattle.std.specs.Prelude.{filter, option_map, remove, slice_get, unwrap_or}
 use Rattle.config_terms.specs.declared.terms.Kind.{Kind}
 use Rattle.config_terms.specs.declared.terms.Kind.TheVariants as kind
@@ -126,3 +126,23 @@ partly-count kind.Device wanted n c h = less-kept (λ a. unmatched kind.Device w
 partly-count kind.Rctl wanted n c h = less-kept (λ a. unmatched kind.Rctl wanted (resource.Rctl a)) n c.rctl h
 partly-count kind.Attr wanted n c h = less-kept (λ a. unmatched kind.Attr wanted (resource.Attr a)) n c.attr h
 partly-count kind.Dataset wanted n c h = less-kept (λ a. unmatched kind.Dataset wanted (resource.Dataset a)) n c.dataset h
+
+pub untested_count : (k : Kind) (c contents : Contents) (n : ℕ) → contents ≡ c → n ≡ count_of k contents → n ≡ count_of k c
+untested_count k c contents n same counts = counts ∙ ap (count_of k) same
+
+-- before the first place is tested
+pub untested : (k : Kind) (wanted : List Pair) (c contents : Contents) (n : ℕ) → contents ≡ c → n ≡ count_of k contents → c ≡ partly k wanted n c
+untested k wanted c contents n same counts =
+    sym (ap (λ m. partly k wanted m c) (untested_count k c contents n same counts) ∙ partly-all k wanted c)
+
+module _ (k : Kind) (wanted : List Pair) (n : ℕ) (c config : Contents) (left : 0 < n) (inside : n ≤ count_of k c) (tested : config ≡ partly k wanted n c) where
+  here : config ≡ partly k wanted (suc (n - 1)) c
+  here = let e : n ≡ suc (n - 1) = omega arith in tested ∙ ap (λ m. partly k wanted m c) e
+
+  -- the next place is tested
+  pub next_tested : without_match_at k wanted (n - 1) config ≡ partly k wanted (n - 1) c
+  next_tested = ap (without_match_at k wanted (n - 1)) here ∙ partly-step k wanted (n - 1) c (omega arith)
+
+  -- the next place is there
+  pub next_there : n - 1 < count_of k config
+  next_there = let P : Contents → Type 0 = λ d. n - 1 < count_of k d in subst P (sym here) (partly-count k wanted (n - 1) c (omega arith))

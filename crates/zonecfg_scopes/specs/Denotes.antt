@@ -96,10 +96,10 @@ Follows command old new (Err Memory) = new ≡ old
 Follows command old new (Err fault) = (made command old ≡ Err fault) × (new ≡ old)
 
 -- the list that is stood for after a subcommand: after want of memory the list before
-abbrev pub list_after : List Command → Command → Result (Unit {0}) EditFault → List Command
+abbrev pub list_after : {A : Type 0} → List Command → Command → Result A EditFault → List Command
 list_after cs command (Err Memory) = cs
 list_after cs command result = cs ++ command ∷ []
 
 -- what stood for a list stands for it with the subcommand
-abbrev pub GoesOn : Command → Open → Open → Result (Unit {0}) EditFault → Type 0
+abbrev pub GoesOn : {A : Type 0} → Command → Open → Open → Result A EditFault → Type 0
 GoesOn command old new result = (base : Option Contents) (cs : List Command) → Stands base cs old → Stands base (list_after cs command result) new

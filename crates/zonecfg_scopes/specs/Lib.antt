@@ -7,3 +7,4 @@ pub mod OpenOf
 pub mod Scopes
 pub mod Removal
 pub mod Denotes
+pub mod Edited

@@ -1,6 +1,6 @@
 -- What a subcommand makes of what is open, or why it is refused: a row for each subcommand that a scope
 -- has (zonecfg(8), SUBCOMMANDS).
-use Rattle.std.specs.Prelude.{◌<◌, ℕ, List, [], Bool, true, false, not, Option, Some, None, Result, Ok, Err, filter, option_map, slice_get, unwrap_or, codes, if◌then◌else◌}
+use Rattle.std.specs.Prelude.{ℕ, List, [], nat_lt, Bool, true, false, not, Option, Some, None, Result, Ok, Err, filter, option_map, slice_get, unwrap_or, codes, if◌then◌else◌}
 use Rattle.config_terms.specs.declared.fault.ConfigFault.{ConfigFault}
 use Rattle.config_terms.specs.declared.fault.ConfigFault.TheVariants as config
 use Rattle.config_terms.specs.declared.terms.Kind.{Kind}
@@ -87,15 +87,15 @@ abbrev pub needs_force : Bool → Open → Result Open EditFault
 needs_force true o = Ok o
 needs_force false o = Err NeedForce
 
--- what was selected has its place among the resources of its kind
-abbrev pub IsPlaceOf : Option ℕ → Resource → Contents → Type 0
-IsPlaceOf None r c = Unit {0}
-IsPlaceOf (Some place) r c = place < count_of (kind_of r) c
+-- whether what was selected has its place among the resources of its kind
+abbrev pub is_placed : Option ℕ → Resource → Contents → Bool
+is_placed None r c = true
+is_placed (Some place) r c = nat_lt place (count_of (kind_of r) c)
 
-abbrev pub IsInPlace : Open → Type 0
-IsInPlace Nothing = Unit {0}
-IsInPlace (Whole c) = Unit {0}
-IsInPlace (Inside c r at) = IsPlaceOf at r c
+abbrev pub is_in_place : Open → Bool
+is_in_place Nothing = true
+is_in_place (Whole c) = true
+is_in_place (Inside c r at) = is_placed at r c
 
 -- with nothing open
 abbrev pub made_of_nothing : Command → Result Open EditFault

@@ -56,6 +56,42 @@ pub enum Command {
     Verify,
 }
 
+/// What a subcommand is answered that is not refused: it is done, or there is something for the caller to
+/// show or to do. `WantExit(true)` is `exit -F`.
+#[derive(Clone, Copy, Debug, PartialEq, Eq)]
+pub enum EditReply {
+    Done,
+    WantHelp,
+    WantInfo(Topic),
+    WantExport,
+    WantVerify,
+    WantCommit,
+    WantRevert,
+    WantDelete,
+    WantExit(bool),
+}
+
+impl Command {
+    ghost use Rattle.zonecfg_scopes.specs.Edited.{reply_of};
+
+    /// What it is answered where it is not refused.
+    pub fn reply(&self) -> EditReply
+        ensures { result ≡ reply_of self.now }
+    {
+        match self {
+            Command::Commit => EditReply::WantCommit,
+            Command::Delete { .. } => EditReply::WantDelete,
+            Command::Exit { force } => EditReply::WantExit(*force),
+            Command::Export => EditReply::WantExport,
+            Command::Help => EditReply::WantHelp,
+            Command::Info(topic) => EditReply::WantInfo(*topic),
+            Command::Revert { .. } => EditReply::WantRevert,
+            Command::Verify => EditReply::WantVerify,
+            _ => EditReply::Done,
+        }
+    }
+}
+
 impl ListProperty {
     /// Its name.
     pub fn name(self) -> &'static [u8]

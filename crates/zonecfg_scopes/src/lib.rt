@@ -3,7 +3,9 @@
 //! whose cause stands.
 #![tactic(auto)]
 
+mod base;
 mod command;
+mod editor;
 mod fault;
 mod forms;
 mod opened;
@@ -11,7 +13,12 @@ mod removal;
 mod verb;
 mod words;
 
-pub use command::{Command, ListProperty, Matching, Topic};
+pub use base::Base;
+pub use command::{Command, EditReply, ListProperty, Matching, Topic};
+pub use editor::Editor;
 pub use fault::{EditFault, Scope};
 pub use forms::read_command;
 pub use opened::{Opened, ResourceScope};
+
+#[cfg(test)]
+mod tests;

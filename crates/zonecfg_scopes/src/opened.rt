@@ -1,11 +1,13 @@
 //! What is open, and what subcommands make of it.
-ghost use Rattle.std.specs.Prelude.{◌≡◌, ◌<◌, IfOk, Ok, codes, false};
+ghost use Rattle.std.specs.Prelude.{◌≡◌, ◌<◌, IfOk, IsTrue, OnErr, Err, Ok, codes, false, option_copied};
 ghost use Rattle.zn_base.specs.Answers.{AnswersUnless};
 ghost use Rattle.config_terms.specs.Edits.{Changes};
 ghost use Rattle.config_terms.specs.Fields.{kind_of};
 ghost use Rattle.zone_config.specs.Resources.{count_of};
 ghost use Rattle.zonecfg_scopes.specs.Denotes.{Follows};
-ghost use Rattle.zonecfg_scopes.specs.Scopes.{created, put_back, resource_at, selection, IsInPlace, IsPlaceOf};
+ghost use Rattle.zonecfg_scopes.specs.Open.{Nothing, Whole};
+ghost use Rattle.zonecfg_scopes.specs.OpenOf.{config_of};
+ghost use Rattle.zonecfg_scopes.specs.Scopes.{created, put_back, resource_at, selection, is_in_place, is_placed};
 
 use crate::command::{Command, ListProperty, Matching, Topic};
 use crate::removal::remove_matching;
@@ -115,13 +117,55 @@ fn put_back(
     config: &mut ZoneConfig,
     scope: &ResourceScope,
 ) -> Result<(), ConfigFault>
-    requires { IsPlaceOf scope.now.place scope.now.resource config.old }
+    requires { IsTrue (is_placed scope.now.place scope.now.resource config.old) }
     ensures { Changes config.old config.new result (put_back scope.now.place scope.now.resource config.old) }
 {
     let resource = scope.resource.twin(alloc)?;
     match scope.place {
         None => config.add_resource(resource),
         Some(place) => config.replace_resource(place, resource),
+    }
+}
+
+impl Opened {
+    /// Nothing is open.
+    pub fn nothing() -> Opened
+        ensures { result ≡ Nothing }
+    {
+        Opened { config: None, scope: None }
+    }
+
+    /// A configuration is open, in the global scope.
+    pub fn whole(config: ZoneConfig) -> Opened
+        ensures { result ≡ Whole config }
+    {
+        Opened { config: Some(config), scope: None }
+    }
+
+    /// The configuration that is open.
+    pub fn config(&self) -> Option<&ZoneConfig>
+        ensures { option_copied result ≡ config_of self.now }
+    {
+        self.config.as_ref()
+    }
+
+    /// The same is open in the copy.
+    pub fn copy(&self, alloc: Global) -> Result<Opened, EditFault>
+        ensures same { IfOk result (λ o. o ≡ self.now) }
+        ensures memory { OnErr result (result ≡ Err EditFault.Memory) }
+    {
+        let config = match &self.config {
+            None => None,
+            Some(config) => Some(config.copy(alloc)?),
+        };
+        let scope = match &self.scope {
+            None => None,
+            Some(scope) => Some(ResourceScope {
+                resource: scope.resource.twin(alloc)?,
+                place: scope.place,
+            }),
+        };
+        Ok(Opened { config, scope })
     }
 }
 
@@ -226,7 +270,7 @@ impl Opened {
     }
 
     fn end(&mut self, alloc: Global) -> Result<(), EditFault>
-        requires { IsInPlace self.old }
+        requires { IsTrue (is_in_place self.old) }
         ensures { Follows Command.End self.old self.new result }
     {
         match (&mut self.config, &self.scope) {
@@ -300,7 +344,7 @@ impl Opened {
 
     /// Does what a subcommand says. A refused one leaves all as it was, and so does want of memory.
     pub fn obey(&mut self, alloc: Global, command: &Command) -> Result<(), EditFault>
-        requires { IsInPlace self.old }
+        requires { IsTrue (is_in_place self.old) }
         ensures { Follows command.now self.old self.new result }
     {
         match command {
