@@ -1,11 +1,11 @@
 //! Replies, printed.
 ghost use Rattle.std.specs.Prelude.{◌≡◌, ◌++◌, OnErr, OnOk, IfOk, decimal};
-ghost use Rattle.trace_text.specs.Replies.{change_text, counted_text, ending_text, head_text, kind_text, moment_text, name_fault_text, outcome_text, pool_text, refusal_text, reply_text, state_text, step_text, subject_text, turn_text, unmount_text};
+ghost use Rattle.trace_text.specs.Replies.{change_text, counted_text, ending_text, head_text, kind_text, moment_text, name_fault_text, outcome_text, pool_text, refusal_text, reply_text, step_text, subject_text, turn_text, unmount_text};
 
 use crate::LineFault;
 use itoa::Buffer;
 use std::alloc::{AllocError, Global};
-use zn_base::{AbsPath, NameFault, Pool, ZoneState};
+use zn_base::{AbsPath, NameFault, Pool};
 use zone_machine::{
     Body, ChangeKind, Head, Outcome, Refusal, Reply, RequestKind, Step, Subject, TurnReply,
 };
@@ -36,20 +36,6 @@ fn pool_text(pool: Pool) -> &'static [u8]
         Pool::Addresses => b"addresses",
         Pool::Datasets => b"datasets",
         Pool::Source => b"source",
-    }
-}
-
-fn state_text(state: ZoneState) -> &'static [u8]
-    ensures { result.now ≡ state_text state }
-{
-    match state {
-        ZoneState::Configured => b"configured",
-        ZoneState::Incomplete => b"incomplete",
-        ZoneState::Installed => b"installed",
-        ZoneState::Ready => b"ready",
-        ZoneState::Running => b"running",
-        ZoneState::ShuttingDown => b"shutting_down",
-        ZoneState::Down => b"down",
     }
 }
 
@@ -123,13 +109,13 @@ fn push_step(out: &mut Vec<u8>, step: &Step) -> Result<(), AllocError>
 {
     match step {
         Step::Hook(change) => push_both(out, moment_text(change.before), change_text(change.kind)),
-        Step::Record(state) => push_both(out, b"record ", state_text(*state)),
+        Step::Record(state) => push_both(out, b"record ", state.text()),
         Step::Copy(number) => push_numbered(out, b"copy ", *number as u64),
         Step::Zid(zid) => push_counted(out, b"zid", *zid),
         Step::Limits => out.extend_from_slice(b"limits"),
         Step::Devices(count) => push_counted(out, b"devices", *count),
         Step::Root => out.extend_from_slice(b"root"),
-        Step::State(state) => push_both(out, b"state ", state_text(*state)),
+        Step::State(state) => push_both(out, b"state ", state.text()),
         Step::Init(pid) => push_counted(out, b"init", *pid),
         Step::Kill(count) => push_counted(out, b"kill", *count),
         Step::Unmount(dir) => push_unmount(out, dir),
@@ -144,7 +130,7 @@ fn push_outcome(out: &mut Vec<u8>, outcome: Outcome) -> Result<(), AllocError>
 {
     match outcome {
         Outcome::Done => out.extend_from_slice(b"ok"),
-        Outcome::WrongState(state) => push_both(out, b"81 WrongState ", state_text(state)),
+        Outcome::WrongState(state) => push_both(out, b"81 WrongState ", state.text()),
         Outcome::Denied(pool) => push_both(out, b"82 Denied ", pool_text(pool)),
     }
 }

@@ -1,3 +1,7 @@
-pub mod Names
-pub mod Kept
+mod Examples
+pub mod Lists
+pub mod PropertyEdits
+pub mod ResourceEdits
+pub mod Aliases
 pub mod Settings
+pub mod Clearing

@@ -1,70 +1,210 @@
--- Where a property can be set, and what it then shows.
-use Rattle.std.proofs.Common.{◌≡◌, ◌≢◌, ℕ, true, false, cond, ◌||◌, List, Result, Ok, Err, Option, Some, None, codes, refl, sym, subst}
-use Rattle.std.specs.Str.{bytes_eq}
-use Rattle.std.proofs.lemmas.Slice.Eq.{bytes_eq-Decides}
+-- What `set_property` makes of a configuration.
+use Rattle.std.proofs.Common.{◌≡◌, inl, inr, ℕ, Bool, true, false, cond, not, List, [], ◌∷◌, ◌++◌, length, Option, Some, None, Result, Ok, Err, refl, ap, sym, subst, ◌∙◌, IsTrue, IfErr, append-nil, arith}
+use Rattle.std.specs.Prelude.{filter, is_some, map, nat_le, nat_lt, slice_set}
+use Rattle.std.specs.List.{list_any}
+use Rattle.std.proofs.lemmas.Bool.Decides.{nat_tests}
+use Rattle.std.proofs.lemmas.List.Elements.{filter-append}
+use Rattle.zonecfg_lex.specs.declared.values.Value.{Value}
+use Rattle.zonecfg_lex.specs.declared.values.Value.TheVariants.{Simple, Complex, List as Items}
+use Rattle.config_terms.specs.declared.fault.ConfigFault.{ConfigFault}
+use Rattle.config_terms.specs.declared.fault.ConfigFault.TheVariants as fault
+use Rattle.config_terms.specs.declared.terms.Rctl.{Rctl}
+use Rattle.config_terms.specs.declared.terms.Resource.TheVariants as resource
+use Rattle.config_terms.specs.Numbers.{number_of}
+use Rattle.config_terms.specs.Rules.{obeys}
+use Rattle.zone_config.specs.declared.terms.Alias.{Alias}
+use Rattle.zone_config.specs.declared.terms.Alias.TheVariants.{CpuShares, MaxLwps, MaxProcesses}
 use Rattle.zone_config.specs.declared.terms.Contents.{Contents}
 use Rattle.zone_config.specs.declared.terms.Property.{Property}
-use Rattle.zone_config.specs.declared.terms.Property.TheVariants.{Zonepath, Brand, Autoboot}
-use Rattle.zone_config.specs.declared.terms.ConfigFault.{ConfigFault}
-use Rattle.zone_config.specs.declared.terms.ConfigFault.TheVariants.{Memory, UnknownProperty, BadValue}
-use Rattle.zone_config.specs.Rule.{obeys}
-use Rattle.zone_config.specs.Property.{property_rule, property_named, shown, bool_text, with_value, value_set, named_set, with_property, Changes}
-use Rattle.zone_config.specs.Settable.{allows, Sets}
+use Rattle.zone_config.specs.declared.terms.Setting.{Setting}
+use Rattle.zone_config.specs.declared.terms.Setting.TheVariants.{Kept, Aliased}
+use Rattle.zone_config.specs.Property.{property_rule, rctl_name, setting_named, shown, with_value}
+use Rattle.zone_config.specs.Export.{export_text, sized}
+use Rattle.zone_config.specs.Sound.{IsSound, count}
+use Rattle.zone_config.specs.Resources.{added, limit_passed, replaced, unless_passed}
+use Rattle.zone_config.specs.Edits.{alias_rctl, alias_set, is_held, is_named_for, limit_set, named_set, place_of, property_set, rctl_put, setting_set, with_property}
+use Rattle.zone_config.specs.Settable.{IsWantOfRoom, SetsWhereAllowed, Shows, ShowsLimit, ShowsText, allows, allows_value, is_settable}
+use Rattle.zone_config.proofs.Lists.{first_false, rest_false}
+use Rattle.zone_config.proofs.PropertyEdits.{Lists, lists-with, shown-with, shown_obeyed}
+use Rattle.zone_config.proofs.Aliases.{Parts, none_behind, none_passes, parted, slice_set-middle}
 
--- a value that its rule allows shows as it was given
-value_shown : (p : Property) (v : List ℕ) (c : Contents) → obeys (property_rule p) v ≡ true → shown p (with_value p v c) ≡ v
-value_shown Zonepath v c h = refl
-value_shown Brand v c h = refl
-value_shown Autoboot v c h =
-    elim (bytes_eq v (codes "true")) as (λ b. bytes_eq v (codes "true") ≡ b → (b || bytes_eq v (codes "false")) ≡ true → bool_text b ≡ v) [
-      | true ↦ λ is _. sym ((bytes_eq-Decides v (codes "true")).0 is)
-      | false ↦ λ _ is. sym ((bytes_eq-Decides v (codes "false")).0 is)
+-- what a bound on the text leaves
+pub fits_in : (c d : Contents) → sized c ≡ Ok d → d ≡ c
+fits_in c d h =
+    elim (nat_lt 32768 (length (export_text c))) as (λ b. cond b (Err (fault.TooLarge (length (export_text c)))) (Ok c) ≡ Ok d → d ≡ c) [
+      | true ↦ λ g. absurd (cc)
+      | false ↦ λ g. cc
+    ] h
+
+wants_room : (c : Contents) → IfErr (sized c) IsWantOfRoom
+wants_room c =
+    elim (nat_lt 32768 (length (export_text c))) as (λ b. nat_lt 32768 (length (export_text c)) ≡ b → IfErr (cond {A = Result Contents ConfigFault} b (Err (fault.TooLarge (length (export_text c)))) (Ok c)) IsWantOfRoom) [
+      | true ↦ λ e. grind (arith, nat_tests)
+      | false ↦ λ e. tt
+    ] refl
+
+-- a property that is kept as it stands
+property-Ok : (p : Property) (v : List ℕ) (c d : Contents) → property_set p v c ≡ Ok d → (obeys (property_rule p) v ≡ true) × (d ≡ with_value p v c)
+property-Ok p v c d h =
+    elim (obeys (property_rule p) v) as (λ b. obeys (property_rule p) v ≡ b → cond b (sized (with_value p v c)) (Err fault.BadValue) ≡ Ok d → (obeys (property_rule p) v ≡ true) × (d ≡ with_value p v c)) [
+      | true ↦ λ e g. (e, fits_in (with_value p v c) d g)
+      | false ↦ λ e g. absurd (cc)
     ] refl h
 
-other_shown : (p q : Property) (v : List ℕ) (c : Contents) → Some p ≢ Some q → shown q (with_value p v c) ≡ shown q c
-other_shown Zonepath Zonepath v c h = absurd (h refl)
-other_shown Zonepath Brand v c h = refl
-other_shown Zonepath Autoboot v c h = refl
-other_shown Brand Zonepath v c h = refl
-other_shown Brand Brand v c h = absurd (h refl)
-other_shown Brand Autoboot v c h = refl
-other_shown Autoboot Zonepath v c h = refl
-other_shown Autoboot Brand v c h = refl
-other_shown Autoboot Autoboot v c h = absurd (h refl)
+pub shows_text : (p : Property) (v : List ℕ) (c : Contents) → shown p (with_value p v c) ≡ v → ShowsText p v c (with_value p v c)
+shows_text p v c h = record {
+  given = h;
+  others = λ q differ. elim (shown-with p q v c) [ inl same ↦ absurd (differ same) | inr as_before ↦ as_before ];
+  same = ap (λ (l : Lists). map resource.Fs l.0 ++ map resource.Net l.1 ++ map resource.Device l.2 ++ map resource.Rctl l.3 ++ map resource.Attr l.4 ++ map resource.Dataset l.5) (lists-with p v c);
+}
 
--- what holds where a value was put in place
-record Put (o : Option Property) (v : List ℕ) (c d : Contents) : Type 0 where
-  allowed : allows o v ≡ true
-  given : (p : Property) → o ≡ Some p → shown p d ≡ v
-  others : (p : Property) → o ≢ Some p → shown p d ≡ shown p c
+property-room : (p : Property) (v : List ℕ) (c : Contents) → obeys (property_rule p) v ≡ true → IfErr (property_set p v c) IsWantOfRoom
+property-room p v c h = rw h (wants_room (with_value p v c))
 
-value_put : (p : Property) (v : List ℕ) (c d : Contents) → value_set p v c ≡ Ok d → Put (Some p) v c d
-value_put p v c d h =
-    elim (obeys (property_rule p) v) as (λ b. obeys (property_rule p) v ≡ b → cond b (Ok (with_value p v c)) (Err BadValue) ≡ Ok d → Put (Some p) v c d) [
-      | true ↦ λ allowed is.
-          let same : with_value p v c ≡ d = cc in
-          subst (Put (Some p) v c) same (record {
-            allowed = allowed;
-            given = λ q e. let one : p ≡ q = cc in let P : Property → Type 0 = λ q. shown q (with_value p v c) ≡ v in subst P one (value_shown p v c allowed);
-            others = λ q e. other_shown p q v c e;
-          })
-      | false ↦ λ _ is. absurd (cc)
-    ] refl h
+-- a list with one item that passes a test, and what does not pass as it was
+record HasOne {A : Type 0} (p : A → Bool) (xs ys : List A) (x : A) : Type 0 where
+  given : filter p ys ≡ x ∷ []
+  others : filter (λ y. not (p y)) ys ≡ filter (λ y. not (p y)) xs
 
-named_put : (o : Option Property) (v : List ℕ) (c d : Contents) → named_set o v c ≡ Ok d → Put o v c d
-named_put None v c d h = absurd (cc)
-named_put (Some p) v c d h = value_put p v c d h
+pub filter-none : {A : Type 0} (p : A → Bool) (xs : List A) → list_any p xs ≡ false → filter p xs ≡ []
+filter-none p [] h = refl
+filter-none p (x ∷ xs) h = rw (first_false (p x) _ h) (filter-none p xs (rest_false (p x) _ h))
 
--- a refusal means that the value isn't allowed
-not_allowed : (o : Option Property) (v : List ℕ) (c : Contents) (e : ConfigFault) → named_set o v c ≡ Err e → allows o v ≡ true → ⊥
-not_allowed None v c e h allowed = absurd (cc)
-not_allowed (Some p) v c e h allowed = let good : Ok (with_value p v c) ≡ Err e = rw allowed at h in absurd (cc)
+filter-kept : {A : Type 0} (p : A → Bool) (x : A) (xs : List A) → p x ≡ true → filter p (x ∷ xs) ≡ x ∷ filter p xs
+filter-kept p x xs h = rw h refl
 
-pub sets : (name v : List ℕ) (c d : Contents) (r : Result (Unit {0}) ConfigFault) → Changes c d r (with_property name v c) → Sets name v c d r
+pub filter-dropped : {A : Type 0} (p : A → Bool) (x : A) (xs : List A) → p x ≡ false → filter p (x ∷ xs) ≡ filter p xs
+filter-dropped p x xs h = rw h refl
+
+one_in_place : {A : Type 0} (p : A → Bool) (xs : List A) (i : ℕ) (x : A) (s : Parts p xs i) → list_any p s.back ≡ false → p x ≡ true → HasOne p xs (slice_set xs i x) x
+one_in_place {A} p xs i x s h g =
+    let q : A → Bool = λ y. not (p y) in
+    let now : slice_set xs i x ≡ s.front ++ x ∷ s.back = rw (s.are, s.place) (slice_set-middle s.front s.it x s.back) in
+    record {
+      given = ap (filter p) now ∙ filter-append p s.front (x ∷ s.back) ∙ ap (λ ys. ys ++ filter p (x ∷ s.back)) (filter-none p s.front s.none) ∙ filter-kept p x s.back g
+          ∙ ap (λ ys. x ∷ ys) (filter-none p s.back h);
+      others = ap (filter q) now ∙ filter-append q s.front (x ∷ s.back) ∙ ap (λ ys. filter q s.front ++ ys) (filter-dropped q x s.back (ap not g) ∙ sym (filter-dropped q s.it s.back (ap not s.first)))
+          ∙ sym (filter-append q s.front (s.it ∷ s.back)) ∙ ap (filter q) (sym s.are);
+    }
+
+one_anew : {A : Type 0} (p : A → Bool) (xs : List A) (x : A) → list_any p xs ≡ false → p x ≡ true → HasOne p xs (xs ++ x ∷ []) x
+one_anew {A} p xs x h g =
+    let q : A → Bool = λ y. not (p y) in
+    record {
+      given = filter-append p xs (x ∷ []) ∙ ap (λ ys. ys ++ filter p (x ∷ [])) (filter-none p xs h) ∙ filter-kept p x [] g;
+      others = filter-append q xs (x ∷ []) ∙ ap (λ ys. filter q xs ++ ys) (filter-dropped q x [] (ap not g)) ∙ append-nil (filter q xs);
+    }
+
+-- an alias that is kept as an rctl
+named_for_own : (a : Alias) (n : ℕ) → is_named_for a (alias_rctl a n) ≡ true
+named_for_own CpuShares n = refl
+named_for_own MaxLwps n = refl
+named_for_own MaxProcesses n = refl
+
+record IsLimited (a : Alias) (n : ℕ) (c d : Contents) : Type 0 where
+  one : HasOne (is_named_for a) c.rctl d.rctl (alias_rctl a n)
+  same : d ≡ record c { rctl = d.rctl }
+
+limited_in_place : (a : Alias) (n i : ℕ) (c : Contents) → IsSound c → place_of a c.rctl ≡ Some i → IsLimited a n c (replaced i (resource.Rctl (alias_rctl a n)) c)
+limited_in_place a n i c s h =
+    let parts = parted (is_named_for a) c.rctl i h in
+    record {
+      one = one_in_place (is_named_for a) c.rctl i (alias_rctl a n) parts (none_behind (λ r. r.name) (rctl_name a) c.rctl i s.resources.rctl.once parts) (named_for_own a n);
+      same = refl;
+    }
+
+limited_anew : (a : Alias) (n : ℕ) (c : Contents) → place_of a c.rctl ≡ None → IsLimited a n c (added (resource.Rctl (alias_rctl a n)) c)
+limited_anew a n c h = record { one = one_anew (is_named_for a) c.rctl (alias_rctl a n) (none_passes (is_named_for a) c.rctl h) (named_for_own a n); same = refl }
+
+added-Ok : (r : Rctl) (c d : Contents) → unless_passed (limit_passed (resource.Rctl r) c) (added (resource.Rctl r) c) ≡ Ok d → d ≡ added (resource.Rctl r) c
+added-Ok r c d h =
+    elim (nat_le 256 (count c)) as (λ b. unless_passed (cond b (Some 256) None) (added (resource.Rctl r) c) ≡ Ok d → d ≡ added (resource.Rctl r) c) [
+      | true ↦ λ g. absurd (cc)
+      | false ↦ λ g. fits_in (added (resource.Rctl r) c) d g
+    ] h
+
+added-room : (r : Rctl) (c : Contents) → IfErr (unless_passed (limit_passed (resource.Rctl r) c) (added (resource.Rctl r) c)) IsWantOfRoom
+added-room r c =
+    elim (nat_le 256 (count c)) as (λ b. IfErr (unless_passed (cond b (Some 256) None) (added (resource.Rctl r) c)) IsWantOfRoom) [
+      | true ↦ refl
+      | false ↦ wants_room (added (resource.Rctl r) c)
+    ]
+
+put-Ok : (a : Alias) (n : ℕ) (o : Option ℕ) (c d : Contents) → IsSound c → place_of a c.rctl ≡ o → rctl_put o (alias_rctl a n) c ≡ Ok d → IsLimited a n c d
+put-Ok a n (Some i) c d s at h = subst (IsLimited a n c) (sym (fits_in (replaced i (resource.Rctl (alias_rctl a n)) c) d h)) (limited_in_place a n i c s at)
+put-Ok a n None c d s at h = subst (IsLimited a n c) (sym (added-Ok (alias_rctl a n) c d h)) (limited_anew a n c at)
+
+put-room : (o : Option ℕ) (r : Rctl) (c : Contents) → IfErr (rctl_put o r c) IsWantOfRoom
+put-room (Some i) r c = wants_room (replaced i (resource.Rctl r) c)
+put-room None r c = added-room r c
+
+limit-Ok : (a : Alias) (n : ℕ) (c d : Contents) → IsSound c → limit_set a (Some n) c ≡ Ok d → IsLimited a n c d
+limit-Ok a n c d s h =
+    elim (is_held a c.rctl) as (λ b. cond b (Err fault.AliasHeld) (rctl_put (place_of a c.rctl) (alias_rctl a n) c) ≡ Ok d → IsLimited a n c d) [
+      | true ↦ λ g. absurd (cc)
+      | false ↦ λ g. put-Ok a n (place_of a c.rctl) c d s refl g
+    ] h
+
+limit-room : (a : Alias) (n : ℕ) (c : Contents) → IfErr (limit_set a (Some n) c) IsWantOfRoom
+limit-room a n c =
+    elim (is_held a c.rctl) as (λ b. IfErr (cond b (Err fault.AliasHeld) (rctl_put (place_of a c.rctl) (alias_rctl a n) c)) IsWantOfRoom) [
+      | true ↦ tt
+      | false ↦ put-room (place_of a c.rctl) (alias_rctl a n) c
+    ]
+
+shows_limit : (a : Alias) (text : List ℕ) (n : ℕ) (c d : Contents) → number_of text ≡ Some n → IsLimited a n c d → ShowsLimit a text c d
+shows_limit a text n c d e l = record {
+  given = λ m g. let same : n ≡ m = cc in subst (λ (k : ℕ). filter (is_named_for a) d.rctl ≡ alias_rctl a k ∷ []) same l.one.given;
+  others = l.one.others;
+  same = l.same;
+}
+
+-- a setting of either sort, a value of any sort, and a name that there may be or not
+pub record Put (o : Option Setting) (value : Value) (c d : Contents) : Type 0 where
+  pub allowed : allows_value o value ≡ true
+  pub shows : Shows o value c d
+
+limit-put : (a : Alias) (text : List ℕ) (o : Option ℕ) (c d : Contents) → IsSound c → number_of text ≡ o → limit_set a o c ≡ Ok d → Put (Some (Aliased a)) (Simple text) c d
+limit-put a text None c d s e h = absurd (cc)
+limit-put a text (Some n) c d s e h = record { allowed = ap is_some e; shows = shows_limit a text n c d e (limit-Ok a n c d s h) }
+
+setting-put : (t : Setting) (text : List ℕ) (c d : Contents) → IsSound c → setting_set t text c ≡ Ok d → Put (Some t) (Simple text) c d
+unfolding alias_set
+setting-put (Kept p) text c d s h =
+    let put = property-Ok p text c d h in
+    record { allowed = put.0; shows = subst (ShowsText p text c) (sym put.1) (shows_text p text c (shown_obeyed p text c put.0)) }
+setting-put (Aliased a) text c d s h = limit-put a text (number_of text) c d s refl h
+
+named-put : (o : Option Setting) (value : Value) (c d : Contents) → IsSound c → named_set o value c ≡ Ok d → Put o value c d
+named-put None value c d s h = absurd (cc)
+named-put (Some t) (Simple text) c d s h = setting-put t text c d s h
+named-put (Some t) (Complex pairs) c d s h = absurd (cc)
+named-put (Some t) (Items texts) c d s h = absurd (cc)
+
+limit-refused : (a : Alias) (o : Option ℕ) (c : Contents) → is_some o ≡ true → IfErr (limit_set a o c) IsWantOfRoom
+limit-refused a None c h = absurd (cc)
+limit-refused a (Some n) c h = limit-room a n c
+
+setting-refused : (t : Setting) (text : List ℕ) (c : Contents) → allows t text ≡ true → IfErr (setting_set t text c) IsWantOfRoom
+unfolding alias_set
+setting-refused (Kept p) text c h = property-room p text c h
+setting-refused (Aliased a) text c h = limit-refused a (number_of text) c h
+
+named-refused : (o : Option Setting) (value : Value) (c : Contents) → allows_value o value ≡ true → IfErr (named_set o value c) IsWantOfRoom
+named-refused None value c h = absurd (cc)
+named-refused (Some t) (Simple text) c h = setting-refused t text c h
+named-refused (Some t) (Complex pairs) c h = absurd (cc)
+named-refused (Some t) (Items texts) c h = absurd (cc)
+
+refusal : (name : List ℕ) (value : Value) (old : Contents) (e : ConfigFault) → with_property name value old ≡ Err e → IsTrue (is_settable name value) → IsWantOfRoom e
 unfolding with_property
-sets name v c d (Ok x) h =
-    let put = named_put (property_named name) v c d h in
-    record { allowed = put.allowed; memory = λ _. tt; shows = record { given = put.given; others = put.others } }
-sets name v c d (Err Memory) h = record { allowed = tt; memory = λ _. refl; shows = tt }
-sets name v c d (Err UnknownProperty) h = record { allowed = tt; memory = λ a. absurd (not_allowed (property_named name) v c UnknownProperty h.0 a); shows = tt }
-sets name v c d (Err BadValue) h = record { allowed = tt; memory = λ a. absurd (not_allowed (property_named name) v c BadValue h.0 a); shows = tt }
+refusal name value old e h allowed = subst (λ (r : Result Contents ConfigFault). IfErr r IsWantOfRoom) h (named-refused (setting_named name) value old allowed)
+
+put : (name : List ℕ) (value : Value) (old new : Contents) → IsSound old → with_property name value old ≡ Ok new → Put (setting_named name) value old new
+unfolding with_property
+put name value old new s h = named-put (setting_named name) value old new s h
+
+pub sets : SetsWhereAllowed
+sets name value old new (Ok done) s h = let is = put name value old new s h in record { allowed = is.allowed; refused = λ _. tt; shows = is.shows }
+sets name value old new (Err fault.Memory) s h = record { allowed = tt; refused = λ _. tt; shows = tt }
+sets name value old new (Err e) s h = record { allowed = tt; refused = λ allowed. refusal name value old _ h.0 allowed; shows = tt }

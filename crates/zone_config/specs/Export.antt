@@ -1,27 +1,29 @@
--- The one text of a configuration.
-use Rattle.std.specs.Prelude.{ℕ, List, [], ◌∷◌, ◌++◌, Bool, ◌||◌, ◌==◌, codes, if◌then◌else◌}
-use Rattle.std.specs.List.{list_all, list_any, flat_map}
+-- The one text of a configuration (zonecfg(8), export), and the bound that it keeps.
+use Rattle.std.specs.Prelude.{ℕ, List, [], ◌∷◌, ◌++◌, length, nat_lt, Result, Ok, Err, codes, if◌then◌else◌}
+use Rattle.std.specs.List.{flat_map}
+use Rattle.config_terms.specs.declared.fault.ConfigFault.{ConfigFault}
+use Rattle.config_terms.specs.declared.fault.ConfigFault.TheVariants.{TooLarge}
+use Rattle.config_terms.specs.Texts.{setting, fs_text, net_text, device_text, rctl_text, attr_text, dataset_text}
 use Rattle.zone_config.specs.declared.terms.Contents.{Contents}
 use Rattle.zone_config.specs.declared.terms.Property.{Property}
-use Rattle.zone_config.specs.Rule.{is_alphanumeric}
 use Rattle.zone_config.specs.Property.{property_name, properties, shown}
-
--- letters, digits and `_-./:,*?!@+%`
-abbrev pub is_bare_byte : ℕ → Bool
-is_bare_byte b = is_alphanumeric b || list_any (λ c. b == c) (codes "_-./:,*?!@+%")
-
--- bare where each byte may stand so, and else in double quotes
-abbrev pub value_text : List ℕ → List ℕ
-value_text value = if list_all is_bare_byte value then value else 34 ∷ value ++ 34 ∷ []
-
--- the line that sets a property, where it is set
-unfoldable pub setting : List ℕ → List ℕ → List ℕ
-setting name [] = []
-setting name (b ∷ value) = codes "set " ++ name ++ codes "=" ++ value_text (b ∷ value) ++ 10 ∷ []
 
 abbrev pub property_line : Contents → Property → List ℕ
 property_line c p = setting (property_name p) (shown p c)
 
--- the lines of a new configuration, of each property that is set, and of the way to its network
+-- the lines of a new configuration, of each property that is set, and of each resource, kind by kind
 unfoldable pub export_text : Contents → List ℕ
-export_text c = codes "create -b" ++ 10 ∷ [] ++ flat_map (property_line c) properties ++ setting (codes "ip-type") (codes "shared")
+export_text c =
+    codes "create -b" ++ 10 ∷ [] ++ flat_map (property_line c) properties ++ flat_map fs_text c.fs ++ flat_map net_text c.net
+    ++ flat_map device_text c.device ++ flat_map rctl_text c.rctl ++ flat_map attr_text c.attr ++ flat_map dataset_text c.dataset
+
+-- the greatest length of an export text
+abbrev pub text_max : ℕ
+text_max = 32768
+
+abbrev pub unless_larger : ℕ → Contents → Result Contents ConfigFault
+unless_larger size c = if nat_lt text_max size then Err (TooLarge size) else Ok c
+
+-- the configuration, unless its export text is too long
+abbrev pub sized : Contents → Result Contents ConfigFault
+sized c = unless_larger (length (export_text c)) c

@@ -1,5 +1,6 @@
-pub mod Rule
 pub mod Property
-pub mod Sound
 pub mod Export
+pub mod Sound
+pub mod Edits
+pub mod Resources
 pub mod Settable

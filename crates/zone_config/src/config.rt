@@ -1,31 +1,46 @@
 //! Configurations that are sound.
-ghost use Rattle.std.specs.Prelude.{◌≡◌};
-ghost use Rattle.zone_config.specs.Property.{blank, with_property, Changes};
-ghost use Rattle.zone_config.specs.Settable.{SetsWhereAllowed};
+ghost use Rattle.std.specs.Prelude.{◌≡◌, ◌<◌, Err, IfOk, IsTrue, None, OnErr, Some, false};
+ghost use Rattle.config_terms.specs.Allowed.{is_allowed, options_passed};
+ghost use Rattle.config_terms.specs.Edits.{Changes, ChangesSurely};
+ghost use Rattle.config_terms.specs.Fields.{kind_of};
+ghost use Rattle.config_terms.specs.declared.fault.ConfigFault.TheVariants.{Memory};
+ghost use Rattle.zone_config.specs.Edits.{alias_cleared, alias_set, property_set, with_property, without_property};
+ghost use Rattle.zone_config.specs.Export.{sized};
+ghost use Rattle.zone_config.specs.Property.{blank, without_value};
+ghost use Rattle.zone_config.specs.Resources.{added, count_of, found, has_taken, has_taken_but, limit_passed, removed, replaced, unless_passed, with_replaced, with_resource};
 ghost use Rattle.zone_config.specs.Sound.{IsSound};
 
-use crate::{ConfigFault, Contents};
+use crate::sizes::{size_added, size_replaced, size_with};
+use crate::{Alias, Contents, Property, Setting};
+use config_terms::{ConfigFault, Entry, Kind, Resource, Twin, entry_length, number_of};
 use std::alloc::Global;
 use std::marker::Model;
 use std::ops::Deref;
 use zn_base::Text;
+use zonecfg_lex::{Pair, Value};
 
-/// A configuration in which each property is unset or has a value that its rule allows. Contracts see
-/// its contents, which anyone may read and only its own calls change.
+/// The greatest length of an export text, in bytes.
+pub const TEXT_MAX: usize = 32_768;
+
+/// A configuration: each property that is set has a value that its rule allows, no two rctls, attrs or
+/// datasets have one name and no two devices one match, there are at most 256 resources, 100 of them file
+/// systems with at most 32 options each, and the export text has at most 32,768 bytes. Contracts see its
+/// contents, which anyone may read and only its own calls change.
 #[derive(Drop)]
 pub struct ZoneConfig {
     contents: Contents,
+    size: usize,
 }
 
 impl Model for ZoneConfig {
     ghost use Rattle.zone_config.specs.declared.terms.Contents.{Contents};
-    ghost use Rattle.zone_config.specs.Sound.{IsSound};
+    ghost use Rattle.zone_config.specs.Sound.{IsKept};
 
     ghost Value = { Contents };
 
     ghost view = { λ c. c.contents };
 
-    ghost invariant = { λ c. IsSound c.contents };
+    ghost invariant = { λ c. IsKept c.contents c.size };
 }
 
 /// A configuration in which nothing is set. It takes no memory.
@@ -33,11 +48,9 @@ pub fn blank(alloc: Global) -> ZoneConfig
     ensures { result ≡ blank }
 {
     ZoneConfig {
-        contents: Contents {
-            zonepath: None,
-            brand: Text::empty(alloc),
-            autoboot: false,
-        },
+        contents: Contents::blank(alloc),
+        // `create -b`, and the lines of autoboot and ip-type.
+        size: 48,
     }
 }
 
@@ -52,7 +65,7 @@ impl Deref for ZoneConfig {
 }
 
 impl ZoneConfig {
-    /// The values of the properties.
+    /// The properties and the resources.
     pub fn contents(&self) -> &Contents
         ensures same { result.now ≡ self.now }
         ensures sound { IsSound result.now }
@@ -60,23 +73,208 @@ impl ZoneConfig {
         &self.contents
     }
 
-    /// Sets a property to a value, as the line `set NAME=VALUE` of zonecfg(8) does. The name is looked at
-    /// first. After a fault all is as before.
+    /// An equal configuration.
+    pub fn copy(&self, alloc: Global) -> Result<ZoneConfig, ConfigFault>
+        ensures same { IfOk result (λ config. config ≡ self.now) }
+        ensures memory { OnErr result (result ≡ Err ConfigFault.Memory) }
+    {
+        Ok(ZoneConfig {
+            contents: self.contents.twin(alloc)?,
+            size: self.size,
+        })
+    }
+
+    /// Sets a property, as the line `set NAME=VALUE` of zonecfg(8) does. An empty text unsets what may be
+    /// unset so. Faults come in the order 22, 23, 28, 27, 29, and after each all is as before.
+    #[tactic(auto, unfolding(crate::specs::Edits::with_property))]
     pub fn set_property(
         &mut self,
         alloc: Global,
         name: &[u8],
-        value: &[u8],
+        value: &Value,
     ) -> Result<(), ConfigFault>
         ensures { Changes self.old self.new result (with_property name.now value.now self.old) }
     {
-        self.contents.set_property(alloc, name, value)
+        let Some(setting) = Setting::named(name) else {
+            return Err(ConfigFault::UnknownProperty);
+        };
+        let Value::Simple(text) = value else {
+            return Err(ConfigFault::BadValue);
+        };
+        match setting {
+            Setting::Kept(property) => self.set_kept(alloc, property, text),
+            Setting::Aliased(alias) => self.set_alias(alloc, alias, text),
+        }
+    }
+
+    /// Clears a property, as the line `clear NAME` of zonecfg(8) does: it is as in a blank configuration,
+    /// and the rctl of an alias is taken out. It takes no memory. Faults come in the order 22, 28, 29, and
+    /// after each all is as before.
+    #[tactic(auto, unfolding(crate::specs::Edits::without_property))]
+    pub fn clear_property(&mut self, alloc: Global, name: &[u8]) -> Result<(), ConfigFault>
+        ensures { ChangesSurely self.old self.new result (without_property name.now self.old) }
+    {
+        match Setting::named(name) {
+            None => Err(ConfigFault::UnknownProperty),
+            Some(Setting::Kept(property)) => self.clear_kept(alloc, property),
+            Some(Setting::Aliased(alias)) => self.clear_alias(alias),
+        }
+    }
+
+    /// Puts a resource last in its kind. Faults come in the order 23, 24, 27, 29, and after each all is as
+    /// before.
+    #[tactic(auto, unfolding(crate::specs::Resources::with_resource))]
+    pub fn add_resource(&mut self, resource: Resource) -> Result<(), ConfigFault>
+        ensures { Changes self.old self.new result (with_resource resource self.old) }
+    {
+        if !resource.is_allowed() {
+            return Err(ConfigFault::BadValue);
+        }
+        if self.contents.has_taken(&resource) {
+            return Err(ConfigFault::Duplicate);
+        }
+        self.put_last(resource)
+    }
+
+    /// Puts a resource in the place of another of its kind. It takes no memory. Faults come in the order
+    /// 23, 24, 27, 29, and after each all is as before.
+    #[tactic(auto, unfolding(crate::specs::Resources::with_replaced))]
+    pub fn replace_resource(&mut self, place: u32, resource: Resource) -> Result<(), ConfigFault>
+        requires { place < count_of (kind_of resource) self.old }
+        ensures { ChangesSurely self.old self.new result (with_replaced place resource self.old) }
+    {
+        let place = place as usize;
+        if !resource.is_allowed() {
+            return Err(ConfigFault::BadValue);
+        }
+        if self.contents.has_taken_but(place, &resource) {
+            return Err(ConfigFault::Duplicate);
+        }
+        if let Some(limit) = resource.options_passed() {
+            return Err(ConfigFault::TooMany(limit));
+        }
+        self.put_in_place(place, resource)
+    }
+
+    /// Takes the resource of a kind at a place out. It takes no memory.
+    pub fn remove_resource(&mut self, kind: Kind, place: u32) -> Resource
+        requires { place < count_of kind self.old }
+        ensures { removed kind place self.old ≡ Some (result, self.new) }
+    {
+        self.take(kind, place as usize)
+    }
+
+    /// The place of the one resource of a kind that each wanted pair matches, or 25, or 26 with how many
+    /// there are. It takes no memory.
+    pub fn find_resource(&self, kind: Kind, wanted: &[Pair]) -> Result<u32, ConfigFault>
+        ensures answer { result ≡ found kind wanted.now self.now }
+        ensures inside { IfOk result (λ place. place < count_of kind self.now) }
+    {
+        let place = self.contents.find(kind, wanted)?;
+        Ok(place as u32)
+    }
+
+    fn set_kept(
+        &mut self,
+        alloc: Global,
+        property: Property,
+        value: &Text,
+    ) -> Result<(), ConfigFault>
+        ensures { Changes self.old self.new result (property_set property value.now self.old) }
+    {
+        if !property.rule().allows(value.bytes()) {
+            return Err(ConfigFault::BadValue);
+        }
+        let size = size_with(&self.contents, self.size, property, value.bytes());
+        if size > TEXT_MAX {
+            return Err(ConfigFault::TooLarge(size));
+        }
+        self.contents.put(alloc, property, value)?;
+        self.size = size;
+        Ok(())
+    }
+
+    fn clear_kept(&mut self, alloc: Global, property: Property) -> Result<(), ConfigFault>
+        ensures { ChangesSurely self.old self.new result (sized (without_value property self.old)) }
+    {
+        let size = size_with(&self.contents, self.size, property, property.unset_text());
+        if size > TEXT_MAX {
+            return Err(ConfigFault::TooLarge(size));
+        }
+        self.contents.unset(alloc, property);
+        self.size = size;
+        Ok(())
+    }
+
+    fn put_last(&mut self, resource: Resource) -> Result<(), ConfigFault>
+        requires allowed { IsTrue (is_allowed resource) }
+        requires free { has_taken resource self.old ≡ false }
+        ensures { Changes self.old self.new result (unless_passed (limit_passed resource self.old) (added resource self.old)) }
+    {
+        if let Some(limit) = self.contents.limit_passed(&resource) {
+            return Err(ConfigFault::TooMany(limit));
+        }
+        let size = size_added(&self.contents, self.size, &resource);
+        if size > TEXT_MAX {
+            return Err(ConfigFault::TooLarge(size));
+        }
+        self.contents.add(resource)?;
+        self.size = size;
+        Ok(())
+    }
+
+    fn put_in_place(&mut self, place: usize, resource: Resource) -> Result<(), ConfigFault>
+        requires place { place < count_of (kind_of resource) self.old }
+        requires allowed { IsTrue (is_allowed resource) }
+        requires free { has_taken_but place resource self.old ≡ false }
+        requires few { options_passed resource ≡ None }
+        ensures { ChangesSurely self.old self.new result (sized (replaced place resource self.old)) }
+    {
+        let size = size_replaced(&self.contents, self.size, place, &resource);
+        if size > TEXT_MAX {
+            return Err(ConfigFault::TooLarge(size));
+        }
+        self.contents.replace(place, resource);
+        self.size = size;
+        Ok(())
+    }
+
+    #[tactic(auto, unfolding(crate::specs::Edits::alias_set))]
+    fn set_alias(&mut self, alloc: Global, alias: Alias, value: &Text) -> Result<(), ConfigFault>
+        ensures { Changes self.old self.new result (alias_set alias value.now self.old) }
+    {
+        let Some(limit) = number_of(value.bytes()) else {
+            return Err(ConfigFault::BadValue);
+        };
+        if alias.is_held(self.contents.rctl.as_slice()) {
+            return Err(ConfigFault::AliasHeld);
+        }
+        let rctl = Resource::Rctl(alias.rctl(alloc, limit)?);
+        match alias.place(self.contents.rctl.as_slice()) {
+            Some(place) => self.put_in_place(place, rctl),
+            None => self.put_last(rctl),
+        }
+    }
+
+    #[tactic(auto, unfolding(crate::specs::Edits::alias_cleared))]
+    fn clear_alias(&mut self, alias: Alias) -> Result<(), ConfigFault>
+        ensures { ChangesSurely self.old self.new result (alias_cleared alias self.old) }
+    {
+        if alias.is_held(self.contents.rctl.as_slice()) {
+            return Err(ConfigFault::AliasHeld);
+        }
+        if let Some(place) = alias.place(self.contents.rctl.as_slice()) {
+            let _rctl = self.take(Kind::Rctl, place);
+        }
+        Ok(())
+    }
+
+    fn take(&mut self, kind: Kind, place: usize) -> Resource
+        requires { place < count_of kind self.old }
+        ensures { removed kind place self.old ≡ Some (result, self.new) }
+    {
+        let resource = self.contents.remove(kind, place);
+        self.size -= entry_length(resource.kind(), &resource);
+        resource
     }
 }
-
-/// A law: by its clause, `set_property` succeeds only where there is a property of that name and its rule
-/// allows the value, and there nothing but memory can be wanting. The property then shows the value, and
-/// each other what it showed.
-pub fn sets_where_allowed()
-    ensures { SetsWhereAllowed }
-{}

@@ -1,56 +1,29 @@
 //! The export text.
-ghost use Rattle.std.specs.Prelude.{◌≡◌, ◌++◌, IfOk, OnOk, OnErr};
-ghost use Rattle.std.specs.List.{list_all, flat_map};
-ghost use Rattle.zone_config.specs.Export.{is_bare_byte, value_text, setting, property_line, export_text};
+ghost use Rattle.std.specs.Prelude.{◌≡◌, ◌++◌, Err, IfOk, OnErr, OnOk};
+ghost use Rattle.std.specs.List.{flat_map};
+ghost use Rattle.config_terms.specs.Texts.{attr_text, dataset_text, device_text, fs_text, net_text, rctl_text};
+ghost use Rattle.zone_config.specs.Export.{export_text, property_line};
+ghost use Rattle.zone_config.specs.Property.{properties};
 
-use crate::rules::is_alphanumeric;
-use crate::{ConfigFault, Contents, Property, ZoneConfig};
+use crate::{Contents, Property, ZoneConfig};
+use config_terms::{ConfigFault, Kind, push_entries, push_setting};
 use std::alloc::{AllocError, Global};
 
-fn is_bare_byte(byte: u8) -> bool
-    ensures { result ≡ is_bare_byte byte }
-{
-    is_alphanumeric(byte)
-        || matches!(
-            byte,
-            b'_' | b'-' | b'.' | b'/' | b':' | b',' | b'*' | b'?' | b'!' | b'@' | b'+' | b'%'
-        )
-}
+// All of them, in the order in which they are printed.
+const PROPERTIES: [Property; 10] = [
+    Property::Zonepath,
+    Property::Brand,
+    Property::Autoboot,
+    Property::Bootargs,
+    Property::Pool,
+    Property::Limitpriv,
+    Property::SchedulingClass,
+    Property::IpType,
+    Property::Hostid,
+    Property::FsAllowed,
+];
 
-fn is_bare(value: &[u8]) -> bool
-    ensures { result ≡ list_all is_bare_byte value.now }
-{
-    value.iter().all(|byte| is_bare_byte(*byte))
-}
-
-fn push_value(out: &mut Vec<u8>, value: &[u8]) -> Result<(), AllocError>
-    ensures { OnOk result (out.new.items ≡ out.old.items ++ value_text value.now) }
-{
-    if is_bare(value) {
-        return out.extend_from_slice(value);
-    }
-    out.push(b'"')?;
-    out.extend_from_slice(value)?;
-    out.push(b'"')?;
-    Ok(())
-}
-
-#[tactic(auto, unfolding(crate::specs::Export::setting))]
-fn push_setting(out: &mut Vec<u8>, name: &[u8], value: &[u8]) -> Result<(), AllocError>
-    ensures { OnOk result (out.new.items ≡ out.old.items ++ setting name.now value.now) }
-{
-    if value.is_empty() {
-        return Ok(());
-    }
-    out.extend_from_slice(b"set ")?;
-    out.extend_from_slice(name)?;
-    out.extend_from_slice(b"=")?;
-    push_value(out, value)?;
-    out.push(b'\n')?;
-    Ok(())
-}
-
-fn push_properties(
+fn push_lines(
     out: &mut Vec<u8>,
     contents: &Contents,
     properties: &[Property],
@@ -63,19 +36,27 @@ fn push_properties(
     Ok(())
 }
 
+fn push_properties(out: &mut Vec<u8>, contents: &Contents) -> Result<(), AllocError>
+    ensures { OnOk result (out.new.items ≡ out.old.items ++ flat_map (property_line contents.now) properties) }
+{
+    push_lines(out, contents, &PROPERTIES)
+}
+
 /// The export text of a configuration, which zonecfg(8) reads back.
 #[tactic(auto, unfolding(crate::specs::Export::export_text))]
 pub fn export(alloc: Global, config: &ZoneConfig) -> Result<Vec<u8>, ConfigFault>
     ensures text { IfOk result (λ text. text.items ≡ export_text config.now) }
     ensures memory { OnErr result (result ≡ Err ConfigFault.Memory) }
 {
+    let contents = config.contents();
     let mut out = Vec::new(alloc);
     out.extend_from_slice(b"create -b\n")?;
-    push_properties(
-        &mut out,
-        config.contents(),
-        &[Property::Zonepath, Property::Brand, Property::Autoboot],
-    )?;
-    push_setting(&mut out, b"ip-type", b"shared")?;
+    push_properties(&mut out, contents)?;
+    push_entries(&mut out, Kind::Fs, contents.fs.as_slice())?;
+    push_entries(&mut out, Kind::Net, contents.net.as_slice())?;
+    push_entries(&mut out, Kind::Device, contents.device.as_slice())?;
+    push_entries(&mut out, Kind::Rctl, contents.rctl.as_slice())?;
+    push_entries(&mut out, Kind::Attr, contents.attr.as_slice())?;
+    push_entries(&mut out, Kind::Dataset, contents.dataset.as_slice())?;
     Ok(out)
 }

@@ -1,42 +1,57 @@
-//! What a configuration consists of.
-ghost use Rattle.std.specs.Prelude.{◌≡◌};
-ghost use Rattle.zone_config.specs.declared.terms.ConfigFault.TheVariants.{Memory};
-
-use std::alloc::AllocError;
-use thiserror::Error;
+//! What can be set, and what a configuration consists of.
+use config_terms::{Attr, Fs, IpType, Listing, Net, Rctl};
 use zn_base::{AbsPath, Text};
 
-/// Why a call has not changed a configuration.
-#[derive(Clone, Copy, Debug, PartialEq, Eq, Error)]
-pub enum ConfigFault {
-    #[error("out of memory")]
-    Memory,
-    #[error("no property has this name")]
-    UnknownProperty,
-    #[error("the property does not allow this value")]
-    BadValue,
-}
-
-impl From<AllocError> for ConfigFault {
-    ghost from_gives = { λ _ e. e ≡ Memory };
-
-    fn from(_: AllocError) -> Self {
-        ConfigFault::Memory
-    }
-}
-
-/// What can be set: the properties of the global scope, in the order in which they are printed.
+/// A property of the global scope that is kept as it stands (zonecfg(8), PROPERTIES), in the order in
+/// which they are printed.
 #[derive(Clone, Copy, Debug, PartialEq, Eq)]
 pub enum Property {
     Zonepath,
     Brand,
     Autoboot,
+    Bootargs,
+    Pool,
+    Limitpriv,
+    SchedulingClass,
+    IpType,
+    Hostid,
+    FsAllowed,
 }
 
-/// The values of the properties. An empty brand is one that is not set.
+/// A property of the global scope that is another name of an rctl with one value: `zone.cpu-shares`,
+/// `zone.max-lwps` or `zone.max-processes` (zonecfg(8), PROPERTIES).
+#[derive(Clone, Copy, Debug, PartialEq, Eq)]
+pub enum Alias {
+    CpuShares,
+    MaxLwps,
+    MaxProcesses,
+}
+
+/// What a name of the global scope stands for.
+#[derive(Clone, Copy, Debug, PartialEq, Eq)]
+pub enum Setting {
+    Kept(Property),
+    Aliased(Alias),
+}
+
+/// The properties of a configuration, and its resources by their kind. An empty text is a property that is
+/// not set.
 #[derive(Drop)]
 pub struct Contents {
     pub zonepath: Option<AbsPath>,
     pub brand: Text,
     pub autoboot: bool,
+    pub bootargs: Text,
+    pub pool: Text,
+    pub limitpriv: Text,
+    pub class: Text,
+    pub ip: IpType,
+    pub hostid: Text,
+    pub fs_allowed: Text,
+    pub fs: Listing<Fs>,
+    pub net: Listing<Net>,
+    pub device: Listing<Text>,
+    pub rctl: Listing<Rctl>,
+    pub attr: Listing<Attr>,
+    pub dataset: Listing<Text>,
 }

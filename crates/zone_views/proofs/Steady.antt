@@ -12,6 +12,7 @@ use Rattle.zn_base.specs.declared.grant.Grant.{Grant}
 use Rattle.zn_base.specs.declared.grant.Grant.TheVariants.{Nothing, Number, Yes, Denied}
 use Rattle.zn_base.specs.declared.grant.Pool.{Pool}
 use Rattle.zn_base.specs.declared.grant.Pool.TheVariants.{Store}
+use Rattle.zn_base.specs.States.{is_stored}
 use Rattle.zn_base.specs.declared.state.ZoneState.{ZoneState}
 use Rattle.zn_base.specs.declared.state.ZoneState.TheVariants.{Configured, Installed, Ready, Running, ShuttingDown, Down}
 use Rattle.zn_base.proofs.Owned_laws.{same_true}
@@ -42,7 +43,7 @@ use Rattle.zone_machine.specs.declared.objects.Process.{Process}
 use Rattle.zone_machine.specs.declared.records.Commit.{Commit}
 use Rattle.zone_machine.specs.declared.records.Config.{Config}
 use Rattle.zone_machine.specs.declared.records.Record.{Record}
-use Rattle.zone_views.specs.Storable.{are_storable, is_storable, is_stored_state}
+use Rattle.zone_views.specs.Storable.{are_storable, is_storable}
 
 abbrev is_active_state : ZoneState → Bool
 is_active_state Ready = true
@@ -53,13 +54,13 @@ is_active_state _ = false
 
 -- an active zone is stored as installed
 abbrev pub fits_stored : Option ZoneState → ZoneState → Bool
-fits_stored None s = is_stored_state s
+fits_stored None s = is_stored s
 fits_stored (Some a) s = is_active_state a && same_state s Installed
 
 -- the changes of state among some steps lead along the table
 abbrev pub leads : Option ZoneState → ZoneState → List Step → Bool
 leads active s [] = true
-leads active s (Record_step t ∷ rest) = is_none active && is_stored_state t && may_move (Some s) (Some t) && leads active t rest
+leads active s (Record_step t ∷ rest) = is_none active && is_stored t && may_move (Some s) (Some t) && leads active t rest
 leads active s (State_step t ∷ rest) = same_state s Installed && fits_stored (active_after t) s && may_move (Some (unwrap_or active s)) (Some t) && leads (active_after t) s rest
 leads active s (_ ∷ rest) = leads active s rest
 
@@ -102,7 +103,7 @@ active_leads Install Configured f m = absurd (false≢true f)
 active_leads Boot Installed f m = absurd (false≢true f)
 active_leads kind a f m = absurd (false≢true m)
 
-stored_leads : (kind : RequestKind) (s : ZoneState) → is_stored_state s ≡ true → may_begin kind s ≡ true → leads None s (plan kind s) ≡ true
+stored_leads : (kind : RequestKind) (s : ZoneState) → is_stored s ≡ true → may_begin kind s ≡ true → leads None s (plan kind s) ≡ true
 stored_leads Install Configured f m = refl
 stored_leads Boot Installed f m = refl
 stored_leads Boot Ready f m = absurd (false≢true f)
@@ -139,12 +140,12 @@ module _ (ps : List Process) (ms : List Mount) (is : List Id) (sessions : ℕ �
   keeps_step z row waiting t config [] all place undone active f l = λ n. record { steady = and_from _ _ f refl; moves = inl refl }
   keeps_step z row waiting t config (Hook change ∷ rest) all place undone active f l = λ n. record { steady = and_from _ _ f l; moves = inl refl }
   keeps_step z row waiting t config (Record_step s ∷ rest) all place undone active f l =
-      let last_part = and_parts (is_none active && is_stored_state s && may_move (Some row.state) (Some s)) (leads active s rest) l in
-      let mid_part = and_parts (is_none active && is_stored_state s) (may_move (Some row.state) (Some s)) last_part.0 in
-      let first_part = and_parts (is_none active) (is_stored_state s) mid_part.0 in
+      let last_part = and_parts (is_none active && is_stored s && may_move (Some row.state) (Some s)) (leads active s rest) l in
+      let mid_part = and_parts (is_none active && is_stored s) (may_move (Some row.state) (Some s)) last_part.0 in
+      let first_part = and_parts (is_none active) (is_stored s) mid_part.0 in
       at_active active first_part.0 first_part.1 mid_part.1 last_part.1 f
     where
-      at_active : (active : Option ZoneState) → is_none active ≡ true → is_stored_state s ≡ true → may_move (Some row.state) (Some s) ≡ true → leads active s rest ≡ true → fits_stored active row.state ≡ true
+      at_active : (active : Option ZoneState) → is_none active ≡ true → is_stored s ≡ true → may_move (Some row.state) (Some s) ≡ true → leads active s rest ≡ true → fits_stored active row.state ≡ true
           → let w = W (Some row) waiting (Some (J t config all place undone None)) active in KeepsIn w (step (view_of z w) w.desk (J t config all place undone None) row (Record_step s ∷ rest))
       at_active None i st m r f = (λ n p. record { steady = and_from _ _ f refl; moves = inl refl }, λ n k. record { steady = and_from _ _ st r; moves = inr m })
       at_active (Some a) i st m r f = absurd (false≢true i)

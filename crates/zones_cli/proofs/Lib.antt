@@ -5,3 +5,6 @@ pub mod Fronts
 pub mod Traces
 pub mod TraceRuns
 pub mod TraceEnds
+pub mod Denoting
+pub mod Obeying
+pub mod Ending

@@ -1,39 +1,49 @@
 -- What `export` writes for the whole of its input.
-use Rattle.std.specs.Prelude.{ℕ, List, [], ◌∷◌, ◌++◌, ◌+◌, Option, Some, None, Result, Ok, Err, codes, if◌then◌else◌}
+use Rattle.std.specs.Prelude.{ℕ, List, [], ◌∷◌, ◌++◌, ◌+◌, Result, Ok, Err, codes, if◌then◌else◌}
 use Rattle.std.specs.Fmt.{decimal}
+use Rattle.config_terms.specs.Fields.{kind_of}
 use Rattle.zone_config.specs.declared.terms.Contents.{Contents}
 use Rattle.zone_config.specs.Export.{export_text}
-use Rattle.zones_cli.specs.declared.edit.EditFault.{EditFault}
+use Rattle.config_verify.specs.declared.flaw.Flaw.{Flaw}
+use Rattle.config_verify.specs.Flaws.{first, flaws}
+use Rattle.zonecfg_scopes.specs.declared.fault.EditFault.TheVariants.{NothingOpen, WrongScope}
+use Rattle.zonecfg_scopes.specs.declared.fault.Scope.TheVariants.{Resource}
+use Rattle.zonecfg_scopes.specs.Open.{Open, Nothing, Whole, Inside}
+use Rattle.zones_cli.specs.declared.refusal.Refusal.{Refusal}
 use Rattle.zones_cli.specs.declared.status.TheConstants.{REFUSED}
 use Rattle.zones_cli.specs.Lines.{lines_of}
 use Rattle.zones_cli.specs.Output.{Output, complained, is_past_limit, limit_at, written}
-use Rattle.zones_cli.specs.Subcommands.{edit_of, fault_text}
+use Rattle.zones_cli.specs.Refusals.{flawed, refusal_text, refused}
+use Rattle.zones_cli.specs.Subcommands.{known_brands, edit_of}
 
-abbrev pub refused_at : ℕ → EditFault → Output
-refused_at number fault = complained REFUSED (codes "line " ++ decimal number ++ codes ": " ++ fault_text fault)
+abbrev pub refused_at : ℕ → Refusal → Output
+refused_at number refusal = complained REFUSED (codes "line " ++ decimal number ++ codes ": " ++ refusal_text refusal)
 
--- a zone has a path
-abbrev pub placed : Option (List ℕ) → Contents → Output
-placed None contents = complained REFUSED (codes "end: 41 NoZonepath")
-placed (Some path) contents = written (export_text contents)
+abbrev pub refused_end : Refusal → Output
+refused_end refusal = complained REFUSED (codes "end: " ++ refusal_text refusal)
 
--- what is open at the end of the input is exported
-abbrev pub ended : Option Contents → Output
-ended None = complained REFUSED (codes "end: 33 NothingOpen")
-ended (Some contents) = placed contents.zonepath contents
+abbrev pub unless_flawed : Result (Unit {0}) Flaw → Contents → Output
+unless_flawed (Ok _) c = written (export_text c)
+unless_flawed (Err flaw) c = refused_end (flawed flaw)
+
+-- what is open at the end of the input is exported, where no scope is open and it has no flaw
+abbrev pub ended : Open → Output
+ended Nothing = refused_end (refused NothingOpen)
+ended (Whole c) = unless_flawed (first (flaws known_brands c)) c
+ended (Inside c r at) = refused_end (refused (WrongScope (Resource (kind_of r))))
 
 -- a line that is obeyed leads on, and a refused one ends the run
-abbrev pub led_on : ℕ → Result (Option Contents) EditFault → (Option Contents → Output) → Output
-led_on number (Ok config) more = more config
-led_on number (Err fault) more = refused_at number fault
+abbrev pub led_on : ℕ → Result Open Refusal → (Open → Output) → Output
+led_on number (Ok o) more = more o
+led_on number (Err refusal) more = refused_at number refusal
 
 -- the lines from a number on, over what is open before them
-abbrev pub edited : ℕ → Option Contents → List (List ℕ) → Output
-edited number config [] = ended config
-edited number config (line ∷ lines) =
+abbrev pub edited : ℕ → Open → List (List ℕ) → Output
+edited number o [] = ended o
+edited number o (line ∷ lines) =
     if is_past_limit number line then limit_at number
-    else led_on number (edit_of line config) (λ next. edited (number + 1) next lines)
+    else led_on number (edit_of line o) (λ next. edited (number + 1) next lines)
 
 -- `export` over the whole input
 abbrev pub exported : List ℕ → Output
-exported bytes = edited 1 None (lines_of bytes)
+exported bytes = edited 1 Nothing (lines_of bytes)

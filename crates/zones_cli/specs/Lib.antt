@@ -1,5 +1,6 @@
 pub mod Lines
 pub mod Reading
+pub mod Refusals
 pub mod Subcommands
 pub mod Words
 pub mod Output
@@ -8,3 +9,4 @@ pub mod Outcomes
 pub mod Tracing
 pub mod Program
 pub mod Run
+pub mod Denoted

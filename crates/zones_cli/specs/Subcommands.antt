@@ -1,87 +1,86 @@
--- What a line of `export` asks for, and what becomes of the configuration that is open (zonecfg(8), SUBCOMMANDS).
-use Rattle.std.specs.Prelude.{◌≡◌, ℕ, List, [], ◌∷◌, Bool, true, false, ◌&&◌, Option, Some, None, Result, Ok, Err, codes, if◌then◌else◌}
-use Rattle.std.specs.Str.{bytes_eq}
+-- What a line of `export` makes of what is open: its subcommands, from left to right, up to the first that is refused
+-- (zonecfg(8), SUBCOMMANDS).
+use Rattle.std.specs.Prelude.{◌≡◌, ℕ, List, [], ◌∷◌, Bool, true, false, Option, Some, None, Result, Ok, Err, codes, if◌then◌else◌}
 use Rattle.zonecfg_lex.specs.declared.fault.LexFault.{LexFault}
-use Rattle.zonecfg_lex.specs.declared.token.Token.{Token}
-use Rattle.zonecfg_lex.specs.declared.token.TokenKind.{TokenKind}
-use Rattle.zonecfg_lex.specs.declared.token.TokenKind.TheVariants.{Equals}
-use Rattle.zonecfg_lex.specs.Tokens.{is_comment, is_plain, is_word, text_of, tokens_of}
+use Rattle.zonecfg_lex.specs.declared.token.Span.{Span}
+use Rattle.zonecfg_lex.specs.Parts.{parts_of, span_text}
 use Rattle.zone_config.specs.declared.terms.Contents.{Contents}
-use Rattle.zone_config.specs.declared.terms.ConfigFault.{ConfigFault}
-use Rattle.zone_config.specs.declared.terms.ConfigFault.TheVariants.{UnknownProperty}
-use Rattle.zone_config.specs.Property.{blank, with_property}
-use Rattle.zones_cli.specs.declared.edit.EditFault.{EditFault}
-use Rattle.zones_cli.specs.declared.edit.EditFault.TheVariants.{BadValue, Memory, UnknownCommand}
+use Rattle.config_verify.specs.declared.flaw.Flaw.{Flaw}
+use Rattle.config_verify.specs.Flaws.{first, flaws}
+use Rattle.zonecfg_scopes.specs.declared.command.Command.{Command}
+use Rattle.zonecfg_scopes.specs.declared.command.Command.TheVariants.{Commit, Delete, Exit, Export, Help, Info, Revert, Verify}
+use Rattle.zonecfg_scopes.specs.declared.fault.EditFault.{EditFault}
+use Rattle.zonecfg_scopes.specs.declared.fault.EditFault.TheVariants.{NotHere}
+use Rattle.zonecfg_scopes.specs.Faults.{lexed}
+use Rattle.zonecfg_scopes.specs.Forms.{command_of}
+use Rattle.zonecfg_scopes.specs.Open.{Open}
+use Rattle.zonecfg_scopes.specs.OpenOf.{config_of}
+use Rattle.zonecfg_scopes.specs.Scopes.{made}
+use Rattle.zones_cli.specs.declared.refusal.Refusal.{Refusal}
+use Rattle.zones_cli.specs.declared.refusal.Refusal.TheVariants.{Memory}
+use Rattle.zones_cli.specs.Refusals.{flawed, refused}
 
--- what a line asks for
-pub data Subcommand : Type 0 where
-  Nothing : Subcommand
-  Create : Subcommand
-  Assign : (name value : List ℕ) → Subcommand
-  Unknown : Subcommand
+-- the subcommands that only an editing session has
+abbrev pub is_elsewhere : Command → Bool
+is_elsewhere Commit = true
+is_elsewhere (Delete force) = true
+is_elsewhere (Exit force) = true
+is_elsewhere Export = true
+is_elsewhere Help = true
+is_elsewhere (Info topic) = true
+is_elsewhere (Revert force) = true
+is_elsewhere command = false
 
-abbrev pub is_equals : TokenKind → Bool
-is_equals Equals = true
-is_equals kind = false
+-- the known_brands that a zone may have
+abbrev pub known_brands : List (List ℕ)
+known_brands = codes "ipkg" ∷ codes "lx" ∷ []
 
--- the token is this word
-abbrev pub says : List ℕ → Token → List ℕ → Bool
-says line token word = is_word token.kind && bytes_eq (text_of line token) word
+abbrev pub unless_flawed : Result (Unit {0}) Flaw → Open → Result Open Refusal
+unless_flawed (Ok _) o = Ok o
+unless_flawed (Err flaw) o = Err (flawed flaw)
 
--- no token, `create -b`, or `set NAME=VALUE`
-abbrev pub said_by : List ℕ → List Token → Subcommand
-said_by line [] = Nothing
-said_by line (first ∷ second ∷ []) =
-    if says line first (codes "create") && says line second (codes "-b") then Create else Unknown
-said_by line (first ∷ name ∷ equals ∷ value ∷ []) =
-    if says line first (codes "set") && is_word name.kind && is_equals equals.kind && is_word value.kind
-    then Assign (text_of line name) (text_of line value) else Unknown
-said_by line tokens = Unknown
+abbrev pub verified : Option Contents → Open → Result Open Refusal
+verified None o = Ok o
+verified (Some c) o = unless_flawed (first (flaws known_brands c)) o
 
-abbrev pub said_by_read : List ℕ → Result (List Token) LexFault → Subcommand
-said_by_read line (Ok tokens) = said_by line tokens
-said_by_read line (Err fault) = Unknown
+-- `verify` answers the first flaw of the configuration that is open; nothing else looks for one
+abbrev pub looked_over : Command → Open → Result Open Refusal
+looked_over Verify o = verified (config_of o) o
+looked_over command o = Ok o
 
--- a comment asks for nothing, and a line with a quote, a bracket, a semicolon or a stray byte for nothing that is known
-abbrev pub subcommand_of : List ℕ → Subcommand
-subcommand_of line =
-    if is_comment line then Nothing else if is_plain line then said_by_read line (tokens_of line) else Unknown
-
--- a configuration is created once
-abbrev pub created : Option Contents → Result (Option Contents) EditFault
-created None = Ok (Some blank)
-created (Some contents) = Err UnknownCommand
-
--- a property that there is not makes the line no subcommand; else its value is refused
-abbrev pub changed : Result Contents ConfigFault → Result (Option Contents) EditFault
-changed (Ok contents) = Ok (Some contents)
-changed (Err UnknownProperty) = Err UnknownCommand
-changed (Err fault) = Err BadValue
-
--- only what was created has properties
-abbrev pub assigned : List ℕ → List ℕ → Option Contents → Result (Option Contents) EditFault
-assigned name value None = Err UnknownCommand
-assigned name value (Some contents) = changed (with_property name value contents)
+abbrev pub passed : Command → Result Open EditFault → Result Open Refusal
+passed command (Ok o) = looked_over command o
+passed command (Err fault) = Err (refused fault)
 
 -- what a subcommand makes of what is open, or why it is refused
-abbrev pub opened_by : Subcommand → Option Contents → Result (Option Contents) EditFault
-opened_by Nothing config = Ok config
-opened_by Create config = created config
-opened_by (Assign name value) config = assigned name value config
-opened_by Unknown config = Err UnknownCommand
+unfoldable pub obeyed : Command → Open → Result Open Refusal
+obeyed command o = if is_elsewhere command then Err (refused NotHere) else passed command (made command o)
+
+-- the same of how it reads
+abbrev pub obeyed_as : Result Command EditFault → Open → Result Open Refusal
+obeyed_as (Ok command) o = obeyed command o
+obeyed_as (Err fault) o = Err (refused fault)
+
+abbrev pub goes_on : Result Open Refusal → (Open → Result Open Refusal) → Result Open Refusal
+goes_on (Ok o) next = next o
+goes_on (Err refusal) next = Err refusal
+
+-- the subcommands in some spans of a line, one after another
+abbrev pub in_turn : List ℕ → List Span → Open → Result Open Refusal
+in_turn line [] o = Ok o
+in_turn line (s ∷ ss) o = goes_on (obeyed_as (command_of (span_text line s)) o) (in_turn line ss)
+
+-- a quote, a byte or a bracket that is wrong refuses the whole line
+abbrev pub all_in_turn : List ℕ → Result (List Span) LexFault → Open → Result Open Refusal
+all_in_turn line (Ok spans) o = in_turn line spans o
+all_in_turn line (Err fault) o = Err (refused (lexed fault))
 
 -- what a line makes of what is open, or why it is refused
-abbrev pub edit_of : List ℕ → Option Contents → Result (Option Contents) EditFault
-edit_of line config = opened_by (subcommand_of line) config
+unfoldable pub edit_of : List ℕ → Open → Result Open Refusal
+edit_of line o = all_in_turn line (parts_of line) o
 
--- the line was obeyed, or memory ran out, or it was refused; in these two cases what was open is as before
-abbrev pub Edits : Option Contents → Option Contents → Result (Unit {0}) EditFault → Result (Option Contents) EditFault → Type 0
-Edits old new (Ok _) said = said ≡ Ok new
-Edits old new (Err Memory) said = new ≡ old
-Edits old new (Err fault) said = (said ≡ Err fault) × (new ≡ old)
-
--- the code and the name of a refusal, as the program prints them
-abbrev pub fault_text : EditFault → List ℕ
-fault_text UnknownCommand = codes "31 UnknownCommand"
-fault_text BadValue = codes "23 BadValue"
-fault_text Memory = codes "no memory"
+-- it was obeyed, or refused, or memory ran out
+abbrev pub Edits : Open → Result (Unit {0}) Refusal → Result Open Refusal → Type 0
+Edits new (Ok _) said = said ≡ Ok new
+Edits new (Err Memory) said = Unit {0}
+Edits new (Err refusal) said = said ≡ Err refusal

@@ -1,141 +1,145 @@
-//! What a line of `export` does to the configuration that is open: `create -b`, `set NAME=VALUE`, or
-//! nothing (zonecfg(8), SUBCOMMANDS).
-ghost use Rattle.std.specs.Prelude.{◌≡◌, ◌≤◌, length, All, IsTrue};
-ghost use Rattle.zonecfg_lex.specs.Tokens.{IsWithin, is_plain, is_word};
-ghost use Rattle.zones_cli.specs.Subcommands.{Edits, assigned, created, edit_of, fault_text, is_equals, opened_by, said_by, says};
-ghost use Rattle.zones_cli.specs.declared.edit.EditFault.TheVariants.{Memory};
+//! What a line of `export` does to the configuration that is open: its subcommands, from left to right, up to
+//! the first that is refused (zonecfg(8), SUBCOMMANDS).
+ghost use Rattle.std.specs.Prelude.{◌≡◌, ◌≤◌, length, All, IfOk, IsTrue};
+ghost use Rattle.zonecfg_lex.specs.Parts.{IsSpanWithin};
+ghost use Rattle.zn_base.specs.Text.{is_text};
+ghost use Rattle.zonecfg_scopes.specs.OpenOf.{config_of};
+ghost use Rattle.zones_cli.specs.Subcommands.{Edits, edit_of, in_turn, is_elsewhere, known_brands, looked_over, obeyed, obeyed_as, verified};
+ghost use Rattle.zonecfg_scopes.specs.Forms.{command_of};
 
+use crate::refusal::Refusal;
+use config_verify::verify;
 use std::alloc::{AllocError, Global};
-use thiserror::Error;
-use zone_config::{ConfigFault, ZoneConfig, blank};
-use zonecfg_lex::{LexFault, Token, TokenKind, is_comment, is_plain, tokens};
+use zn_base::{Text, TextFault};
+use zonecfg_lex::{Span, parts};
+use zonecfg_scopes::{Command, EditFault, Editor, read_command};
 
-/// Why a line is refused. Where memory ran out the line may be tried again.
-#[derive(Clone, Copy, Debug, PartialEq, Eq, Error)]
-pub enum EditFault {
-    #[error("out of memory")]
-    Memory,
-    #[error("no subcommand that may stand here")]
-    UnknownCommand,
-    #[error("a value that the property may not have")]
-    BadValue,
-}
-
-impl From<AllocError> for EditFault {
-    ghost from_gives = { λ _ e. e ≡ Memory };
-
-    fn from(_: AllocError) -> Self {
-        EditFault::Memory
+fn brand(alloc: Global, name: &[u8]) -> Result<Text, AllocError>
+    requires { IsTrue (is_text name.now) }
+    ensures { IfOk result (λ text. text ≡ name.now) }
+{
+    match Text::read(alloc, name) {
+        Ok(text) => Ok(text),
+        Err(TextFault::Memory) => Err(AllocError),
+        Err(TextFault::BadText(_)) => unreachable!(),
+        Err(TextFault::TextLong) => unreachable!(),
     }
 }
 
-impl EditFault {
-    /// The code and the name, as the program prints them.
-    pub fn text(self) -> &'static str
-        ensures { result.now ≡ fault_text self }
-    {
-        match self {
-            EditFault::Memory => "no memory",
-            EditFault::UnknownCommand => "31 UnknownCommand",
-            EditFault::BadValue => "23 BadValue",
-        }
+/// The brands that a zone may have.
+pub fn known_brands(alloc: Global) -> Result<Vec<Text>, AllocError>
+    ensures { IfOk result (λ names. names.items ≡ known_brands) }
+{
+    let mut names = Vec::new(alloc);
+    names.push(brand(alloc, b"ipkg")?)?;
+    names.push(brand(alloc, b"lx")?)?;
+    Ok(names)
+}
+
+// Whether only an editing session has the subcommand.
+fn is_elsewhere(command: &Command) -> bool
+    ensures { result ≡ is_elsewhere command.now }
+{
+    match command {
+        Command::Commit
+        | Command::Delete { .. }
+        | Command::Exit { .. }
+        | Command::Export
+        | Command::Help
+        | Command::Info(_)
+        | Command::Revert { .. } => true,
+        _ => false,
     }
 }
 
-fn is_word(token: Token) -> bool
-    ensures { result ≡ is_word token.kind }
+// The first flaw of the configuration that is open, where there is one.
+fn first_flaw(alloc: Global, editor: &Editor, brands: &[Text]) -> Result<(), Refusal>
+    requires { brands.now ≡ known_brands }
+    ensures { Edits editor.now.opened result (verified (config_of editor.now.opened) editor.now.opened) }
 {
-    token.kind == TokenKind::Word
-}
-
-fn is_equals(token: Token) -> bool
-    ensures { result ≡ is_equals token.kind }
-{
-    token.kind == TokenKind::Equals
-}
-
-fn says(line: &[u8], token: Token, word: &[u8]) -> bool
-    requires { IsWithin (length line.now) token }
-    ensures { result ≡ says line.now token word.now }
-{
-    is_word(token) && token.text(line) == word
-}
-
-fn create(alloc: Global, zone: &mut Option<ZoneConfig>) -> Result<(), EditFault>
-    ensures { Edits zone.old zone.new result (created zone.old) }
-{
-    if zone.is_some() {
-        return Err(EditFault::UnknownCommand);
+    match editor.config() {
+        None => Ok(()),
+        Some(config) => Ok(verify(alloc, config, brands)?),
     }
-    *zone = Some(blank(alloc));
+}
+
+// Looks for a flaw where the subcommand asks for it.
+fn look_over(
+    alloc: Global,
+    editor: &Editor,
+    brands: &[Text],
+    command: &Command,
+) -> Result<(), Refusal>
+    requires { brands.now ≡ known_brands }
+    ensures { Edits editor.now.opened result (looked_over command.now editor.now.opened) }
+{
+    match command {
+        Command::Verify => first_flaw(alloc, editor, brands),
+        _ => Ok(()),
+    }
+}
+
+/// Does what a subcommand says.
+#[tactic(auto, using(crate::proofs::Obeying::elsewhere, crate::proofs::Obeying::fails, crate::proofs::Obeying::does))]
+pub fn obey(
+    alloc: Global,
+    editor: &mut Editor,
+    brands: &[Text],
+    command: &Command,
+) -> Result<(), Refusal>
+    requires { brands.now ≡ known_brands }
+    ensures { Edits editor.new.opened result (obeyed command.now editor.old.opened) }
+{
+    if is_elsewhere(command) {
+        return Err(Refusal::Edit(EditFault::NotHere));
+    }
+    editor.obey(alloc, command)?;
+    look_over(alloc, editor, brands, command)
+}
+
+// Does what a subcommand says, as it reads.
+fn obey_text(
+    alloc: Global,
+    editor: &mut Editor,
+    brands: &[Text],
+    text: &[u8],
+) -> Result<(), Refusal>
+    requires brands { brands.now ≡ known_brands }
+    requires short { length text.now ≤ 4200 }
+    ensures { Edits editor.new.opened result (obeyed_as (command_of text.now) editor.old.opened) }
+{
+    let command = read_command(alloc, text)?;
+    obey(alloc, editor, brands, &command)
+}
+
+// Does what the subcommands in some spans of a line say, one after another.
+fn obey_spans(
+    alloc: Global,
+    editor: &mut Editor,
+    brands: &[Text],
+    line: &[u8],
+    spans: &[Span],
+) -> Result<(), Refusal>
+    requires brands { brands.now ≡ known_brands }
+    requires short { length line.now ≤ 4200 }
+    requires within { All (IsSpanWithin (length line.now)) spans.now }
+    ensures { Edits editor.new.opened result (in_turn line.now spans.now editor.old.opened) }
+{
+    for span in spans {
+        obey_text(alloc, editor, brands, span.text(line))?;
+    }
     Ok(())
 }
 
-fn assign(
-    alloc: Global,
-    zone: &mut Option<ZoneConfig>,
-    name: &[u8],
-    value: &[u8],
-) -> Result<(), EditFault>
-    ensures { Edits zone.old zone.new result (assigned name.now value.now zone.old) }
+/// Does what a line says.
+#[tactic(auto, unfolding(crate::specs::Subcommands::edit_of))]
+pub fn edit(alloc: Global, editor: &mut Editor, brands: &[Text], line: &[u8]) -> Result<(), Refusal>
+    requires brands { brands.now ≡ known_brands }
+    requires short { length line.now ≤ 4200 }
+    ensures { Edits editor.new.opened result (edit_of line.now editor.old.opened) }
 {
-    let Some(config) = zone else {
-        return Err(EditFault::UnknownCommand);
-    };
-    match config.set_property(alloc, name, value) {
-        Ok(()) => Ok(()),
-        Err(ConfigFault::Memory) => Err(EditFault::Memory),
-        Err(ConfigFault::UnknownProperty) => Err(EditFault::UnknownCommand),
-        Err(ConfigFault::BadValue) => Err(EditFault::BadValue),
-    }
-}
-
-// Does what the tokens of a line say.
-fn obey(
-    alloc: Global,
-    zone: &mut Option<ZoneConfig>,
-    line: &[u8],
-    tokens: &[Token],
-) -> Result<(), EditFault>
-    requires { All (IsWithin (length line.now)) tokens.now }
-    ensures { Edits zone.old zone.new result (opened_by (said_by line.now tokens.now) zone.old) }
-{
-    match tokens {
-        [] => Ok(()),
-        [first, second] => {
-            if says(line, *first, b"create") && says(line, *second, b"-b") {
-                return create(alloc, zone);
-            }
-            Err(EditFault::UnknownCommand)
-        }
-        [first, name, equals, value] => {
-            if says(line, *first, b"set")
-                && is_word(*name)
-                && is_equals(*equals)
-                && is_word(*value)
-            {
-                return assign(alloc, zone, name.text(line), value.text(line));
-            }
-            Err(EditFault::UnknownCommand)
-        }
-        _ => Err(EditFault::UnknownCommand),
-    }
-}
-
-/// Does what a line says. A refused line leaves what is open as it was.
-pub fn edit(alloc: Global, zone: &mut Option<ZoneConfig>, line: &[u8]) -> Result<(), EditFault>
-    requires { length line.now ≤ 4096 }
-    ensures { Edits zone.old zone.new result (edit_of line.now zone.old) }
-{
-    if is_comment(line) {
-        return Ok(());
-    }
-    if !is_plain(line) {
-        return Err(EditFault::UnknownCommand);
-    }
-    match tokens(alloc, line) {
-        Ok(found) => obey(alloc, zone, line, &found),
-        Err(LexFault::Memory) => Err(EditFault::Memory),
-        Err(_) => Err(EditFault::UnknownCommand),
+    match parts(alloc, line) {
+        Ok(spans) => obey_spans(alloc, editor, brands, line, &spans),
+        Err(fault) => Err(Refusal::from(EditFault::from(fault))),
     }
 }

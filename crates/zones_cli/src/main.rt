@@ -4,8 +4,10 @@
 
 mod edit;
 mod export;
+mod laws;
 mod lines;
 mod outcome;
+mod refusal;
 mod run;
 mod status;
 #[cfg(test)]

@@ -1,38 +1,19 @@
 //! What the whole input comes to: a text on standard output, or a line on standard error.
-ghost use Rattle.std.specs.Prelude.{◌≡◌};
-ghost use Rattle.zones_cli.specs.Outcomes.{complaint_status, end_text};
+ghost use Rattle.std.specs.Prelude.{◌≡◌, ◌++◌, IfOk, OnOk};
+ghost use Rattle.zones_cli.specs.Outcomes.{complaint_status, complaint_text};
 
-use crate::edit::EditFault;
+use crate::refusal::{Refusal, push_numbered, push_refusal};
 use crate::status;
-use std::fmt;
+use std::alloc::{AllocError, Global};
 use trace_text::LineFault;
 
-/// Why the end of the input is refused.
-#[derive(Clone, Copy, Debug, PartialEq, Eq)]
-pub enum EndFault {
-    NothingOpen,
-    NoZonepath,
-}
-
-impl EndFault {
-    /// The code and the name, as the program prints them.
-    pub fn text(self) -> &'static str
-        ensures { result.now ≡ end_text self }
-    {
-        match self {
-            EndFault::NothingOpen => "33 NothingOpen",
-            EndFault::NoZonepath => "41 NoZonepath",
-        }
-    }
-}
-
 /// What ends a run with a line on standard error. Lines are numbered from 1.
-#[derive(Clone, Copy, Debug, PartialEq, Eq)]
+#[derive(Drop)]
 pub enum Complaint {
     /// A line is refused.
-    Line(u64, EditFault),
+    Line(u64, Refusal),
     /// The end of the input is refused.
-    End(EndFault),
+    End(Refusal),
     /// A line of a trace is outside its grammar.
     Grammar(u64, LineFault),
     /// A trace is done, and this is its first line that was refused.
@@ -41,33 +22,10 @@ pub enum Complaint {
     Limit(u64),
 }
 
-impl fmt::Display for Complaint {
-    ghost use Rattle.std.specs.Prelude.{Some};
-    ghost use Rattle.zones_cli.specs.Outcomes.{complaint_text};
-
-    ghost output = { λ c. Some (complaint_text c) };
-
-    fn fmt<W: fmt::Write>(&self, f: &mut fmt::Formatter<W>) -> fmt::Result {
-        match self {
-            Complaint::Line(number, fault) => {
-                let text = fault.text();
-                writeln!(f, "line {number}: {text}")
-            }
-            Complaint::End(fault) => {
-                let text = fault.text();
-                writeln!(f, "end: {text}")
-            }
-            Complaint::Grammar(number, fault) => writeln!(f, "line {number}: {fault}"),
-            Complaint::FirstRefused(number) => writeln!(f, "first refused line: {number}"),
-            Complaint::Limit(number) => writeln!(f, "limit at line {number}"),
-        }
-    }
-}
-
 impl Complaint {
     /// The exit status.
-    pub fn status(self) -> u8
-        ensures { result ≡ complaint_status self }
+    pub fn status(&self) -> u8
+        ensures { result ≡ complaint_status self.now }
     {
         match self {
             Complaint::Line(_, _) | Complaint::End(_) | Complaint::FirstRefused(_) => {
@@ -76,6 +34,35 @@ impl Complaint {
             Complaint::Grammar(_, _) => status::GRAMMAR,
             Complaint::Limit(_) => status::LIMIT,
         }
+    }
+
+    /// Its line, with its newline.
+    pub fn line(&self, alloc: Global) -> Result<Vec<u8>, AllocError>
+        ensures { IfOk result (λ line. line.items ≡ complaint_text self.now) }
+    {
+        let mut line = Vec::new(alloc);
+        match self {
+            Complaint::Line(number, refusal) => {
+                push_numbered(&mut line, b"line ", *number)?;
+                line.extend_from_slice(b": ")?;
+                push_refusal(&mut line, refusal)?;
+            }
+            Complaint::End(refusal) => {
+                line.extend_from_slice(b"end: ")?;
+                push_refusal(&mut line, refusal)?;
+            }
+            Complaint::Grammar(number, fault) => {
+                push_numbered(&mut line, b"line ", *number)?;
+                line.extend_from_slice(b": ")?;
+                line.extend_from_slice(fault.to_string(alloc)?.as_bytes())?;
+            }
+            Complaint::FirstRefused(number) => {
+                push_numbered(&mut line, b"first refused line: ", *number)?;
+            }
+            Complaint::Limit(number) => push_numbered(&mut line, b"limit at line ", *number)?,
+        }
+        line.push(b'\n')?;
+        Ok(line)
     }
 }
 

@@ -53,15 +53,15 @@ fn complain<E: Sink>(alloc: Global, err: &mut E, complaint: Complaint) -> u8
     ensures fault { result ≡ WRITE_FAULT → Rose (E.faults err.old) (E.faults err.new) }
     ensures told { result ≡ WRITE_FAULT → TakesFronts (E.holds err.old) (E.holds err.new) (E.faults err.old) (E.faults err.new) (complaint_text complaint) write_fault_line }
 {
-    let Ok(line) = complaint.to_string(alloc) else {
+    let Ok(line) = complaint.line(alloc) else {
         tell(err, b"no memory\n");
         return NO_MEMORY;
     };
     if complaint.status() != REFUSED {
-        tell(err, line.as_bytes());
+        tell(err, &line);
         return complaint.status();
     }
-    match write_all(err, line.as_bytes()) {
+    match write_all(err, &line) {
         Ok(()) => REFUSED,
         Err(_) => {
             tell(err, b"write fault\n");

@@ -1,0 +1,5 @@
+pub mod Short
+pub mod Digits
+pub mod Paths
+pub mod Staying
+mod Examples

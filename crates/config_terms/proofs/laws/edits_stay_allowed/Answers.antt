@@ -1,0 +1,5 @@
+use Rattle.config_terms.proofs.Staying.{edits_stay, empty_allowed}
+use Rattle.config_terms.proofs.laws.edits_stay_allowed.Goals as goal
+
+pub returns : goal.returns
+returns c = record { empty = empty_allowed; edited = edits_stay }

@@ -1,0 +1,13 @@
+//! What stays true of a resource.
+ghost use Rattle.std.specs.Prelude.{IsTrue};
+ghost use Rattle.config_terms.specs.declared.terms.Kind.{Kind};
+ghost use Rattle.config_terms.specs.Allowed.{is_allowed};
+ghost use Rattle.config_terms.specs.Edits.{empty};
+ghost use Rattle.config_terms.specs.Staying.{EditsStayAllowed};
+
+/// A law: a resource of which nothing is set is allowed, and `set_property`, `clear_property`, `add_value`
+/// and `remove_value` leave an allowed one allowed. So no edit makes a resource that is refused as 23.
+pub fn edits_stay_allowed()
+    ensures empty { (kind : Kind) → IsTrue (is_allowed (empty kind)) }
+    ensures edited { EditsStayAllowed }
+{}

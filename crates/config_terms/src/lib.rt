@@ -1,0 +1,39 @@
+//! The terms of a zone's configuration, as zonecfg(8) has them: lists, the rules of values, the tables of
+//! properties, and resources with their texts, matches and edits. Each public call gives what a definition
+//! over the tables says, with its refusals in their order, and a refused edit leaves its resource as it was.
+#![tactic(auto)]
+
+mod allowed;
+mod entry;
+mod fault;
+mod fields;
+mod given;
+mod laws;
+mod lines;
+mod listing;
+mod lists;
+mod matches;
+mod numbers;
+mod printing;
+mod resources;
+mod rules;
+mod terms;
+mod texts;
+
+pub use allowed::{OPTIONS_MAX, entry_allowed};
+pub use entry::{Entry, path_text};
+pub use fault::ConfigFault;
+pub use fields::{Field, Named};
+pub use given::path_kept;
+pub use laws::edits_stay_allowed;
+pub use lines::{push_limit, push_options};
+pub use listing::{LISTING_MAX, Listing, Twin};
+pub use matches::{find_entry, has_all, has_key, is_taken, is_taken_but};
+pub use numbers::number_of;
+pub use printing::{entry_length, push_entries, push_entry};
+pub use rules::Rule;
+pub use terms::{Attr, Fs, IpType, Kind, Limit, Net, Rctl, Resource};
+pub use texts::{push_setting, setting_length};
+
+#[cfg(test)]
+mod tests;

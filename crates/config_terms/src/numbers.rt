@@ -1,0 +1,53 @@
+//! Decimal numbers.
+ghost use Rattle.std.specs.Prelude.{◌≡◌, ◌+◌, ◌-◌, ◌*◌, ◌^◌, ◌<◌, IsTrue, SomeIff};
+ghost use Rattle.std.specs.Char.{is_ascii_digit};
+ghost use Rattle.std.specs.List.{list_all};
+ghost use Rattle.config_terms.specs.Numbers.{digits_value, has_no_leading_zero, number_of};
+
+fn has_no_leading_zero(text: &[u8]) -> bool
+    ensures { result ≡ has_no_leading_zero text.now }
+{
+    match text {
+        [] => false,
+        [byte, ..] => *byte != b'0',
+    }
+}
+
+fn all_digits(text: &[u8]) -> bool
+    ensures { result ≡ list_all is_ascii_digit text.now }
+{
+    text.iter().all(|byte| byte.is_ascii_digit())
+}
+
+// A number with one more digit behind it, where it fits.
+fn with_digit(number: u64, digit: u8) -> Option<u64>
+    ensures { SomeIff result (10 * number + digit < 2 ^ 64) (10 * number + digit) }
+{
+    number.checked_mul(10)?.checked_add(digit as u64)
+}
+
+// What digits say, where it fits.
+fn digits_value(text: &[u8]) -> Option<u64>
+    ensures { SomeIff result (digits_value 0 text.now < 2 ^ 64) (digits_value 0 text.now) }
+{
+    let mut number: u64 = 0;
+    for byte in text {
+        let Some(more) = with_digit(number, byte.saturating_sub(b'0')) else {
+            return None;
+        };
+        number = more;
+    }
+    Some(number)
+}
+
+/// The number from 1 to 18446744073709551615 that a text is, in decimal and without leading zero. It takes
+/// no memory.
+#[tactic(auto, unfolding(crate::specs::Numbers::number_of), using(crate::proofs::Digits::number_is))]
+pub fn number_of(text: &[u8]) -> Option<u64>
+    ensures { result ≡ number_of text.now }
+{
+    if !has_no_leading_zero(text) || !all_digits(text) {
+        return None;
+    }
+    digits_value(text)
+}

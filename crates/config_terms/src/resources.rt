@@ -1,0 +1,275 @@
+//! Resources, and the edits of one.
+ghost use Rattle.std.specs.Prelude.{◌≡◌, []};
+ghost use Rattle.config_terms.specs.declared.fields.Field.TheVariants.{FsDir};
+ghost use Rattle.config_terms.specs.Fields.{kind_of};
+ghost use Rattle.config_terms.specs.Edits.{Changes, ChangesSurely, empty, kept_path, fs_with, net_with, device_with, rctl_with, attr_with, dataset_with, with_dir, with_field, field_set, fs_edited, rctl_edited, list_edited, without_list, put_in, cleared_in, edited_in, with_property, without_property, with_value, without_value};
+
+use crate::given::{limit_given, options_given, path_kept};
+use crate::lists::{ListEdit, edit_limits, edit_options};
+use crate::{Attr, ConfigFault, Field, Fs, Kind, Listing, Named, Net, Rctl, Resource};
+use std::alloc::Global;
+use zn_base::{AbsPath, Text};
+use zonecfg_lex::Value;
+
+// A text in the place of a simple property. A dir has a place of its own: here it can be unset alone.
+impl Fs {
+    fn put(&mut self, field: Field, text: Text)
+        requires { field ≡ FsDir → text ≡ [] }
+        ensures { self.new ≡ fs_with field text self.old }
+    {
+        match field {
+            Field::FsDir => self.dir = None,
+            Field::FsSpecial => self.special = text,
+            Field::FsRaw => self.raw = text,
+            Field::FsType => self.fstype = text,
+            _ => {}
+        }
+    }
+
+    fn edit(&mut self, alloc: Global, edit: ListEdit, value: &Value) -> Result<(), ConfigFault>
+        ensures { Changes self.old self.new result (fs_edited edit value.now self.old) }
+    {
+        match options_given(edit, value) {
+            None => Err(ConfigFault::BadValue),
+            Some(given) => edit_options(alloc, edit, &mut self.options, given),
+        }
+    }
+}
+
+impl Net {
+    fn put(&mut self, field: Field, text: Text)
+        ensures { self.new ≡ net_with field text self.old }
+    {
+        match field {
+            Field::NetAddress => self.address = text,
+            Field::NetAllowed => self.allowed = text,
+            Field::NetPhysical => self.physical = text,
+            Field::NetDefrouter => self.defrouter = text,
+            _ => {}
+        }
+    }
+}
+
+impl Rctl {
+    fn put(&mut self, field: Field, text: Text)
+        ensures { self.new ≡ rctl_with field text self.old }
+    {
+        match field {
+            Field::RctlName => self.name = text,
+            _ => {}
+        }
+    }
+
+    fn edit(&mut self, alloc: Global, edit: ListEdit, value: &Value) -> Result<(), ConfigFault>
+        ensures { Changes self.old self.new result (rctl_edited edit value.now self.old) }
+    {
+        match limit_given(value) {
+            None => Err(ConfigFault::BadValue),
+            Some(given) => edit_limits(alloc, edit, &mut self.values, &[given]),
+        }
+    }
+}
+
+impl Attr {
+    fn put(&mut self, field: Field, text: Text)
+        ensures { self.new ≡ attr_with field text self.old }
+    {
+        match field {
+            Field::AttrName => self.name = text,
+            Field::AttrType => self.form = text,
+            Field::AttrValue => self.value = text,
+            _ => {}
+        }
+    }
+}
+
+fn put_device(device: &mut Text, field: Field, text: Text)
+    ensures { device.new ≡ device_with field text device.old }
+{
+    if let Field::DeviceMatch = field {
+        *device = text;
+    }
+}
+
+fn put_dataset(dataset: &mut Text, field: Field, text: Text)
+    ensures { dataset.new ≡ dataset_with field text dataset.old }
+{
+    if let Field::DatasetName = field {
+        *dataset = text;
+    }
+}
+
+impl Resource {
+    /// A resource of a kind of which nothing is set. It takes no memory.
+    pub fn empty(alloc: Global, kind: Kind) -> Resource
+        ensures { result ≡ empty kind }
+    {
+        match kind {
+            Kind::Fs => Resource::Fs(Fs {
+                dir: None,
+                special: Text::empty(alloc),
+                raw: Text::empty(alloc),
+                fstype: Text::empty(alloc),
+                options: Listing::new(alloc),
+            }),
+            Kind::Net => Resource::Net(Net {
+                address: Text::empty(alloc),
+                allowed: Text::empty(alloc),
+                physical: Text::empty(alloc),
+                defrouter: Text::empty(alloc),
+            }),
+            Kind::Device => Resource::Device(Text::empty(alloc)),
+            Kind::Rctl => Resource::Rctl(Rctl {
+                name: Text::empty(alloc),
+                values: Listing::new(alloc),
+            }),
+            Kind::Attr => Resource::Attr(Attr {
+                name: Text::empty(alloc),
+                form: Text::empty(alloc),
+                value: Text::empty(alloc),
+            }),
+            Kind::Dataset => Resource::Dataset(Text::empty(alloc)),
+        }
+    }
+
+    /// The kind.
+    pub fn kind(&self) -> Kind
+        ensures { result ≡ kind_of self.now }
+    {
+        match self {
+            Resource::Fs(_) => Kind::Fs,
+            Resource::Net(_) => Kind::Net,
+            Resource::Device(_) => Kind::Device,
+            Resource::Rctl(_) => Kind::Rctl,
+            Resource::Attr(_) => Kind::Attr,
+            Resource::Dataset(_) => Kind::Dataset,
+        }
+    }
+
+    fn put(&mut self, field: Field, text: Text)
+        requires { field ≡ FsDir → text ≡ [] }
+        ensures { self.new ≡ with_field field text self.old }
+    {
+        match self {
+            Resource::Fs(fs) => fs.put(field, text),
+            Resource::Net(net) => net.put(field, text),
+            Resource::Device(device) => put_device(device, field, text),
+            Resource::Rctl(rctl) => rctl.put(field, text),
+            Resource::Attr(attr) => attr.put(field, text),
+            Resource::Dataset(dataset) => put_dataset(dataset, field, text),
+        }
+    }
+
+    fn put_dir(&mut self, dir: Option<AbsPath>)
+        ensures { self.new ≡ with_dir dir self.old }
+    {
+        if let Resource::Fs(fs) = self {
+            fs.dir = dir;
+        }
+    }
+
+    fn set_field(&mut self, alloc: Global, field: Field, value: &Value) -> Result<(), ConfigFault>
+        ensures { Changes self.old self.new result (field_set field value.now self.old) }
+    {
+        let Value::Simple(text) = value else {
+            return Err(ConfigFault::BadValue);
+        };
+        let bytes = text.bytes();
+        if !field.rule().allows(bytes) {
+            return Err(ConfigFault::BadValue);
+        }
+        match field {
+            Field::FsDir => self.put_dir(path_kept(alloc, bytes)?),
+            _ => self.put(field, text.copy(alloc)?),
+        }
+        Ok(())
+    }
+
+    #[tactic(auto, unfolding(crate::specs::Edits::list_edited))]
+    fn edit_list(&mut self, alloc: Global, edit: ListEdit, value: &Value) -> Result<(), ConfigFault>
+        ensures { Changes self.old self.new result (list_edited edit value.now self.old) }
+    {
+        match self {
+            Resource::Fs(fs) => fs.edit(alloc, edit, value),
+            Resource::Rctl(rctl) => rctl.edit(alloc, edit, value),
+            _ => Err(ConfigFault::UnknownProperty),
+        }
+    }
+
+    fn clear_list(&mut self, alloc: Global)
+        ensures { self.new ≡ without_list self.old }
+    {
+        match self {
+            Resource::Fs(fs) => fs.options = Listing::new(alloc),
+            Resource::Rctl(rctl) => rctl.values = Listing::new(alloc),
+            _ => {}
+        }
+    }
+
+    /// Sets a property to a value, as `set NAME=VALUE` does: 22 where the kind has no property of this
+    /// name, 23 where its rule doesn't allow the value, 27 where an fs would have more than 32 options.
+    /// Options take a list or one text, and a value of an rctl becomes its only one. An empty text unsets
+    /// the options and each property whose rule allows it. After a fault all is as before.
+    #[tactic(auto, unfolding(crate::specs::Edits::with_property))]
+    pub fn set_property(
+        &mut self,
+        alloc: Global,
+        name: &[u8],
+        value: &Value,
+    ) -> Result<(), ConfigFault>
+        ensures { Changes self.old self.new result (with_property name.now value.now self.old) }
+    {
+        match self.kind().named(name) {
+            None => Err(ConfigFault::UnknownProperty),
+            Some(Named::One(field)) => self.set_field(alloc, field, value),
+            Some(Named::Many) => self.edit_list(alloc, ListEdit::Put, value),
+        }
+    }
+
+    /// Unsets a property, as `clear NAME` does, or 22. A list loses all its items. It takes no memory.
+    #[tactic(auto, unfolding(crate::specs::Edits::without_property))]
+    pub fn clear_property(&mut self, alloc: Global, name: &[u8]) -> Result<(), ConfigFault>
+        ensures { ChangesSurely self.old self.new result (without_property name.now self.old) }
+    {
+        match self.kind().named(name) {
+            None => return Err(ConfigFault::UnknownProperty),
+            Some(Named::One(field)) => self.put(field, Text::empty(alloc)),
+            Some(Named::Many) => self.clear_list(alloc),
+        }
+        Ok(())
+    }
+
+    /// Puts items behind those of a list, as `add options VALUE` and `add value VALUE` do: 22 where the
+    /// kind has no list of this name, 23, 27 as in `set_property`. After a fault all is as before.
+    #[tactic(auto, unfolding(crate::specs::Edits::with_value))]
+    pub fn add_value(
+        &mut self,
+        alloc: Global,
+        name: &[u8],
+        value: &Value,
+    ) -> Result<(), ConfigFault>
+        ensures { Changes self.old self.new result (with_value name.now value.now self.old) }
+    {
+        match self.kind().named(name) {
+            Some(Named::Many) => self.edit_list(alloc, ListEdit::Add, value),
+            Some(Named::One(_)) | None => Err(ConfigFault::UnknownProperty),
+        }
+    }
+
+    /// Takes the first equal item of each item given out of a list, as `remove options VALUE` and
+    /// `remove value VALUE` do: 22, 23, or 25 where one isn't there. After a fault all is as before.
+    #[tactic(auto, unfolding(crate::specs::Edits::without_value))]
+    pub fn remove_value(
+        &mut self,
+        alloc: Global,
+        name: &[u8],
+        value: &Value,
+    ) -> Result<(), ConfigFault>
+        ensures { Changes self.old self.new result (without_value name.now value.now self.old) }
+    {
+        match self.kind().named(name) {
+            Some(Named::Many) => self.edit_list(alloc, ListEdit::Remove, value),
+            Some(Named::One(_)) | None => Err(ConfigFault::UnknownProperty),
+        }
+    }
+}

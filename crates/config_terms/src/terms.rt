@@ -1,0 +1,163 @@
+//! What a configuration consists of.
+ghost use Rattle.std.specs.Prelude.{◌≡◌, IfOk};
+
+use crate::listing::{Listing, Twin};
+use std::alloc::{AllocError, Global};
+use zn_base::{AbsPath, Text};
+
+/// How a zone reaches its network (zones(7), ip-type).
+#[derive(Clone, Copy, Debug, PartialEq, Eq)]
+pub enum IpType {
+    Shared,
+    Exclusive,
+}
+
+/// The types of resources (zonecfg(8), RESOURCES), in the order in which an export text has them.
+#[derive(Clone, Copy, Debug, PartialEq, Eq)]
+pub enum Kind {
+    Fs,
+    Net,
+    Device,
+    Rctl,
+    Attr,
+    Dataset,
+}
+
+/// A file system that is mounted in the zone. A text that is empty is a property that is not set, here
+/// and in every other resource.
+#[derive(Drop)]
+pub struct Fs {
+    pub dir: Option<AbsPath>,
+    pub special: Text,
+    pub raw: Text,
+    /// The property `type`.
+    pub fstype: Text,
+    pub options: Listing<Text>,
+}
+
+/// A network interface of the zone.
+#[derive(Drop)]
+pub struct Net {
+    pub address: Text,
+    /// The property `allowed-address`.
+    pub allowed: Text,
+    pub physical: Text,
+    pub defrouter: Text,
+}
+
+/// One value of a resource control (resource_controls(7)): `(priv=privileged,limit=N,action=A)`.
+#[derive(Clone, Copy, Debug, PartialEq, Eq)]
+pub struct Limit {
+    pub limit: u64,
+    /// The action: `deny`, and else `none`.
+    pub deny: bool,
+}
+
+/// A resource control of the zone.
+#[derive(Drop)]
+pub struct Rctl {
+    pub name: Text,
+    pub values: Listing<Limit>,
+}
+
+/// A generic attribute of the zone.
+#[derive(Drop)]
+pub struct Attr {
+    pub name: Text,
+    /// The property `type`.
+    pub form: Text,
+    pub value: Text,
+}
+
+/// A resource: of a device its match, of a dataset its name.
+#[derive(Drop)]
+pub enum Resource {
+    Fs(Fs),
+    Net(Net),
+    Device(Text),
+    Rctl(Rctl),
+    Attr(Attr),
+    Dataset(Text),
+}
+
+impl Twin for Text {
+    fn twin(&self, alloc: Global) -> Result<Self, AllocError> {
+        self.copy(alloc)
+    }
+}
+
+impl Twin for AbsPath {
+    fn twin(&self, alloc: Global) -> Result<Self, AllocError> {
+        self.copy(alloc)
+    }
+}
+
+impl<T: Twin> Twin for Option<T> {
+    fn twin(&self, alloc: Global) -> Result<Self, AllocError> {
+        match self {
+            None => Ok(None),
+            Some(item) => Ok(Some(item.twin(alloc)?)),
+        }
+    }
+}
+
+impl Twin for Limit {
+    fn twin(&self, _: Global) -> Result<Self, AllocError> {
+        Ok(*self)
+    }
+}
+
+impl Twin for Fs {
+    fn twin(&self, alloc: Global) -> Result<Self, AllocError> {
+        Ok(Fs {
+            dir: self.dir.twin(alloc)?,
+            special: self.special.copy(alloc)?,
+            raw: self.raw.copy(alloc)?,
+            fstype: self.fstype.copy(alloc)?,
+            options: self.options.twin(alloc)?,
+        })
+    }
+}
+
+impl Twin for Net {
+    fn twin(&self, alloc: Global) -> Result<Self, AllocError> {
+        Ok(Net {
+            address: self.address.copy(alloc)?,
+            allowed: self.allowed.copy(alloc)?,
+            physical: self.physical.copy(alloc)?,
+            defrouter: self.defrouter.copy(alloc)?,
+        })
+    }
+}
+
+impl Twin for Rctl {
+    fn twin(&self, alloc: Global) -> Result<Self, AllocError> {
+        Ok(Rctl {
+            name: self.name.copy(alloc)?,
+            values: self.values.twin(alloc)?,
+        })
+    }
+}
+
+impl Twin for Attr {
+    fn twin(&self, alloc: Global) -> Result<Self, AllocError> {
+        Ok(Attr {
+            name: self.name.copy(alloc)?,
+            form: self.form.copy(alloc)?,
+            value: self.value.copy(alloc)?,
+        })
+    }
+}
+
+impl Twin for Resource {
+    fn twin(&self, alloc: Global) -> Result<Self, AllocError> {
+        match self {
+            Resource::Fs(fs) => Ok(Resource::Fs(fs.twin(alloc)?)),
+            Resource::Net(net) => Ok(Resource::Net(net.twin(alloc)?)),
+            Resource::Device(device) => Ok(Resource::Device(device.copy(alloc)?)),
+            Resource::Rctl(rctl) => Ok(Resource::Rctl(rctl.twin(alloc)?)),
+            Resource::Attr(attr) => Ok(Resource::Attr(attr.twin(alloc)?)),
+            Resource::Dataset(dataset) => Ok(Resource::Dataset(dataset.copy(alloc)?)),
+        }
+    }
+}

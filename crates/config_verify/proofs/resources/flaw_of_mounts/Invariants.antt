@@ -1,0 +1,7 @@
+use Rattle.std.proofs.Common.{◌≡◌, [], drop, take}
+use Rattle.config_verify.specs.Flaws.{each_behind, first, flaws_of_fs}
+use Rattle.config_verify.proofs.resources.flaw_of_mounts.Given as goal
+
+-- those before the place have no flaw
+abbrev pub invariant-loop-place : goal.invariant-loop-place
+invariant-loop-place l = first (each_behind flaws_of_fs [] l.all) ≡ first (each_behind flaws_of_fs (take l.place l.all) (drop l.place l.all))

@@ -1,0 +1,8 @@
+use Rattle.std.proofs.Common.{◌≡◌, drop}
+use Rattle.std.specs.List.{flat_map}
+use Rattle.config_verify.specs.Flaws.{first, flaws_of_rctl}
+use Rattle.config_verify.proofs.resources.flaw_of_rctls.Given as goal
+
+-- those before the place have no flaw
+abbrev pub invariant-loop-place : goal.invariant-loop-place
+invariant-loop-place l = first (flat_map flaws_of_rctl l.all) ≡ first (flat_map flaws_of_rctl (drop l.place l.all))

@@ -1,0 +1,14 @@
+//! Whether a configuration can be installed, as `zonecfg verify` asks (zonecfg(8)). `verify` answers the first
+//! flaw of the list of all flaws, in their order, or Ok exactly where that list is empty.
+#![tactic(auto)]
+
+mod config;
+mod flaw;
+mod resources;
+mod values;
+
+pub use config::{matches, verify};
+pub use flaw::Flaw;
+
+#[cfg(test)]
+mod tests;

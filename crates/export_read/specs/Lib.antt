@@ -1,0 +1,4 @@
+pub mod Names
+pub mod Drafts
+pub mod Begun
+pub mod Halts

@@ -1,0 +1,181 @@
+//! Texts that are read, and lines that stop being the beginning of one.
+use crate::read_export;
+use std::alloc::{AllocError, Global};
+use std::process::Abort;
+use std::test::Fail;
+use zone_config::{ConfigFault, ZoneConfig, export};
+
+const WEB: &[u8] = b"create -b
+set zonepath=/zones/web
+set brand=ipkg
+set autoboot=false
+set ip-type=shared
+";
+
+// Every property, and a resource of every kind.
+const ALL: &[u8] = b"create -b
+set zonepath=/zones/web
+set brand=ipkg
+set autoboot=false
+set bootargs=\"-m verbose\"
+set pool=pool_default
+set limitpriv=default,!sys_time
+set scheduling-class=FSS
+set ip-type=exclusive
+set hostid=80f0c086
+set fs-allowed=ufs,pcfs
+add fs
+set dir=/data
+set special=/export/data
+set raw=/dev/rdsk/c0t0d0s0
+set type=lofs
+add options [ro,nodevices]
+end
+add net
+set physical=net0
+end
+add device
+end
+add device
+set match=/dev/zvol/*
+end
+add rctl
+set name=zone.cpu-shares
+add value (priv=privileged,limit=10,action=none)
+end
+add attr
+set name=comment
+set value=\"a web zone\"
+end
+add dataset
+set name=tank/web
+end
+";
+
+// How many of its first lines are a whole text.
+const WHOLE: &[usize] = &[9, 10, 11, 18, 21, 23, 26, 30, 34, 37];
+
+fn all() -> &'static [u8] {
+    ALL
+}
+
+// Configurations go through helpers without contracts, so that no test's proof follows what they hold.
+fn read(alloc: Global, text: &[u8]) -> Result<ZoneConfig, ConfigFault> {
+    read_export(alloc, text)
+}
+
+fn is_of_brand(config: &ZoneConfig, brand: &[u8]) -> bool {
+    config.brand.bytes() == brand
+}
+
+fn text_of_copy(alloc: Global, config: &ZoneConfig) -> Result<Vec<u8>, ConfigFault> {
+    let copy = config.copy(alloc)?;
+    export(alloc, &copy)
+}
+
+// The text is read, and the copy of what it says exports the same.
+fn is_read(rt: &impl Abort, alloc: Global, text: &[u8], brand: &[u8]) -> Result<(), Fail> {
+    let config = read(alloc, text)?;
+    assert!(rt; is_of_brand(&config, brand));
+    assert_eq!(rt; text_of_copy(alloc, &config)?.as_slice(), text);
+    Ok(())
+}
+
+// The line of the fault, or 0 where there is none.
+fn line_of_fault(alloc: Global, text: &[u8]) -> Result<usize, ConfigFault> {
+    match read_export(alloc, text) {
+        Ok(_) => Ok(0),
+        Err(ConfigFault::NotExport(line)) => Ok(line),
+        Err(fault) => Err(fault),
+    }
+}
+
+// What is to be told of a text's first lines: nothing where they are a whole text, and else the next line.
+fn line_wanted(lines: usize) -> usize {
+    if WHOLE.contains(&lines) {
+        0
+    } else {
+        lines.wrapping_add(1)
+    }
+}
+
+// Whether the first lines of a text, however many, are all told to be well begun, or read.
+fn fronts_are_told(alloc: Global, text: &[u8]) -> Result<bool, ConfigFault> {
+    let mut told = true;
+    let mut lines: usize = 0;
+    for (place, byte) in text.iter().enumerate() {
+        if *byte == b'\n' {
+            lines = lines.wrapping_add(1);
+            let line = line_of_fault(alloc, &text[..place + 1])?;
+            told = told && line == line_wanted(lines);
+        }
+    }
+    Ok(told)
+}
+
+fn with_blank(alloc: Global, front: &[u8], rest: &[u8]) -> Result<Vec<u8>, AllocError> {
+    let mut text = Vec::from_slice(alloc, front)?;
+    text.push(b' ')?;
+    text.extend_from_slice(rest)?;
+    Ok(text)
+}
+
+// Whether a blank at the end of a line, whichever it is, is told.
+fn blanks_are_told(alloc: Global, text: &[u8]) -> Result<bool, ConfigFault> {
+    let mut told = true;
+    let mut lines: usize = 0;
+    for (place, byte) in text.iter().enumerate() {
+        if *byte == b'\n' {
+            lines = lines.wrapping_add(1);
+            let changed = with_blank(alloc, &text[..place], &text[place..])?;
+            told = told && line_of_fault(alloc, &changed)? == lines;
+        }
+    }
+    Ok(told)
+}
+
+#[test]
+fn a_text_is_read_and_its_copy_exports_the_same(rt: HostRuntime) -> Result<(), Fail> {
+    is_read(&rt, rt.alloc(), WEB, b"ipkg")?;
+    is_read(&rt, rt.alloc(), all(), b"ipkg")
+}
+
+#[test]
+fn a_fault_has_its_line(rt: HostRuntime) -> Result<(), Fail> {
+    let rows: [(&[u8], usize); 6] = [
+        (b"", 1),
+        (
+            b"create -b\nset brand=ipkg\nset zonepath=/zones/web\nset autoboot=false\nset ip-type=shared\n",
+            3,
+        ),
+        (
+            b"create -b\nset zonepath=/zones/web\nset brand=ipkg\nset autoboot=false\n",
+            5,
+        ),
+        (b"create -b\nset autoboot=false\nset ip-type=shared", 4),
+        (b"create -b\nset brand=\"ipkg\"\nset autoboot=false\n", 2),
+        (b"create -b\nset auto", 2),
+    ];
+    for (text, line) in rows {
+        assert_eq!(rt; line_of_fault(rt.alloc(), text)?, line);
+    }
+    Ok(())
+}
+
+#[test]
+fn each_line_of_a_whole_text_is_told(rt: HostRuntime) -> Result<(), Fail> {
+    assert!(rt; fronts_are_told(rt.alloc(), all())?);
+    assert!(rt; blanks_are_told(rt.alloc(), all())?);
+    Ok(())
+}
+
+#[test]
+fn a_duplicate_is_told_at_its_name(rt: HostRuntime) -> Result<(), Fail> {
+    let named =
+        b"create -b\nset autoboot=true\nset ip-type=shared\nadd attr\nset name=a\nend\nadd attr\nset name=a\nend\n";
+    assert_eq!(rt; line_of_fault(rt.alloc(), named)?, 8);
+    let unnamed =
+        b"create -b\nset autoboot=true\nset ip-type=shared\nadd attr\nend\nadd attr\nend\n";
+    assert_eq!(rt; line_of_fault(rt.alloc(), unnamed)?, 7);
+    Ok(())
+}

@@ -1,0 +1,166 @@
+-- Lists of resources over one that comes, goes or takes another's place.
+use Rattle.std.proofs.Common.{◌≡◌, ◌≤◌, ◌+◌, zero, suc, ℕ, Bool, true, false, not, List, [], ◌∷◌, ◌++◌, ◌||◌, ◌&&◌, length, Option, Some, None, refl, ap, sym, ◌∙◌, arith, length-append}
+use Rattle.std.specs.Prelude.{slice_get, remove, slice_set}
+use Rattle.std.specs.List.{list_all, flat_map}
+use Rattle.std.specs.Str.{bytes_eq}
+use Rattle.std.proofs.lemmas.Slice.Eq.{bytes_eq-Decides}
+use Rattle.std.proofs.lemmas.List.Concat.{flat_map-append}
+use Rattle.std.proofs.lemmas.List.Folds.{list_any-append, list_all-append}
+use Rattle.config_terms.specs.declared.fields.Field.{Field}
+use Rattle.config_terms.specs.declared.terms.Kind.{Kind}
+use Rattle.config_terms.specs.Allowed.{are_distinct, has_key, is_taken, is_taken_by}
+use Rattle.config_terms.specs.Fields.{key_field}
+use Rattle.zone_config.specs.Sound.{AreSound, are_distinct_in}
+
+-- tests joined by `and` and `or`
+pub first_true : (a b : Bool) → (a && b) ≡ true → a ≡ true
+first_true true b h = refl
+first_true false b h = absurd (cc)
+
+pub rest_true : (a b : Bool) → (a && b) ≡ true → b ≡ true
+rest_true true b h = h
+rest_true false b h = absurd (cc)
+
+pub both_true : (a b : Bool) → a ≡ true → b ≡ true → (a && b) ≡ true
+both_true true b h g = g
+both_true false b h g = absurd (cc)
+
+pub first_false : (a b : Bool) → (a || b) ≡ false → a ≡ false
+first_false true b h = absurd (cc)
+first_false false b h = refl
+
+pub rest_false : (a b : Bool) → (a || b) ≡ false → b ≡ false
+rest_false true b h = absurd (cc)
+rest_false false b h = h
+
+pub both_false : (a b : Bool) → a ≡ false → b ≡ false → (a || b) ≡ false
+both_false true b h g = absurd (cc)
+both_false false b h g = g
+
+pub false_if_not : (a : Bool) → not a ≡ true → a ≡ false
+false_if_not true h = absurd (cc)
+false_if_not false h = refl
+
+pub not_if_false : (a : Bool) → a ≡ false → not a ≡ true
+not_if_false true h = absurd (cc)
+not_if_false false h = refl
+
+pub bytes_eq-swap : (xs ys : List ℕ) → bytes_eq xs ys ≡ false → bytes_eq ys xs ≡ false
+bytes_eq-swap xs ys h =
+    elim (bytes_eq ys xs) as (λ b. bytes_eq ys xs ≡ b → b ≡ false) [
+      | true ↦ λ e. absurd (let same = (bytes_eq-Decides xs ys).1 (sym ((bytes_eq-Decides ys xs).0 e)) in cc)
+      | false ↦ λ _. refl
+    ] refl
+
+-- each of a list is allowed
+pub all-push : {A : Type 0} (p : A → Bool) (xs : List A) (x : A) → list_all p xs ≡ true → p x ≡ true → list_all p (xs ++ x ∷ []) ≡ true
+all-push p xs x h g = list_all-append p xs (x ∷ []) ∙ both_true _ _ h (both_true _ _ g refl)
+
+pub all-remove : {A : Type 0} (p : A → Bool) (xs : List A) (i : ℕ) → list_all p xs ≡ true → list_all p (remove xs i) ≡ true
+all-remove p [] zero h = refl
+all-remove p [] (suc i) h = refl
+all-remove p (x ∷ xs) zero h = rest_true (p x) _ h
+all-remove p (x ∷ xs) (suc i) h = both_true _ _ (first_true _ _ h) (all-remove p xs i (rest_true (p x) _ h))
+
+pub all-set : {A : Type 0} (p : A → Bool) (xs : List A) (i : ℕ) (x : A) → list_all p xs ≡ true → p x ≡ true → list_all p (slice_set xs i x) ≡ true
+all-set p [] i x h g = refl
+all-set p (y ∷ ys) zero x h g = both_true _ _ g (rest_true (p y) _ h)
+all-set p (y ∷ ys) (suc i) x h g = both_true _ _ (first_true _ _ h) (all-set p ys i x (rest_true (p y) _ h) g)
+
+pub all-at : {A : Type 0} (p : A → Bool) (xs : List A) (i : ℕ) (x : A) → list_all p xs ≡ true → slice_get xs i ≡ Some x → p x ≡ true
+all-at p [] i x h g = absurd (cc)
+all-at p (y ∷ ys) zero x h g = let same : y ≡ x = cc in ap p (sym same) ∙ first_true _ _ h
+all-at p (y ∷ ys) (suc i) x h g = all-at p ys i x (rest_true (p y) _ h) g
+
+-- no two of a list have one key
+has-push : {A : Type 0} (key : A → List ℕ) (k : List ℕ) (xs : List A) (x : A) → has_key key k xs ≡ false → bytes_eq (key x) k ≡ false → has_key key k (xs ++ x ∷ []) ≡ false
+has-push key k xs x h e = list_any-append (λ y. bytes_eq (key y) k) xs (x ∷ []) ∙ both_false _ _ h (both_false _ _ e refl)
+
+has-remove : {A : Type 0} (key : A → List ℕ) (k : List ℕ) (xs : List A) (i : ℕ) → has_key key k xs ≡ false → has_key key k (remove xs i) ≡ false
+has-remove key k [] zero h = refl
+has-remove key k [] (suc i) h = refl
+has-remove key k (x ∷ xs) zero h = rest_false (bytes_eq (key x) k) _ h
+has-remove key k (x ∷ xs) (suc i) h = both_false _ _ (first_false _ _ h) (has-remove key k xs i (rest_false (bytes_eq (key x) k) _ h))
+
+has-set : {A : Type 0} (key : A → List ℕ) (k : List ℕ) (xs : List A) (i : ℕ) (x : A) → has_key key k xs ≡ false → bytes_eq (key x) k ≡ false → has_key key k (slice_set xs i x) ≡ false
+has-set key k [] i x h g = refl
+has-set key k (y ∷ ys) zero x h g = both_false _ _ g (rest_false (bytes_eq (key y) k) _ h)
+has-set key k (y ∷ ys) (suc i) x h g = both_false _ _ (first_false _ _ h) (has-set key k ys i x (rest_false (bytes_eq (key y) k) _ h) g)
+
+distinct-push : {A : Type 0} (key : A → List ℕ) (xs : List A) (x : A) → are_distinct key xs ≡ true → has_key key (key x) xs ≡ false → are_distinct key (xs ++ x ∷ []) ≡ true
+distinct-push key [] x h g = refl
+distinct-push key (y ∷ ys) x h g =
+    both_true _ _
+    (not_if_false _ (has-push key (key y) ys x (false_if_not _ (first_true _ _ h)) (bytes_eq-swap (key y) (key x) (first_false _ _ g))))
+    (distinct-push key ys x (rest_true (not (has_key key (key y) ys)) _ h) (rest_false (bytes_eq (key y) (key x)) _ g))
+
+distinct-remove : {A : Type 0} (key : A → List ℕ) (xs : List A) (i : ℕ) → are_distinct key xs ≡ true → are_distinct key (remove xs i) ≡ true
+distinct-remove key [] zero h = refl
+distinct-remove key [] (suc i) h = refl
+distinct-remove key (x ∷ xs) zero h = rest_true (not (has_key key (key x) xs)) _ h
+distinct-remove key (x ∷ xs) (suc i) h =
+    both_true _ _
+    (not_if_false _ (has-remove key (key x) xs i (false_if_not _ (first_true _ _ h))))
+    (distinct-remove key xs i (rest_true (not (has_key key (key x) xs)) _ h))
+
+distinct-set : {A : Type 0} (key : A → List ℕ) (xs : List A) (i : ℕ) (x : A) → are_distinct key xs ≡ true → has_key key (key x) (remove xs i) ≡ false → are_distinct key (slice_set xs i x) ≡ true
+distinct-set key [] i x h g = refl
+distinct-set key (y ∷ ys) zero x h g = both_true _ _ (not_if_false _ g) (rest_true (not (has_key key (key y) ys)) _ h)
+distinct-set key (y ∷ ys) (suc i) x h g =
+    both_true _ _
+    (not_if_false _ (has-set key (key y) ys i x (false_if_not _ (first_true _ _ h)) (bytes_eq-swap (key y) (key x) (first_false _ _ g))))
+    (distinct-set key ys i x (rest_true (not (has_key key (key y) ys)) _ h) (rest_false (bytes_eq (key y) (key x)) _ g))
+
+-- the same where a kind may have no key
+apart-push : {A : Type 0} (shown : A → Field → List ℕ) (o : Option Field) (xs : List A) (x : A) → are_distinct_in shown o xs ≡ true → is_taken_by shown o x xs ≡ false → are_distinct_in shown o (xs ++ x ∷ []) ≡ true
+apart-push shown None xs x h g = refl
+apart-push shown (Some f) xs x h g = distinct-push (λ y. shown y f) xs x h g
+
+apart-remove : {A : Type 0} (shown : A → Field → List ℕ) (o : Option Field) (xs : List A) (i : ℕ) → are_distinct_in shown o xs ≡ true → are_distinct_in shown o (remove xs i) ≡ true
+apart-remove shown None xs i h = refl
+apart-remove shown (Some f) xs i h = distinct-remove (λ y. shown y f) xs i h
+
+apart-set : {A : Type 0} (shown : A → Field → List ℕ) (o : Option Field) (xs : List A) (i : ℕ) (x : A) → are_distinct_in shown o xs ≡ true → is_taken_by shown o x (remove xs i) ≡ false → are_distinct_in shown o (slice_set xs i x) ≡ true
+apart-set shown None xs i x h g = refl
+apart-set shown (Some f) xs i x h g = distinct-set (λ y. shown y f) xs i x h g
+
+-- a sound list stays sound
+pub sound-push : {A : Type 0} (shown : A → Field → List ℕ) (k : Kind) (allowed : A → Bool) (xs : List A) (x : A) → AreSound shown k allowed xs → allowed x ≡ true → is_taken shown k x xs ≡ false → AreSound shown k allowed (xs ++ x ∷ [])
+sound-push shown k allowed xs x s h g = record { each = all-push allowed xs x s.each h; once = apart-push shown (key_field k) xs x s.once g }
+
+pub sound-remove : {A : Type 0} (shown : A → Field → List ℕ) (k : Kind) (allowed : A → Bool) (xs : List A) (i : ℕ) → AreSound shown k allowed xs → AreSound shown k allowed (remove xs i)
+sound-remove shown k allowed xs i s = record { each = all-remove allowed xs i s.each; once = apart-remove shown (key_field k) xs i s.once }
+
+pub sound-set : {A : Type 0} (shown : A → Field → List ℕ) (k : Kind) (allowed : A → Bool) (xs : List A) (i : ℕ) (x : A) → AreSound shown k allowed xs → allowed x ≡ true → is_taken shown k x (remove xs i) ≡ false → AreSound shown k allowed (slice_set xs i x)
+sound-set shown k allowed xs i x s h g = record { each = all-set allowed xs i x s.each h; once = apart-set shown (key_field k) xs i x s.once g }
+
+-- how long the texts of a list are, and how many there are
+pub text-push : {A : Type 0} (f : A → List ℕ) (xs : List A) (x : A) → length (flat_map f (xs ++ x ∷ [])) ≡ length (flat_map f xs) + length (f x)
+text-push f xs x = ap length (flat_map-append f xs (x ∷ [])) ∙ omega (arith, length-append (flat_map f xs) (f x ++ []), length-append (f x) [])
+
+pub text-remove : {A : Type 0} (f : A → List ℕ) (xs : List A) (i : ℕ) (x : A) → slice_get xs i ≡ Some x → length (flat_map f (remove xs i)) + length (f x) ≡ length (flat_map f xs)
+text-remove f [] i x h = absurd (cc)
+text-remove f (y ∷ ys) zero x h =
+    let same : y ≡ x = cc in rw same (omega (arith, length-append (f x) (flat_map f ys)))
+text-remove f (y ∷ ys) (suc i) x h =
+    let more = text-remove f ys i x h in omega (arith, length-append (f y) (flat_map f (remove ys i)), length-append (f y) (flat_map f ys))
+
+pub text-set : {A : Type 0} (f : A → List ℕ) (xs : List A) (i : ℕ) (x y : A) → slice_get xs i ≡ Some y → length (flat_map f (slice_set xs i x)) + length (f y) ≡ length (flat_map f xs) + length (f x)
+text-set f [] i x y h = absurd (cc)
+text-set f (z ∷ zs) zero x y h =
+    let same : z ≡ y = cc in rw same (omega (arith, length-append (f x) (flat_map f zs), length-append (f y) (flat_map f zs)))
+text-set f (z ∷ zs) (suc i) x y h =
+    let more = text-set f zs i x y h in omega (arith, length-append (f z) (flat_map f (slice_set zs i x)), length-append (f z) (flat_map f zs))
+
+pub text_within : {A : Type 0} (f : A → List ℕ) (xs : List A) (i : ℕ) (x : A) → slice_get xs i ≡ Some x → length (f x) ≤ length (flat_map f xs)
+text_within f xs i x h = omega (arith, text-remove f xs i x h)
+
+pub length-remove_one : {A : Type 0} (xs : List A) (i : ℕ) (x : A) → slice_get xs i ≡ Some x → length (remove xs i) + 1 ≡ length xs
+length-remove_one [] i x h = absurd (cc)
+length-remove_one (y ∷ ys) zero x h = omega arith
+length-remove_one (y ∷ ys) (suc i) x h = let more = length-remove_one ys i x h in omega arith
+
+pub length-slice_set : {A : Type 0} (xs : List A) (i : ℕ) (x : A) → length (slice_set xs i x) ≡ length xs
+length-slice_set [] i x = refl
+length-slice_set (y ∷ ys) zero x = refl
+length-slice_set (y ∷ ys) (suc i) x = ap suc (length-slice_set ys i x)

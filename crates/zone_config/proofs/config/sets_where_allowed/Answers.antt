@@ -1,5 +1,0 @@
-use Rattle.zone_config.proofs.Settings.{sets}
-use Rattle.zone_config.proofs.config.sets_where_allowed.Goals as goal
-
-pub returns : goal.returns
-returns c = sets

@@ -1,0 +1,146 @@
+//! The properties of a configuration: what each shows, and how it is given a value.
+ghost use Rattle.std.specs.Prelude.{◌≡◌, ◌≤◌, IfOk, IsTrue, OnErr, OnOk, length};
+ghost use Rattle.config_terms.specs.Rules.{obeys};
+ghost use Rattle.zone_config.specs.Property.{blank, bool_text, ip_text, ip_type, property_rule, shown, with_value, without_value};
+
+use crate::{Contents, Property};
+use config_terms::{IpType, Listing, Twin, path_kept, path_text};
+use std::alloc::{AllocError, Global};
+use zn_base::Text;
+
+fn bool_text(value: bool) -> &'static [u8]
+    ensures { result.now ≡ bool_text value }
+{
+    if value { b"true" } else { b"false" }
+}
+
+fn ip_text(value: IpType) -> &'static [u8]
+    ensures { result.now ≡ ip_text value }
+{
+    match value {
+        IpType::Shared => b"shared",
+        IpType::Exclusive => b"exclusive",
+    }
+}
+
+fn ip_type(text: &[u8]) -> IpType
+    ensures { result ≡ ip_type text.now }
+{
+    if text == b"exclusive".as_slice() {
+        IpType::Exclusive
+    } else {
+        IpType::Shared
+    }
+}
+
+impl Contents {
+    /// Nothing is set. It takes no memory.
+    pub(crate) fn blank(alloc: Global) -> Contents
+        ensures { result ≡ blank }
+    {
+        Contents {
+            zonepath: None,
+            brand: Text::empty(alloc),
+            autoboot: false,
+            bootargs: Text::empty(alloc),
+            pool: Text::empty(alloc),
+            limitpriv: Text::empty(alloc),
+            class: Text::empty(alloc),
+            ip: IpType::Shared,
+            hostid: Text::empty(alloc),
+            fs_allowed: Text::empty(alloc),
+            fs: Listing::new(alloc),
+            net: Listing::new(alloc),
+            device: Listing::new(alloc),
+            rctl: Listing::new(alloc),
+            attr: Listing::new(alloc),
+            dataset: Listing::new(alloc),
+        }
+    }
+
+    /// The text of a property: empty where it is not set.
+    pub fn shown(&self, property: Property) -> &[u8]
+        ensures text { result.now ≡ shown property self.now }
+        ensures short { length result.now ≤ 4200 }
+    {
+        match property {
+            Property::Zonepath => path_text(&self.zonepath),
+            Property::Brand => self.brand.bytes(),
+            Property::Autoboot => bool_text(self.autoboot),
+            Property::Bootargs => self.bootargs.bytes(),
+            Property::Pool => self.pool.bytes(),
+            Property::Limitpriv => self.limitpriv.bytes(),
+            Property::SchedulingClass => self.class.bytes(),
+            Property::IpType => ip_text(self.ip),
+            Property::Hostid => self.hostid.bytes(),
+            Property::FsAllowed => self.fs_allowed.bytes(),
+        }
+    }
+
+    /// Gives a property a value that its rule allows. After a fault all is as before.
+    pub(crate) fn put(
+        &mut self,
+        alloc: Global,
+        property: Property,
+        value: &Text,
+    ) -> Result<(), AllocError>
+        requires { IsTrue (obeys (property_rule property) value.now) }
+        ensures ok { OnOk result (self.new ≡ with_value property value.now self.old) }
+        ensures err { OnErr result (self.new ≡ self.old) }
+    {
+        match property {
+            Property::Zonepath => self.zonepath = path_kept(alloc, value.bytes())?,
+            Property::Brand => self.brand = value.copy(alloc)?,
+            Property::Autoboot => self.autoboot = value.bytes() == b"true".as_slice(),
+            Property::Bootargs => self.bootargs = value.copy(alloc)?,
+            Property::Pool => self.pool = value.copy(alloc)?,
+            Property::Limitpriv => self.limitpriv = value.copy(alloc)?,
+            Property::SchedulingClass => self.class = value.copy(alloc)?,
+            Property::IpType => self.ip = ip_type(value.bytes()),
+            Property::Hostid => self.hostid = value.copy(alloc)?,
+            Property::FsAllowed => self.fs_allowed = value.copy(alloc)?,
+        }
+        Ok(())
+    }
+
+    /// Makes a property as it is in a blank configuration. It takes no memory.
+    pub(crate) fn unset(&mut self, alloc: Global, property: Property)
+        ensures { self.new ≡ without_value property self.old }
+    {
+        match property {
+            Property::Zonepath => self.zonepath = None,
+            Property::Brand => self.brand = Text::empty(alloc),
+            Property::Autoboot => self.autoboot = false,
+            Property::Bootargs => self.bootargs = Text::empty(alloc),
+            Property::Pool => self.pool = Text::empty(alloc),
+            Property::Limitpriv => self.limitpriv = Text::empty(alloc),
+            Property::SchedulingClass => self.class = Text::empty(alloc),
+            Property::IpType => self.ip = IpType::Shared,
+            Property::Hostid => self.hostid = Text::empty(alloc),
+            Property::FsAllowed => self.fs_allowed = Text::empty(alloc),
+        }
+    }
+}
+
+impl Twin for Contents {
+    fn twin(&self, alloc: Global) -> Result<Self, AllocError> {
+        Ok(Contents {
+            zonepath: self.zonepath.twin(alloc)?,
+            brand: self.brand.copy(alloc)?,
+            autoboot: self.autoboot,
+            bootargs: self.bootargs.copy(alloc)?,
+            pool: self.pool.copy(alloc)?,
+            limitpriv: self.limitpriv.copy(alloc)?,
+            class: self.class.copy(alloc)?,
+            ip: self.ip,
+            hostid: self.hostid.copy(alloc)?,
+            fs_allowed: self.fs_allowed.copy(alloc)?,
+            fs: self.fs.twin(alloc)?,
+            net: self.net.twin(alloc)?,
+            device: self.device.twin(alloc)?,
+            rctl: self.rctl.twin(alloc)?,
+            attr: self.attr.twin(alloc)?,
+            dataset: self.dataset.twin(alloc)?,
+        })
+    }
+}

@@ -1,0 +1,12 @@
+pub mod Faults
+pub mod Commands
+pub mod Words
+pub mod Forms
+pub mod Open
+pub mod OpenOf
+pub mod Scopes
+pub mod Removal
+pub mod Denotes
+pub mod Same
+pub mod Edited
+pub mod Laws

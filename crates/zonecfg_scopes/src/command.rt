@@ -1,0 +1,130 @@
+//! What a subcommand asks for.
+ghost use Rattle.std.specs.Prelude.{◌≡◌};
+ghost use Rattle.zonecfg_scopes.specs.Commands.{list_name, list_named, topic_named};
+
+use config_terms::Kind;
+use zn_base::Text;
+use zone_config::Setting;
+use zonecfg_lex::{Pairs, Value};
+
+/// The properties of resources that hold a list: the options of an fs, the values of an rctl.
+#[derive(Clone, Copy, Debug, PartialEq, Eq)]
+pub enum ListProperty {
+    Options,
+    Value,
+}
+
+/// The resources of a type whose properties have each of some texts.
+#[derive(Drop)]
+pub struct Matching {
+    pub kind: Kind,
+    pub pairs: Pairs,
+}
+
+/// What `info` shows.
+#[derive(Clone, Copy, Debug, PartialEq, Eq)]
+pub enum Topic {
+    Everything,
+    Setting(Setting),
+    Resources(Kind),
+}
+
+/// A subcommand of zonecfg(8) in a form that it has. `force` is `-F`; `bare` is the `-b` of `create`.
+#[derive(Drop)]
+pub enum Command {
+    /// No token: nothing is asked for.
+    Blank,
+    Add(Kind),
+    /// `add options` or `add value`.
+    Append(ListProperty, Value),
+    Cancel,
+    Clear(Text),
+    Commit,
+    Create { force: bool, bare: bool },
+    Delete { force: bool },
+    End,
+    Exit { force: bool },
+    Export,
+    Help,
+    Info(Topic),
+    Remove { force: bool, matching: Matching },
+    /// `remove options` or `remove value`.
+    RemoveItem(ListProperty, Value),
+    Revert { force: bool },
+    Select(Matching),
+    Set(Text, Value),
+    Verify,
+}
+
+/// What a subcommand is answered that is not refused: it is done, or there is something for the caller to
+/// show or to do. `WantExit(true)` is `exit -F`.
+#[derive(Clone, Copy, Debug, PartialEq, Eq)]
+pub enum EditReply {
+    Done,
+    WantHelp,
+    WantInfo(Topic),
+    WantExport,
+    WantVerify,
+    WantCommit,
+    WantRevert,
+    WantDelete,
+    WantExit(bool),
+}
+
+impl Command {
+    ghost use Rattle.zonecfg_scopes.specs.Edited.{reply_of};
+
+    /// What it is answered where it is not refused.
+    pub fn reply(&self) -> EditReply
+        ensures { result ≡ reply_of self.now }
+    {
+        match self {
+            Command::Commit => EditReply::WantCommit,
+            Command::Delete { .. } => EditReply::WantDelete,
+            Command::Exit { force } => EditReply::WantExit(*force),
+            Command::Export => EditReply::WantExport,
+            Command::Help => EditReply::WantHelp,
+            Command::Info(topic) => EditReply::WantInfo(*topic),
+            Command::Revert { .. } => EditReply::WantRevert,
+            Command::Verify => EditReply::WantVerify,
+            _ => EditReply::Done,
+        }
+    }
+}
+
+impl ListProperty {
+    /// Its name.
+    pub fn name(self) -> &'static [u8]
+        ensures { result.now ≡ list_name self }
+    {
+        match self {
+            ListProperty::Options => b"options",
+            ListProperty::Value => b"value",
+        }
+    }
+
+    /// The property that a word names.
+    pub fn named(name: &[u8]) -> Option<ListProperty>
+        ensures { result ≡ list_named name.now }
+    {
+        if name == b"options".as_slice() {
+            Some(ListProperty::Options)
+        } else if name == b"value".as_slice() {
+            Some(ListProperty::Value)
+        } else {
+            None
+        }
+    }
+}
+
+impl Topic {
+    /// What a word names: a property of the global scope, or the resources of a type.
+    pub fn named(name: &[u8]) -> Option<Topic>
+        ensures { result ≡ topic_named name.now }
+    {
+        match Setting::named(name) {
+            Some(setting) => Some(Topic::Setting(setting)),
+            None => Kind::with_name(name).map(Topic::Resources),
+        }
+    }
+}

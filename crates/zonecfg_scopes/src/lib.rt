@@ -1,0 +1,27 @@
+//! The editor of zonecfg(8): subcommands that change the configuration that is open, or a resource of it.
+//! What is open after any list of subcommands is what that list denotes, and each refusal is the first
+//! whose cause stands.
+#![tactic(auto)]
+
+mod base;
+mod command;
+mod editor;
+mod fault;
+mod forms;
+mod laws;
+mod opened;
+mod removal;
+mod same;
+mod verb;
+mod words;
+
+pub use base::Base;
+pub use command::{Command, EditReply, ListProperty, Matching, Topic};
+pub use editor::Editor;
+pub use fault::{EditFault, Scope};
+pub use forms::read_command;
+pub use laws::{lines_denote, one_stands};
+pub use opened::{Opened, ResourceScope};
+
+#[cfg(test)]
+mod tests;

@@ -1,0 +1,384 @@
+//! What is open, and what subcommands make of it.
+ghost use Rattle.std.specs.Prelude.{◌≡◌, ◌<◌, IfOk, IsTrue, OnErr, Err, Ok, codes, false, option_copied};
+ghost use Rattle.zn_base.specs.Answers.{AnswersUnless};
+ghost use Rattle.config_terms.specs.Edits.{Changes};
+ghost use Rattle.config_terms.specs.Fields.{kind_of};
+ghost use Rattle.zone_config.specs.Resources.{count_of};
+ghost use Rattle.zonecfg_scopes.specs.Denotes.{Follows};
+ghost use Rattle.zonecfg_scopes.specs.Open.{Nothing, Whole};
+ghost use Rattle.zonecfg_scopes.specs.OpenOf.{config_of};
+ghost use Rattle.zonecfg_scopes.specs.Scopes.{created, put_back, resource_at, selection, is_in_place, is_placed};
+
+use crate::command::{Command, ListProperty, Matching, Topic};
+use crate::removal::remove_matching;
+use crate::{EditFault, Scope};
+use config_terms::{ConfigFault, Kind, Resource, Twin};
+use std::alloc::{AllocError, Global};
+use std::marker::Model;
+use zn_base::{Text, TextFault};
+use zone_config::{Contents, ZoneConfig, blank};
+use zonecfg_lex::Value;
+
+/// The resource of an open scope. It is new, or was selected at its place among those of its kind.
+#[derive(Drop)]
+pub struct ResourceScope {
+    pub resource: Resource,
+    pub place: Option<u32>,
+}
+
+/// What is open: nothing, a configuration in the global scope, or a resource of one, which is as before
+/// the scope. Contracts see these three.
+#[derive(Drop)]
+pub struct Opened {
+    config: Option<ZoneConfig>,
+    scope: Option<ResourceScope>,
+}
+
+impl Model for Opened {
+    ghost use Rattle.zonecfg_scopes.specs.Open.{Open};
+    ghost use Rattle.zonecfg_scopes.specs.OpenOf.{open_of};
+
+    ghost Value = { Open };
+
+    ghost view = { λ o. open_of o.config o.scope };
+}
+
+fn wrong_scope(scope: &ResourceScope) -> EditFault
+    ensures { result ≡ EditFault.WrongScope (Scope.Resource (kind_of scope.now.resource)) }
+{
+    EditFault::WrongScope(Scope::Resource(scope.resource.kind()))
+}
+
+fn ipkg(alloc: Global) -> Result<Value, EditFault>
+    ensures { AnswersUnless EditFault.Memory (Ok (Value.Simple (codes "ipkg"))) result }
+{
+    match Text::read(alloc, b"ipkg") {
+        Ok(text) => Ok(Value::Simple(text)),
+        Err(TextFault::Memory) => Err(EditFault::Memory),
+        Err(TextFault::BadText(_) | TextFault::TextLong) => unreachable!(),
+    }
+}
+
+#[tactic(auto, using(crate::proofs::Branded::branded))]
+fn branded(alloc: Global) -> Result<ZoneConfig, EditFault>
+    ensures { AnswersUnless EditFault.Memory (Ok (created false)) result }
+{
+    let mut config = blank(alloc);
+    let brand = ipkg(alloc)?;
+    match config.set_property(alloc, b"brand", &brand) {
+        Ok(()) => Ok(config),
+        // The brand is allowed, so only memory can be wanting.
+        Err(_) => Err(EditFault::Memory),
+    }
+}
+
+fn created(alloc: Global, bare: bool) -> Result<ZoneConfig, EditFault>
+    ensures { AnswersUnless EditFault.Memory (Ok (created bare)) result }
+{
+    if bare {
+        Ok(blank(alloc))
+    } else {
+        branded(alloc)
+    }
+}
+
+// A copy of the resource of a kind at a place.
+fn copy_at(
+    alloc: Global,
+    contents: &Contents,
+    kind: Kind,
+    place: usize,
+) -> Result<Resource, AllocError>
+    requires { place < count_of kind contents.now }
+    ensures { IfOk result (λ r. r ≡ resource_at kind place contents.now) }
+{
+    match kind {
+        Kind::Fs => Ok(Resource::Fs(contents.fs.at(place).twin(alloc)?)),
+        Kind::Net => Ok(Resource::Net(contents.net.at(place).twin(alloc)?)),
+        Kind::Device => Ok(Resource::Device(contents.device.at(place).twin(alloc)?)),
+        Kind::Rctl => Ok(Resource::Rctl(contents.rctl.at(place).twin(alloc)?)),
+        Kind::Attr => Ok(Resource::Attr(contents.attr.at(place).twin(alloc)?)),
+        Kind::Dataset => Ok(Resource::Dataset(contents.dataset.at(place).twin(alloc)?)),
+    }
+}
+
+// The place and a copy of the resource that a matching selects.
+fn selection(
+    alloc: Global,
+    config: &ZoneConfig,
+    matching: &Matching,
+) -> Result<ResourceScope, ConfigFault>
+    ensures { AnswersUnless ConfigFault.Memory (selection matching.now config.now) result }
+{
+    let place = config.find_resource(matching.kind, matching.pairs.as_slice())?;
+    let resource = copy_at(alloc, config, matching.kind, place as usize)?;
+    Ok(ResourceScope {
+        resource,
+        place: Some(place),
+    })
+}
+
+// Puts a copy of the resource of a scope last in its kind, or in its place.
+fn put_back(
+    alloc: Global,
+    config: &mut ZoneConfig,
+    scope: &ResourceScope,
+) -> Result<(), ConfigFault>
+    requires { IsTrue (is_placed scope.now.place scope.now.resource config.old) }
+    ensures { Changes config.old config.new result (put_back scope.now.place scope.now.resource config.old) }
+{
+    let resource = scope.resource.twin(alloc)?;
+    match scope.place {
+        None => config.add_resource(resource),
+        Some(place) => config.replace_resource(place, resource),
+    }
+}
+
+impl Opened {
+    /// Nothing is open.
+    pub fn nothing() -> Opened
+        ensures { result ≡ Nothing }
+    {
+        Opened {
+            config: None,
+            scope: None,
+        }
+    }
+
+    /// A configuration is open, in the global scope.
+    pub fn whole(config: ZoneConfig) -> Opened
+        ensures { result ≡ Whole config }
+    {
+        Opened {
+            config: Some(config),
+            scope: None,
+        }
+    }
+
+    /// The configuration that is open.
+    pub fn config(&self) -> Option<&ZoneConfig>
+        ensures { option_copied result ≡ config_of self.now }
+    {
+        self.config.as_ref()
+    }
+
+    /// The same is open in the copy.
+    pub fn copy(&self, alloc: Global) -> Result<Opened, EditFault>
+        ensures same { IfOk result (λ o. o ≡ self.now) }
+        ensures memory { OnErr result (result ≡ Err EditFault.Memory) }
+    {
+        let config = match &self.config {
+            None => None,
+            Some(config) => Some(config.copy(alloc)?),
+        };
+        let scope = match &self.scope {
+            None => None,
+            Some(scope) => Some(ResourceScope {
+                resource: scope.resource.twin(alloc)?,
+                place: scope.place,
+            }),
+        };
+        Ok(Opened { config, scope })
+    }
+}
+
+#[tactic(auto, unfolding(crate::specs::Scopes::made))]
+impl Opened {
+    fn create(&mut self, alloc: Global, force: bool, bare: bool) -> Result<(), EditFault>
+        ensures { Follows (Command.Create force bare) self.old self.new result }
+    {
+        match (&self.config, &self.scope) {
+            (Some(_), Some(scope)) => return Err(wrong_scope(scope)),
+            (Some(_), None) if !force => return Err(EditFault::NeedForce),
+            _ => {}
+        }
+        self.config = Some(created(alloc, bare)?);
+        self.scope = None;
+        Ok(())
+    }
+
+    fn set(&mut self, alloc: Global, name: &Text, value: &Value) -> Result<(), EditFault>
+        ensures { Follows (Command.Set name.now value.now) self.old self.new result }
+    {
+        match (&mut self.config, &mut self.scope) {
+            (None, _) => return Err(EditFault::NothingOpen),
+            (Some(config), None) => config.set_property(alloc, name.bytes(), value)?,
+            (Some(_), Some(scope)) => scope.resource.set_property(alloc, name.bytes(), value)?,
+        }
+        Ok(())
+    }
+
+    fn clear(&mut self, alloc: Global, name: &Text) -> Result<(), EditFault>
+        ensures { Follows (Command.Clear name.now) self.old self.new result }
+    {
+        match (&mut self.config, &mut self.scope) {
+            (None, _) => return Err(EditFault::NothingOpen),
+            (Some(config), None) => config.clear_property(alloc, name.bytes())?,
+            (Some(_), Some(scope)) => scope.resource.clear_property(alloc, name.bytes())?,
+        }
+        Ok(())
+    }
+
+    fn append(&mut self, alloc: Global, list: ListProperty, value: &Value) -> Result<(), EditFault>
+        ensures { Follows (Command.Append list value.now) self.old self.new result }
+    {
+        match (&self.config, &mut self.scope) {
+            (None, _) => return Err(EditFault::NothingOpen),
+            (Some(_), None) => return Err(EditFault::WrongScope(Scope::Global)),
+            (Some(_), Some(scope)) => scope.resource.add_value(alloc, list.name(), value)?,
+        }
+        Ok(())
+    }
+
+    fn remove_item(
+        &mut self,
+        alloc: Global,
+        list: ListProperty,
+        value: &Value,
+    ) -> Result<(), EditFault>
+        ensures { Follows (Command.RemoveItem list value.now) self.old self.new result }
+    {
+        match (&self.config, &mut self.scope) {
+            (None, _) => return Err(EditFault::NothingOpen),
+            (Some(_), None) => return Err(EditFault::WrongScope(Scope::Global)),
+            (Some(_), Some(scope)) => scope.resource.remove_value(alloc, list.name(), value)?,
+        }
+        Ok(())
+    }
+
+    fn add(&mut self, alloc: Global, kind: Kind) -> Result<(), EditFault>
+        ensures { Follows (Command.Add kind) self.old self.new result }
+    {
+        match (&self.config, &self.scope) {
+            (None, _) => return Err(EditFault::NothingOpen),
+            (Some(_), Some(scope)) => return Err(wrong_scope(scope)),
+            (Some(_), None) => {}
+        }
+        let resource = Resource::empty(alloc, kind);
+        self.scope = Some(ResourceScope {
+            resource,
+            place: None,
+        });
+        Ok(())
+    }
+
+    fn select(&mut self, alloc: Global, matching: &Matching) -> Result<(), EditFault>
+        ensures { Follows (Command.Select matching.now) self.old self.new result }
+    {
+        let scope = match (&self.config, &self.scope) {
+            (None, _) => return Err(EditFault::NothingOpen),
+            (Some(_), Some(scope)) => return Err(wrong_scope(scope)),
+            (Some(config), None) => selection(alloc, config, matching)?,
+        };
+        self.scope = Some(scope);
+        Ok(())
+    }
+
+    fn remove(&mut self, force: bool, matching: &Matching) -> Result<(), EditFault>
+        ensures { Follows (Command.Remove force matching.now) self.old self.new result }
+    {
+        match (&mut self.config, &self.scope) {
+            (None, _) => return Err(EditFault::NothingOpen),
+            (Some(_), Some(scope)) => return Err(wrong_scope(scope)),
+            (Some(config), None) => remove_matching(config, force, matching)?,
+        }
+        Ok(())
+    }
+
+    fn end(&mut self, alloc: Global) -> Result<(), EditFault>
+        requires { IsTrue (is_in_place self.old) }
+        ensures { Follows Command.End self.old self.new result }
+    {
+        match (&mut self.config, &self.scope) {
+            (None, _) => return Err(EditFault::NothingOpen),
+            (Some(_), None) => return Err(EditFault::WrongScope(Scope::Global)),
+            (Some(config), Some(scope)) => put_back(alloc, config, scope)?,
+        }
+        self.scope = None;
+        Ok(())
+    }
+
+    fn cancel(&mut self) -> Result<(), EditFault>
+        ensures { Follows Command.Cancel self.old self.new result }
+    {
+        match (&self.config, &self.scope) {
+            (None, _) => return Err(EditFault::NothingOpen),
+            (Some(_), None) => return Err(EditFault::WrongScope(Scope::Global)),
+            (Some(_), Some(_)) => {}
+        }
+        self.scope = None;
+        Ok(())
+    }
+
+    // `delete` and `revert` ask for `-F`, and leave all else to the caller.
+    fn look_forced(&self, force: bool) -> Result<(), EditFault>
+        ensures delete { Follows (Command.Delete force) self.now self.now result }
+        ensures revert { Follows (Command.Revert force) self.now self.now result }
+    {
+        match (&self.config, &self.scope) {
+            (None, _) => Err(EditFault::NothingOpen),
+            (Some(_), None) if force => Ok(()),
+            (Some(_), None) => Err(EditFault::NeedForce),
+            (Some(_), Some(scope)) => Err(wrong_scope(scope)),
+        }
+    }
+
+    // What stands in the global scope and leaves all to the caller.
+    fn look(&self) -> Result<(), EditFault>
+        ensures commit { Follows Command.Commit self.now self.now result }
+        ensures export { Follows Command.Export self.now self.now result }
+        ensures verify { Follows Command.Verify self.now self.now result }
+    {
+        match (&self.config, &self.scope) {
+            (None, _) => Err(EditFault::NothingOpen),
+            (Some(_), None) => Ok(()),
+            (Some(_), Some(scope)) => Err(wrong_scope(scope)),
+        }
+    }
+
+    fn exit(&self, force: bool) -> Result<(), EditFault>
+        ensures { Follows (Command.Exit force) self.now self.now result }
+    {
+        match (&self.config, &self.scope) {
+            (Some(_), Some(scope)) if !force => Err(wrong_scope(scope)),
+            _ => Ok(()),
+        }
+    }
+
+    fn inform(&self, topic: Topic) -> Result<(), EditFault>
+        ensures { Follows (Command.Info topic) self.now self.now result }
+    {
+        match (&self.config, &self.scope) {
+            (None, _) => Err(EditFault::NothingOpen),
+            (Some(_), None) => Ok(()),
+            (Some(_), Some(scope)) => match topic {
+                Topic::Everything => Ok(()),
+                Topic::Setting(_) | Topic::Resources(_) => Err(wrong_scope(scope)),
+            },
+        }
+    }
+
+    /// Does what a subcommand says. A refused one leaves all as it was, and so does want of memory.
+    pub fn obey(&mut self, alloc: Global, command: &Command) -> Result<(), EditFault>
+        requires { IsTrue (is_in_place self.old) }
+        ensures { Follows command.now self.old self.new result }
+    {
+        match command {
+            Command::Blank | Command::Help => Ok(()),
+            Command::Add(kind) => self.add(alloc, *kind),
+            Command::Append(list, value) => self.append(alloc, *list, value),
+            Command::Cancel => self.cancel(),
+            Command::Clear(name) => self.clear(alloc, name),
+            Command::Commit | Command::Export | Command::Verify => self.look(),
+            Command::Create { force, bare } => self.create(alloc, *force, *bare),
+            Command::Delete { force } | Command::Revert { force } => self.look_forced(*force),
+            Command::End => self.end(alloc),
+            Command::Exit { force } => self.exit(*force),
+            Command::Info(topic) => self.inform(*topic),
+            Command::Remove { force, matching } => self.remove(*force, matching),
+            Command::RemoveItem(list, value) => self.remove_item(alloc, *list, value),
+            Command::Select(matching) => self.select(alloc, matching),
+            Command::Set(name, value) => self.set(alloc, name, value),
+        }
+    }
+}

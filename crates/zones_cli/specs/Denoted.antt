@@ -1,0 +1,46 @@
+-- What the input of `export` denotes, and how that bears on what is written.
+use Rattle.std.specs.Prelude.{◌≡◌, ℕ, List, [], ◌∷◌, Some, None, Result, Ok, Err}
+use Rattle.std.specs.List.{flat_map}
+use Rattle.zonecfg_lex.specs.declared.fault.LexFault.{LexFault}
+use Rattle.zonecfg_lex.specs.declared.token.Span.{Span}
+use Rattle.zonecfg_lex.specs.Parts.{parts_of, span_text}
+use Rattle.zone_config.specs.declared.terms.Contents.{Contents}
+use Rattle.zone_config.specs.Export.{export_text}
+use Rattle.config_verify.specs.Flaws.{flaws}
+use Rattle.zonecfg_scopes.specs.declared.command.Command.{Command}
+use Rattle.zonecfg_scopes.specs.Denotes.{Denotes}
+use Rattle.zonecfg_scopes.specs.Edited.{with_command}
+use Rattle.zonecfg_scopes.specs.Forms.{command_of}
+use Rattle.zones_cli.specs.declared.status.TheConstants.{DONE}
+use Rattle.zones_cli.specs.Exporting.{exported}
+use Rattle.zones_cli.specs.Lines.{lines_of}
+use Rattle.zones_cli.specs.Output.{Output, written}
+use Rattle.zones_cli.specs.Subcommands.{known_brands}
+
+-- the subcommands that some spans of a line spell
+abbrev pub subcommands_in : List ℕ → List Span → List Command
+subcommands_in line [] = []
+subcommands_in line (s ∷ ss) = with_command (command_of (span_text line s)) (subcommands_in line ss)
+
+abbrev pub subcommands_by : List ℕ → Result (List Span) LexFault → List Command
+subcommands_by line (Ok spans) = subcommands_in line spans
+subcommands_by line (Err fault) = []
+
+-- the subcommands of a line
+unfoldable pub subcommands_of : List ℕ → List Command
+subcommands_of line = subcommands_by line (parts_of line)
+
+-- the subcommands of an input
+abbrev pub script_of : List ℕ → List Command
+script_of bytes = flat_map subcommands_of (lines_of bytes)
+
+-- the export text of a configuration without flaws that some subcommands denote, with nothing open before them
+pub record ExportsDenoted (cs : List Command) (output : Output) : Type 0 where
+  pub config : Contents
+  pub denoted : Denotes None cs (Some config)
+  pub flawless : flaws known_brands config ≡ []
+  pub text : output ≡ written (export_text config)
+
+-- a law: where the status is 0, what is written is the export text of what the subcommands of the input denote
+abbrev pub ExportsWhatIsDenoted : Type 0
+ExportsWhatIsDenoted = (bytes : List ℕ) → (exported bytes).status ≡ DONE → ExportsDenoted (script_of bytes) (exported bytes)
