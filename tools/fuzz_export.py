@@ -130,6 +130,8 @@ class Maker:
         chance = rng.random()
         if chance < 0.015:
             return rng.choice(JUNK)
+        if chance < 0.02:
+            return rng.choice(["create", "create -F", "create -F -b"])
         if editor.config is None:
             return rng.choice(["create", "create -b", "create -F -b", "create -F"])
         if editor.scope is not None:
@@ -178,6 +180,26 @@ class Maker:
             lines.append("verify")
         return ("\n".join(lines) + rng.choice(["\n", ""])).encode("latin-1")
 
+    def full(self):
+        """A script that comes near one of the bounds of a configuration, or passes it."""
+        rng = self.rng
+        which = rng.randrange(3)
+        lines = ["create", "set zonepath=/zones/web"]
+        if which == 0:
+            for number in range(rng.randrange(28, 36)):
+                value = "v" * rng.choice([1000, 1010, 1023])
+                lines.append("add attr; set name=a%d; set type=string; set value=%s; end" % (number, value))
+            lines += ["set bootargs=%s" % ("b" * rng.randrange(1000)) for _ in range(4)]
+            lines += ["set autoboot=true", "clear autoboot", "clear bootargs"]
+        elif which == 1:
+            for number in range(rng.randrange(98, 103)):
+                lines.append("add fs; set dir=/m%d; set special=/s; set type=lofs; end" % number)
+        else:
+            for number in range(rng.randrange(254, 259)):
+                lines.append("add dataset; set name=d%d; end" % number)
+            lines += ["set cpu-shares=1", "set max-lwps=2", "set cpu-shares=3"]
+        return ("\n".join(lines) + "\n").encode()
+
     def mutated(self, scripts):
         rng = self.rng
         data = bytearray(rng.choice(scripts))
@@ -219,7 +241,9 @@ def main():
     statuses, codes, scripts = {}, {}, []
     for number in range(args.count):
         chance = rng.random()
-        if chance < 0.65 or not scripts:
+        if chance < 0.02:
+            data = maker.full()
+        elif chance < 0.65 or not scripts:
             data = maker.script()
             scripts = (scripts + [data])[-200:]
         elif chance < 0.95:

@@ -1,0 +1,11 @@
+pub mod Applied
+pub mod Lists
+pub mod Lines
+pub mod Parts
+pub mod Lengths
+pub mod Places
+pub mod OneText
+pub mod Says
+pub mod Kept
+pub mod Opening
+pub mod Examples

@@ -1,0 +1,30 @@
+-- What the bodies of a store say, and the first that says nothing.
+use Rattle.std.specs.Prelude.{◌≡◌, ℕ, ◌+◌, ◌-◌, ◌≤◌, List, ◌∷◌, ◌++◌, length, take, map, All, Bool, nat_le, IsTrue}
+use Rattle.zone_disk.specs.Image.{BANK}
+use Rattle.commit_journal.specs.declared.records.Commit.{Commit}
+use Rattle.commit_journal.specs.Bodies.{body_text, IsCommit}
+use Rattle.commit_journal.specs.Stored.{may_follow, stored, Rows}
+
+-- the bodies are those of some commits, each of which may follow those before it
+pub record Say (bodies : List (List ℕ)) (commits : List Commit) : Type 0 where
+  pub texts : bodies ≡ map body_text commits
+  pub each : All IsCommit commits
+  pub follow : (before after : List Commit) (c : Commit) → commits ≡ before ++ c ∷ after → IsTrue (may_follow before c)
+
+-- the zones that a store with these bodies has
+pub record Leave (bodies : List (List ℕ)) (rows : Rows) : Type 0 where
+  pub commits : List Commit
+  pub say : Say bodies commits
+  pub are : rows ≡ stored commits
+
+-- the bodies before the one of this number say commits, and with it they say none
+pub record IsFirstBad (bodies : List (List ℕ)) (serial : ℕ) : Type 0 where
+  pub positive : 1 ≤ serial
+  pub within : serial ≤ length bodies
+  pub commits : List Commit
+  pub before : Say (take (serial - 1) bodies) commits
+  pub bad : (said : List Commit) → Say (take serial bodies) said → ⊥
+
+-- a body and the next gate fit into the bank behind the bytes in use
+abbrev pub has_room : ℕ → List ℕ → Bool
+has_room used body = nat_le (used + 5 + length body) BANK

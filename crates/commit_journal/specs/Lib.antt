@@ -1,0 +1,8 @@
+pub mod Bodies
+pub mod Stored
+pub mod Journal
+pub mod Uuids
+pub mod Faults
+pub mod Store
+pub mod Places
+pub mod Replay

@@ -1,0 +1,108 @@
+//! The body of one record of a store, written.
+ghost use Rattle.std.specs.Prelude.{◌≡◌, ◌<◌, ◌^◌, ◌++◌, IfOk, IfSome, OnOk, codes, option_map};
+ghost use Rattle.index_file.specs.Index.{IsUuid};
+ghost use Rattle.uuid.specs.Text.{hyphenated_text, lower};
+ghost use Rattle.zone_config.specs.Export.{export_text};
+ghost use Rattle.zone_config.specs.Sound.{IsSound};
+ghost use Rattle.commit_journal.specs.Bodies.{IsCommit, IsRecord, IsStorable, padded, record_text, stored_text, told};
+ghost use Rattle.commit_journal.specs.Store.{change_text};
+
+use crate::Record;
+use std::alloc::{AllocError, Global};
+use uuid::Uuid;
+use zn_base::ZoneName;
+use zone_config::{ZoneConfig, export};
+
+fn push_told(out: &mut Vec<u8>, word: &[u8], value: &[u8]) -> Result<(), AllocError>
+    ensures { OnOk result (out.new.items ≡ out.old.items ++ told word.now value.now) }
+{
+    out.extend_from_slice(word)?;
+    out.push(b' ')?;
+    out.extend_from_slice(value)?;
+    out.push(b'\n')?;
+    Ok(())
+}
+
+#[tactic(auto, using(crate::proofs::Parts::text_is_uuid))]
+fn push_uuid(out: &mut Vec<u8>, uuid: Uuid) -> Result<(), AllocError>
+    ensures text { OnOk result (out.new.items ≡ out.old.items ++ told (codes "uuid") (hyphenated_text lower uuid)) }
+    ensures uuid { IsUuid uuid }
+{
+    let mut buffer = Uuid::encode_buffer();
+    push_told(
+        out,
+        b"uuid",
+        uuid.hyphenated().encode_lower(&mut buffer).as_bytes(),
+    )
+}
+
+// A number in so many digits, with leading zeros.
+#[tactic(auto, using(crate::proofs::Parts::padded_none, crate::proofs::Parts::padded_more))]
+fn push_padded(out: &mut Vec<u8>, digits: u32, number: u32) -> Result<(), AllocError>
+    ensures { OnOk result (out.new.items ≡ out.old.items ++ padded digits number) }
+{
+    if digits == 0 {
+        return Ok(());
+    }
+    push_padded(out, digits - 1, number / 10)?;
+    out.push(b'0' + (number % 10) as u8)?;
+    Ok(())
+}
+
+fn push_revision(out: &mut Vec<u8>, revision: u32) -> Result<(), AllocError>
+    ensures text { OnOk result (out.new.items ≡ out.old.items ++ told (codes "revision") (padded 10 revision)) }
+    ensures fits { revision < 2 ^ 32 }
+{
+    out.extend_from_slice(b"revision ")?;
+    push_padded(out, 10, revision)?;
+    out.push(b'\n')?;
+    Ok(())
+}
+
+fn push_config(alloc: Global, out: &mut Vec<u8>, config: &ZoneConfig) -> Result<(), AllocError>
+    ensures text { OnOk result (out.new.items ≡ out.old.items ++ export_text config.now) }
+    ensures sound { IsSound config.now }
+{
+    let _contents = config.contents();
+    match export(alloc, config) {
+        Ok(text) => out.extend_from_slice(&text),
+        Err(_) => Err(AllocError),
+    }
+}
+
+#[tactic(auto, unfolding(crate::specs::Bodies::record_text))]
+fn push_record(alloc: Global, out: &mut Vec<u8>, row: &Record) -> Result<(), AllocError>
+    ensures text { OnOk result (out.new.items ≡ out.old.items ++ record_text row.now) }
+    ensures record { OnOk result (IsStorable row.now → IsRecord row.now) }
+{
+    push_told(out, b"state", row.state.text())?;
+    push_uuid(out, row.uuid)?;
+    push_revision(out, row.revision)?;
+    push_config(alloc, out, &row.config)
+}
+
+fn push_stored(alloc: Global, out: &mut Vec<u8>, stored: Option<&Record>) -> Result<(), AllocError>
+    ensures text { OnOk result (out.new.items ≡ out.old.items ++ stored_text (option_map (λ row. row.now) stored.entry)) }
+    ensures record { OnOk result (IfSome stored.entry (λ row. IsStorable row.now → IsRecord row.now)) }
+{
+    match stored {
+        None => push_told(out, b"state", b"none"),
+        Some(row) => push_record(alloc, out, row),
+    }
+}
+
+/// The body of a record: what is stored of a zone from then on, or that it is removed.
+#[tactic(auto, unfolding(crate::specs::Bodies::body_text))]
+pub(crate) fn body_of(
+    alloc: Global,
+    zone: &ZoneName,
+    stored: Option<&Record>,
+) -> Result<Vec<u8>, AllocError>
+    ensures text { IfOk result (λ body. body.items ≡ change_text zone.now (option_map (λ row. row.now) stored.entry)) }
+    ensures commit { OnOk result (IfSome stored.entry (λ row. IsStorable row.now) → IsCommit (record { zone = zone.now; stored = option_map (λ row. row.now) stored.entry })) }
+{
+    let mut body = Vec::new(alloc);
+    push_told(&mut body, b"zone", zone.bytes())?;
+    push_stored(alloc, &mut body, stored)?;
+    Ok(body)
+}

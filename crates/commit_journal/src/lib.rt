@@ -1,0 +1,23 @@
+//! Zones from the records of a store. A store stands for the zones that the bodies on its disk leave, and a
+//! change of one zone is one record.
+#![tactic(auto)]
+
+mod bodies;
+mod fault;
+mod laws;
+mod reading;
+mod records;
+mod replay;
+mod rows;
+mod sizes;
+mod store;
+#[cfg(test)]
+mod tests;
+mod uuids;
+
+pub use fault::StoreFault;
+pub use laws::{applies_one_by_one, one_commit_a_body, opens_store_one_way};
+pub use records::{Commit, Record};
+pub use rows::ZONES_MAX;
+pub use store::Store;
+pub use uuids::uuid_of;

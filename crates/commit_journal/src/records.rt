@@ -1,0 +1,22 @@
+//! What is stored of zones.
+use uuid::Uuid;
+use zn_base::{ZoneName, ZoneState};
+use zone_config::ZoneConfig;
+
+/// What is stored of a zone. Its state is configured, incomplete or installed, and its configuration has a
+/// zonepath.
+#[derive(Drop)]
+pub struct Record {
+    pub state: ZoneState,
+    pub uuid: Uuid,
+    /// The number of the record that gave the zone its configuration, from 1.
+    pub revision: u32,
+    pub config: ZoneConfig,
+}
+
+/// One record of a store: what is stored of a zone from then on, `None` where it is removed.
+#[derive(Drop)]
+pub struct Commit {
+    pub zone: ZoneName,
+    pub stored: Option<Record>,
+}

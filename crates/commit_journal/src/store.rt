@@ -1,0 +1,273 @@
+//! The zones that are stored on a disk, changed by one record at a time.
+ghost use Rattle.std.specs.Prelude.{◌≡◌, ◌⊎◌, ◌*◌, ◌+◌, ◌<◌, ◌≤◌, ◌++◌, ◌↔◌, [], ◌∷◌, List, ℕ, length, option_map, slice_get, Some, true, false, IfOk, IfErr, OnOk, OnErr, IfSome, IsErrOf, IsSome, IsTrue, vec_capacity};
+ghost use Rattle.std.specs.Option.{ForSome};
+ghost use Rattle.zn_base.specs.Disk.{View, Leaves};
+ghost use Rattle.zn_base.specs.Streams.{Rose};
+ghost use Rattle.zone_disk.specs.Bank.{Formats, KeepsMeaning, IsBeforeOrAfter as IsOneMore};
+ghost use Rattle.zone_disk.specs.Image.{Stands};
+ghost use Rattle.commit_journal.specs.Bodies.{IsCommit, IsStorable};
+ghost use Rattle.commit_journal.specs.Journal.{has_room, Leave};
+ghost use Rattle.commit_journal.specs.Store.{change_text, outcome_by, row_of, HasZones, IsBeforeOrAfter, Says, Stores, StoresOneMore};
+ghost use Rattle.commit_journal.specs.Stored.{holds, may_stand, with_stored, ZONES};
+
+use crate::bodies::body_of;
+use crate::replay::replay;
+use crate::rows::{apply, row_of};
+use crate::sizes::body_length;
+use crate::{Record, StoreFault};
+use std::alloc::{AllocError, Global};
+use std::marker::Model;
+use zn_base::{Disk, Owned, ZoneName};
+use zone_disk::{Bank, BankFault};
+
+const BANK_BYTES: usize = 33_554_432;
+
+/// The stored zones in the order of their creation, and the disk with the records that leave them. Contracts
+/// see a `Ledger`: the bank, and the zones with what is stored of each.
+#[derive(Drop)]
+pub struct Store<D: Disk> {
+    bank: Bank<D>,
+    zones: Vec<Owned<Record>>,
+}
+
+impl<D: Disk> Model for Store<D> {
+    ghost use Rattle.commit_journal.specs.Store.{IsKept, Ledger};
+
+    ghost Value = { Ledger D };
+
+    ghost view = { λ s. record { bank = s.bank; rows = s.zones.items } };
+
+    ghost invariant = { λ s. IsKept (D.view s.bank.disk) s.bank.records s.bank.sound s.zones.items };
+}
+
+// How many records a bank has.
+#[tactic(auto, using(crate::proofs::Kept::few_records))]
+fn count_of<D: Disk>(bank: &Bank<D>) -> usize
+    ensures count { result ≡ length bank.now.records }
+    ensures few { result < 8388608 }
+{
+    let _used = bank.used();
+    bank.records().len()
+}
+
+// Whether a body and the next gate fit behind the bytes in use.
+fn has_room<D: Disk>(bank: &Bank<D>, zone: &ZoneName, stored: Option<&Record>) -> bool
+    ensures { result ≡ has_room bank.now.used (change_text zone.now (option_map (λ row. row.now) stored.entry)) }
+{
+    bank.used() as usize + 5 + body_length(zone, stored) <= BANK_BYTES
+}
+
+// The body of a zone's record and a copy of the zone's name, with a place among the zones for one more.
+fn prepared(
+    alloc: Global,
+    zones: &mut Vec<Owned<Record>>,
+    name: &ZoneName,
+    row: Option<&Record>,
+) -> Result<(Vec<u8>, ZoneName), AllocError>
+    ensures same { zones.new.items ≡ zones.old.items }
+    ensures room { OnOk result (length zones.new.items < vec_capacity zones.new) }
+    ensures body { IfOk result (λ r. r.0.items ≡ change_text name.now (option_map (λ row. row.now) row.entry)) }
+    ensures zone { IfOk result (λ r. r.1 ≡ name.now) }
+    ensures commit { OnOk result (IfSome row.entry (λ row. IsStorable row.now) → IsCommit (record { zone = name.now; stored = option_map (λ row. row.now) row.entry })) }
+{
+    let body = body_of(alloc, name, row)?;
+    let zone = name.copy(alloc)?;
+    zones.reserve(1)?;
+    Ok((body, zone))
+}
+
+// Appends a body for which there is room.
+fn append<D: Disk>(bank: &mut Bank<D>, alloc: Global, body: &[u8]) -> Result<(), StoreFault>
+    requires sound { bank.old.sound ≡ true }
+    requires room { IsTrue (has_room bank.old.used body.now) }
+    requires settled { (D.view bank.old.disk).Keeps → (image : List ℕ) → (D.view bank.old.disk).Now image → Stands image bank.old.records }
+    ensures records { OnOk result (bank.new.records ≡ bank.old.records ++ body.now ∷ []) }
+    ensures same { OnErr result (bank.new.records ≡ bank.old.records) }
+    ensures sound { OnOk result (bank.new.sound ≡ true) }
+    ensures settled { bank.new.sound ≡ true → (D.view bank.new.disk).Keeps → (image : List ℕ) → (D.view bank.new.disk).Now image → Stands image bank.new.records }
+    ensures any_moment { (D.view bank.old.disk).Keeps → Leaves (D.view bank.old.disk) (D.view bank.new.disk) (IsOneMore bank.old.records body.now) }
+    ensures either { (D.view bank.old.disk).Keeps → (image : List ℕ) → (D.view bank.new.disk).Now image → IsOneMore bank.old.records body.now image }
+    ensures memory_same { IsErrOf result StoreFault.Memory → bank.new ≡ bank.old }
+    ensures fault { IsErrOf result StoreFault.DiskFault → Rose (D.view bank.old.disk).faults (D.view bank.new.disk).faults }
+    ensures unsound { IsErrOf result StoreFault.DiskFault ↔ (bank.new.sound ≡ false) }
+    ensures only { IfErr result (λ e. (e ≡ StoreFault.Memory) ⊎ (e ≡ StoreFault.DiskFault)) }
+    ensures model { (D.view bank.old.disk).Keeps ↔ (D.view bank.new.disk).Keeps }
+    ensures faults { (D.view bank.old.disk).faults ≤ (D.view bank.new.disk).faults }
+{
+    match bank.append(alloc, body) {
+        Ok(()) => Ok(()),
+        Err(fault) => Err(StoreFault::from(fault)),
+    }
+}
+
+// Writes the record of a zone to the disk, once all memory is taken that is then needed.
+fn write<D: Disk>(
+    bank: &mut Bank<D>,
+    zones: &mut Vec<Owned<Record>>,
+    alloc: Global,
+    name: &ZoneName,
+    row: Option<&Record>,
+) -> Result<ZoneName, StoreFault>
+    requires sound { bank.old.sound ≡ true }
+    requires settled { (D.view bank.old.disk).Keeps → (image : List ℕ) → (D.view bank.old.disk).Now image → Stands image bank.old.records }
+    requires zones { HasZones bank.old.records zones.old.items }
+    requires row { ForSome (option_map (λ row. row.now) row) IsStorable }
+    requires place { IsTrue (may_stand name.now (option_map (λ row. row.now) row) zones.old.items) }
+
+    ensures name { IfOk result (λ zone. zone ≡ name.now) }
+    ensures room { OnOk result (length zones.new.items < vec_capacity zones.new) }
+    ensures zones { zones.new.items ≡ zones.old.items }
+    ensures leaves { OnOk result (HasZones bank.new.records (with_stored name.now (option_map (λ row. row.now) row.entry) zones.old.items)) }
+    ensures records { OnOk result (bank.new.records ≡ bank.old.records ++ change_text name.now (option_map (λ row. row.now) row.entry) ∷ []) }
+    ensures same { OnErr result (bank.new.records ≡ bank.old.records) }
+    ensures sound { OnOk result (bank.new.sound ≡ true) }
+    ensures settled { bank.new.sound ≡ true → (D.view bank.new.disk).Keeps → (image : List ℕ) → (D.view bank.new.disk).Now image → Stands image bank.new.records }
+
+    ensures any_moment { (D.view bank.old.disk).Keeps → Leaves (D.view bank.old.disk) (D.view bank.new.disk) (IsBeforeOrAfter bank.old.records zones.old.items name.now (option_map (λ row. row.now) row.entry)) }
+    ensures lasts { (D.view bank.old.disk).Keeps → OnOk result ((image : List ℕ) → (D.view bank.new.disk).Now image → StoresOneMore bank.old.records zones.old.items name.now (option_map (λ row. row.now) row.entry) image) }
+    ensures either { (D.view bank.old.disk).Keeps → (image : List ℕ) → (D.view bank.new.disk).Now image → IsBeforeOrAfter bank.old.records zones.old.items name.now (option_map (λ row. row.now) row.entry) image }
+
+    ensures full { IsErrOf result StoreFault.BankFull ↔ (has_room bank.old.used (change_text name.now (option_map (λ row. row.now) row.entry)) ≡ false) }
+    ensures full_same { IsErrOf result StoreFault.BankFull → bank.new ≡ bank.old }
+    ensures memory_same { IsErrOf result StoreFault.Memory → bank.new ≡ bank.old }
+    ensures fault { IsErrOf result StoreFault.DiskFault → Rose (D.view bank.old.disk).faults (D.view bank.new.disk).faults }
+    ensures unsound { IsErrOf result StoreFault.DiskFault ↔ (bank.new.sound ≡ false) }
+    ensures only { IfErr result (λ e. (e ≡ StoreFault.BankFull) ⊎ (e ≡ StoreFault.Memory) ⊎ (e ≡ StoreFault.DiskFault)) }
+
+    ensures model { (D.view bank.old.disk).Keeps ↔ (D.view bank.new.disk).Keeps }
+    ensures faults { (D.view bank.old.disk).faults ≤ (D.view bank.new.disk).faults }
+{
+    if !has_room(bank, name, row) {
+        return Err(StoreFault::BankFull);
+    }
+    let (body, zone) = prepared(alloc, zones, name, row)?;
+    append(bank, alloc, &body)?;
+    Ok(zone)
+}
+
+impl<D: Disk> Store<D> {
+    /// Opens a store, and formats a disk that is unformatted. A crash at any moment meanwhile leaves what
+    /// stands for the same records. A fault hands the disk back.
+    pub fn open(alloc: Global, disk: D) -> Result<Store<D>, (StoreFault, D)>
+        // The answer is what the disk's bytes come to, unless memory or the disk fails.
+        ensures answers { (D.view disk).Keeps → Says (D.view disk).reads (outcome_by (λ store. store.bank.records) (λ store. store.rows) (λ e. e.0) result) }
+        ensures leave { IfOk result (λ store. Leave store.bank.records store.rows) }
+
+        ensures any_moment { (D.view disk).Keeps → IfOk result (λ store. Leaves (D.view disk) (D.view store.bank.disk) (KeepsMeaning (D.view disk))) }
+        ensures any_moment_err { (D.view disk).Keeps → IfErr result (λ e. Leaves (D.view disk) (D.view e.1) (KeepsMeaning (D.view disk))) }
+        ensures lasts { (D.view disk).Keeps → IfOk result (λ store. (image : List ℕ) → (D.view store.bank.disk).Now image → Stores store.bank.records store.rows image) }
+
+        // What is unformatted becomes a new store, and every other store stays as it is.
+        ensures formats { (D.view disk).Keeps → IfOk result (λ store. Formats (D.view disk).reads (D.view store.bank.disk).reads) }
+        ensures sound { IfOk result (λ store. store.bank.sound ≡ true) }
+
+        ensures model { IfOk result (λ store. (D.view disk).Keeps ↔ (D.view store.bank.disk).Keeps) }
+        ensures model_err { IfErr result (λ e. (D.view disk).Keeps ↔ (D.view e.1).Keeps) }
+        ensures faults { IfOk result (λ store. (D.view disk).faults ≤ (D.view store.bank.disk).faults) }
+        ensures faults_err { IfErr result (λ e. (D.view disk).faults ≤ (D.view e.1).faults) }
+        ensures cause { IfErr result (λ e. e.0 ≡ StoreFault.DiskFault → Rose (D.view disk).faults (D.view e.1).faults) }
+    {
+        let bank = match Bank::open(alloc, disk) {
+            Ok(bank) => bank,
+            Err((fault, disk)) => return Err((StoreFault::from(fault), disk)),
+        };
+        let _count = count_of(&bank);
+        match replay(alloc, bank.records()) {
+            Ok(zones) => Ok(Store { bank, zones }),
+            Err(fault) => Err((fault, bank.into_disk())),
+        }
+    }
+
+    /// What is stored of a zone. It takes no memory.
+    pub fn get(&self, name: &ZoneName) -> Option<&Record>
+        ensures row { option_map (λ row. row.now) result ≡ row_of name.now self.now.rows }
+        ensures held { IsSome result ↔ IsTrue (holds name.now self.now.rows) }
+    {
+        row_of(&self.zones, name)
+    }
+
+    /// How many zones are stored. It takes no memory.
+    pub fn count(&self) -> u32
+        ensures count { result ≡ length self.now.rows }
+        ensures few { result ≤ ZONES }
+        ensures leave { Leave self.now.bank.records self.now.rows }
+    {
+        self.zones.len() as u32
+    }
+
+    /// The zone at a place in the order of creation, from 0, and what is stored of it. It takes no memory.
+    pub fn at(&self, place: u32) -> (&ZoneName, &Record)
+        requires { place < length self.now.rows }
+        ensures { slice_get self.now.rows place ≡ Some (record { zone = result.0.now; it = result.1.now }) }
+    {
+        let row = &self.zones[place as usize];
+        (&row.zone, &row.it)
+    }
+
+    /// The number that the next record will have, from 1. It takes no memory.
+    pub fn next_serial(&self) -> u32
+        ensures { result ≡ length self.now.bank.records + 1 }
+    {
+        (count_of(&self.bank) + 1) as u32
+    }
+
+    /// Whether the bank has room for a zone's record, or for its removal. It takes no memory.
+    pub fn room_for(&self, name: &ZoneName, row: Option<&Record>) -> bool
+        ensures { result ≡ has_room self.now.bank.used (change_text name.now (option_map (λ row. row.now) row.entry)) }
+    {
+        has_room(&self.bank, name, row)
+    }
+
+    /// Makes one record: what is stored of a zone from then on, or that it is removed. It is on the disk
+    /// before this answers the record's number. A crash at any moment meanwhile leaves the records from
+    /// before, or these and the new one. After `DiskFault` the store isn't sound, and the disk is to be opened
+    /// again; after every other fault the store is as it was.
+    pub fn change(
+        &mut self,
+        alloc: Global,
+        name: &ZoneName,
+        row: Option<Record>,
+    ) -> Result<u32, StoreFault>
+        requires sound { self.old.bank.sound ≡ true }
+        requires row { ForSome row IsStorable }
+        requires place { IsTrue (may_stand name.now row self.old.rows) }
+
+        ensures serial { IfOk result (λ serial. serial ≡ length self.old.bank.records + 1) }
+        ensures records { OnOk result (self.new.bank.records ≡ self.old.bank.records ++ change_text name.now row ∷ []) }
+        ensures rows { OnOk result (self.new.rows ≡ with_stored name.now row self.old.rows) }
+        ensures sound { OnOk result (self.new.bank.sound ≡ true) }
+
+        ensures any_moment { (D.view self.old.bank.disk).Keeps → Leaves (D.view self.old.bank.disk) (D.view self.new.bank.disk) (IsBeforeOrAfter self.old.bank.records self.old.rows name.now row) }
+        ensures lasts { (D.view self.old.bank.disk).Keeps → OnOk result ((image : List ℕ) → (D.view self.new.bank.disk).Now image → StoresOneMore self.old.bank.records self.old.rows name.now row image) }
+        ensures either { (D.view self.old.bank.disk).Keeps → (image : List ℕ) → (D.view self.new.bank.disk).Now image → IsBeforeOrAfter self.old.bank.records self.old.rows name.now row image }
+
+        ensures full { IsErrOf result StoreFault.BankFull ↔ (has_room self.old.bank.used (change_text name.now row) ≡ false) }
+        ensures full_same { IsErrOf result StoreFault.BankFull → self.new ≡ self.old }
+        ensures memory_same { IsErrOf result StoreFault.Memory → self.new ≡ self.old }
+        ensures fault { IsErrOf result StoreFault.DiskFault → Rose (D.view self.old.bank.disk).faults (D.view self.new.bank.disk).faults }
+        ensures unsound { IsErrOf result StoreFault.DiskFault ↔ (self.new.bank.sound ≡ false) }
+        ensures fault_same { OnErr result ((self.new.bank.records ≡ self.old.bank.records) × (self.new.rows ≡ self.old.rows)) }
+        ensures only { IfErr result (λ e. (e ≡ StoreFault.BankFull) ⊎ (e ≡ StoreFault.Memory) ⊎ (e ≡ StoreFault.DiskFault)) }
+
+        ensures model { (D.view self.old.bank.disk).Keeps ↔ (D.view self.new.bank.disk).Keeps }
+        ensures faults { (D.view self.old.bank.disk).faults ≤ (D.view self.new.bank.disk).faults }
+    {
+        let zone = write(&mut self.bank, &mut self.zones, alloc, name, row.as_ref())?;
+        apply(&mut self.zones, zone, row);
+        Ok(count_of(&self.bank) as u32)
+    }
+
+    /// Whether the store may be changed. It takes no memory.
+    pub fn sound(&self) -> bool
+        ensures { result ≡ self.now.bank.sound }
+    {
+        self.bank.sound()
+    }
+
+    /// Hands the disk back. It takes no memory.
+    pub fn into_disk(self) -> D
+        ensures { result ≡ self.bank.disk }
+    {
+        self.bank.into_disk()
+    }
+}
