@@ -7,15 +7,14 @@ Each run must end with a status that docs/FORMATS.md states and the line on stan
 run may crash, hang, or take more memory for a longer input. It is no part of the gate.
 """
 
-import argparse
 import pathlib
 import random
 import re
-import resource
 import subprocess
 import sys
 
-HERE = pathlib.Path(__file__).resolve().parent
+from arguments import arguments
+
 LINES = {
     0: rb"",
     1: rb"(line \d+: [1-5]\d [A-Z]\w*( .*)?|end: [3-5]\d [A-Z]\w*( .*)?|first refused line: \d+)\n",
@@ -87,11 +86,7 @@ def peak(program, words, data):
 
 
 def main():
-    parser = argparse.ArgumentParser(description=__doc__.split("\n")[0])
-    parser.add_argument("--count", type=int, default=1000)
-    parser.add_argument("--seed", type=int, default=1)
-    parser.add_argument("--program", default=str(HERE.parent / "crates/zones_cli/out/zones_cli"))
-    args = parser.parse_args()
+    args = arguments(__doc__)
     rng = random.Random(args.seed)
     statuses = {}
     for _ in range(args.count):

@@ -7,15 +7,14 @@ Scripts are made along the grammar, so that most of them get far, and then some 
 changed. The first input that differs is kept in fuzz-export.input. It is no part of the gate.
 """
 
-import argparse
 import pathlib
 import random
 import subprocess
 import sys
 
 import export_model as model
+from arguments import arguments
 
-HERE = pathlib.Path(__file__).resolve().parent
 TEXTS = ["a", "web", "", "net0", "x y", "rpool/a", "-m verbose", "~", "a" * 63, "a" * 64, "a" * 1023, "a" * 1024]
 VALUES = {
     "zonepath": ["/zones/web", "/z", "/", "zones", "/a/../b", "/a//b", "/" + "p" * 1022, "/" + "p" * 1023],
@@ -231,11 +230,7 @@ class Maker:
 
 
 def main():
-    parser = argparse.ArgumentParser(description=__doc__.split("\n")[0])
-    parser.add_argument("--count", type=int, default=1000)
-    parser.add_argument("--seed", type=int, default=1)
-    parser.add_argument("--program", default=str(HERE.parent / "crates/zones_cli/out/zones_cli"))
-    args = parser.parse_args()
+    args = arguments(__doc__)
     rng = random.Random(args.seed)
     maker = Maker(rng)
     statuses, codes, scripts = {}, {}, []

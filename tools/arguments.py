@@ -1,0 +1,15 @@
+"""The arguments that the scripts over the native program share."""
+
+import argparse
+import pathlib
+
+PROGRAM = pathlib.Path(__file__).resolve().parent.parent / "crates/zones_cli/out/zones_cli"
+
+
+def arguments(doc):
+    """How many inputs, the seed that they are made from, and the program."""
+    parser = argparse.ArgumentParser(description=doc.split("\n")[0])
+    parser.add_argument("--count", type=int, default=1000)
+    parser.add_argument("--seed", type=int, default=1)
+    parser.add_argument("--program", default=str(PROGRAM))
+    return parser.parse_args()
