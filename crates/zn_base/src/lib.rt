@@ -35,4 +35,4 @@ pub use sink::{Sink, write_all};
 pub use source::{Failed, Source};
 pub use standard::{StdSink, StdSource};
 pub use state::{ZoneState, may_move};
-pub use text::{Text, TextFault};
+pub use text::{Text, TextFault, is_text_byte};

@@ -196,6 +196,7 @@ mod tests {
             (b"/zones/../web", PathFault::BadComponent(7)),
             (b"/zones/./web", PathFault::BadComponent(7)),
             (b"/a b/c", PathFault::BadComponent(1)),
+            (&[b'a'; 1023], PathFault::NotAbsolute),
             (&[b'a'; 1024], PathFault::PathLong),
         ];
         for (bytes, fault) in faults {

@@ -48,7 +48,8 @@ impl Model for Text {
     ghost invariant = { λ t. IsTrue (is_text t.bytes.items) };
 }
 
-fn is_text_byte(byte: u8) -> bool
+/// Whether a text may have a byte: from space to tilde.
+pub fn is_text_byte(byte: u8) -> bool
     ensures { result ≡ is_text_byte byte }
 {
     (b' '..=b'~').contains(&byte)
@@ -115,6 +116,13 @@ mod tests {
         assert_eq!(rt; text.copy(rt.alloc())?.bytes(), b"web team ~".as_slice());
         assert_eq!(rt; Text::empty(rt.alloc()).bytes(), b"".as_slice());
         assert!(rt; matches!(Text::read(rt.alloc(), b"a\tb"), Err(TextFault::BadText(1))));
+        assert_eq!(rt; Text::read(rt.alloc(), &[b'~'; 4200])?.bytes().len(), 4200);
+        assert!(rt;
+            matches!(
+                Text::read(rt.alloc(), &[b'~'; 4201]),
+                Err(TextFault::TextLong)
+            )
+        );
         Ok(())
     }
 }
