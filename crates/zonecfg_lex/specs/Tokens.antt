@@ -1,6 +1,5 @@
 -- The tokens of a line, or its first fault from the left.
-use Rattle.std.specs.Prelude.{ℕ, List, [], ◌∷◌, ◌+◌, Bool, true, false, nat_le, nat_lt, not, ◌&&◌, ◌||◌, ◌==◌, ◌≤◌, ◌<◌, Option, Some, None, Result, Ok, Err, if◌then◌else◌, slice_range}
-use Rattle.std.specs.List.{list_all}
+use Rattle.std.specs.Prelude.{ℕ, List, [], ◌∷◌, ◌+◌, Bool, true, false, nat_le, nat_lt, ◌&&◌, ◌||◌, ◌==◌, ◌≤◌, ◌<◌, Option, Some, None, Result, Ok, Err, if◌then◌else◌, slice_range}
 use Rattle.zn_base.specs.Text.{is_text_byte}
 use Rattle.zonecfg_lex.specs.declared.fault.LexFault.{LexFault}
 use Rattle.zonecfg_lex.specs.declared.fault.LexFault.TheVariants.{Memory, OpenQuote, StrayByte, OpenBracket, NoValue}
@@ -19,14 +18,6 @@ is_blank b = b == 32 || b == 9
 -- the bytes that begin a quote or a bracket, end one, or part subcommands
 abbrev pub is_mark : ℕ → Bool
 is_mark b = b == 34 || b == 59 || b == 40 || b == 41 || b == 91 || b == 93
-
--- a blank, or a printable byte that is no mark
-abbrev pub is_plain_byte : ℕ → Bool
-is_plain_byte b = is_blank b || (nat_le 33 b && nat_le b 126 && not (is_mark b))
-
--- a line of blanks, words and equals signs alone
-abbrev pub is_plain : List ℕ → Bool
-is_plain line = list_all is_plain_byte line
 
 -- the first byte other than a blank is `#`
 abbrev pub is_comment : List ℕ → Bool

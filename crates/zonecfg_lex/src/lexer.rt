@@ -1,7 +1,7 @@
 //! The cutting of a line into tokens.
 ghost use Rattle.std.specs.Prelude.{◌≡◌, ◌<◌, ◌≤◌, ◌+◌, ◌∷◌, ◌⊎◌, IfOk, IfSome, IsTrue, All, None, Some, length, drop, slice_index};
 ghost use Rattle.zn_base.specs.Answers.{AnswersUnless};
-ghost use Rattle.zn_base.specs.Text.{is_text_byte, is_text};
+ghost use Rattle.zn_base.specs.Text.{is_text};
 ghost use Rattle.zonecfg_lex.specs.declared.scope.Role.TheVariants.{Letter};
 ghost use Rattle.zonecfg_lex.specs.declared.scope.Scope.{Scope};
 ghost use Rattle.zonecfg_lex.specs.declared.scope.Scope.TheVariants.{Between};
@@ -12,6 +12,7 @@ use crate::bytes::is_comment;
 use crate::scope::{Role, Scope};
 use crate::{LexFault, Token, TokenKind};
 use std::alloc::Global;
+use zn_base::is_text_byte;
 
 fn make_token(kind: TokenKind, start: usize, end: usize) -> Token
     requires ordered { start ≤ end }
@@ -23,12 +24,6 @@ fn make_token(kind: TokenKind, start: usize, end: usize) -> Token
         start: start as u32,
         end: end as u32,
     }
-}
-
-fn is_text_byte(byte: u8) -> bool
-    ensures { result ≡ is_text_byte byte }
-{
-    (b' '..=b'~').contains(&byte)
 }
 
 // Where the word ends that begins at a place, and behind whose bytes a scope holds.

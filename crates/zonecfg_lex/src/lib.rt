@@ -7,17 +7,14 @@ mod bytes;
 mod fault;
 mod grammar;
 mod lexer;
-mod plain;
 mod scope;
 mod spans;
 mod token;
 mod values;
 
-pub use bytes::{is_blank, is_comment, is_plain};
 pub use fault::LexFault;
 pub use grammar::{given_text, pairs, value};
 pub use lexer::{part_tokens, tokens};
-pub use plain::plain_lines_are_cut;
 pub use spans::parts;
 pub use token::{Span, Token, TokenKind};
 pub use values::{Pair, Pairs, Texts, Value};

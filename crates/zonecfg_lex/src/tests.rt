@@ -2,6 +2,7 @@
 ghost use Rattle.std.specs.Prelude.{◌≤◌, length};
 
 use super::*;
+use crate::bytes::{is_blank, is_comment};
 use std::alloc::{AllocError, Global};
 use std::test::Fail;
 
@@ -35,7 +36,7 @@ fn tokens_of_lines(rt: HostRuntime) -> Result<(), Fail> {
         token(TokenKind::Word, 8, 10),
     ];
     let none = [];
-    let table: [(&[u8], Result<&[Token], LexFault>); 14] = [
+    let table: [(&[u8], Result<&[Token], LexFault>); 18] = [
         (b"set zonepath=\"/zones/we\"", Ok(&assigns)),
         (b"(a=b,);[c]", Ok(&pairs)),
         (b" a,b[1];#x", Ok(&words)),
@@ -50,6 +51,10 @@ fn tokens_of_lines(rt: HostRuntime) -> Result<(), Fail> {
         (b"(a[b", Err(LexFault::OpenBracket(0))),
         (b"a [\"]", Err(LexFault::OpenBracket(2))),
         (b"[a,(b)]", Err(LexFault::StrayByte(3))),
+        (b"[a)]", Err(LexFault::StrayByte(2))),
+        (b"(a])", Err(LexFault::StrayByte(2))),
+        (b"\"\t", Err(LexFault::OpenQuote(0))),
+        (b"(;", Err(LexFault::OpenBracket(0))),
     ];
     for (line, wanted) in table {
         assert!(rt; line.len() <= 4200);
@@ -102,7 +107,7 @@ fn value_of_part(alloc: Global, line: &[u8]) -> Result<Value, LexFault>
 
 #[test]
 fn values_of_parts(rt: HostRuntime) -> Result<(), Fail> {
-    let table: [(&[u8], Result<&[u8], LexFault>); 14] = [
+    let table: [(&[u8], Result<&[u8], LexFault>); 18] = [
         (b"#a[1]", Ok(b"#a[1]")),
         (b"\"a b\"", Ok(b"a b")),
         (b"\"\"", Ok(b"")),
@@ -116,6 +121,10 @@ fn values_of_parts(rt: HostRuntime) -> Result<(), Fail> {
         (b"(a=b,)", Err(LexFault::NoValue(5))),
         (b"(\"a\"=b)", Err(LexFault::NoValue(1))),
         (b"[a b]", Err(LexFault::NoValue(3))),
+        (b"[a,]", Err(LexFault::NoValue(3))),
+        (b"(a b)", Err(LexFault::NoValue(3))),
+        (b"(a=b c=d)", Err(LexFault::NoValue(5))),
+        (b"=a", Err(LexFault::NoValue(0))),
         (b"[a] ;", Err(LexFault::NoValue(4))),
     ];
     for (line, wanted) in table {
@@ -159,10 +168,7 @@ fn parts_of_lines(rt: HostRuntime) -> Result<(), Fail> {
 }
 
 #[test]
-fn plain_lines_and_comments(rt: HostRuntime) {
-    assert!(rt; is_plain(b"set zonepath=/zones/web") && is_plain(b"\ta,b"));
-    assert!(rt; !is_plain(b"set brand=\"\"") && !is_plain(b"a\r"));
+fn comments_and_blanks(rt: HostRuntime) {
     assert!(rt; is_comment(b" \t# set brand=ipkg") && !is_comment(b"create -b # no"));
     assert!(rt; is_blank(b'\t') && LexFault::StrayByte(3).place() == 3);
-    plain_lines_are_cut();
 }
