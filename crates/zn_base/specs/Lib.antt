@@ -7,7 +7,6 @@ pub mod Names
 pub mod Moves
 pub mod Owned_lists
 pub mod Firsts
-pub mod Places
 pub mod Same
 pub mod Disk
 pub mod MemoryDisk
