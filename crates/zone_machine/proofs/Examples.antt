@@ -1,6 +1,6 @@
 -- Runs from an empty store, computed by the definitions.
 use Rattle.std.proofs.Common.{◌≡◌, ℕ, List, [], ◌∷◌, ◌++◌, refl, map, Some, replicate}
-use Rattle.std.specs.Prelude.{codes}
+use Rattle.std.specs.Prelude.{codes, filter}
 use Rattle.zn_base.specs.declared.grant.Grant.{Grant}
 use Rattle.zn_base.specs.declared.grant.Grant.TheVariants.{Nothing, Number, Denied as Denied_grant}
 use Rattle.zn_base.specs.declared.grant.Pool.TheVariants.{Pids, Zids, Paths}
@@ -10,7 +10,7 @@ use Rattle.zone_machine.specs.Edits.{comes, edit}
 use Rattle.zone_machine.specs.Histories.{history, run}
 use Rattle.zone_machine.specs.Lines.{line_of}
 use Rattle.zone_machine.specs.Machine.{decide, one, opening, subject}
-use Rattle.zone_machine.specs.Plans.{hook_after, hook_before}
+use Rattle.zone_machine.specs.Plans.{hook_after, hook_before, may_begin}
 use Rattle.zone_machine.specs.Pools.{allowed, first_free}
 use Rattle.zone_machine.specs.Turns.{turn}
 use Rattle.zone_machine.specs.Typed.{typed}
@@ -124,12 +124,19 @@ made : ran (make_a ∷ types (codes "  zonecfg   -z a  create -b; set zonepath=x
 unfolding line_of typed turn view decide subject one first_free allowed edit comes
 made = refl
 
--- a session that waits, and a request that can't begin
-waits : ran (make_a ∷ types (codes "zoneadm -z a halt") ∷ types (codes "zoneadm -z b boot") ∷ types [] ∷ Session 2 (codes "zoneadm -z a boot") ∷ Turn (codes "a") ∷ Turn (codes "a") ∷ Turn (codes "a") ∷ types [] ∷ [])
+-- a session that waits until its own ticket ends, and a request that can't begin
+waits : ran (make_a ∷ types (codes "zoneadm -z a halt") ∷ types (codes "zoneadm -z b boot") ∷ types [] ∷ Session 2 (codes "zoneadm -z a boot")
+    ∷ Turn (codes "a") ∷ types [] ∷ Session 2 [] ∷ Turn (codes "a") ∷ Session 2 [] ∷ Turn (codes "a") ∷ [])
     ≡ of_a (Number 1) Ok ∷ of_a Nothing (Ticket 1) ∷ of_a Nothing (Refused (Waiting 1)) ∷ of_a Nothing (Refused (Waiting 1)) ∷ of_a Nothing (Ticket 2)
-    ∷ of_a Nothing (Turned (Finished 1 (WrongState Configured))) ∷ of_a Nothing (Turned (Finished 2 (WrongState Configured))) ∷ of_a Nothing (Turned Idle) ∷ in_global Ok ∷ []
+    ∷ of_a Nothing (Turned (Finished 1 (WrongState Configured))) ∷ in_global Ok ∷ of_a Nothing (Refused (Waiting 2))
+    ∷ of_a Nothing (Turned (Finished 2 (WrongState Configured))) ∷ in_global Ok ∷ of_a Nothing (Turned Idle) ∷ []
 unfolding line_of typed turn view decide subject one first_free allowed edit comes
 waits = refl
+
+-- the states in which each request begins
+begins : map (λ kind. filter (may_begin kind) (Configured ∷ Incomplete ∷ Installed ∷ Ready ∷ Running ∷ ShuttingDown ∷ Down ∷ [])) (Install ∷ Boot ∷ Halt ∷ [])
+    ≡ (Configured ∷ []) ∷ (Installed ∷ Ready ∷ []) ∷ (Ready ∷ Running ∷ []) ∷ []
+begins = refl
 
 -- eight requests wait: the desk is full
 abbrev boots_by : ℕ → Event
@@ -159,14 +166,32 @@ installed =
 
 -- a denial before the zone is ready undoes nothing but what the ready part did; one after it undoes nothing
 denied_zid : stated (installed ++ turn_of_a Nothing ∷ turn_of_a Nothing ∷ turn_of_a (Denied_grant Zids) ∷ turn_of_a Nothing ∷ turn_of_a Nothing ∷ [])
-    ≡ map (λ e. e.reply.head) (run (opening []) installed)
+    ≡ stated installed
     ++ Turned (Began 2 Boot) ∷ Turned (Stepped (hook_before Of_ready)) ∷ Turned (Failed 2 (Was_denied Zids)) ∷ Turned (Finished 2 (Was_denied Zids)) ∷ Turned Idle ∷ []
 unfolding line_of typed turn view decide subject one first_free allowed edit comes
 denied_zid = refl
 
-denied_pid : stated (installed ++ turn_of_a Nothing ∷ turn_of_a Nothing ∷ turn_of_a (Number 7) ∷ nothing_for (turns 6) ++ turn_of_a (Denied_grant Pids) ∷ turn_of_a Nothing ∷ [])
-    ≡ map (λ e. e.reply.head) (run (opening []) installed)
+abbrev ready : List (Event × Grant)
+ready = installed ++ turn_of_a Nothing ∷ turn_of_a Nothing ∷ turn_of_a (Number 7) ∷ nothing_for (turns 6) ++ turn_of_a (Denied_grant Pids) ∷ turn_of_a Nothing ∷ []
+
+denied_pid : stated ready
+    ≡ stated installed
     ++ Turned (Began 2 Boot) ∷ Turned (Stepped (hook_before Of_ready)) ∷ Turned (Stepped (Zid (Some 7))) ∷ Turned (Stepped Limits) ∷ Turned (Stepped (Devices (Some 0))) ∷ Turned (Stepped Root)
     ∷ Turned (Stepped (State Ready)) ∷ Turned (Stepped (hook_after Of_ready)) ∷ Turned (Stepped (hook_before Of_boot)) ∷ Turned (Failed 9 (Was_denied Pids)) ∷ Turned (Finished 2 (Was_denied Pids)) ∷ []
 unfolding line_of typed turn view decide subject one first_free allowed edit comes
 denied_pid = refl
+
+-- a zone that is left ready boots without the ready part, or is halted
+booted_from_ready : stated (ready ++ (types (codes "zoneadm -z a boot"), Nothing) ∷ nothing_for (turns 2) ++ turn_of_a (Number 9) ∷ nothing_for (turns 3))
+    ≡ stated ready
+    ++ Ticket 3 ∷ Turned (Began 3 Boot) ∷ Turned (Stepped (hook_before Of_boot)) ∷ Turned (Stepped (Init (Some 9))) ∷ Turned (Stepped (State Running)) ∷ Turned (Stepped (hook_after Of_boot))
+    ∷ Turned (Finished 3 Done) ∷ []
+unfolding line_of typed turn view decide subject one first_free allowed edit comes
+booted_from_ready = refl
+
+halted_from_ready : stated (ready ++ (types (codes "zoneadm -z a halt"), Nothing) ∷ nothing_for (turns 11))
+    ≡ stated ready
+    ++ Ticket 3 ∷ Turned (Began 3 Halt) ∷ Turned (Stepped (hook_before Of_halt)) ∷ Turned (Stepped (State ShuttingDown)) ∷ Turned (Stepped (Kill (Some 0))) ∷ Turned (Stepped (Unmount (Some (codes "/")))) ∷ Turned (Stepped Clear)
+    ∷ Turned (Stepped (State Down)) ∷ Turned (Stepped (ZidBack (Some 7))) ∷ Turned (Stepped (State Installed)) ∷ Turned (Stepped (hook_after Of_halt)) ∷ Turned (Finished 3 Done) ∷ []
+unfolding line_of typed turn view decide subject one first_free allowed edit comes
+halted_from_ready = refl

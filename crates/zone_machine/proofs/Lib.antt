@@ -1,8 +1,8 @@
 pub mod Examples
+mod Pool_examples
 pub mod Same_laws
 pub mod Laws
 pub mod Own_worlds
-pub mod Folds
 pub mod Words
 pub mod Root_texts
 pub mod Passing

@@ -15,7 +15,7 @@ abbrev pub doing_at : Name → Session → Option Doing
 doing_at z Idle = None
 doing_at z (Awaiting y t) = if bytes_eq z y then Some (state.Awaiting t) else None
 
--- a session that waits in z goes on with what f says of its ticket
+-- a session that waits in z is idle again where its ticket ends
 abbrev pub swept_session : Name → (ℕ → Bool) → Session → Session
 swept_session z ends Idle = Idle
 swept_session z ends (Awaiting y t) = if bytes_eq z y then (if ends t then Idle else Awaiting y t) else Awaiting y t

@@ -57,9 +57,7 @@ impl Tables {
             None => Ok(TurnReply::Idle),
         }
     }
-}
 
-impl Tables {
     /// A turn of the zone's daemon.
     #[tactic(auto, unfolding(crate::specs::Turns::turn, crate::specs::Worlds::view_of))]
     pub(crate) fn turn(

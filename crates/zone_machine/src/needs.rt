@@ -96,7 +96,7 @@ fn desk_need(desk: &Desk, mounted: bool) -> Need
 }
 
 impl Tables {
-    // What the next turn of a zone's daemon asks.
+    /// What the next turn of a zone's daemon asks.
     #[tactic(auto, unfolding(crate::specs::Turns::turn, crate::specs::Worlds::view_of))]
     pub(crate) fn turn_need(&self, zone: &ZoneName) -> Need
         ensures { asked_of (turn (view_of zone.now (world_of zone.now self.now))) ≡ asked_by result }
@@ -120,7 +120,7 @@ impl Tables {
         }
     }
 
-    // What a line asks that a session types.
+    /// What a line asks that a session types.
     #[tactic(auto, unfolding(crate::specs::Typed::typed, crate::specs::Worlds::view_of))]
     pub(crate) fn line_need(
         &self,

@@ -162,6 +162,7 @@ fn root_special(alloc: Global, config: &Config) -> Result<Text, AllocError>
     text(alloc, &bytes)
 }
 
+/// The root directory.
 pub(crate) fn root_dir(alloc: Global) -> Result<AbsPath, AllocError>
     ensures { IfOk result (λ path. path ≡ codes "/") }
 {

@@ -84,6 +84,7 @@ impl Tables {
         Ok(())
     }
 
+    /// What is stored of a zone from now on.
     pub(crate) fn store(&mut self, zone: ZoneName, row: Record) -> Result<(), AllocError>
         ensures { OnOk result (Does zone (comes_world (New_record (Some row))) (came_rest zone (Some (New_record (Some row)))) self.old self.new) }
     {
@@ -96,7 +97,7 @@ impl Tables {
         Ok(())
     }
 
-    // What came with a grant is put into its table.
+    /// What came with a grant is put into its table.
     pub(crate) fn take_in(
         &mut self,
         alloc: Global,
@@ -113,7 +114,7 @@ impl Tables {
         }
     }
 
-    // What a turn does to the zone's objects.
+    /// What a turn does to the zone's objects.
     pub(crate) fn edit_objects(
         &mut self,
         alloc: Global,
@@ -132,7 +133,7 @@ impl Tables {
         Ok(())
     }
 
-    // Whoever waits for a ticket that ended is idle again.
+    /// Whoever waits for a ticket that ended is idle again.
     pub(crate) fn end_ticket(&mut self, zone: &ZoneName, ended: Option<u32>)
         ensures { Does zone.now (edits_world None (sweeps ended)) kept_rest self.old self.new }
     {

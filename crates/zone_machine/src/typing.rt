@@ -32,7 +32,7 @@ fn is_root(path: &AbsPath) -> bool
     path.bytes() == b"/".as_slice()
 }
 
-// The path that a word is, where it may be a zone's.
+/// The path that a word is, where it may be a zone's.
 pub(crate) fn usable_path(alloc: Global, word: &[u8]) -> Result<Option<AbsPath>, AllocError>
     ensures { IfOk result (λ path. path ≡ usable_path (path_of word.now)) }
 {
@@ -115,9 +115,7 @@ impl Tables {
             }
         }
     }
-}
 
-impl Tables {
     // A request is put on the desk of a zone that is stored, and the session waits for its ticket.
     fn put_request(
         &mut self,

@@ -1,2 +1,4 @@
+mod Examples
 pub mod Purge
+pub mod Runs
 pub mod Steady

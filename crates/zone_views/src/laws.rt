@@ -4,7 +4,7 @@ ghost use Rattle.std.specs.List.{list_all};
 ghost use Rattle.zn_base.specs.Moves.{may_move};
 ghost use Rattle.zn_base.specs.Names.{Name};
 ghost use Rattle.zn_base.specs.declared.grant.Grant.{Grant};
-ghost use Rattle.zone_machine.specs.Histories.{after, any_grant, asked, concerns, is_history, only, replay, replies, run};
+ghost use Rattle.zone_machine.specs.Histories.{after, any_grant, asked, concerns, history, is_history, is_legal, only, replay, replies, run};
 ghost use Rattle.zone_machine.specs.Machine.{need, one, opening, subject};
 ghost use Rattle.zone_machine.specs.State.{State, stored, zone_state};
 ghost use Rattle.zone_machine.specs.Worlds.{world};
@@ -38,6 +38,13 @@ pub fn subjects_agree()
         → is_history any_grant (opening commits) h ≡ true → list_all (λ entry. concerns z entry.subject) h ≡ true
         → world z S ≡ world z (after (opening commits) h)
         → concerns z (subject S e) ≡ true → subject (after (opening commits) h) e ≡ subject S e }
+{}
+
+/// What the machine makes of any events is a history, under the grants that the pools give and under any that
+/// are stated. So the laws of histories hold of it.
+pub fn runs_are_histories()
+    ensures allowed { (S : State) (es : List Event) → is_legal S (history S es) ≡ true }
+    ensures stated { (S : State) (es : List (Event × Grant)) → is_history any_grant S (run S es) ≡ true }
 {}
 
 /// Removing the entries of all other zones, grants kept, changes no reply of a zone, whatever else is

@@ -6,6 +6,6 @@
 mod laws;
 
 pub use laws::{
-    others_change_nothing, own_world_decides, purging_keeps_replies, states_move_along_the_table,
-    subjects_agree, worlds_are_replayed,
+    others_change_nothing, own_world_decides, purging_keeps_replies, runs_are_histories,
+    states_move_along_the_table, subjects_agree, worlds_are_replayed,
 };

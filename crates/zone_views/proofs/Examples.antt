@@ -1,0 +1,68 @@
+-- A history of two zones, computed by the definitions.
+use Rattle.std.proofs.Common.{◌≡◌, ◌∷◌, ◌++◌, [], ℕ, List, true, false, Some, None, map, refl}
+use Rattle.std.specs.Prelude.{codes}
+use Rattle.zn_base.specs.declared.grant.Grant.{Grant}
+use Rattle.zn_base.specs.declared.grant.Grant.TheVariants.{Nothing, Number}
+use Rattle.zn_base.specs.declared.state.ZoneState.TheVariants.{Configured}
+use Rattle.zone_machine.specs.Edits.{comes, edit}
+use Rattle.zone_machine.specs.Histories.{after, any_grant, asked, history, is_history, is_legal, only, replies, run}
+use Rattle.zone_machine.specs.Lines.{line_of}
+use Rattle.zone_machine.specs.Machine.{decide, one, opening, subject}
+use Rattle.zone_machine.specs.Pools.{allowed, first_free}
+use Rattle.zone_machine.specs.Same.{same_reply, same_subject}
+use Rattle.zone_machine.specs.State.{zone_state}
+use Rattle.zone_machine.specs.Turns.{turn}
+use Rattle.zone_machine.specs.Typed.{typed}
+use Rattle.zone_machine.specs.Worlds.{view}
+use Rattle.zone_machine.specs.declared.daemon.Outcome.TheVariants.{WrongState}
+use Rattle.zone_machine.specs.declared.daemon.TurnReply.TheVariants.{Finished, Idle}
+use Rattle.zone_machine.specs.declared.events.Entry.{Entry}
+use Rattle.zone_machine.specs.declared.events.Event.{Event}
+use Rattle.zone_machine.specs.declared.events.Event.TheVariants.{Session, Turn}
+use Rattle.zone_machine.specs.declared.replies.Head.{Head}
+use Rattle.zone_machine.specs.declared.replies.Head.TheVariants.{Ok, Ticket, Turned}
+
+abbrev make : ℕ → List ℕ → Event
+make n zone = Session n (codes "zonecfg -z " ++ zone ++ codes " create -b; set zonepath=/zones/" ++ zone ++ codes "; set brand=ipkg")
+
+abbrev boot_a : Event
+boot_a = Session 1 (codes "zoneadm -z a boot")
+
+abbrev entries : List Entry
+entries = history (opening []) (make 1 (codes "a") ∷ make 2 (codes "b") ∷ Session 3 [] ∷ boot_a ∷ Turn (codes "b") ∷ Turn (codes "a") ∷ [])
+
+abbrev told_to : List ℕ → List Head
+told_to zone = map (λ r. r.head) (replies zone entries)
+
+told_to_a : told_to (codes "a") ≡ Ok ∷ Ticket 1 ∷ Turned (Finished 1 (WrongState Configured)) ∷ []
+unfolding line_of typed turn view decide subject one first_free allowed edit comes
+told_to_a = refl
+
+told_to_b : told_to (codes "b") ≡ Ok ∷ Turned Idle ∷ []
+unfolding line_of typed turn view decide subject one first_free allowed edit comes
+told_to_b = refl
+
+-- without the other zone's entries and those of none
+purged : asked (only (codes "a") entries) ≡ (make 1 (codes "a"), Number 1) ∷ (boot_a, Nothing) ∷ (Turn (codes "a"), Nothing) ∷ []
+unfolding line_of typed turn view decide subject one first_free allowed edit comes
+purged = refl
+
+states : map (λ zone. zone_state zone (after (opening []) entries)) (codes "a" ∷ codes "b" ∷ codes "c" ∷ []) ≡ Some Configured ∷ Some Configured ∷ None ∷ []
+unfolding line_of typed turn view decide subject one first_free allowed edit comes
+states = refl
+
+-- a stated grant may be another than the pools give, and then the history isn't legal
+abbrev stated : Grant → List Entry
+stated g = run (opening []) ((make 1 (codes "a"), g) ∷ [])
+
+legal : map (λ n. is_legal (opening []) (stated (Number n))) (1 ∷ 2 ∷ []) ≡ true ∷ false ∷ []
+unfolding line_of typed turn view decide subject one first_free allowed edit comes same_reply same_subject
+legal = refl
+
+-- a reply to another event is no history
+abbrev to_boot : Entry → Entry
+to_boot e = record e { event = boot_a }
+
+told_of_another : is_history any_grant (opening []) (map to_boot (stated (Number 1))) ≡ false
+unfolding line_of typed turn view decide subject one first_free allowed edit comes same_reply same_subject
+told_of_another = refl
