@@ -3,7 +3,7 @@ ghost use Rattle.std.specs.Prelude.{◌≡◌, ◌++◌, OnErr, OnOk, IfOk, deci
 ghost use Rattle.trace_text.specs.Replies.{change_text, counted_text, ending_text, head_text, kind_text, moment_text, name_fault_text, outcome_text, pool_text, refusal_text, reply_text, step_text, subject_text, turn_text, unmount_text};
 
 use crate::LineFault;
-use itoa::Buffer;
+use crate::texts::{push_both, push_numbered};
 use std::alloc::{AllocError, Global};
 use zn_base::{AbsPath, NameFault, Pool};
 use zone_machine::{
@@ -68,20 +68,6 @@ fn moment_text(before: bool) -> &'static [u8]
     } else {
         b"hook after "
     }
-}
-
-fn push_both(out: &mut Vec<u8>, first: &[u8], second: &[u8]) -> Result<(), AllocError>
-    ensures { OnOk result (out.new.items ≡ out.old.items ++ (first.now ++ second.now)) }
-{
-    out.extend_from_slice(first)?;
-    out.extend_from_slice(second)
-}
-
-fn push_numbered(out: &mut Vec<u8>, word: &[u8], number: u64) -> Result<(), AllocError>
-    ensures { OnOk result (out.new.items ≡ out.old.items ++ (word.now ++ decimal number)) }
-{
-    let mut digits = Buffer::new();
-    push_both(out, word, digits.format(number).as_bytes())
 }
 
 fn push_counted(out: &mut Vec<u8>, word: &[u8], count: Option<u32>) -> Result<(), AllocError>
