@@ -41,7 +41,7 @@ fn limit_sets_are_read_and_printed(rt: HostRuntime) -> Result<(), Fail> {
 
 #[test]
 fn faults_have_their_place_or_privilege(rt: HostRuntime) -> Result<(), Fail> {
-    let table: [(&[u8], PrivFault); 11] = [
+    let table: [(&[u8], PrivFault); 13] = [
         (b"default,zone", PrivFault::PrivWord(8)),
         (b"proc_exec,default", PrivFault::PrivWord(10)),
         (b"default,", PrivFault::PrivWord(8)),
@@ -53,6 +53,14 @@ fn faults_have_their_place_or_privilege(rt: HostRuntime) -> Result<(), Fail> {
         (b"default,!all", PrivFault::PrivRequired(25)),
         (b"all", PrivFault::PrivProhibited(4)),
         (b"all,!dtrace_kernel", PrivFault::PrivProhibited(33)),
+        (
+            b"all,!dtrace_kernel,!proc_zone",
+            PrivFault::PrivProhibited(36),
+        ),
+        (
+            b"all,!dtrace_kernel,!proc_zone,!sys_config",
+            PrivFault::PrivProhibited(37),
+        ),
     ];
     for (text, fault) in table {
         match limit_of(text) {
