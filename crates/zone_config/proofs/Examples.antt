@@ -1,5 +1,5 @@
 -- What the definitions say of some configurations.
-use Rattle.std.proofs.Common.{◌≡◌, ℕ, List, [], ◌∷◌, length, replicate, true, Some, None, Ok, Err, codes, refl}
+use Rattle.std.proofs.Common.{◌≡◌, ℕ, [], ◌∷◌, length, replicate, true, Some, None, Ok, Err, codes, refl}
 use Rattle.zonecfg_lex.specs.declared.values.Value.TheVariants.{Simple, List as Items}
 use Rattle.config_terms.specs.declared.fault.ConfigFault.TheVariants.{UnknownProperty, BadValue, AliasHeld, TooLarge}
 use Rattle.config_terms.specs.declared.terms.Fs as fs
