@@ -1,19 +1,22 @@
 -- What the definitions say of some values and resources.
 use Rattle.std.proofs.Common.{◌≡◌, ℕ, List, [], ◌∷◌, true, false, Some, None, Ok, Err, codes, replicate, refl}
 use Rattle.std.specs.Fmt.{digits}
+use Rattle.std.specs.List.{list_all, list_any}
 use Rattle.zonecfg_lex.specs.declared.values.Pair.{Pair}
 use Rattle.zonecfg_lex.specs.declared.values.Value.TheVariants.{Simple, Complex, List as Items}
 use Rattle.config_terms.specs.declared.fault.ConfigFault.TheVariants.{UnknownProperty, BadValue, NoMatch, SeveralMatch, TooMany}
+use Rattle.config_terms.specs.declared.fields.Field.TheVariants.{FsSpecial, FsRaw, FsType, NetAddress, NetAllowed, NetPhysical, NetDefrouter, DeviceMatch, RctlName, AttrName, AttrType, AttrValue, DatasetName}
 use Rattle.config_terms.specs.declared.rules.Rule.TheVariants as rule
 use Rattle.config_terms.specs.declared.terms.Kind.TheVariants as kind
-use Rattle.config_terms.specs.declared.terms.Resource.TheVariants.{Fs, Rctl, Attr}
+use Rattle.config_terms.specs.declared.terms.Resource.TheVariants.{Fs, Net, Device, Rctl, Attr, Dataset}
 use Rattle.config_terms.specs.declared.terms.Fs as fs
+use Rattle.config_terms.specs.declared.terms.Net as net
 use Rattle.config_terms.specs.declared.terms.Rctl as rctl
 use Rattle.config_terms.specs.Numbers.{number_of}
 use Rattle.config_terms.specs.Rules.{obeys, fits}
-use Rattle.config_terms.specs.Fields.{text_shown}
-use Rattle.config_terms.specs.Texts.{setting, limit_text, limit_line, limit_lines, options_text, options_line, settings, entry_text, resource_text}
-use Rattle.config_terms.specs.Allowed.{fields_fit, entry_allowed, is_allowed}
+use Rattle.config_terms.specs.Fields.{field_rule, net_shown, rctl_shown, text_shown}
+use Rattle.config_terms.specs.Texts.{is_bare_byte, setting, limit_text, limit_line, limit_lines, options_text, options_line, settings, entry_text, resource_text}
+use Rattle.config_terms.specs.Allowed.{fields_fit, entry_allowed, is_allowed, is_taken}
 use Rattle.config_terms.specs.Matches.{has_all, only_place}
 use Rattle.config_terms.specs.Edits.{empty, options_edited, limits_edited, list_edited, with_property, without_property, with_value, without_value}
 
@@ -81,6 +84,42 @@ large_digit : obeys rule.HostId (codes "A0") ≡ false
 unfolding obeys
 large_digit = refl
 
+longest_host : obeys rule.HostId (codes "fffffff0") ≡ true
+unfolding obeys
+longest_host = refl
+
+too_long_host : obeys rule.HostId (replicate 9 48) ≡ false
+unfolding obeys
+too_long_host = refl
+
+longest_name : obeys rule.ShortName (replicate 32 97) ≡ true
+unfolding obeys
+longest_name = refl
+
+too_long_name : obeys rule.ShortName (replicate 33 97) ≡ false
+unfolding obeys
+too_long_name = refl
+
+longest_type : obeys rule.TypeWord (replicate 15 97) ≡ true
+unfolding obeys
+longest_type = refl
+
+too_long_type : obeys rule.TypeWord (replicate 16 97) ≡ false
+unfolding obeys
+too_long_type = refl
+
+longest_names : list_all (λ r. obeys r (replicate 63 97)) (rule.ControlName ∷ rule.AttributeName ∷ []) ≡ true
+unfolding obeys
+longest_names = refl
+
+too_long_names : list_any (λ r. obeys r (replicate 64 97)) (rule.ControlName ∷ rule.AttributeName ∷ []) ≡ false
+unfolding obeys
+too_long_names = refl
+
+forms : list_all (obeys rule.AttributeForm) (codes "int" ∷ codes "uint" ∷ codes "boolean" ∷ codes "string" ∷ []) ≡ true
+unfolding obeys
+forms = refl
+
 longest_option : obeys rule.OptionWord (replicate 63 97) ≡ true
 unfolding obeys
 longest_option = refl
@@ -109,6 +148,23 @@ dash_in_control : obeys rule.ControlName (codes "-a") ≡ true
 unfolding obeys
 dash_in_control = refl
 
+-- the properties that take a simple value, and those that don't
+simple_fields : list_all (λ f. obeys (field_rule f) (codes "a b"))
+    (FsSpecial ∷ FsRaw ∷ NetAddress ∷ NetAllowed ∷ NetPhysical ∷ NetDefrouter ∷ DeviceMatch ∷ AttrValue ∷ DatasetName ∷ []) ≡ true
+unfolding obeys
+simple_fields = refl
+
+other_fields : list_any (λ f. obeys (field_rule f) (codes "a b")) (FsType ∷ RctlName ∷ AttrName ∷ AttrType ∷ []) ≡ false
+unfolding obeys
+other_fields = refl
+
+all_bare : setting (codes "pool") (codes "azAZ09_-./:,*?!@+%") ≡ codes "set pool=azAZ09_-./:,*?!@+%\n"
+unfolding setting
+all_bare = refl
+
+none_bare : list_any is_bare_byte (codes " \"#$&'();<=>[\\]^`{|}~") ≡ false
+none_bare = refl
+
 bare : setting (codes "special") (codes "/usr") ≡ codes "set special=/usr\n"
 unfolding setting
 bare = refl
@@ -127,6 +183,27 @@ usr = record { dir = Some (codes "/usr"); special = codes "/usr"; raw = []; fsty
 usr_printed : resource_text (Fs usr) ≡ codes "add fs\nset dir=/usr\nset special=/usr\nset type=lofs\nadd options [ro,nodevices]\nend\n"
 unfolding usr setting options_text options_line limit_lines settings entry_text
 usr_printed = refl
+
+raw_printed : resource_text (Fs (record usr { dir = None; raw = codes "/dev/rdsk/c0"; options = [] }))
+    ≡ codes "add fs\nset special=/usr\nset raw=/dev/rdsk/c0\nset type=lofs\nend\n"
+unfolding usr setting options_line limit_lines settings entry_text
+raw_printed = refl
+
+link : net.Net
+link = record { address = codes "10.0.0.1/24"; allowed = codes "10.0.0.0/8"; physical = codes "net0"; defrouter = codes "10.0.0.254" }
+
+link_printed : resource_text (Net link)
+    ≡ codes "add net\nset address=10.0.0.1/24\nset allowed-address=10.0.0.0/8\nset physical=net0\nset defrouter=10.0.0.254\nend\n"
+unfolding link setting options_line limit_lines settings entry_text
+link_printed = refl
+
+device_printed : resource_text (Device (codes "/dev/d[0-3]")) ≡ codes "add device\nset match=\"/dev/d[0-3]\"\nend\n"
+unfolding setting options_line limit_lines settings entry_text
+device_printed = refl
+
+dataset_printed : resource_text (Dataset (codes "tank/web")) ≡ codes "add dataset\nset name=tank/web\nend\n"
+unfolding setting options_line limit_lines settings entry_text
+dataset_printed = refl
 
 shares : rctl.Rctl
 shares = record { name = codes "zone.cpu-shares"; values = record { limit = 20; deny = false } ∷ record { limit = 3; deny = true } ∷ [] }
@@ -169,6 +246,18 @@ no_such_property : only_place (λ m. has_all kind.Device (pair (codes "name") (c
 unfolding pair only_place
 no_such_property = refl
 
+-- a name that is there already, an unset one counted; links have no name
+taken : is_taken rctl_shown kind.Rctl shares (record shares { values = [] } ∷ []) ≡ true
+unfolding shares
+taken = refl
+
+unset_taken : is_taken text_shown kind.Dataset [] (codes "tank" ∷ [] ∷ []) ≡ true
+unset_taken = refl
+
+links_alike : is_taken net_shown kind.Net link (link ∷ []) ≡ false
+unfolding link
+links_alike = refl
+
 dir_set : with_property (codes "dir") (Simple (codes "/a")) (empty kind.Fs) ≡ Ok (Fs (record { dir = Some (codes "/a"); special = []; raw = []; fstype = []; options = [] }))
 unfolding obeys with_property
 dir_set = refl
@@ -192,6 +281,10 @@ one_option = refl
 no_options : with_property (codes "options") (Simple []) (Fs usr) ≡ Ok (Fs (record usr { options = [] }))
 unfolding usr obeys options_edited list_edited with_property
 no_options = refl
+
+most_options : with_property (codes "options") (Items (replicate 32 (codes "ro"))) (Fs usr) ≡ Ok (Fs (record usr { options = replicate 32 (codes "ro") }))
+unfolding usr obeys options_edited list_edited with_property
+most_options = refl
 
 too_many_options : with_property (codes "options") (Items (replicate 33 (codes "ro"))) (Fs usr) ≡ Err (TooMany 32)
 unfolding usr obeys options_edited list_edited with_property
@@ -224,6 +317,14 @@ value_put = refl
 value_removed : without_value (codes "value") (Complex (limit (codes "20") (codes "none"))) (Rctl shares) ≡ Ok (Rctl (record shares { values = record { limit = 3; deny = true } ∷ [] }))
 unfolding shares pair limit number_of limits_edited list_edited without_value
 value_removed = refl
+
+other_action_there : without_value (codes "value") (Complex (limit (codes "20") (codes "deny"))) (Rctl shares) ≡ Err NoMatch
+unfolding shares pair limit number_of limits_edited list_edited without_value
+other_action_there = refl
+
+other_action : with_value (codes "value") (Complex (limit (codes "7") (codes "signal"))) (empty kind.Rctl) ≡ Err BadValue
+unfolding pair limit list_edited with_value
+other_action = refl
 
 other_order : with_value (codes "value") (Complex (pair (codes "limit") (codes "7") ∷ pair (codes "priv") (codes "privileged") ∷ pair (codes "action") (codes "deny") ∷ [])) (empty kind.Rctl) ≡ Err BadValue
 unfolding pair list_edited with_value

@@ -1,18 +1,25 @@
 //! Which resources match, and which are told apart by a name.
-ghost use Rattle.std.specs.Prelude.{◌≡◌, ◌<◌, ◌≤◌, length, count_by, position, remove, IfOk};
+ghost use Rattle.std.specs.Prelude.{◌≡◌, ◌<◌, ◌≤◌, ◌∷◌, length, count_by, position, remove, true, IfOk};
 ghost use Rattle.config_terms.specs.Allowed.{has_key, is_taken};
-ghost use Rattle.config_terms.specs.Matches.{has_pair, has_all, only_place};
+ghost use Rattle.config_terms.specs.Matches.{is_text, has_pair, has_all, only_place};
 
 use crate::{ConfigFault, Entry, Field, Kind};
 use zonecfg_lex::Pair;
 
+// Whether a property that a name stands for shows a text.
+fn is_text<T: Entry>(entry: &T, field: Option<Field>, text: &[u8]) -> bool
+    ensures { result ≡ is_text (T.shown entry.now) field text.now }
+{
+    match field {
+        None => false,
+        Some(field) => entry.shown(field) == text,
+    }
+}
+
 fn has_pair<T: Entry>(kind: Kind, entry: &T, wanted: &Pair) -> bool
     ensures { result ≡ has_pair kind (T.shown entry.now) wanted.now }
 {
-    match kind.field(wanted.name.bytes()) {
-        None => false,
-        Some(field) => entry.shown(field) == wanted.value.bytes(),
-    }
+    is_text(entry, kind.field(wanted.name.bytes()), wanted.value.bytes())
 }
 
 /// Whether each wanted pair names a simple property of the kind that shows its value. It takes no memory.
@@ -22,26 +29,61 @@ pub fn has_all<T: Entry>(kind: Kind, entry: &T, wanted: &[Pair]) -> bool
     wanted.iter().all(|pair| has_pair(kind, entry, pair))
 }
 
-fn count_matches<T: Entry>(kind: Kind, entries: &[T], wanted: &[Pair]) -> usize
-    ensures { result ≡ count_by (λ e. has_all kind wanted.now (T.shown e)) entries.now }
+// The property of the first pair is looked up once for all resources.
+fn count_matches<T: Entry>(kind: Kind, entries: &[T], first: &Pair, rest: &[Pair]) -> usize
+    ensures { result ≡ count_by (λ e. has_all kind (first.now ∷ rest.now) (T.shown e)) entries.now }
 {
+    let field = kind.field(first.name.bytes());
+    let text = first.value.bytes();
     entries
         .iter()
-        .filter(|entry| has_all(kind, *entry, wanted))
+        .filter(|entry| is_text(*entry, field, text) && has_all(kind, *entry, rest))
         .count()
 }
 
-fn first_match<T: Entry>(kind: Kind, entries: &[T], wanted: &[Pair]) -> Option<usize>
-    ensures { result ≡ position (λ e. has_all kind wanted.now (T.shown e)) entries.now }
+fn first_match<T: Entry>(kind: Kind, entries: &[T], first: &Pair, rest: &[Pair]) -> Option<usize>
+    ensures { result ≡ position (λ e. has_all kind (first.now ∷ rest.now) (T.shown e)) entries.now }
 {
-    entries
-        .iter()
-        .position(|entry| has_all(kind, entry, wanted))
+    let field = kind.field(first.name.bytes());
+    let text = first.value.bytes();
+    entries.iter().position(|entry| is_text(entry, field, text) && has_all(kind, entry, rest))
+}
+
+#[tactic(auto, unfolding(crate::specs::Matches::only_place))]
+fn only_match<T: Entry>(
+    kind: Kind,
+    entries: &[T],
+    first: &Pair,
+    rest: &[Pair],
+) -> Result<usize, ConfigFault>
+    ensures answer { result ≡ only_place (λ e. has_all kind (first.now ∷ rest.now) (T.shown e)) entries.now }
+    ensures inside { IfOk result (λ place. place < length entries.now) }
+{
+    let count = count_matches(kind, entries, first, rest);
+    let Some(place) = first_match(kind, entries, first, rest) else {
+        return Err(ConfigFault::NoMatch);
+    };
+    if count > 1 {
+        return Err(ConfigFault::SeveralMatch(count));
+    }
+    Ok(place)
+}
+
+// Where nothing is wanted, each resource matches.
+#[tactic(auto, unfolding(crate::specs::Matches::only_place), using(crate::proofs::Alone::one_alone, crate::proofs::Alone::several_match))]
+fn only_entry<T>(entries: &[T]) -> Result<usize, ConfigFault>
+    ensures answer { result ≡ only_place (λ e. true) entries.now }
+    ensures inside { IfOk result (λ place. place < length entries.now) }
+{
+    match entries {
+        [] => Err(ConfigFault::NoMatch),
+        [_] => Ok(0),
+        _ => Err(ConfigFault::SeveralMatch(entries.len())),
+    }
 }
 
 /// The place of the one resource of a kind that has all wanted pairs, or 25, or 26 with how many have
 /// them. It takes no memory.
-#[tactic(auto, unfolding(crate::specs::Matches::only_place))]
 pub fn find_entry<T: Entry>(
     kind: Kind,
     entries: &[T],
@@ -50,14 +92,10 @@ pub fn find_entry<T: Entry>(
     ensures answer { result ≡ only_place (λ e. has_all kind wanted.now (T.shown e)) entries.now }
     ensures inside { IfOk result (λ place. place < length entries.now) }
 {
-    let count = count_matches(kind, entries, wanted);
-    let Some(place) = first_match(kind, entries, wanted) else {
-        return Err(ConfigFault::NoMatch);
-    };
-    if count > 1 {
-        return Err(ConfigFault::SeveralMatch(count));
+    match wanted {
+        [] => only_entry(entries),
+        [first, rest @ ..] => only_match(kind, entries, first, rest),
     }
-    Ok(place)
 }
 
 /// Whether a property of some resource shows a text. It takes no memory.

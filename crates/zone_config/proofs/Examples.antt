@@ -1,14 +1,18 @@
 -- What the definitions say of some configurations.
-use Rattle.std.proofs.Common.{◌≡◌, [], ◌∷◌, length, true, Some, Ok, Err, codes, refl}
+use Rattle.std.proofs.Common.{◌≡◌, ℕ, [], ◌∷◌, length, replicate, true, Some, None, Ok, Err, codes, refl}
 use Rattle.zonecfg_lex.specs.declared.values.Value.TheVariants.{Simple, List as Items}
-use Rattle.config_terms.specs.declared.fault.ConfigFault.TheVariants.{UnknownProperty, BadValue, AliasHeld}
+use Rattle.config_terms.specs.declared.fault.ConfigFault.TheVariants.{UnknownProperty, BadValue, AliasHeld, TooLarge}
+use Rattle.config_terms.specs.declared.terms.Fs as fs
+use Rattle.config_terms.specs.declared.terms.Resource.TheVariants.{Fs, Dataset}
 use Rattle.config_terms.specs.Numbers.{number_of}
 use Rattle.config_terms.specs.Rules.{obeys}
 use Rattle.config_terms.specs.Texts.{setting}
 use Rattle.zone_config.specs.declared.terms.Contents.{Contents}
 use Rattle.zone_config.specs.Property.{blank, setting_named}
-use Rattle.zone_config.specs.Export.{export_text}
+use Rattle.zone_config.specs.Export.{export_text, unless_larger}
 use Rattle.zone_config.specs.Edits.{with_property, without_property, alias_set, alias_cleared}
+use Rattle.zone_config.specs.Resources.{limit_passed}
+use Rattle.zone_config.specs.Sound.{count}
 
 abbrev web : Contents
 web = record blank { zonepath = Some (codes "/zones/web"); brand = codes "ipkg" }
@@ -48,3 +52,39 @@ listed = refl
 unknown : with_property (codes "dir") (Items []) blank ≡ Err UnknownProperty
 unfolding with_property setting_named
 unknown = refl
+
+-- the greatest counts and the greatest length
+mount : ℕ → fs.Fs
+mount n = record { dir = None; special = []; raw = []; fstype = []; options = replicate n (codes "ro") }
+
+mounts : ℕ → Contents
+mounts n = record blank { fs = replicate n (mount 32) }
+
+sets : ℕ → Contents
+sets n = record blank { dataset = replicate n [] }
+
+room_for_256 : limit_passed (Dataset []) (sets 255) ≡ None
+unfolding sets count
+room_for_256 = refl
+
+no_room_for_257 : limit_passed (Dataset []) (sets 256) ≡ Some 256
+unfolding sets count
+no_room_for_257 = refl
+
+room_for_100_mounts : limit_passed (Fs (mount 32)) (mounts 99) ≡ None
+unfolding mount mounts count
+room_for_100_mounts = refl
+
+no_room_for_101_mounts : limit_passed (Fs (mount 0)) (mounts 100) ≡ Some 100
+unfolding mount mounts count
+no_room_for_101_mounts = refl
+
+no_room_for_33_options : limit_passed (Fs (mount 33)) blank ≡ Some 32
+unfolding mount count
+no_room_for_33_options = refl
+
+largest : unless_larger 32768 blank ≡ Ok blank
+largest = refl
+
+too_large : unless_larger 32769 blank ≡ Err (TooLarge 32769)
+too_large = refl

@@ -1,11 +1,11 @@
 //! Configurations that are sound.
-ghost use Rattle.std.specs.Prelude.{◌≡◌, ◌<◌, Err, IfOk, IsTrue, None, OnErr, Some, false};
+ghost use Rattle.std.specs.Prelude.{◌≡◌, ◌<◌, ◌≤◌, Err, IfOk, IsTrue, None, OnErr, Some, false, length};
 ghost use Rattle.config_terms.specs.Allowed.{is_allowed, options_passed};
 ghost use Rattle.config_terms.specs.Edits.{Changes, ChangesSurely};
 ghost use Rattle.config_terms.specs.Fields.{kind_of};
 ghost use Rattle.config_terms.specs.declared.fault.ConfigFault.TheVariants.{Memory};
 ghost use Rattle.zone_config.specs.Edits.{alias_cleared, alias_set, property_set, with_property, without_property};
-ghost use Rattle.zone_config.specs.Export.{sized};
+ghost use Rattle.zone_config.specs.Export.{export_text, sized};
 ghost use Rattle.zone_config.specs.Property.{blank, without_value};
 ghost use Rattle.zone_config.specs.Resources.{added, count_of, found, has_taken, has_taken_but, limit_passed, removed, replaced, unless_passed, with_replaced, with_resource};
 ghost use Rattle.zone_config.specs.Sound.{IsSound};
@@ -71,6 +71,14 @@ impl ZoneConfig {
         ensures sound { IsSound result.now }
     {
         &self.contents
+    }
+
+    /// How many bytes the export text has. It takes no memory, and no look at the contents.
+    pub fn text_length(&self) -> usize
+        ensures same { result ≡ length (export_text self.now) }
+        ensures bound { result ≤ 32768 }
+    {
+        self.size
     }
 
     /// An equal configuration.

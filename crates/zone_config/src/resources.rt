@@ -50,7 +50,7 @@ impl Contents {
     }
 
     /// Whether another resource of its kind has the resource's key.
-    pub(crate) fn has_taken(&self, resource: &Resource) -> bool
+    pub fn has_taken(&self, resource: &Resource) -> bool
         ensures { result ≡ has_taken resource.now self.now }
     {
         match resource {

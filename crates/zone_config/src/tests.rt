@@ -61,6 +61,10 @@ fn remove(config: &mut ZoneConfig, wanted: &[Pair]) -> Result<(), ConfigFault> {
     Ok(())
 }
 
+fn length_of(config: &ZoneConfig) -> usize {
+    config.text_length()
+}
+
 fn shows(rt: &impl Abort, alloc: Global, config: &ZoneConfig, wanted: &[u8]) -> Result<(), Fail> {
     let text = export(alloc, config)?;
     assert_eq!(rt; text.as_slice(), wanted);
@@ -91,6 +95,7 @@ fn becomes_web(rt: &impl Abort, alloc: Global, config: &mut ZoneConfig) -> Resul
     set(alloc, config, b"brand", b"ipkg")?;
     assert_eq!(rt; config.brand.bytes(), b"ipkg".as_slice());
     assert_eq!(rt; export(alloc, config)?.len(), 87);
+    assert_eq!(rt; length_of(config), 87);
     shows(rt, alloc, config, WEB)?;
     copy_shows(rt, alloc, config, WEB)
 }
