@@ -132,6 +132,15 @@ fn options_of(alloc: Global, bytes: &[u8]) -> Result<Option<Command>, AllocError
     }
 }
 
+fn limit_of(bytes: &[u8]) -> Option<Command>
+    ensures { result ≡ limit_of bytes.now }
+{
+    let (number, action) = cut(bytes, b',');
+    let limit = number_of(number)?;
+    let deny = action == b"action=deny)".as_slice();
+    Some(Command::Value(Limit { limit, deny }))
+}
+
 /// The command that a line says, if it says one.
 #[tactic(auto, unfolding(crate::specs::Reading::command_of))]
 pub fn command_of(alloc: Global, line: &[u8]) -> Result<Option<Command>, AllocError>
@@ -156,13 +165,4 @@ pub fn command_of(alloc: Global, line: &[u8]) -> Result<Option<Command>, AllocEr
         Some(rest) => Ok(opening_of(rest)),
         None => Ok(None),
     }
-}
-
-fn limit_of(bytes: &[u8]) -> Option<Command>
-    ensures { result ≡ limit_of bytes.now }
-{
-    let (number, action) = cut(bytes, b',');
-    let limit = number_of(number)?;
-    let deny = action == b"action=deny)".as_slice();
-    Some(Command::Value(Limit { limit, deny }))
 }
