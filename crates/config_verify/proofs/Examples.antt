@@ -26,6 +26,14 @@ negative : is_of_form (codes "int") (codes "-12") ≡ true
 unfolding is_of_form is_unsigned
 negative = refl
 
+digits_18 : is_of_form (codes "uint") (codes "123456789012345678") ≡ true
+unfolding is_of_form is_unsigned
+digits_18 = refl
+
+no_19_digits : is_of_form (codes "uint") (codes "1234567890123456789") ≡ false
+unfolding is_of_form is_unsigned
+no_19_digits = refl
+
 any_string : is_of_form (codes "string") (codes "a b") ≡ true
 unfolding is_of_form
 any_string = refl

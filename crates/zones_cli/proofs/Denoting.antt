@@ -22,7 +22,7 @@ use Rattle.zonecfg_scopes.proofs.Steps.{stands_stepped}
 use Rattle.zones_cli.specs.declared.refusal.Refusal.{Refusal}
 use Rattle.zones_cli.specs.declared.status.TheConstants.{DONE}
 use Rattle.zones_cli.specs.Denoted.{ExportsDenoted, script_of, subcommands_by, subcommands_in, subcommands_of}
-use Rattle.zones_cli.specs.Exporting.{edited, ended, exported, led_on, unless_flawed as end_unless_flawed}
+use Rattle.zones_cli.specs.Exporting.{edited, ended, exported, led_on, written_unless_flawed}
 use Rattle.zones_cli.specs.Lines.{lines_of}
 use Rattle.zones_cli.specs.Output.{Output, is_past_limit, limit_at, written}
 use Rattle.zones_cli.specs.Subcommands.{all_in_turn, known_brands, edit_of, goes_on, in_turn, is_elsewhere, looked_over, obeyed, obeyed_as, passed, unless_flawed, verified}
@@ -88,7 +88,7 @@ module _ (base : Option Contents) where
   line_by line (Err fault) cs o new e s = absurd (cc)
 
   -- one line
-  line_stands : (line : List ℕ) (cs : List Command) (o new : Open) → edit_of line o ≡ Ok new → Stands base cs o → Stands base (cs ++ subcommands_of line) new
+  pub line_stands : (line : List ℕ) (cs : List Command) (o new : Open) → edit_of line o ≡ Ok new → Stands base cs o → Stands base (cs ++ subcommands_of line) new
   unfolding edit_of subcommands_of
   line_stands line cs o new e s = line_by line (parts_of line) cs o new e s
 
@@ -99,7 +99,7 @@ leads number true said more done = absurd (omega (arith, done))
 leads number false (Ok o) more done = (o, refl, refl)
 leads number false (Err refusal) more done = absurd (omega (arith, done))
 
-flawless : (found : List Flaw) (c : Contents) → (end_unless_flawed (first found) c).status ≡ DONE → (found ≡ []) × (end_unless_flawed (first found) c ≡ written (export_text c))
+flawless : (found : List Flaw) (c : Contents) → (written_unless_flawed (first found) c).status ≡ DONE → (found ≡ []) × (written_unless_flawed (first found) c ≡ written (export_text c))
 flawless [] c done = (refl, refl)
 flawless (flaw ∷ found) c done = absurd (omega (arith, done))
 

@@ -6,5 +6,6 @@ pub mod Traces
 pub mod TraceRuns
 pub mod TraceEnds
 pub mod Denoting
+pub mod Refusing
 pub mod Obeying
 pub mod Ending

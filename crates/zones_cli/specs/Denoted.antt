@@ -1,5 +1,5 @@
 -- What the input of `export` denotes, and how that bears on what is written.
-use Rattle.std.specs.Prelude.{◌≡◌, ℕ, List, [], ◌∷◌, Some, None, Result, Ok, Err}
+use Rattle.std.specs.Prelude.{◌≡◌, ◌+◌, ◌++◌, ◌⊎◌, ℕ, List, [], ◌∷◌, length, Some, None, Result, Ok, Err}
 use Rattle.std.specs.List.{flat_map}
 use Rattle.zonecfg_lex.specs.declared.fault.LexFault.{LexFault}
 use Rattle.zonecfg_lex.specs.declared.token.Span.{Span}
@@ -8,14 +8,16 @@ use Rattle.zone_config.specs.declared.terms.Contents.{Contents}
 use Rattle.zone_config.specs.Export.{export_text}
 use Rattle.config_verify.specs.Flaws.{flaws}
 use Rattle.zonecfg_scopes.specs.declared.command.Command.{Command}
-use Rattle.zonecfg_scopes.specs.Denotes.{Denotes}
+use Rattle.zonecfg_scopes.specs.Denotes.{Denotes, Stands}
 use Rattle.zonecfg_scopes.specs.Edited.{with_command}
 use Rattle.zonecfg_scopes.specs.Forms.{command_of}
-use Rattle.zones_cli.specs.declared.status.TheConstants.{DONE}
-use Rattle.zones_cli.specs.Exporting.{exported}
+use Rattle.zonecfg_scopes.specs.Open.{Open}
+use Rattle.zones_cli.specs.declared.refusal.Refusal.{Refusal}
+use Rattle.zones_cli.specs.declared.status.TheConstants.{DONE, REFUSED}
+use Rattle.zones_cli.specs.Exporting.{ended, exported, refused_at}
 use Rattle.zones_cli.specs.Lines.{lines_of}
 use Rattle.zones_cli.specs.Output.{Output, written}
-use Rattle.zones_cli.specs.Subcommands.{known_brands}
+use Rattle.zones_cli.specs.Subcommands.{edit_of, known_brands}
 
 -- the subcommands that some spans of a line spell
 abbrev pub subcommands_in : List ℕ → List Span → List Command
@@ -44,3 +46,26 @@ pub record ExportsDenoted (cs : List Command) (output : Output) : Type 0 where
 -- a law: where the status is 0, what is written is the export text of what the subcommands of the input denote
 abbrev pub ExportsWhatIsDenoted : Type 0
 ExportsWhatIsDenoted = (bytes : List ℕ) → (exported bytes).status ≡ DONE → ExportsDenoted (script_of bytes) (exported bytes)
+
+-- the first line that is refused, at what the subcommands of the lines before it denote
+pub record RefusesLine (lines : List (List ℕ)) (output : Output) : Type 0 where
+  pub before : List (List ℕ)
+  pub line : List ℕ
+  pub rest : List (List ℕ)
+  pub cut : lines ≡ before ++ line ∷ rest
+  pub opened : Open
+  pub stands : Stands None (flat_map subcommands_of before) opened
+  pub refusal : Refusal
+  pub refused : edit_of line opened ≡ Err refusal
+  pub told : output ≡ refused_at (length before + 1) refusal
+
+-- the end of the input, at what the subcommands of all lines denote
+pub record RefusesEnd (lines : List (List ℕ)) (output : Output) : Type 0 where
+  pub opened : Open
+  pub stands : Stands None (flat_map subcommands_of lines) opened
+  pub told : output ≡ ended opened
+
+-- a law: where the status is 1, what is refused is a line or the end, at what the subcommands before it denote
+abbrev pub RefusesAtWhatIsDenoted : Type 0
+RefusesAtWhatIsDenoted = (bytes : List ℕ) → (exported bytes).status ≡ REFUSED
+    → RefusesLine (lines_of bytes) (exported bytes) ⊎ RefusesEnd (lines_of bytes) (exported bytes)

@@ -22,14 +22,14 @@ refused_at number refusal = complained REFUSED (codes "line " ++ decimal number 
 abbrev pub refused_end : Refusal → Output
 refused_end refusal = complained REFUSED (codes "end: " ++ refusal_text refusal)
 
-abbrev pub unless_flawed : Result (Unit {0}) Flaw → Contents → Output
-unless_flawed (Ok _) c = written (export_text c)
-unless_flawed (Err flaw) c = refused_end (flawed flaw)
+abbrev pub written_unless_flawed : Result (Unit {0}) Flaw → Contents → Output
+written_unless_flawed (Ok _) c = written (export_text c)
+written_unless_flawed (Err flaw) c = refused_end (flawed flaw)
 
 -- what is open at the end of the input is exported, where no scope is open and it has no flaw
 abbrev pub ended : Open → Output
 ended Nothing = refused_end (refused NothingOpen)
-ended (Whole c) = unless_flawed (first (flaws known_brands c)) c
+ended (Whole c) = written_unless_flawed (first (flaws known_brands c)) c
 ended (Inside c r at) = refused_end (refused (WrongScope (Resource (kind_of r))))
 
 -- a line that is obeyed leads on, and a refused one ends the run

@@ -15,7 +15,7 @@ mod tests;
 mod trace;
 mod words;
 
-use run::run_zones;
+use run::{run_zones, tell};
 use std::process::ExitCode;
 use std::{env, io};
 use zn_base::{StdSink, StdSource};
@@ -36,11 +36,12 @@ fn read_words(rt: &HostRuntime) -> io::Result<Vec<String>> {
 }
 
 fn main(rt: HostRuntime) -> ExitCode {
-    let Ok(words) = read_words(&rt) else {
-        return ExitCode::from(status::NO_MEMORY);
-    };
     let mut source = StdSource::new(rt.stdin());
     let mut out = StdSink::new(rt.stdout());
     let mut err = StdSink::new(rt.stderr());
+    let Ok(words) = read_words(&rt) else {
+        tell(&mut err, b"no memory\n");
+        return ExitCode::from(status::NO_MEMORY);
+    };
     ExitCode::from(run_zones(rt.alloc(), &words, &mut source, &mut out, &mut err))
 }

@@ -2,10 +2,10 @@
 ghost use Rattle.std.specs.Prelude.{◌≡◌, ◌++◌, IfOk, OnOk};
 ghost use Rattle.zones_cli.specs.Outcomes.{complaint_status, complaint_text};
 
-use crate::refusal::{Refusal, push_numbered, push_refusal};
+use crate::refusal::{Refusal, push_refusal};
 use crate::status;
 use std::alloc::{AllocError, Global};
-use trace_text::LineFault;
+use trace_text::{LineFault, push_numbered};
 
 /// What ends a run with a line on standard error. Lines are numbered from 1.
 #[derive(Drop)]

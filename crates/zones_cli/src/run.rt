@@ -17,8 +17,8 @@ use std::alloc::Global;
 use zn_base::{Sink, Source, write_all};
 use zone_machine::Machine;
 
-// Tries a line once; its failure changes nothing but the count of faults.
-fn tell<E: Sink>(err: &mut E, line: &[u8])
+/// Tries a line once; its failure changes nothing but the count of faults.
+pub fn tell<E: Sink>(err: &mut E, line: &[u8])
     ensures front { TakesFront (E.holds err.old) (E.holds err.new) (E.faults err.old) (E.faults err.new) line.now }
     ensures later { E.faults err.old ≤ E.faults err.new }
 {

@@ -1,0 +1,118 @@
+#!/usr/bin/env python3
+"""Refuses each allocation, each read and each write of the native program in turn, and looks how the run ends.
+
+    tools/refuse.py [--program FILE]
+
+A small library stands before the C library and lets the call with a given number fail; gcc builds it in a temporary
+folder. A run must end as docs/FORMATS.md states: status 9, 4 or 5 with its line, `export` with nothing or a front of
+its text, `trace` with whole replies, and where nothing was refused with its text. It is no part of the gate.
+"""
+
+import os
+import pathlib
+import subprocess
+import sys
+import tempfile
+
+from arguments import arguments
+
+SHIM = r"""
+#define _GNU_SOURCE
+#include <dlfcn.h>
+#include <errno.h>
+#include <stdlib.h>
+#include <sys/types.h>
+#include <unistd.h>
+
+static long turn(const char *name) { const char *text = getenv(name); return text ? atol(text) : 0; }
+static int refused(const char *name, long *count) { return ++*count == turn(name); }
+static long allocations, reads, writes;
+
+#define REAL(type, name, ...) ((type (*)(__VA_ARGS__))dlsym(RTLD_NEXT, name))
+
+void *malloc(size_t size) {
+    static void *(*real)(size_t);
+    if (!real) real = REAL(void *, "malloc", size_t);
+    if (refused("REFUSE_ALLOCATION", &allocations)) { errno = ENOMEM; return 0; }
+    return real(size);
+}
+void *realloc(void *old, size_t size) {
+    static void *(*real)(void *, size_t);
+    if (!real) real = REAL(void *, "realloc", void *, size_t);
+    if (refused("REFUSE_ALLOCATION", &allocations)) { errno = ENOMEM; return 0; }
+    return real(old, size);
+}
+void *aligned_alloc(size_t alignment, size_t size) {
+    static void *(*real)(size_t, size_t);
+    if (!real) real = REAL(void *, "aligned_alloc", size_t, size_t);
+    if (refused("REFUSE_ALLOCATION", &allocations)) { errno = ENOMEM; return 0; }
+    return real(alignment, size);
+}
+int posix_memalign(void **result, size_t alignment, size_t size) {
+    static int (*real)(void **, size_t, size_t);
+    if (!real) real = REAL(int, "posix_memalign", void **, size_t, size_t);
+    if (refused("REFUSE_ALLOCATION", &allocations)) return ENOMEM;
+    return real(result, alignment, size);
+}
+ssize_t read(int file, void *bytes, size_t count) {
+    static ssize_t (*real)(int, void *, size_t);
+    if (!real) real = REAL(ssize_t, "read", int, void *, size_t);
+    if (file == 0 && refused("REFUSE_READ", &reads)) { errno = EIO; return -1; }
+    return real(file, bytes, count);
+}
+ssize_t write(int file, const void *bytes, size_t count) {
+    static ssize_t (*real)(int, const void *, size_t);
+    if (!real) real = REAL(ssize_t, "write", int, const void *, size_t);
+    if (refused("REFUSE_WRITE", &writes)) { errno = ENOSPC; return -1; }
+    return real(file, bytes, count);
+}
+"""
+EXAMPLES = pathlib.Path(__file__).resolve().parent.parent / "examples"
+FAULTS = {"ALLOCATION": (9, b"no memory\n"), "READ": (4, b"read fault\n"), "WRITE": (5, b"write fault\n")}
+
+
+def run(program, shim, word, data, refused=None):
+    environment = dict(os.environ, LD_PRELOAD=shim)
+    if refused:
+        environment["REFUSE_" + refused[0]] = str(refused[1])
+    return subprocess.run([program, word], input=data, capture_output=True, timeout=60, env=environment)
+
+
+def is_stated(kind, word, done, text):
+    """Whether a run in which a call was refused ended as stated."""
+    status, line = FAULTS[kind]
+    if done.returncode != status or done.stderr not in (line, b""):
+        return False
+    if word == "trace":
+        return text.startswith(done.stdout) and (not done.stdout or done.stdout.endswith(b"\n"))
+    return not done.stdout
+
+
+def refuse_each(program, shim, kind, word, data):
+    """How many calls of a kind a run makes, each of which was refused in a run of its own."""
+    whole = run(program, shim, word, data)
+    assert whole.returncode == 0, whole
+    number = 0
+    while True:
+        number += 1
+        done = run(program, shim, word, data, (kind, number))
+        if (done.returncode, done.stdout, done.stderr) == (0, whole.stdout, b""):
+            return number - 1
+        if not is_stated(kind, word, done, whole.stdout):
+            sys.exit("%s with refused %s %d: status %d, %r, %r" % (word, kind, number, done.returncode, done.stdout, done.stderr))
+
+
+def main():
+    args = arguments(__doc__)
+    with tempfile.TemporaryDirectory() as folder:
+        source, shim = folder + "/refuse.c", folder + "/refuse.so"
+        pathlib.Path(source).write_text(SHIM)
+        subprocess.run(["gcc", "-shared", "-fPIC", "-O1", "-o", shim, source, "-ldl"], check=True)
+        for word, name in (("export", "full.zonecfg"), ("trace", "web.trace")):
+            data = (EXAMPLES / name).read_bytes()
+            counts = ["%d %ss" % (refuse_each(args.program, shim, kind, word, data), kind.lower()) for kind in FAULTS]
+            print("%s: refused %s, each in a run of its own; all ended as stated" % (word, ", ".join(counts)))
+
+
+if __name__ == "__main__":
+    main()
