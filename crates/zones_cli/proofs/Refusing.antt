@@ -33,8 +33,16 @@ lines_refused (line ∷ lines) number all before o cut is s refused =
     let more : Open → Output = λ next. edited (number + 1) next lines in
     elim (meets number (is_past_limit number line) (edit_of line o) more refused) as (λ _. RefusesLine all (edited number o (line ∷ lines)) ⊎ RefusesEnd all (edited number o (line ∷ lines))) [
       | inl here ↦ inl (record {
-            before = before; line = line; rest = lines; cut = cut; opened = o; stands = s; refusal = here.0; refused = here.1;
-            told = here.2 ∙ ap (λ n. refused_at n here.0) is })
+        before = before;
+        line = line;
+        rest = lines;
+        cut = cut;
+        opened = o;
+        stands = s;
+        refusal = here.0;
+        refused = here.1;
+        told = here.2 ∙ ap (λ n. refused_at n here.0) is;
+      })
       | inr on ↦
           let P : List Command → Type 0 = λ cs. Stands None cs on.0 in
           let Q : Output → Type 0 = λ output. RefusesLine all output ⊎ RefusesEnd all output in
