@@ -1,11 +1,17 @@
 //! Zone names.
 ghost use Rattle.std.specs.Prelude.{◌≡◌, ◌≤◌, IfOk, IsTrue, bytes_eq, codes, length, nat_eq, not, position};
+ghost use Rattle.std.specs.Cmp.{partial_equiv_from_equiv};
+ghost use Rattle.std.specs.Cmp.Lexicographic.{nat_list_eq_equiv};
+ghost use Rattle.std.specs.Cmp.Rules.{hashing};
+ghost use Rattle.std.specs.Hash as fed;
 ghost use Rattle.std.specs.List.{starts_with};
+ghost use Rattle.std.proofs.Common.{rules};
 ghost use Rattle.zn_base.specs.declared.name.NameFault.TheVariants.{Memory};
 ghost use Rattle.zn_base.specs.Answers.{AnswersUnless};
 ghost use Rattle.zn_base.specs.Names.{first_wrong, is_letter_or_digit, is_name, is_name_byte, is_reserved, name_of};
 
 use std::alloc::{AllocError, Global};
+use std::hash::{Hash, Hasher};
 use std::marker::Model;
 use thiserror::Error;
 
@@ -145,5 +151,29 @@ impl ZoneName {
         Ok(ZoneName {
             bytes: Vec::from_slice(alloc, &self.bytes)?,
         })
+    }
+}
+
+impl PartialEq for ZoneName {
+    ghost eq = { bytes_eq };
+
+    ghost laws = { partial_equiv_from_equiv nat_list_eq_equiv };
+
+    fn eq(&self, other: &ZoneName) -> bool {
+        self.same(other)
+    }
+}
+
+impl Eq for ZoneName {
+    ghost laws = { nat_list_eq_equiv };
+}
+
+impl Hash for ZoneName {
+    ghost hash_input = { fed.slice fed.u8 };
+
+    ghost respects_eq = { Prim.search (hashing, rules) };
+
+    fn hash<H: Hasher>(&self, state: &mut H) {
+        self.bytes().hash(state);
     }
 }
