@@ -1,12 +1,11 @@
 -- A store over one record more.
-use Rattle.std.proofs.Common.{◌≡◌, ◌⊎◌, inl, inr, ◌*◌, ◌≤◌, ◌<◌, ◌+◌, ℕ, List, [], ◌∷◌, ◌++◌, Bool, true, false, ◌&&◌, not, cond, length, Option, Some, None, IsTrue, refl, ap, sym, subst, ◌∙◌, arith, length-append}
+use Rattle.std.proofs.Common.{◌≡◌, inl, inr, ◌*◌, ◌≤◌, ◌<◌, ◌+◌, ℕ, List, [], ◌∷◌, ◌++◌, Bool, true, false, ◌&&◌, not, cond, length, Option, Some, None, IsTrue, refl, sym, subst, arith, length-append}
 use Rattle.std.specs.Prelude.{IfSome, OnErr, Result, Ok, Err, bytes_eq, filter, option_map}
 use Rattle.std.specs.Option.{ForSome}
-use Rattle.std.specs.List.{list_any}
 use Rattle.std.proofs.lemmas.Bool.Decides.{nat_tests}
 use Rattle.zn_base.specs.Disk.{Leaves, View}
 use Rattle.zn_base.specs.Firsts.{placed}
-use Rattle.zn_base.specs.Names.{is_name, Name}
+use Rattle.zn_base.specs.Names.{Name}
 use Rattle.zn_base.specs.declared.owned.Owned.{Owned}
 use Rattle.zn_base.proofs.Moments.{weaker}
 use Rattle.zone_disk.specs.Bank.{IsBeforeOrAfter as IsOneMore}
@@ -16,8 +15,8 @@ use Rattle.commit_journal.specs.declared.records.Record.{Record}
 use Rattle.commit_journal.specs.Bodies.{body_text, IsCommit}
 use Rattle.commit_journal.specs.Journal.{Leave}
 use Rattle.commit_journal.specs.Replay.{TakesIn}
-use Rattle.commit_journal.specs.Store.{change_text, IsBeforeOrAfter, HasZones, Stores, StoresOneMore}
-use Rattle.commit_journal.specs.Stored.{holds, may_stand, with_commit, with_stored, without, Rows, ZONES}
+use Rattle.commit_journal.specs.Store.{change_text, IsBeforeOrAfter, HasZones, StoresOneMore}
+use Rattle.commit_journal.specs.Stored.{holds, may_stand, with_commit, with_stored, Rows, ZONES}
 use Rattle.commit_journal.proofs.Says.{leave_more, say_none}
 
 -- a bank has room for few records

@@ -7,8 +7,8 @@ ghost use Rattle.commit_journal.specs.Store.{HasZones};
 ghost use Rattle.commit_journal.specs.Stored.{may_stand};
 ghost use Rattle.commit_journal.specs.Zones.{rows_of};
 
-use crate::reading::read_commit;
 use crate::StoreFault;
+use crate::reading::read_commit;
 use crate::rows::{Zones, apply, may_stand};
 use indexmap::IndexMap;
 use std::alloc::{AllocError, Global};
