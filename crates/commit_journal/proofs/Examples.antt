@@ -1,5 +1,6 @@
 -- What the definitions say of some commits.
-use Rattle.std.proofs.Common.{◌≡◌, ℕ, List, [], ◌∷◌, ◌++◌, length, Some, None, codes, false, refl}
+use Rattle.std.proofs.Common.{◌≡◌, ℕ, List, [], ◌∷◌, ◌++◌, length, Some, None, codes, false, true, refl}
+use Rattle.std.specs.Prelude.{replicate}
 use Rattle.uuid.specs.Text.{by_index}
 use Rattle.zn_base.specs.declared.state.ZoneState.TheVariants.{Configured}
 use Rattle.zn_base.specs.Owned_lists.{tag}
@@ -10,7 +11,7 @@ use Rattle.zone_config.specs.Property.{blank}
 use Rattle.commit_journal.specs.declared.records.Commit.{Commit}
 use Rattle.commit_journal.specs.declared.records.Record.{Record}
 use Rattle.commit_journal.specs.Bodies.{body_text, padded, record_text}
-use Rattle.commit_journal.specs.Stored.{may_follow, stored}
+use Rattle.commit_journal.specs.Stored.{may_follow, may_stand, stored, Rows}
 
 web_1 : Record
 web_1 = record {
@@ -58,6 +59,23 @@ made_again = refl
 removed_twice : may_follow (commit (codes "a") ∷ removed (codes "a") ∷ []) (removed (codes "a")) ≡ false
 unfolding commit removed
 removed_twice = refl
+
+-- zones of one name, so many
+zones : ℕ → Rows
+zones n = replicate n (tag (codes "a") web_1)
+
+-- a store has at most 256 zones: then no new one finds a place, and what is stored may change
+no_place : may_stand (codes "b") (Some web_1) (zones 256) ≡ false
+unfolding zones
+no_place = refl
+
+last_place : may_stand (codes "b") (Some web_1) (zones 255) ≡ true
+unfolding zones
+last_place = refl
+
+change_of_a_full_store : may_stand (codes "a") (Some web_1) (zones 256) ≡ true
+unfolding zones
+change_of_a_full_store = refl
 
 -- the first record in a new store, with its header and the closed gate behind it
 new_store : length (header 65 ++ blocks (body_text web_made ∷ []) ++ 0 ∷ []) ≡ 197

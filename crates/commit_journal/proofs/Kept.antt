@@ -1,12 +1,11 @@
 -- A store over one record more.
-use Rattle.std.proofs.Common.{◌≡◌, ◌⊎◌, inl, inr, ◌*◌, ◌≤◌, ◌<◌, ◌+◌, ℕ, List, [], ◌∷◌, ◌++◌, Bool, true, false, ◌&&◌, not, cond, length, Option, Some, None, IsTrue, refl, ap, sym, subst, ◌∙◌, arith, length-append}
-use Rattle.std.specs.Prelude.{IfSome, bytes_eq, filter, option_map}
+use Rattle.std.proofs.Common.{◌≡◌, inl, inr, ◌*◌, ◌≤◌, ◌<◌, ◌+◌, ℕ, List, [], ◌∷◌, ◌++◌, Bool, true, false, ◌&&◌, not, cond, length, Option, Some, None, IsTrue, refl, sym, subst, arith, length-append}
+use Rattle.std.specs.Prelude.{IfSome, OnErr, Result, Ok, Err, bytes_eq, filter, option_map}
 use Rattle.std.specs.Option.{ForSome}
-use Rattle.std.specs.List.{list_any}
 use Rattle.std.proofs.lemmas.Bool.Decides.{nat_tests}
 use Rattle.zn_base.specs.Disk.{Leaves, View}
 use Rattle.zn_base.specs.Firsts.{placed}
-use Rattle.zn_base.specs.Names.{is_name, Name}
+use Rattle.zn_base.specs.Names.{Name}
 use Rattle.zn_base.specs.declared.owned.Owned.{Owned}
 use Rattle.zn_base.proofs.Moments.{weaker}
 use Rattle.zone_disk.specs.Bank.{IsBeforeOrAfter as IsOneMore}
@@ -16,9 +15,9 @@ use Rattle.commit_journal.specs.declared.records.Record.{Record}
 use Rattle.commit_journal.specs.Bodies.{body_text, IsCommit}
 use Rattle.commit_journal.specs.Journal.{Leave}
 use Rattle.commit_journal.specs.Replay.{TakesIn}
-use Rattle.commit_journal.specs.Store.{change_text, IsBeforeOrAfter, HasZones, Stores, StoresOneMore}
-use Rattle.commit_journal.specs.Stored.{holds, may_stand, with_commit, with_stored, without, Rows, ZONES}
-use Rattle.commit_journal.proofs.Says.{leave_more}
+use Rattle.commit_journal.specs.Store.{change_text, IsBeforeOrAfter, HasZones, StoresOneMore}
+use Rattle.commit_journal.specs.Stored.{holds, may_stand, with_commit, with_stored, Rows, ZONES}
+use Rattle.commit_journal.proofs.Says.{leave_more, say_none}
 
 -- a bank has room for few records
 blocks_long : (bodies : List (List ℕ)) → 5 * length bodies ≤ length (blocks bodies)
@@ -63,6 +62,9 @@ few_stored : (z : Name) (said : Option Record) (rows : Rows) → length rows ≤
 few_stored z None rows few may = let fewer = fewer_kept (λ (o : Owned Record). not (bytes_eq z o.zone && true)) rows in omega (arith, fewer)
 few_stored z (Some row) rows few may = few_placed z row rows few may
 
+pub zones_none : HasZones [] []
+zones_none = record { leave = record { commits = []; say = say_none; are = refl }; few = omega arith }
+
 pub zones_more : (bodies : List (List ℕ)) (rows new : Rows) (body : List ℕ) (c : Commit) → HasZones bodies rows → IsCommit c → body ≡ body_text c → IsTrue (may_stand c.zone c.stored rows) → new ≡ with_commit c rows → HasZones (bodies ++ body ∷ []) new
 zones_more bodies rows new body c kept is text may applied = record {
   leave = leave_more bodies rows new body c kept.leave is text may applied;
@@ -87,6 +89,10 @@ module _ (bodies : List (List ℕ)) (rows : Rows) (z : Name) (said : Option Reco
 
   pub any_moment : (old new : View) → Leaves old new (IsOneMore bodies body) → Leaves old new (IsBeforeOrAfter bodies rows z said)
   any_moment old new = weaker old new (IsOneMore bodies body) (IsBeforeOrAfter bodies rows z said) before_or_after
+
+pub on_err_both : {A E P Q : Type 0} (answer : Result A E) → P → Q → OnErr answer (P × Q)
+on_err_both (Ok a) first second = tt
+on_err_both (Err e) first second = (first, second)
 
 pub for_some_map : {A B : Type 0} (f : A → B) (P : B → Type 0) (o : Option A) → ForSome (option_map f o) P → IfSome o (λ a. P (f a))
 for_some_map f P None all = tt

@@ -1,5 +1,5 @@
 -- Lengths, part by part.
-use Rattle.std.proofs.Common.{◌≡◌, ◌≤◌, ◌+◌, ◌/◌, ◌%◌, ℕ, zero, suc, List, [], ◌∷◌, ◌++◌, length, Option, refl, ap, sym, ◌∙◌, arith, length-append, codes}
+use Rattle.std.proofs.Common.{◌≡◌, ◌≤◌, ◌+◌, ◌/◌, ◌%◌, ℕ, zero, suc, List, [], ◌∷◌, ◌++◌, length, Option, refl, ap, ◌∙◌, arith, length-append, codes}
 use Rattle.std.specs.List.{flat_map}
 use Rattle.uuid.specs.Text.{hyphenated_text, lower}
 use Rattle.index_file.proofs.Lines.{uuid_text_length}

@@ -3,7 +3,7 @@ pub mod Lists
 pub mod Lines
 pub mod Parts
 pub mod Lengths
-pub mod Places
+pub mod Zones
 pub mod OneText
 pub mod Says
 pub mod Kept

@@ -1,5 +1,5 @@
 -- No two commits have one body.
-use Rattle.std.proofs.Common.{◌≡◌, inl, ◌<◌, ◌+◌, ◌/◌, ◌%◌, ◌^◌, ℕ, zero, suc, List, [], ◌∷◌, ◌++◌, length, Option, Some, None, IsTrue, true, false, refl, ap, sym, ◌∙◌, arith, append_assoc, codes}
+use Rattle.std.proofs.Common.{◌≡◌, inl, ◌<◌, ◌+◌, ◌/◌, ◌%◌, ◌^◌, ℕ, zero, suc, List, [], ◌++◌, Option, Some, None, IsTrue, true, false, refl, ap, sym, ◌∙◌, arith, append_assoc, codes}
 use Rattle.std.specs.Prelude.{bytes_eq, IfSome}
 use Rattle.std.proofs.Common.{true≢false}
 use Rattle.std.proofs.lemmas.List.{append-nil}
@@ -17,7 +17,7 @@ use Rattle.zone_config.specs.declared.terms.Contents.{Contents}
 use Rattle.export_read.proofs.Whole.{texts_differ}
 use Rattle.commit_journal.specs.declared.records.Commit.{Commit}
 use Rattle.commit_journal.specs.declared.records.Record.{Record}
-use Rattle.commit_journal.specs.Bodies.{body_text, padded, record_text, stored_text, told, HasDigits, IsCommit, IsRecord, OneCommitABody}
+use Rattle.commit_journal.specs.Bodies.{body_text, padded, record_text, stored_text, told, HasDigits, IsRecord, OneCommitABody}
 use Rattle.commit_journal.proofs.Lists.{push_same}
 use Rattle.commit_journal.proofs.Lines.{name_lacks, padded_lacks, state_lacks, told_alike, uuid_lacks}
 

@@ -1,5 +1,5 @@
 -- What bodies say, over one body more and over a front of them.
-use Rattle.std.proofs.Common.{◌≡◌, inl, inr, ◌≤◌, ◌<◌, ◌+◌, ◌-◌, ℕ, suc, List, [], ◌∷◌, ◌++◌, length, take, drop, Bool, IsTrue, All, true, false, refl, ap, sym, subst, ◌∙◌, arith, append_assoc, take-append-drop}
+use Rattle.std.proofs.Common.{◌≡◌, inl, inr, ◌≤◌, ◌<◌, ◌+◌, ◌-◌, ℕ, List, [], ◌∷◌, ◌++◌, length, take, drop, Bool, IsTrue, All, true, false, refl, ap, sym, subst, ◌∙◌, arith, append_assoc, take-append-drop}
 use Rattle.std.specs.Prelude.{map}
 use Rattle.std.proofs.Common.{true≢false}
 use Rattle.std.proofs.lemmas.Bool.{cases_lt}

@@ -4,5 +4,5 @@ pub mod Journal
 pub mod Uuids
 pub mod Faults
 pub mod Store
-pub mod Places
+pub mod Zones
 pub mod Replay

@@ -5,41 +5,42 @@ ghost use Rattle.commit_journal.specs.Bodies.{body_text, IsCommit};
 ghost use Rattle.commit_journal.specs.Replay.{Stops, TakesIn};
 ghost use Rattle.commit_journal.specs.Store.{HasZones};
 ghost use Rattle.commit_journal.specs.Stored.{may_stand};
+ghost use Rattle.commit_journal.specs.Zones.{rows_of};
 
+use crate::StoreFault;
 use crate::reading::read_commit;
-use crate::rows::{apply, may_stand};
-use crate::{Record, StoreFault};
+use crate::rows::{Zones, apply, may_stand};
+use indexmap::IndexMap;
 use std::alloc::{AllocError, Global};
-use zn_base::Owned;
 use zone_disk::Body;
 
 // Applies what a body says, if it says something that may come next.
-fn take_in(alloc: Global, rows: &mut Vec<Owned<Record>>, body: &[u8]) -> Result<bool, AllocError>
-    ensures taken { IfOk result (λ is. IsTrue is → TakesIn body.now rows.old.items rows.new.items) }
-    ensures refused { result ≡ Ok false → (c : Commit) → IsCommit c → body.now ≡ body_text c → may_stand c.zone c.stored rows.old.items ≡ false }
+fn take_in(alloc: Global, zones: &mut Zones, body: &[u8]) -> Result<bool, AllocError>
+    ensures taken { IfOk result (λ is. IsTrue is → TakesIn body.now (rows_of zones.old.entries) (rows_of zones.new.entries)) }
+    ensures refused { result ≡ Ok false → (c : Commit) → IsCommit c → body.now ≡ body_text c → may_stand c.zone c.stored (rows_of zones.old.entries) ≡ false }
 {
     let Some(commit) = read_commit(alloc, body)? else {
         return Ok(false);
     };
-    if !may_stand(rows, &commit.zone, commit.stored.as_ref()) {
+    if !may_stand(zones, &commit.zone, commit.stored.as_ref()) {
         return Ok(false);
     }
-    rows.reserve(1)?;
-    apply(rows, commit.zone, commit.stored);
+    zones.reserve(1)?;
+    apply(zones, commit.zone, commit.stored);
     Ok(true)
 }
 
 /// The zones that bodies leave, or the number of the first body that says nothing.
-pub(crate) fn replay(alloc: Global, bodies: &[Body]) -> Result<Vec<Owned<Record>>, StoreFault>
+pub(crate) fn replay(alloc: Global, bodies: &[Body]) -> Result<Zones, StoreFault>
     requires { length bodies.now < 2 ^ 32 }
-    ensures rows { IfOk result (λ rows. HasZones bodies.now rows.items) }
+    ensures zones { IfOk result (λ zones. HasZones bodies.now (rows_of zones.entries)) }
     ensures fault { IfErr result (Stops bodies.now) }
 {
-    let mut rows = Vec::new(alloc);
+    let mut zones = IndexMap::new(alloc);
     for (place, body) in bodies.iter().enumerate() {
-        if !take_in(alloc, &mut rows, body.bytes())? {
+        if !take_in(alloc, &mut zones, body.bytes())? {
             return Err(StoreFault::RecordForm((place + 1) as u32));
         }
     }
-    Ok(rows)
+    Ok(zones)
 }

@@ -1,89 +1,71 @@
 //! The stored zones, in the order of their creation.
-ghost use Rattle.std.specs.Prelude.{◌≡◌, ◌<◌, ◌++◌, ◌∷◌, ◌↔◌, [], IsSome, IsTrue, MatchOption, bytes_eq, length, option_map, position, vec_capacity};
+ghost use Rattle.std.specs.Prelude.{◌≡◌, ◌<◌, ◌↔◌, IsSome, IsTrue, option_map};
+ghost use Rattle.indexmap.specs.IndexMap.{spare};
 ghost use Rattle.zn_base.specs.Firsts.{placed};
-ghost use Rattle.commit_journal.specs.Places.{StandsAt, StandsNowhere};
 ghost use Rattle.commit_journal.specs.Store.{row_of};
 ghost use Rattle.commit_journal.specs.Stored.{holds, may_stand, with_stored, without};
+ghost use Rattle.commit_journal.specs.Zones.{rows_of};
 
 use crate::Record;
-use zn_base::{Owned, ZoneName};
+use indexmap::IndexMap;
+use zn_base::ZoneName;
 
 /// How many zones a store has at most.
 pub const ZONES_MAX: usize = 256;
 
-fn first_place(rows: &[Owned<Record>], zone: &ZoneName) -> Option<usize>
-    ensures { result ≡ position (λ o. bytes_eq zone.now o.zone) rows.now }
-{
-    rows.iter().position(|row| zone.same(&row.zone))
-}
-
-#[tactic(auto, using(crate::proofs::Places::stands))]
-fn place_of(rows: &[Owned<Record>], zone: &ZoneName) -> Option<usize>
-    ensures { MatchOption result (StandsNowhere zone.now rows.now) (λ at. StandsAt zone.now at rows.now) }
-{
-    first_place(rows, zone)
-}
+/// The stored zones by their names, each with its record.
+pub(crate) type Zones = IndexMap<ZoneName, Record>;
 
 /// What is stored of a zone.
-#[tactic(auto, using(crate::proofs::Places::held_is))]
-pub(crate) fn row_of<'r>(rows: &'r [Owned<Record>], zone: &ZoneName) -> Option<&'r Record>
-    ensures row { option_map (λ row. row.now) result ≡ row_of zone.now rows.now }
-    ensures held { IsSome result ↔ IsTrue (holds zone.now rows.now) }
+#[tactic(auto, using(crate::proofs::Zones::row_is, crate::proofs::Zones::held_is))]
+pub(crate) fn row_of<'z>(zones: &'z Zones, zone: &ZoneName) -> Option<&'z Record>
+    ensures row { option_map (λ row. row.now) result ≡ row_of zone.now (rows_of zones.now.entries) }
+    ensures held { IsSome result ↔ IsTrue (holds zone.now (rows_of zones.now.entries)) }
 {
-    match place_of(rows, zone) {
-        Some(at) => Some(&rows[at].it),
-        None => None,
-    }
+    zones.get(zone)
 }
 
-fn holds(rows: &[Owned<Record>], zone: &ZoneName) -> bool
-    ensures { result ≡ holds zone.now rows.now }
+#[tactic(auto, using(crate::proofs::Zones::held_is))]
+fn holds(zones: &Zones, zone: &ZoneName) -> bool
+    ensures { result ≡ holds zone.now (rows_of zones.now.entries) }
 {
-    rows.iter().any(|row| zone.same(&row.zone))
+    zones.contains_key(zone)
 }
 
 /// Whether the record of a zone may come next: a removal where the zone is stored, and anything else where
 /// it is or has a place.
-pub(crate) fn may_stand(rows: &[Owned<Record>], zone: &ZoneName, stored: Option<&Record>) -> bool
-    ensures { result ≡ may_stand zone.now (option_map (λ row. row.now) stored.entry) rows.now }
+pub(crate) fn may_stand(zones: &Zones, zone: &ZoneName, stored: Option<&Record>) -> bool
+    ensures { result ≡ may_stand zone.now (option_map (λ row. row.now) stored.entry) (rows_of zones.now.entries) }
 {
-    let is_held = holds(rows, zone);
+    let is_held = holds(zones, zone);
     match stored {
         None => is_held,
-        Some(_) => is_held || rows.len() < ZONES_MAX,
+        Some(_) => is_held || zones.len() < ZONES_MAX,
     }
 }
 
-fn put_last(rows: &mut Vec<Owned<Record>>, row: Owned<Record>)
-    requires { length rows.old.items < vec_capacity rows.old }
-    ensures { rows.new.items ≡ rows.old.items ++ row ∷ [] }
+#[tactic(auto, using(crate::proofs::Zones::placed_is))]
+fn put(zones: &mut Zones, zone: ZoneName, row: Record)
+    requires { 0 < spare zones.old }
+    ensures { rows_of zones.new.entries ≡ placed zone row (rows_of zones.old.entries) }
 {
-    rows.push(row).unwrap();
+    zones.insert(zone, row).unwrap();
 }
 
-fn put(rows: &mut Vec<Owned<Record>>, zone: ZoneName, row: Record)
-    requires { length rows.old.items < vec_capacity rows.old }
-    ensures { rows.new.items ≡ placed zone row rows.old.items }
+#[tactic(auto, using(crate::proofs::Zones::without_is))]
+fn remove(zones: &mut Zones, zone: &ZoneName)
+    ensures { rows_of zones.new.entries ≡ without zone.now (rows_of zones.old.entries) }
 {
-    match place_of(rows, &zone) {
-        Some(at) => rows[at] = Owned { zone, it: row },
-        None => put_last(rows, Owned { zone, it: row }),
-    }
-}
-
-fn remove(rows: &mut Vec<Owned<Record>>, zone: &ZoneName)
-    ensures { rows.new.items ≡ without zone.now rows.old.items }
-{
-    rows.retain(|row| !zone.same(&row.zone));
+    zones.shift_remove(zone);
 }
 
 /// A zone's new record comes into its place, or at the end, or the zone goes. It takes no memory.
-pub(crate) fn apply(rows: &mut Vec<Owned<Record>>, zone: ZoneName, stored: Option<Record>)
-    requires { length rows.old.items < vec_capacity rows.old }
-    ensures { rows.new.items ≡ with_stored zone stored rows.old.items }
+pub(crate) fn apply(zones: &mut Zones, zone: ZoneName, stored: Option<Record>)
+    requires { 0 < spare zones.old }
+    ensures { rows_of zones.new.entries ≡ with_stored zone stored (rows_of zones.old.entries) }
 {
     match stored {
-        Some(row) => put(rows, zone, row),
-        None => remove(rows, &zone),
+        Some(row) => put(zones, zone, row),
+        None => remove(zones, &zone),
     }
 }

@@ -1,6 +1,7 @@
 //! The zones that are stored on a disk, changed by one record at a time.
-ghost use Rattle.std.specs.Prelude.{◌≡◌, ◌⊎◌, ◌*◌, ◌+◌, ◌<◌, ◌≤◌, ◌++◌, ◌↔◌, [], ◌∷◌, List, ℕ, length, option_map, slice_get, Some, true, false, IfOk, IfErr, OnOk, OnErr, IfSome, IsErrOf, IsSome, IsTrue, vec_capacity};
+ghost use Rattle.std.specs.Prelude.{◌≡◌, ◌⊎◌, ◌*◌, ◌+◌, ◌<◌, ◌≤◌, ◌++◌, ◌↔◌, [], ◌∷◌, List, ℕ, length, option_map, slice_get, Some, true, false, IfOk, IfErr, OnOk, OnErr, IfSome, IsErrOf, IsSome, IsTrue};
 ghost use Rattle.std.specs.Option.{ForSome};
+ghost use Rattle.indexmap.specs.IndexMap.{spare};
 ghost use Rattle.zn_base.specs.Disk.{View, Leaves};
 ghost use Rattle.zn_base.specs.Streams.{Rose};
 ghost use Rattle.zone_disk.specs.Bank.{Formats, KeepsMeaning, IsBeforeOrAfter as IsOneMore};
@@ -9,15 +10,16 @@ ghost use Rattle.commit_journal.specs.Bodies.{IsCommit, IsStorable};
 ghost use Rattle.commit_journal.specs.Journal.{has_room, Leave};
 ghost use Rattle.commit_journal.specs.Store.{change_text, outcome_by, row_of, HasZones, IsBeforeOrAfter, Says, Stores, StoresOneMore};
 ghost use Rattle.commit_journal.specs.Stored.{holds, may_stand, with_stored, ZONES};
+ghost use Rattle.commit_journal.specs.Zones.{rows_of};
 
 use crate::bodies::body_of;
 use crate::replay::replay;
-use crate::rows::{apply, row_of};
+use crate::rows::{Zones, apply, row_of};
 use crate::sizes::body_length;
 use crate::{Record, StoreFault};
 use std::alloc::{AllocError, Global};
 use std::marker::Model;
-use zn_base::{Disk, Owned, ZoneName};
+use zn_base::{Disk, ZoneName};
 use zone_disk::{Bank, BankFault};
 
 const BANK_BYTES: usize = 33_554_432;
@@ -27,17 +29,18 @@ const BANK_BYTES: usize = 33_554_432;
 #[derive(Drop)]
 pub struct Store<D: Disk> {
     bank: Bank<D>,
-    zones: Vec<Owned<Record>>,
+    zones: Zones,
 }
 
 impl<D: Disk> Model for Store<D> {
     ghost use Rattle.commit_journal.specs.Store.{IsKept, Ledger};
+    ghost use Rattle.commit_journal.specs.Zones.{rows_of};
 
     ghost Value = { Ledger D };
 
-    ghost view = { λ s. record { bank = s.bank; rows = s.zones.items } };
+    ghost view = { λ s. record { bank = s.bank; rows = rows_of s.zones.entries } };
 
-    ghost invariant = { λ s. IsKept (D.view s.bank.disk) s.bank.records s.bank.sound s.zones.items };
+    ghost invariant = { λ s. IsKept (D.view s.bank.disk) s.bank.records s.bank.sound (rows_of s.zones.entries) };
 }
 
 // How many records a bank has.
@@ -60,12 +63,12 @@ fn has_room<D: Disk>(bank: &Bank<D>, zone: &ZoneName, stored: Option<&Record>) -
 // The body of a zone's record and a copy of the zone's name, with a place among the zones for one more.
 fn prepared(
     alloc: Global,
-    zones: &mut Vec<Owned<Record>>,
+    zones: &mut Zones,
     name: &ZoneName,
     row: Option<&Record>,
 ) -> Result<(Vec<u8>, ZoneName), AllocError>
-    ensures same { zones.new.items ≡ zones.old.items }
-    ensures room { OnOk result (length zones.new.items < vec_capacity zones.new) }
+    ensures same { zones.new.entries ≡ zones.old.entries }
+    ensures room { OnOk result (0 < spare zones.new) }
     ensures body { IfOk result (λ r. r.0.items ≡ change_text name.now (option_map (λ row. row.now) row.entry)) }
     ensures zone { IfOk result (λ r. r.1 ≡ name.now) }
     ensures commit { OnOk result (IfSome row.entry (λ row. IsStorable row.now) → IsCommit (record { zone = name.now; stored = option_map (λ row. row.now) row.entry })) }
@@ -103,29 +106,29 @@ fn append<D: Disk>(bank: &mut Bank<D>, alloc: Global, body: &[u8]) -> Result<(),
 // Writes the record of a zone to the disk, once all memory is taken that is then needed.
 fn write<D: Disk>(
     bank: &mut Bank<D>,
-    zones: &mut Vec<Owned<Record>>,
+    zones: &mut Zones,
     alloc: Global,
     name: &ZoneName,
     row: Option<&Record>,
 ) -> Result<ZoneName, StoreFault>
     requires sound { bank.old.sound ≡ true }
     requires settled { (D.view bank.old.disk).Keeps → (image : List ℕ) → (D.view bank.old.disk).Now image → Stands image bank.old.records }
-    requires zones { HasZones bank.old.records zones.old.items }
+    requires zones { HasZones bank.old.records (rows_of zones.old.entries) }
     requires row { ForSome (option_map (λ row. row.now) row) IsStorable }
-    requires place { IsTrue (may_stand name.now (option_map (λ row. row.now) row) zones.old.items) }
+    requires place { IsTrue (may_stand name.now (option_map (λ row. row.now) row) (rows_of zones.old.entries)) }
 
     ensures name { IfOk result (λ zone. zone ≡ name.now) }
-    ensures room { OnOk result (length zones.new.items < vec_capacity zones.new) }
-    ensures zones { zones.new.items ≡ zones.old.items }
-    ensures leaves { OnOk result (HasZones bank.new.records (with_stored name.now (option_map (λ row. row.now) row.entry) zones.old.items)) }
+    ensures room { OnOk result (0 < spare zones.new) }
+    ensures zones { zones.new.entries ≡ zones.old.entries }
+    ensures leaves { OnOk result (HasZones bank.new.records (with_stored name.now (option_map (λ row. row.now) row.entry) (rows_of zones.old.entries))) }
     ensures records { OnOk result (bank.new.records ≡ bank.old.records ++ change_text name.now (option_map (λ row. row.now) row.entry) ∷ []) }
     ensures same { OnErr result (bank.new.records ≡ bank.old.records) }
     ensures sound { OnOk result (bank.new.sound ≡ true) }
     ensures settled { bank.new.sound ≡ true → (D.view bank.new.disk).Keeps → (image : List ℕ) → (D.view bank.new.disk).Now image → Stands image bank.new.records }
 
-    ensures any_moment { (D.view bank.old.disk).Keeps → Leaves (D.view bank.old.disk) (D.view bank.new.disk) (IsBeforeOrAfter bank.old.records zones.old.items name.now (option_map (λ row. row.now) row.entry)) }
-    ensures lasts { (D.view bank.old.disk).Keeps → OnOk result ((image : List ℕ) → (D.view bank.new.disk).Now image → StoresOneMore bank.old.records zones.old.items name.now (option_map (λ row. row.now) row.entry) image) }
-    ensures either { (D.view bank.old.disk).Keeps → (image : List ℕ) → (D.view bank.new.disk).Now image → IsBeforeOrAfter bank.old.records zones.old.items name.now (option_map (λ row. row.now) row.entry) image }
+    ensures any_moment { (D.view bank.old.disk).Keeps → Leaves (D.view bank.old.disk) (D.view bank.new.disk) (IsBeforeOrAfter bank.old.records (rows_of zones.old.entries) name.now (option_map (λ row. row.now) row.entry)) }
+    ensures lasts { (D.view bank.old.disk).Keeps → OnOk result ((image : List ℕ) → (D.view bank.new.disk).Now image → StoresOneMore bank.old.records (rows_of zones.old.entries) name.now (option_map (λ row. row.now) row.entry) image) }
+    ensures either { (D.view bank.old.disk).Keeps → (image : List ℕ) → (D.view bank.new.disk).Now image → IsBeforeOrAfter bank.old.records (rows_of zones.old.entries) name.now (option_map (λ row. row.now) row.entry) image }
 
     ensures full { IsErrOf result StoreFault.BankFull ↔ (has_room bank.old.used (change_text name.now (option_map (λ row. row.now) row.entry)) ≡ false) }
     ensures full_same { IsErrOf result StoreFault.BankFull → bank.new ≡ bank.old }
@@ -200,8 +203,7 @@ impl<D: Disk> Store<D> {
         requires { place < length self.now.rows }
         ensures { slice_get self.now.rows place ≡ Some (record { zone = result.0.now; it = result.1.now }) }
     {
-        let row = &self.zones[place as usize];
-        (&row.zone, &row.it)
+        self.zones.get_index(place as usize).unwrap()
     }
 
     /// The number that the next record will have, from 1. It takes no memory.

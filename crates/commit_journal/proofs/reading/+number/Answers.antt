@@ -1,4 +1,4 @@
-use Rattle.std.proofs.Common.{◌≡◌, ◌<◌, ◌≤◌, ◌-◌, ◌/◌, ◌^◌, Some, ℕ, length, take, get_or, ap, sym, ◌∙◌, arith}
+use Rattle.std.proofs.Common.{◌≡◌, ◌≤◌, ◌-◌, ◌/◌, Some, ℕ, length, take, get_or, ap, sym, ◌∙◌, arith}
 use Rattle.commit_journal.proofs.Parts.{last_behind, last_digit, no_digits}
 use Rattle.commit_journal.proofs.reading.+number.Goals as goal
 

@@ -1,9 +1,8 @@
-use Rattle.std.proofs.Common.{◌≡◌, Some, None, Option, IsTrue, ℕ, List, true, false, sym, ap, subst, ◌∙◌, codes}
+use Rattle.std.proofs.Common.{◌≡◌, Some, None, IsTrue, ℕ, List, true, false, sym, ap, subst, ◌∙◌, codes}
 use Rattle.std.specs.Prelude.{bytes_eq}
 use Rattle.std.proofs.lemmas.Slice.Eq.{bytes_eq-Decides}
 use Rattle.zn_base.specs.Names.{is_name}
 use Rattle.commit_journal.specs.declared.records.Commit.{Commit}
-use Rattle.commit_journal.specs.declared.records.Record.{Record}
 use Rattle.commit_journal.specs.Bodies.{stored_text}
 use Rattle.commit_journal.proofs.Lines.{name_lacks}
 use Rattle.commit_journal.proofs.OneText.{behind_state, body_lines, found_record, none_word, other_word, same_commit, stored_lines, word_lacks, word_of}

@@ -1,10 +1,8 @@
-use Rattle.std.proofs.Common.{◌≡◌, ◌++◌, Some, None, ℕ, List, sym, ap, ◌∙◌, codes}
+use Rattle.std.proofs.Common.{◌≡◌, ◌++◌, Some, ℕ, List, sym, ap, ◌∙◌, codes}
 use Rattle.uuid.specs.Text.{hyphenated_text, lower}
 use Rattle.index_file.proofs.Parts.{stored_state_text}
 use Rattle.zn_base.specs.States.{stored_state}
-use Rattle.zn_base.specs.declared.state.ZoneState.{ZoneState}
 use Rattle.zone_config.specs.Export.{export_text}
-use Rattle.zone_config.specs.declared.terms.Contents.{Contents}
 use Rattle.commit_journal.specs.declared.records.Record.{Record}
 use Rattle.commit_journal.specs.Bodies.{padded, told}
 use Rattle.commit_journal.proofs.Lines.{padded_lacks, uuid_lacks}

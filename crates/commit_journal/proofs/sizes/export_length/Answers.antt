@@ -1,7 +1,7 @@
 use Rattle.std.proofs.Common.{◌≡◌, ◌≤◌, ℕ, length, ap, subst, sym, ◌∙◌, arith}
 use Rattle.std.specs.List.{flat_map}
 use Rattle.config_terms.specs.Texts.{attr_text, dataset_text, device_text, fs_text, net_text, rctl_text}
-use Rattle.zone_config.specs.Export.{export_text, property_line}
+use Rattle.zone_config.specs.Export.{property_line}
 use Rattle.zone_config.specs.Property.{properties}
 use Rattle.zone_config.specs.Sound.{IsSound}
 use Rattle.zone_config.specs.declared.terms.Contents.{Contents}

@@ -5,6 +5,7 @@ use Rattle.commit_journal.specs.declared.records.Record.{Record}
 use Rattle.commit_journal.specs.Bodies.{IsCommit, IsStorable}
 use Rattle.commit_journal.specs.Store.{change_text, HasZones}
 use Rattle.commit_journal.specs.Stored.{with_stored}
+use Rattle.commit_journal.specs.Zones.{rows_of}
 use Rattle.commit_journal.proofs.Kept.{any_moment, before_or_after, for_some_map, stores_more, zones_more}
 use Rattle.commit_journal.proofs.store.write.Goals as goal
 
@@ -14,7 +15,7 @@ returns-in_err-append-clause-any_moment g c = λ keeps.
     let said = option_map (λ (r : Bor Record). r.now) c.args.row in
     let text : c.deref.result.now ≡ change_text z said = c.deref.ensures.value ∙ c.in_ok-body.ensures.body in
     let is : IsCommit (record { zone = z; stored = said }) = c.in_ok-body.ensures.commit (for_some_map (λ (r : Bor Record). r.now) IsStorable c.args.row c.requires.row) in
-    any_moment c.args.bank.now.records c.args.zones.now.items z said c.requires.zones.leave is c.requires.place c.deref.result.now text (g.D.Disk.view c.args.bank.now.disk) (g.D.Disk.view c.append.new.bank.disk) (c.append.ensures.any_moment keeps)
+    any_moment c.args.bank.now.records (rows_of c.args.zones.now.entries) z said c.requires.zones.leave is c.requires.place c.deref.result.now text (g.D.Disk.view c.args.bank.now.disk) (g.D.Disk.view c.append.new.bank.disk) (c.append.ensures.any_moment keeps)
 
 pub returns-in_err-append-clause-either : goal.returns-in_err-append-clause-either
 returns-in_err-append-clause-either g c = λ keeps image now.
@@ -22,7 +23,7 @@ returns-in_err-append-clause-either g c = λ keeps image now.
     let said = option_map (λ (r : Bor Record). r.now) c.args.row in
     let text : c.deref.result.now ≡ change_text z said = c.deref.ensures.value ∙ c.in_ok-body.ensures.body in
     let is : IsCommit (record { zone = z; stored = said }) = c.in_ok-body.ensures.commit (for_some_map (λ (r : Bor Record). r.now) IsStorable c.args.row c.requires.row) in
-    before_or_after c.args.bank.now.records c.args.zones.now.items z said c.requires.zones.leave is c.requires.place c.deref.result.now text image (c.append.ensures.either keeps image now)
+    before_or_after c.args.bank.now.records (rows_of c.args.zones.now.entries) z said c.requires.zones.leave is c.requires.place c.deref.result.now text image (c.append.ensures.either keeps image now)
 
 pub returns-clause-leaves : goal.returns-clause-leaves
 returns-clause-leaves g c =
@@ -30,8 +31,8 @@ returns-clause-leaves g c =
     let said = option_map (λ (r : Bor Record). r.now) c.args.row in
     let text : c.deref.result.now ≡ change_text z said = c.deref.ensures.value ∙ c.in_ok-body.ensures.body in
     let is : IsCommit (record { zone = z; stored = said }) = c.in_ok-body.ensures.commit (for_some_map (λ (r : Bor Record). r.now) IsStorable c.args.row c.requires.row) in
-    subst (λ (l : List (List ℕ)). HasZones l (with_stored z said c.args.zones.now.items)) (sym c.in_ok-append.ensures.records)
-    (zones_more c.args.bank.now.records c.args.zones.now.items (with_stored z said c.args.zones.now.items) c.deref.result.now (record { zone = z; stored = said }) c.requires.zones is text c.requires.place refl)
+    subst (λ (l : List (List ℕ)). HasZones l (with_stored z said (rows_of c.args.zones.now.entries))) (sym c.in_ok-append.ensures.records)
+    (zones_more c.args.bank.now.records (rows_of c.args.zones.now.entries) (with_stored z said (rows_of c.args.zones.now.entries)) c.deref.result.now (record { zone = z; stored = said }) c.requires.zones is text c.requires.place refl)
 
 pub returns-clause-any_moment : goal.returns-clause-any_moment
 returns-clause-any_moment g c = λ keeps.
@@ -39,7 +40,7 @@ returns-clause-any_moment g c = λ keeps.
     let said = option_map (λ (r : Bor Record). r.now) c.args.row in
     let text : c.deref.result.now ≡ change_text z said = c.deref.ensures.value ∙ c.in_ok-body.ensures.body in
     let is : IsCommit (record { zone = z; stored = said }) = c.in_ok-body.ensures.commit (for_some_map (λ (r : Bor Record). r.now) IsStorable c.args.row c.requires.row) in
-    any_moment c.args.bank.now.records c.args.zones.now.items z said c.requires.zones.leave is c.requires.place c.deref.result.now text (g.D.Disk.view c.args.bank.now.disk) (g.D.Disk.view c.append.new.bank.disk) (c.append.ensures.any_moment keeps)
+    any_moment c.args.bank.now.records (rows_of c.args.zones.now.entries) z said c.requires.zones.leave is c.requires.place c.deref.result.now text (g.D.Disk.view c.args.bank.now.disk) (g.D.Disk.view c.append.new.bank.disk) (c.append.ensures.any_moment keeps)
 
 pub returns-clause-lasts : goal.returns-clause-lasts
 returns-clause-lasts g c = λ keeps image now.
@@ -47,7 +48,7 @@ returns-clause-lasts g c = λ keeps image now.
     let said = option_map (λ (r : Bor Record). r.now) c.args.row in
     let text : c.deref.result.now ≡ change_text z said = c.deref.ensures.value ∙ c.in_ok-body.ensures.body in
     let is : IsCommit (record { zone = z; stored = said }) = c.in_ok-body.ensures.commit (for_some_map (λ (r : Bor Record). r.now) IsStorable c.args.row c.requires.row) in
-    stores_more c.args.bank.now.records c.args.zones.now.items z said c.requires.zones.leave is c.requires.place c.deref.result.now text image
+    stores_more c.args.bank.now.records (rows_of c.args.zones.now.entries) z said c.requires.zones.leave is c.requires.place c.deref.result.now text image
     (subst (λ (l : List (List ℕ)). Stands image l) c.in_ok-append.ensures.records (c.append.ensures.settled c.in_ok-append.ensures.sound (c.append.ensures.model.0 keeps) image now))
 
 pub returns-clause-either : goal.returns-clause-either
@@ -56,4 +57,4 @@ returns-clause-either g c = λ keeps image now.
     let said = option_map (λ (r : Bor Record). r.now) c.args.row in
     let text : c.deref.result.now ≡ change_text z said = c.deref.ensures.value ∙ c.in_ok-body.ensures.body in
     let is : IsCommit (record { zone = z; stored = said }) = c.in_ok-body.ensures.commit (for_some_map (λ (r : Bor Record). r.now) IsStorable c.args.row c.requires.row) in
-    before_or_after c.args.bank.now.records c.args.zones.now.items z said c.requires.zones.leave is c.requires.place c.deref.result.now text image (c.append.ensures.either keeps image now)
+    before_or_after c.args.bank.now.records (rows_of c.args.zones.now.entries) z said c.requires.zones.leave is c.requires.place c.deref.result.now text image (c.append.ensures.either keeps image now)
