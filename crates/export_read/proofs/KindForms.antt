@@ -14,7 +14,7 @@ use Rattle.config_terms.specs.declared.terms.Limit.{Limit}
 use Rattle.config_terms.specs.declared.terms.Net as net
 use Rattle.config_terms.specs.declared.terms.Rctl as rctl
 use Rattle.config_terms.specs.declared.terms.Resource.TheVariants.{Fs, Net, Device, Rctl, Attr, Dataset}
-use Rattle.export_read.proofs.Forms.{IsForm}
+use Rattle.export_read.proofs.KindShapes.{IsForm}
 use Rattle.export_read.proofs.Fresh.{IsOfNames}
 use Rattle.export_read.proofs.Globals.{same_path}
 

@@ -3,6 +3,7 @@ pub mod Fresh
 pub mod Walks
 pub mod Tables
 pub mod Globals
+pub mod KindShapes
 pub mod Forms
 pub mod KindForms
 pub mod Places

@@ -29,7 +29,8 @@ use Rattle.zone_config.specs.Sound.{IsSound, are_distinct_in, are_told_apart, co
 use Rattle.zone_config.specs.declared.terms.Contents.{Contents}
 use Rattle.export_read.specs.Drafts.{closed}
 use Rattle.export_read.specs.Names.{is_used}
-use Rattle.export_read.proofs.Forms.{IsForm, IsPlace, walk_resource}
+use Rattle.export_read.proofs.Forms.{walk_resource}
+use Rattle.export_read.proofs.KindShapes.{IsForm, IsPlace}
 use Rattle.export_read.proofs.Globals.{without_resources}
 use Rattle.export_read.proofs.KindForms.{always_whole, attr_form, dataset_form, dataset_shown, device_form, device_shown, fs_form, fs_options, fs_values, fs_whole, net_form, no_attr, no_fs, no_net, no_options, no_rctl, no_values, rctl_form, rctl_values}
 use Rattle.export_read.proofs.Tables.{apart_before}

@@ -1,7 +1,7 @@
 //! The shortest configuration whose text the lines so far begin.
 ghost use Rattle.std.specs.Prelude.{◌≡◌, None, Some, option_and_then};
 ghost use Rattle.std.specs.Result.{result_ok};
-ghost use Rattle.zone_config.specs.Resources.{has_taken, with_resource};
+ghost use Rattle.zone_config.specs.Resources.{with_resource};
 ghost use Rattle.config_terms.specs.Fields.{kind_of};
 ghost use Rattle.export_read.specs.Drafts.{completed, completed_by, named_in, renamed_by};
 ghost use Rattle.export_read.specs.Halts.{Puts};
@@ -9,22 +9,9 @@ ghost use Rattle.export_read.specs.Halts.{Puts};
 use crate::draft::{Draft, with_own, with_resource};
 use crate::halt::Halt;
 use crate::names::fresh;
-use config_terms::{Field, Kind, Resource, is_taken};
+use config_terms::{Field, Resource};
 use std::alloc::Global;
 use zone_config::{Contents, ZoneConfig};
-
-fn has_taken(resource: &Resource, contents: &Contents) -> bool
-    ensures { result ≡ has_taken resource.now contents.now }
-{
-    match resource {
-        Resource::Fs(fs) => is_taken(Kind::Fs, fs, contents.fs.as_slice()),
-        Resource::Net(net) => is_taken(Kind::Net, net, contents.net.as_slice()),
-        Resource::Device(device) => is_taken(Kind::Device, device, contents.device.as_slice()),
-        Resource::Rctl(rctl) => is_taken(Kind::Rctl, rctl, contents.rctl.as_slice()),
-        Resource::Attr(attr) => is_taken(Kind::Attr, attr, contents.attr.as_slice()),
-        Resource::Dataset(name) => is_taken(Kind::Dataset, name, contents.dataset.as_slice()),
-    }
-}
 
 fn renamed(
     alloc: Global,
@@ -46,7 +33,7 @@ fn renamed(
 fn named(alloc: Global, contents: &Contents, resource: Resource) -> Result<Resource, Halt>
     ensures { Puts (named_in contents.now resource) result }
 {
-    if !has_taken(&resource, contents) {
+    if !contents.has_taken(&resource) {
         return Ok(resource);
     }
     let key = resource.kind().key();

@@ -46,8 +46,8 @@ fn second_byte(contents: &Contents, key: Field, first: u8) -> Option<u8>
         .find(|byte| is_free(contents, key, &[first, *byte]))
 }
 
-#[tactic(auto, using(crate::proofs::Printing::read_text, crate::proofs::Printing::read_whole))]
 /// The text of some printable bytes.
+#[tactic(auto, using(crate::proofs::Printing::read_text, crate::proofs::Printing::read_whole))]
 pub fn text(alloc: Global, bytes: &[u8]) -> Result<Text, AllocError>
     requires { IsTrue (is_text bytes.now) }
     ensures { IfOk result (λ text. text ≡ bytes.now) }
