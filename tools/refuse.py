@@ -4,8 +4,10 @@
     tools/refuse.py [--program FILE]
 
 A small library stands before the C library and lets the call with a given number fail; gcc builds it in a temporary
-folder. A run must end as docs/FORMATS.md states: status 9, 4 or 5 with its line, `export` with nothing or a front of
-its text, `trace` with whole replies, and where nothing was refused with its text. It is no part of the gate.
+folder. A run must end as docs/FORMATS.md states: status 9, 4 or 5 with its line, `export` with nothing written, `trace`
+with whole replies, and where nothing was refused with its text. The same is done to each allocation of the test
+programs that `rt test` left in crates/*/out: a test must end with success, an error or a failed assertion. It is no
+part of the gate.
 """
 
 import os
@@ -20,6 +22,7 @@ SHIM = r"""
 #define _GNU_SOURCE
 #include <dlfcn.h>
 #include <errno.h>
+#include <stdio.h>
 #include <stdlib.h>
 #include <sys/types.h>
 #include <unistd.h>
@@ -29,6 +32,12 @@ static int refused(const char *name, long *count) { return ++*count == turn(name
 static long allocations, reads, writes;
 
 #define REAL(type, name, ...) ((type (*)(__VA_ARGS__))dlsym(RTLD_NEXT, name))
+
+__attribute__((destructor)) static void tell(void) {
+    const char *name = getenv("REFUSE_COUNTS");
+    FILE *file = name ? fopen(name, "w") : 0;
+    if (file) { fprintf(file, "%ld", allocations); fclose(file); }
+}
 
 void *malloc(size_t size) {
     static void *(*real)(size_t);
@@ -67,7 +76,10 @@ ssize_t write(int file, const void *bytes, size_t count) {
     return real(file, bytes, count);
 }
 """
-EXAMPLES = pathlib.Path(__file__).resolve().parent.parent / "examples"
+ROOT = pathlib.Path(__file__).resolve().parent.parent
+EXAMPLES = ROOT / "examples"
+# success, an error that the test answers, and a failed assertion
+TEST_ENDS = (0, 101, -6)
 FAULTS = {"ALLOCATION": (9, b"no memory\n"), "READ": (4, b"read fault\n"), "WRITE": (5, b"write fault\n")}
 
 
@@ -102,6 +114,23 @@ def refuse_each(program, shim, kind, word, data):
             sys.exit("%s with refused %s %d: status %d, %r, %r" % (word, kind, number, done.returncode, done.stdout, done.stderr))
 
 
+def refuse_each_of_tests(program, shim, counts):
+    """How many allocations the tests of a program make, each of which was refused in a run of its own."""
+    listed = subprocess.run([program, "--list"], capture_output=True, text=True, check=True).stdout
+    total = 0
+    for test in (line.removesuffix(": test") for line in listed.splitlines() if line.endswith(": test")):
+        environment = dict(os.environ, LD_PRELOAD=shim, REFUSE_COUNTS=counts)
+        subprocess.run([program, test], capture_output=True, timeout=600, env=environment, check=True)
+        count = int(pathlib.Path(counts).read_text())
+        for number in range(1, count + 1):
+            environment = dict(os.environ, LD_PRELOAD=shim, REFUSE_ALLOCATION=str(number))
+            done = subprocess.run([program, test], capture_output=True, timeout=600, env=environment)
+            if done.returncode not in TEST_ENDS:
+                sys.exit("%s %s with refused allocation %d: status %d" % (program, test, number, done.returncode))
+        total += count
+    return total
+
+
 def main():
     args = arguments(__doc__)
     with tempfile.TemporaryDirectory() as folder:
@@ -112,6 +141,9 @@ def main():
             data = (EXAMPLES / name).read_bytes()
             counts = ["%d %ss" % (refuse_each(args.program, shim, kind, word, data), kind.lower()) for kind in FAULTS]
             print("%s: refused %s, each in a run of its own; all ended as stated" % (word, ", ".join(counts)))
+        for program in sorted(ROOT.glob("crates/*/out/*_tests")):
+            count = refuse_each_of_tests(str(program), shim, folder + "/counts")
+            print("%s: refused %d allocations, each in a run of its own; all ended as stated" % (program.name, count))
 
 
 if __name__ == "__main__":
