@@ -93,7 +93,7 @@ def run(program, shim, word, data, refused=None):
 def is_stated(kind, word, done, text):
     """Whether a run in which a call was refused ended as stated."""
     status, line = FAULTS[kind]
-    if done.returncode != status or done.stderr not in (line, b""):
+    if done.returncode != status or done.stderr != line:
         return False
     if word == "trace":
         return text.startswith(done.stdout) and (not done.stdout or done.stdout.endswith(b"\n"))
