@@ -36,7 +36,7 @@ static long allocations, reads, writes;
 __attribute__((destructor)) static void tell(void) {
     const char *name = getenv("REFUSE_COUNTS");
     FILE *file = name ? fopen(name, "w") : 0;
-    if (file) { fprintf(file, "%ld", allocations); fclose(file); }
+    if (file) { fprintf(file, "%ld %ld %ld", allocations, reads, writes); fclose(file); }
 }
 
 void *malloc(size_t size) {
@@ -83,11 +83,13 @@ TEST_ENDS = (0, 101, -6)
 FAULTS = {"ALLOCATION": (9, b"no memory\n"), "READ": (4, b"read fault\n"), "WRITE": (5, b"write fault\n")}
 
 
-def run(program, shim, word, data, refused=None):
-    environment = dict(os.environ, LD_PRELOAD=shim)
-    if refused:
-        environment["REFUSE_" + refused[0]] = str(refused[1])
-    return subprocess.run([program, word], input=data, capture_output=True, timeout=60, env=environment)
+def run(program, word, data, environment):
+    return subprocess.run([program, word], input=data, capture_output=True, timeout=60, env=dict(os.environ, **environment))
+
+
+def told(counts):
+    """How many allocations, reads and writes the last run with REFUSE_COUNTS made."""
+    return [int(count) for count in pathlib.Path(counts).read_text().split()]
 
 
 def is_stated(kind, word, done, text):
@@ -100,18 +102,18 @@ def is_stated(kind, word, done, text):
     return not done.stdout
 
 
-def refuse_each(program, shim, kind, word, data):
-    """How many calls of a kind a run makes, each of which was refused in a run of its own."""
-    whole = run(program, shim, word, data)
+def refuse_each(program, shim, word, data, counts):
+    """How many calls of each kind a run makes, each of which was refused in a run of its own."""
+    whole = run(program, word, data, {"LD_PRELOAD": shim, "REFUSE_COUNTS": counts})
     assert whole.returncode == 0, whole
-    number = 0
-    while True:
-        number += 1
-        done = run(program, shim, word, data, (kind, number))
-        if (done.returncode, done.stdout, done.stderr) == (0, whole.stdout, b""):
-            return number - 1
-        if not is_stated(kind, word, done, whole.stdout):
-            sys.exit("%s with refused %s %d: status %d, %r, %r" % (word, kind, number, done.returncode, done.stdout, done.stderr))
+    made = told(counts)
+    for kind, count in zip(FAULTS, made):
+        for number in range(1, count + 1):
+            done = run(program, word, data, {"LD_PRELOAD": shim, "REFUSE_" + kind: str(number)})
+            unharmed = (done.returncode, done.stdout, done.stderr) == (0, whole.stdout, b"")
+            if not unharmed and not is_stated(kind, word, done, whole.stdout):
+                sys.exit("%s with refused %s %d: status %d, %r, %r" % (word, kind, number, done.returncode, done.stdout, done.stderr))
+    return made
 
 
 def refuse_each_of_tests(program, shim, counts):
@@ -121,7 +123,7 @@ def refuse_each_of_tests(program, shim, counts):
     for test in (line.removesuffix(": test") for line in listed.splitlines() if line.endswith(": test")):
         environment = dict(os.environ, LD_PRELOAD=shim, REFUSE_COUNTS=counts)
         subprocess.run([program, test], capture_output=True, timeout=600, env=environment, check=True)
-        count = int(pathlib.Path(counts).read_text())
+        count = told(counts)[0]
         for number in range(1, count + 1):
             environment = dict(os.environ, LD_PRELOAD=shim, REFUSE_ALLOCATION=str(number))
             done = subprocess.run([program, test], capture_output=True, timeout=600, env=environment)
@@ -134,15 +136,14 @@ def refuse_each_of_tests(program, shim, counts):
 def main():
     args = arguments(__doc__)
     with tempfile.TemporaryDirectory() as folder:
-        source, shim = folder + "/refuse.c", folder + "/refuse.so"
+        source, shim, counts = folder + "/refuse.c", folder + "/refuse.so", folder + "/counts"
         pathlib.Path(source).write_text(SHIM)
         subprocess.run(["gcc", "-shared", "-fPIC", "-O1", "-o", shim, source, "-ldl"], check=True)
         for word, name in (("export", "full.zonecfg"), ("trace", "web.trace")):
-            data = (EXAMPLES / name).read_bytes()
-            counts = ["%d %ss" % (refuse_each(args.program, shim, kind, word, data), kind.lower()) for kind in FAULTS]
-            print("%s: refused %s, each in a run of its own; all ended as stated" % (word, ", ".join(counts)))
+            made = refuse_each(args.program, shim, word, (EXAMPLES / name).read_bytes(), counts)
+            print("%s: refused %d allocations, %d reads and %d writes, each in a run of its own; all ended as stated" % (word, *made))
         for program in sorted(ROOT.glob("crates/*/out/*_tests")):
-            count = refuse_each_of_tests(str(program), shim, folder + "/counts")
+            count = refuse_each_of_tests(str(program), shim, counts)
             print("%s: refused %d allocations, each in a run of its own; all ended as stated" % (program.name, count))
 
 
