@@ -76,6 +76,16 @@ impl Field {
     }
 }
 
+// All of them, in the order in which they are printed.
+const KINDS: [Kind; 6] = [
+    Kind::Fs,
+    Kind::Net,
+    Kind::Device,
+    Kind::Rctl,
+    Kind::Attr,
+    Kind::Dataset,
+];
+
 impl Kind {
     /// The kind's name.
     pub fn name(self) -> &'static [u8]
@@ -96,21 +106,7 @@ impl Kind {
     pub fn with_name(name: &[u8]) -> Option<Kind>
         ensures { result ≡ kind_named name.now }
     {
-        if name == b"fs".as_slice() {
-            Some(Kind::Fs)
-        } else if name == b"net".as_slice() {
-            Some(Kind::Net)
-        } else if name == b"device".as_slice() {
-            Some(Kind::Device)
-        } else if name == b"rctl".as_slice() {
-            Some(Kind::Rctl)
-        } else if name == b"attr".as_slice() {
-            Some(Kind::Attr)
-        } else if name == b"dataset".as_slice() {
-            Some(Kind::Dataset)
-        } else {
-            None
-        }
+        KINDS.iter().copied().find(|kind| name == kind.name())
     }
 
     /// Its simple properties, in the order in which they are printed.

@@ -40,6 +40,7 @@ fn limit_length(value: Limit) -> usize
     ensures bound { result ≤ 100 }
 {
     let mut digits = Buffer::new();
+    // All but the number: `(priv=privileged,limit=`, `,action=`, four letters and `)`.
     36 + digits.format(value.limit).as_bytes().len()
 }
 
@@ -58,6 +59,7 @@ fn limit_line_length(value: Limit) -> usize
     ensures same { result ≡ length (limit_line value) }
     ensures bound { result ≤ 111 }
 {
+    // `add value ` and the newline.
     11 + limit_length(value)
 }
 
@@ -156,5 +158,6 @@ pub(crate) fn options_line_length(options: &[Text]) -> usize
     let [first, more @ ..] = options else {
         return 0;
     };
+    // `add options `, two brackets and the newline.
     15 + bytes_of(first).len() + more_options_length(more)
 }

@@ -49,6 +49,7 @@ pub fn entry_length<T: Entry>(kind: Kind, entry: &T) -> usize
     ensures same { result ≡ length (entry_text kind (T.shown entry.now) (T.options entry.now) (T.values entry.now)) }
     ensures bound { result ≤ 2 ^ 47 }
 {
+    // `add `, its newline, and `end` with its own.
     9 + kind.name().len()
         + settings_length(kind, entry)
         + options_line_length(entry.options())

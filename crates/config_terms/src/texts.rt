@@ -94,5 +94,6 @@ pub fn setting_length(name: &[u8], value: &[u8]) -> usize
     if value.is_empty() {
         return 0;
     }
+    // `set `, `=` and the newline.
     6 + name.len() + value_length(value)
 }

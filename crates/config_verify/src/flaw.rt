@@ -20,12 +20,12 @@ pub enum Flaw {
     MissingProperty(Kind, Named),
     /// The place of a net among the nets, from 0: its addresses don't suit the zone's ip-type, or an earlier
     /// one claims its address or interface.
-    #[error("net {0} has another form than the zone's ip-type wants")]
+    #[error("net {0} doesn't suit the zone's ip-type, or an earlier net claims its item")]
     NetForm(u32),
     #[error("a net has something else in the place of an address")]
     BadAddress(Text),
     /// The dir of a file system that is the root, or an earlier one's.
-    #[error("two file systems are mounted at one place")]
+    #[error("a file system is mounted on the root or where an earlier one is")]
     SameDir(AbsPath),
     #[error("the brand is not known")]
     UnknownBrand(Text),

@@ -2,7 +2,8 @@
 use Rattle.std.proofs.Common.{◌≡◌, ℕ, true, false, cond, List, [], ◌∷◌, ◌++◌, refl, ap, ◌∙◌, append_assoc}
 use Rattle.std.specs.List.{list_any}
 use Rattle.std.proofs.lemmas.Bool.{or_parts}
-use Rattle.export_lines.specs.Lines.{is_newline, with_first, lines_of, ended}
+use Rattle.zn_base.specs.Lines.{is_newline, with_first, lines_of}
+use Rattle.export_lines.specs.Lines.{ended}
 
 -- a line has no newline
 abbrev pub IsOneLine : List ℕ → Type 0

@@ -19,7 +19,8 @@ use Rattle.export_lines.proofs.Cuts.{AreLines, IsOneLine, lines_of-ended}
 use Rattle.export_lines.proofs.Printable.{ArePlain, plain-script}
 use Rattle.export_lines.proofs.Texts.{text-script}
 use Rattle.export_lines.specs.Commands.{line_of, script, text_of}
-use Rattle.export_lines.specs.Lines.{ended, is_newline, lines_of}
+use Rattle.zn_base.specs.Lines.{is_newline, lines_of}
+use Rattle.export_lines.specs.Lines.{ended}
 use Rattle.export_lines.specs.Reading.{command_of}
 use Rattle.export_lines.specs.Saying.{LinesSayTheirCommands}
 use Rattle.export_lines.specs.declared.command.Command.{Command}

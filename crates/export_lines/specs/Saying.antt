@@ -1,7 +1,7 @@
 -- What a user of the lines of export texts relies on.
 use Rattle.std.specs.Prelude.{◌≡◌, map, Some}
 use Rattle.export_lines.specs.Commands.{line_of, script}
-use Rattle.export_lines.specs.Lines.{lines_of}
+use Rattle.zn_base.specs.Lines.{lines_of}
 use Rattle.export_lines.specs.Reading.{command_of}
 use Rattle.zone_config.specs.Export.{export_text}
 use Rattle.zone_config.specs.Sound.{IsSound}

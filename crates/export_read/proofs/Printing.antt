@@ -1,25 +1,13 @@
 -- Names that are found are printable.
-use Rattle.std.proofs.Common.{◌≡◌, inl, inr, ℕ, Bool, true, false, cond, not, List, [], ◌∷◌, Some, Ok, Err, refl, ap, sym, ◌∙◌}
-use Rattle.std.specs.Prelude.{find, is_ok}
+use Rattle.std.proofs.Common.{◌≡◌, ℕ, Bool, true, false, cond, not, List, [], ◌∷◌, Some, refl, ap, sym, ◌∙◌}
+use Rattle.std.specs.Prelude.{find}
 use Rattle.std.proofs.lemmas.Bool.{and_parts}
-use Rattle.zn_base.specs.Answers.{AnswersUnless}
-use Rattle.zn_base.specs.Text.{is_text, text_of}
-use Rattle.zn_base.specs.declared.text.TextFault.{TextFault}
-use Rattle.zn_base.specs.declared.text.TextFault.TheVariants.{Memory}
-use Rattle.zonecfg_lex.proofs.Printable.{text_in-Ok}
+use Rattle.zn_base.specs.Text.{is_text}
 use Rattle.config_terms.specs.Fields.{field_rule}
 use Rattle.config_terms.specs.Rules.{fits}
 use Rattle.config_terms.specs.declared.fields.Field.{Field}
 use Rattle.export_lines.proofs.Printable.{fits-set, obeys-text, field_of_text}
 use Rattle.export_read.specs.Names.{bare_bytes, is_free}
-
--- reading a text finds no fault but want of memory
-pub read_text : (bytes : List ℕ) (e : TextFault) → is_text bytes ≡ true → AnswersUnless {T = List ℕ} Memory (text_of bytes) (Err e) → e ≡ Memory
-read_text bytes e h (inl memory) = memory
-read_text bytes e h (inr fault) = let bad : is_ok {T = List ℕ} {E = TextFault} (Err e) ≡ true = ap is_ok (sym fault) ∙ h in absurd (cc)
-
-pub read_whole : (bytes text : List ℕ) → text_of bytes ≡ Ok text → text ≡ bytes
-read_whole bytes text h = sym (text_in-Ok bytes text h)
 
 -- what is found passes the test
 found : (p : ℕ → Bool) (bs : List ℕ) (b : ℕ) → find p bs ≡ Some b → p b ≡ true

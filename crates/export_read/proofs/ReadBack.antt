@@ -12,7 +12,7 @@ use Rattle.config_terms.specs.Rules.{obeys}
 use Rattle.config_terms.specs.Texts.{setting}
 use Rattle.config_terms.specs.declared.fault.ConfigFault.{ConfigFault}
 use Rattle.config_terms.specs.declared.fault.ConfigFault.TheVariants.{Memory}
-use Rattle.export_lines.specs.Lines.{lines_of}
+use Rattle.zn_base.specs.Lines.{lines_of}
 use Rattle.zone_config.specs.Edits.{with_property}
 use Rattle.zone_config.specs.Export.{export_text}
 use Rattle.zone_config.specs.Property.{blank, setting_named}

@@ -2,7 +2,8 @@
 use Rattle.std.proofs.Common.{◌≡◌, ◌≤◌, ◌<◌, ◌+◌, ◌-◌, zero, suc, ℕ, true, false, cond, List, [], ◌∷◌, ◌++◌, length, length-drop, take, drop, Option, Some, Result, Err, refl, ap, sym, subst, ◌∙◌, arith, append_assoc}
 use Rattle.std.specs.Prelude.{not, option_and_then}
 use Rattle.std.specs.List.{after_first, before_first, position_or_len}
-use Rattle.export_lines.specs.Lines.{ended, is_newline, lines_of, with_first}
+use Rattle.zn_base.specs.Lines.{is_newline, lines_of, with_first}
+use Rattle.export_lines.specs.Lines.{ended}
 use Rattle.export_lines.specs.Reading.{command_of}
 use Rattle.export_read.specs.Drafts.{drafted, put}
 use Rattle.export_read.specs.Halts.{Puts}

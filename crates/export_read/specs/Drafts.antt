@@ -10,7 +10,7 @@ use Rattle.config_terms.specs.declared.fields.Field.{Field}
 use Rattle.config_terms.specs.declared.terms.Limit.{Limit}
 use Rattle.config_terms.specs.declared.terms.Resource.{Resource}
 use Rattle.config_terms.specs.declared.terms.Resource.TheVariants.{Fs, Rctl}
-use Rattle.export_lines.specs.Lines.{lines_of}
+use Rattle.zn_base.specs.Lines.{lines_of}
 use Rattle.export_lines.specs.Reading.{command_of}
 use Rattle.export_lines.specs.declared.command.Command.{Command}
 use Rattle.export_lines.specs.declared.command.Command.TheVariants.{Create, Set, Open, Options, Value, End}

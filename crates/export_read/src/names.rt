@@ -1,12 +1,11 @@
 //! A shortest name that no resource of its kind has.
-ghost use Rattle.std.specs.Prelude.{◌≡◌, ◌∷◌, [], IfOk, IsTrue, find};
-ghost use Rattle.zn_base.specs.Text.{is_text};
+ghost use Rattle.std.specs.Prelude.{◌≡◌, ◌∷◌, [], IfOk, find};
 ghost use Rattle.config_terms.specs.Fields.{field_rule};
 ghost use Rattle.export_read.specs.Names.{bare_bytes, fresh, is_free, is_used, pair_by};
 
 use config_terms::{Field, has_key};
 use std::alloc::{AllocError, Global};
-use zn_base::{Text, TextFault};
+use zn_base::Text;
 use zone_config::Contents;
 
 const BARE: &[u8] = b"ABCDEFGHIJKLMNOPQRSTUVWXYZabcdefghijklmnopqrstuvwxyz0123456789_-./:,*?!@+%";
@@ -46,20 +45,6 @@ fn second_byte(contents: &Contents, key: Field, first: u8) -> Option<u8>
         .find(|byte| is_free(contents, key, &[first, *byte]))
 }
 
-/// The text of some printable bytes.
-#[tactic(auto, using(crate::proofs::Printing::read_text, crate::proofs::Printing::read_whole))]
-pub fn text(alloc: Global, bytes: &[u8]) -> Result<Text, AllocError>
-    requires { IsTrue (is_text bytes.now) }
-    ensures { IfOk result (λ text. text ≡ bytes.now) }
-{
-    match Text::read(alloc, bytes) {
-        Ok(text) => Ok(text),
-        Err(TextFault::Memory) => Err(AllocError),
-        Err(TextFault::BadText(_)) => unreachable!(),
-        Err(TextFault::TextLong) => unreachable!(),
-    }
-}
-
 // The first free name of two bytes that begins with one of some.
 #[tactic(auto, using(crate::proofs::Printing::found_pair))]
 fn pair(alloc: Global, contents: &Contents, key: Field, firsts: &[u8]) -> Result<Text, AllocError>
@@ -69,7 +54,7 @@ fn pair(alloc: Global, contents: &Contents, key: Field, firsts: &[u8]) -> Result
         return Ok(Text::empty(alloc));
     };
     match second_byte(contents, key, *first) {
-        Some(second) => text(alloc, &[*first, second]),
+        Some(second) => Text::of(alloc, &[*first, second]),
         None => pair(alloc, contents, key, rest),
     }
 }
@@ -83,7 +68,7 @@ pub fn fresh(alloc: Global, contents: &Contents, key: Field) -> Result<Text, All
         return Ok(Text::empty(alloc));
     }
     match one_byte(contents, key) {
-        Some(byte) => text(alloc, &[byte]),
+        Some(byte) => Text::of(alloc, &[byte]),
         None => pair(alloc, contents, key, b"abcd"),
     }
 }

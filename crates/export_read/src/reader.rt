@@ -5,7 +5,8 @@ ghost use Rattle.std.specs.List.{starts_with};
 ghost use Rattle.std.specs.Str.{bytes_eq};
 ghost use Rattle.zn_base.specs.Answers.{AnswersUnless};
 ghost use Rattle.config_terms.specs.declared.fault.ConfigFault.TheVariants.{Memory};
-ghost use Rattle.export_lines.specs.Lines.{ended, lines_of};
+ghost use Rattle.zn_base.specs.Lines.{lines_of};
+ghost use Rattle.export_lines.specs.Lines.{ended};
 ghost use Rattle.export_lines.specs.Reading.{command_of};
 ghost use Rattle.zone_config.specs.Export.{export_text};
 ghost use Rattle.zone_config.specs.Sound.{IsSound};
@@ -18,10 +19,10 @@ use crate::complete::completed;
 use crate::draft::{Draft, with_property};
 use crate::halt::Halt;
 use crate::lines::{behind_line, count, first_line, front};
-use crate::names::text as short_text;
 use config_terms::ConfigFault;
 use export_lines::command_of;
 use std::alloc::{AllocError, Global};
+use zn_base::Text;
 use zone_config::{ZoneConfig, blank, export};
 
 // Before the first line.
@@ -29,7 +30,7 @@ use zone_config::{ZoneConfig, blank, export};
 fn start(alloc: Global) -> Result<Draft, Halt>
     ensures { Puts (Some start) result }
 {
-    let flag = short_text(alloc, b"true")?;
+    let flag = Text::of(alloc, b"true")?;
     let config = with_property(alloc, blank(alloc), b"autoboot", flag)?;
     Ok(Draft {
         config,

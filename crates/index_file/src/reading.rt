@@ -179,7 +179,7 @@ fn cut_line(text: &[u8]) -> (&[u8], &[u8])
 fn has_name(rows: &[IndexRow], name: &ZoneName) -> bool
     ensures { IsTrue result ↔ Any (λ row. row.name ≡ name.now) rows.now }
 {
-    rows.iter().any(|row| row.name.same(name))
+    rows.iter().any(|row| row.name == *name)
 }
 
 /// The rows whose index text the bytes are, or the number of the first line that is wrong, from 1: a line

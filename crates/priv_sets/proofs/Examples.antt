@@ -1,5 +1,5 @@
 -- What the definitions say of some texts.
-use Rattle.std.proofs.Common.{◌≡◌, ℕ, List, [], None, Some, Ok, Err, Result, codes, length, refl}
+use Rattle.std.proofs.Common.{◌≡◌, ℕ, List, [], ◌∷◌, None, Some, Ok, Err, Result, codes, length, refl}
 use Rattle.priv_sets.specs.declared.limit.PrivFault.{PrivFault}
 use Rattle.priv_sets.specs.declared.limit.PrivFault.TheVariants.{PrivWord, PrivRequired, PrivProhibited}
 use Rattle.priv_sets.specs.declared.table.Class.TheVariants.{Required}
@@ -42,9 +42,13 @@ nothing_left : limit (codes "proc_audit,!proc_audit") ≡ Err (PrivRequired 25)
 unfolding limit_of judged set_of_words words_from rule_of named default_set everything all_of both has only set_of union without is_of number_of privileges
 nothing_left = refl
 
-order_counts : limit (codes "!proc_audit,default,-proc_fork") ≡ Err (PrivWord 12)
+order_counts : limit (codes "!proc_audit,proc_audit,proc_exec,proc_fork,sys_mount") ≡ Ok (22 ∷ 25 ∷ 26 ∷ 38 ∷ [])
 unfolding limit_of judged set_of_words words_from rule_of named default_set everything all_of both has only set_of union without is_of number_of privileges
 order_counts = refl
+
+default_in_second_place : limit (codes "!proc_audit,default,-proc_fork") ≡ Err (PrivWord 12)
+unfolding limit_of judged set_of_words words_from rule_of named default_set everything all_of both has only set_of union without is_of number_of privileges
+default_in_second_place = refl
 
 printed : print_of (all_of Required) ≡ codes "proc_exec,proc_fork,sys_mount"
 unfolding print_of all_of set_of is_of name_of privileges

@@ -9,6 +9,9 @@ use thiserror::Error;
 /// Why a limitpriv text denotes no limit set, in the order in which it is looked at.
 #[derive(Clone, Copy, Debug, PartialEq, Eq, Error)]
 pub enum PrivFault {
+    /// It never comes from `limit_of`, which takes no memory.
+    #[error("out of memory")]
+    Memory,
     /// The place of the first token that says nothing, from 0.
     #[error("no privilege is named at byte {0}")]
     PrivWord(usize),

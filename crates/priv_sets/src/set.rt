@@ -3,7 +3,7 @@ ghost use Rattle.std.specs.Prelude.{◌≡◌, ◌<◌, [], IfOk, OnOk, slice_ge
 ghost use Rattle.priv_sets.specs.declared.table.Class.TheVariants.{Default, Required};
 ghost use Rattle.priv_sets.specs.Sets.{all_of, both, default_set, everything, has, only, print_of, set_of_bits, union, with_name, within, without};
 
-use crate::table::{Class, is_of, row};
+use crate::table::{COUNT, Class, is_of, row};
 use std::alloc::{AllocError, Global};
 use std::marker::Model;
 
@@ -29,7 +29,7 @@ impl Model for PrivSet {
 fn is_set(bits: u64, number: u8) -> bool
     ensures { result ≡ has (set_of_bits bits) number }
 {
-    number < 40 && bits >> number & 1 == 1
+    number < COUNT && bits >> number & 1 == 1
 }
 
 // Appends a name, behind a comma where others stand before it.
@@ -54,7 +54,7 @@ impl PrivSet {
         ensures { result ≡ everything }
     {
         PrivSet {
-            bits: (1 << 40) - 1,
+            bits: (1 << COUNT) - 1,
         }
     }
 
@@ -121,7 +121,7 @@ impl PrivSet {
         ensures { result ≡ all_of class }
     {
         let mut set = PrivSet::none();
-        for number in 0..40 {
+        for number in 0..COUNT {
             if is_of(number, class) {
                 set = set.union(&PrivSet::only(number));
             }
@@ -142,7 +142,7 @@ impl PrivSet {
     {
         let bits = self.bits;
         let mut text = Vec::new(alloc);
-        for number in 0..40 {
+        for number in 0..COUNT {
             if is_set(bits, number) {
                 push_name(&mut text, row(number).name.as_bytes())?;
             }

@@ -4,7 +4,7 @@ ghost use Rattle.priv_sets.specs.Rows.{row_of};
 ghost use Rattle.priv_sets.specs.Table.{is_of, number_of, privileges};
 
 /// How many privileges there are.
-pub const COUNT: usize = 40;
+pub const COUNT: u8 = 40;
 
 /// What a zone may and must have.
 #[derive(Clone, Copy, PartialEq, Eq)]
@@ -21,7 +21,7 @@ pub(crate) struct Privilege {
 }
 
 // The privileges of privileges(7) that this profile knows; a privilege's number is its place.
-pub(crate) static PRIVILEGES: [Privilege; COUNT] = [
+pub(crate) static PRIVILEGES: [Privilege; COUNT as usize] = [
     Privilege {
         name: "contract_event",
         class: Class::Default,

@@ -2,6 +2,7 @@ pub mod Answers
 pub mod Streams
 pub mod Memory
 pub mod Text
+pub mod Lines
 pub mod Path
 pub mod Names
 pub mod Moves

@@ -5,7 +5,7 @@
 pub enum Pool {
     /// The numbers of processes, 2 to 29999.
     Pids,
-    /// The numbers of zones that are ready or running, 1 to 9999.
+    /// The numbers of zones that are being made ready or are not yet halted, 1 to 9999.
     Zids,
     /// The places of stored zones, of which there are 256.
     Zones,

@@ -1,7 +1,7 @@
-//! What every crate of `zones` stands on: texts and paths of checked form, and the sources and sinks
-//! through which bytes come and go. `read` of a text or a path is exact, with each fault and its place;
-//! a source, a sink or a disk answers a fault only where its count of faults rose. A disk says what a crash
-//! at any moment may leave.
+//! What every crate of `zones` stands on: texts, paths and zone names of checked form, patterns of paths, the
+//! states of a zone, pools and grants, and the sources, sinks and disks through which bytes come and go. `read`
+//! of a text, a path or a name is exact, with each fault and its place; a source, a sink or a disk answers a
+//! fault only where its count of faults rose. A disk says what a crash at any moment may leave.
 #![tactic(auto)]
 
 mod buffers;

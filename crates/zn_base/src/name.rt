@@ -137,13 +137,6 @@ impl ZoneName {
         &self.bytes
     }
 
-    /// Whether the two names are one.
-    pub fn same(&self, other: &ZoneName) -> bool
-        ensures { result ≡ bytes_eq self.now other.now }
-    {
-        self.bytes() == other.bytes()
-    }
-
     /// An equal name.
     pub fn copy(&self, alloc: Global) -> Result<ZoneName, AllocError>
         ensures { IfOk result (λ name. name ≡ self.now) }
@@ -160,7 +153,7 @@ impl PartialEq for ZoneName {
     ghost laws = { partial_equiv_from_equiv nat_list_eq_equiv };
 
     fn eq(&self, other: &ZoneName) -> bool {
-        self.same(other)
+        self.bytes() == other.bytes()
     }
 }
 
@@ -189,7 +182,7 @@ mod tests {
         for name in [b"0-a_b.C".as_slice(), b"globals", b"sunwA", &[b'z'; 63]] {
             let read = ZoneName::read(rt.alloc(), name)?;
             assert_eq!(rt; read.bytes(), name);
-            assert!(rt; read.same(&read.copy(rt.alloc())?) && !read.same(&web));
+            assert!(rt; read == read.copy(rt.alloc())? && read != web);
         }
         Ok(())
     }

@@ -5,9 +5,9 @@ ghost use Rattle.zn_base.specs.Streams.{HasCause, before_known};
 
 use thiserror::Error;
 
-/// A source or a sink that was handed in has failed, and has counted it.
+/// A source, a sink or a disk that was handed in has failed, and has counted it.
 #[derive(Clone, Copy, Debug, PartialEq, Eq, Error)]
-#[error("the stream has failed")]
+#[error("what was handed in has failed")]
 pub struct Failed;
 
 /// Bytes that are read in pieces.

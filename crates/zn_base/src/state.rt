@@ -59,7 +59,7 @@ impl ZoneState {
 }
 
 /// Whether a zone may go from the one state to the other, `None` where no such zone is stored. A restart
-/// of the system aside, which takes zones down as well. It takes no memory.
+/// of the system aside, which takes the four states that aren't stored to installed. It takes no memory.
 pub fn may_move(from: Option<ZoneState>, to: Option<ZoneState>) -> bool
     ensures { result ≡ may_move from to }
 {

@@ -72,6 +72,14 @@ impl Text {
         if bytes.len() > TEXT_MAX {
             return Err(TextFault::TextLong);
         }
+        Ok(Text::of(alloc, bytes)?)
+    }
+
+    /// The text that the bytes are, which are known to be one.
+    pub fn of(alloc: Global, bytes: &[u8]) -> Result<Text, AllocError>
+        requires { IsTrue (is_text bytes.now) }
+        ensures { IfOk result (λ text. text ≡ bytes.now) }
+    {
         Ok(Text {
             bytes: Vec::from_slice(alloc, bytes)?,
         })
@@ -113,6 +121,7 @@ mod tests {
     fn texts_are_read_and_copied(rt: HostRuntime) -> Result<(), Fail> {
         let text = Text::read(rt.alloc(), b"web team ~")?;
         assert_eq!(rt; text.bytes(), b"web team ~".as_slice());
+        assert_eq!(rt; Text::of(rt.alloc(), b"ipkg")?.bytes(), b"ipkg".as_slice());
         assert_eq!(rt; text.copy(rt.alloc())?.bytes(), b"web team ~".as_slice());
         assert_eq!(rt; Text::empty(rt.alloc()).bytes(), b"".as_slice());
         assert!(rt; matches!(Text::read(rt.alloc(), b"a\tb"), Err(TextFault::BadText(1))));

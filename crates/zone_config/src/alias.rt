@@ -6,7 +6,7 @@ ghost use Rattle.zone_config.specs.Edits.{alias_rctl, holds, is_held, is_named_f
 use crate::Alias;
 use config_terms::{Limit, Listing, Rctl};
 use std::alloc::{AllocError, Global};
-use zn_base::{Text, TextFault};
+use zn_base::Text;
 
 fn is_single(deny: bool, values: &[Limit]) -> bool
     ensures { result ≡ is_single deny values.now }
@@ -47,13 +47,7 @@ impl Alias {
     fn rctl_text(self, alloc: Global) -> Result<Text, AllocError>
         ensures { IfOk result (λ text. text ≡ rctl_name self) }
     {
-        match Text::read(alloc, self.rctl_name()) {
-            Ok(text) => Ok(text),
-            Err(TextFault::Memory) => Err(AllocError),
-            // The name of an rctl is a text.
-            Err(TextFault::BadText(_)) => unreachable!(),
-            Err(TextFault::TextLong) => unreachable!(),
-        }
+        Text::of(alloc, self.rctl_name())
     }
 
     /// The rctl that the alias with a limit is kept as.

@@ -7,7 +7,7 @@ ghost use Rattle.zonecfg_lex.specs.Value.{first_misfit, gives_text, given_text, 
 
 use crate::{LexFault, Pair, Pairs, Texts, Token, TokenKind, Value};
 use std::alloc::Global;
-use zn_base::{Text, TextFault};
+use zn_base::Text;
 
 /// What may stand next in a value: its beginning, the parts of a pair and what is behind it, the first
 /// item of a list or its end, an item and what is behind it, or nothing.
@@ -87,11 +87,7 @@ pub fn given_text(alloc: Global, line: &[u8], token: Token) -> Result<Text, LexF
     ensures { AnswersUnless LexFault.Memory (Ok (given_text line.now token)) result }
 {
     let start = text_start(token);
-    match Text::read(alloc, &line[start as usize..token.end as usize]) {
-        Ok(text) => Ok(text),
-        Err(TextFault::Memory) => Err(LexFault::Memory),
-        Err(TextFault::BadText(_) | TextFault::TextLong) => unreachable!(),
-    }
+    Ok(Text::of(alloc, &line[start as usize..token.end as usize])?)
 }
 
 fn texts(alloc: Global, line: &[u8], tokens: &[Token]) -> Result<Vec<Text>, LexFault>

@@ -11,7 +11,7 @@ fn token(kind: TokenKind, start: u32, end: u32) -> Token {
 }
 
 #[test]
-fn tokens_of_lines(rt: HostRuntime) -> Result<(), Fail> {
+fn lines_are_cut_or_their_first_fault_told(rt: HostRuntime) -> Result<(), Fail> {
     let assigns = [
         token(TokenKind::Word, 0, 3),
         token(TokenKind::Word, 4, 12),
@@ -106,7 +106,7 @@ fn value_of_part(alloc: Global, line: &[u8]) -> Result<Value, LexFault>
 }
 
 #[test]
-fn values_of_parts(rt: HostRuntime) -> Result<(), Fail> {
+fn tokens_are_a_value_or_end_being_one(rt: HostRuntime) -> Result<(), Fail> {
     let table: [(&[u8], Result<&[u8], LexFault>); 18] = [
         (b"#a[1]", Ok(b"#a[1]")),
         (b"\"a b\"", Ok(b"a b")),
@@ -142,7 +142,7 @@ fn values_of_parts(rt: HostRuntime) -> Result<(), Fail> {
 }
 
 #[test]
-fn parts_of_lines(rt: HostRuntime) -> Result<(), Fail> {
+fn semicolons_part_what_holds_a_token(rt: HostRuntime) -> Result<(), Fail> {
     let span = |start: u32, end: u32| Span { start, end };
     let two = [span(0, 9), span(10, 13)];
     let quoted = [span(0, 6), span(8, 13)];
@@ -168,7 +168,7 @@ fn parts_of_lines(rt: HostRuntime) -> Result<(), Fail> {
 }
 
 #[test]
-fn comments_and_blanks(rt: HostRuntime) {
+fn a_comment_may_follow_blanks(rt: HostRuntime) {
     assert!(rt; is_comment(b" \t# set brand=ipkg") && !is_comment(b"create -b # no"));
     assert!(rt; is_blank(b'\t') && LexFault::StrayByte(3).place() == 3);
 }

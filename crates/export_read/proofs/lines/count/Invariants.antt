@@ -1,5 +1,5 @@
 use Rattle.std.proofs.Common.{◌≡◌, ◌+◌, length}
-use Rattle.export_lines.specs.Lines.{lines_of}
+use Rattle.zn_base.specs.Lines.{lines_of}
 use Rattle.export_read.proofs.lines.count.Given as goal
 
 abbrev pub invariant-loop-rest : goal.invariant-loop-rest

@@ -1,5 +1,5 @@
 use Rattle.std.proofs.Common.{◌≡◌, length}
-use Rattle.export_lines.specs.Lines.{lines_of}
+use Rattle.zn_base.specs.Lines.{lines_of}
 use Rattle.export_read.specs.Drafts.{drafted, start}
 use Rattle.export_read.proofs.reader.drafted.Given as goal
 
