@@ -1,11 +1,19 @@
 -- Lengths, part by part.
-use Rattle.std.proofs.Common.{◌≡◌, ◌+◌, ◌/◌, ◌%◌, ℕ, zero, suc, List, [], ◌∷◌, ◌++◌, length, Option, refl, arith, length-append, codes}
+use Rattle.std.proofs.Common.{◌≡◌, ◌<◌, ◌≤◌, ◌+◌, ◌/◌, ◌%◌, ℕ, zero, suc, Bool, true, false, nat_lt, List, [], ◌∷◌, ◌++◌, length, Option, Some, None, Result, Err, IsTrue, if◌then◌else◌, refl, ap, arith, length-append, codes}
+use Rattle.std.specs.Prelude.{◌==◌, is_ok, IfSome}
+use Rattle.std.proofs.lemmas.Bool.Decides.{nat_tests}
 use Rattle.uuid.specs.Text.{hyphenated_text, lower}
 use Rattle.index_file.proofs.Lines.{uuid_text_length}
+use Rattle.zn_base.specs.Names.{first_wrong, is_name, name_unless}
 use Rattle.zn_base.specs.States.{state_text}
+use Rattle.zn_base.specs.declared.name.NameFault.{NameFault}
+use Rattle.zn_base.specs.declared.name.NameFault.TheVariants.{Empty, TooLong}
+use Rattle.zn_base.specs.declared.state.ZoneState.{ZoneState}
+use Rattle.zn_base.specs.declared.state.ZoneState.TheVariants.{Configured, Incomplete, Installed, Ready, Running, ShuttingDown, Down}
+use Rattle.commit_journal.specs.declared.records.Commit.{Commit}
 use Rattle.zone_config.specs.Export.{export_text}
 use Rattle.commit_journal.specs.declared.records.Record.{Record}
-use Rattle.commit_journal.specs.Bodies.{body_text, padded, record_text, stored_text, told}
+use Rattle.commit_journal.specs.Bodies.{body_text, padded, record_text, stored_text, told, IsCommit, IsRecord}
 use Rattle.commit_journal.specs.Store.{change_text}
 
 pub padded-length : (k n : ℕ) → length (padded k n) ≡ k
@@ -29,3 +37,33 @@ record_parts row =
 pub body_parts : (z : List ℕ) (said : Option Record) → length (change_text z said) ≡ 6 + length z + length (stored_text said)
 unfolding body_text
 body_parts z said = omega (arith, length-append (told (codes "zone") z) (stored_text said), told-length (codes "zone") z)
+
+state-short : (s : ZoneState) → length (state_text s) ≤ 20
+state-short Configured = omega arith
+state-short Incomplete = omega arith
+state-short Installed = omega arith
+state-short Ready = omega arith
+state-short Running = omega arith
+state-short ShuttingDown = omega arith
+state-short Down = omega arith
+
+stored-short : (said : Option Record) → IfSome said IsRecord → length (stored_text said) ≤ 33000
+stored-short None is = omega arith
+stored-short (Some row) is = omega (arith, record_parts row, state-short row.state, is.config.short)
+
+not_past : (empty long : Bool) (r : Result (List ℕ) NameFault) → is_ok (if empty then Err Empty else if long then Err TooLong else r) ≡ true → long ≡ false
+not_past true long r ok = absurd (cc)
+not_past false true r ok = absurd (cc)
+not_past false false r ok = refl
+
+name-short : (z : List ℕ) → IsTrue (is_name z) → length z ≤ 63
+name-short z ok =
+    let within : nat_lt 63 (length z) ≡ false = not_past (length z == 0) (nat_lt 63 (length z)) (name_unless (first_wrong z) z) ok in
+    grind (arith, nat_tests)
+
+-- no body is longer than the reader looks at
+pub body-short : (c : Commit) → IsCommit c → length (body_text c) ≤ 34000
+body-short c is = omega (arith, body_parts c.zone c.stored, name-short c.zone is.zone, stored-short c.stored is.stored)
+
+pub long_is_none : (body : List ℕ) → 34000 < length body → (c : Commit) → IsCommit c → body ≡ body_text c → ⊥
+long_is_none body long c is same = omega (arith, long, body-short c is, ap length same)

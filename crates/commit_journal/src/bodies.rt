@@ -63,6 +63,7 @@ fn push_config(alloc: Global, out: &mut Vec<u8>, config: &ZoneConfig) -> Result<
     ensures text { OnOk result (out.new.items ≡ out.old.items ++ export_text config.now) }
     ensures sound { IsSound config.now }
 {
+    // The clauses of `contents` say that the configuration is sound.
     let _contents = config.contents();
     match export(alloc, config) {
         Ok(text) => out.extend_from_slice(&text),

@@ -22,6 +22,9 @@ use uuid::Uuid;
 use zn_base::{NameFault, ZoneName, ZoneState};
 use zone_config::{ConfigFault, ZoneConfig};
 
+// No body is longer. Its parts are at most some 32,900 bytes together.
+const BODY_MAX: usize = 34_000;
+
 // What a line tells, and what is behind it.
 #[derive(Clone, Copy)]
 struct Line<'a> {
@@ -82,13 +85,24 @@ fn with_digit(front: u32, digit: u8) -> Option<u32>
     Some(value as u32)
 }
 
-// The number that digits are. Whether each byte is one isn't looked at.
+// The number that a few digits are: it calls itself once for each. Whether each byte is one isn't looked at.
 fn number(digits: &[u8]) -> Option<u32>
     ensures { (k n : ℕ) → n < 2 ^ 32 → HasDigits k n → digits.now ≡ padded k n → result ≡ Some n }
 {
     match digits {
         [] => Some(0),
         [front @ .., last] => with_digit(number(front)?, *last),
+    }
+}
+
+// The revision that ten digits are. No line of another length is looked into.
+fn revision_of(digits: &[u8]) -> Option<u32>
+    ensures { (n : ℕ) → n < 2 ^ 32 → HasDigits 10 n → digits.now ≡ padded 10 n → result ≡ Some n }
+{
+    if digits.len() == 10 {
+        number(digits)
+    } else {
+        None
     }
 }
 
@@ -118,7 +132,7 @@ fn guess_record(alloc: Global, state: &[u8], rest: &[u8]) -> Result<Option<Recor
     let Some(revision_line) = cut_line(uuid_line.rest, b"revision") else {
         return Ok(None);
     };
-    let Some(revision) = number(revision_line.value) else {
+    let Some(revision) = revision_of(revision_line.value) else {
         return Ok(None);
     };
     let Some(config) = read_config(alloc, revision_line.rest)? else {
@@ -179,10 +193,14 @@ fn is_body(alloc: Global, commit: &Commit, body: &[u8]) -> Result<bool, AllocErr
 
 /// What a body says, `None` where it says nothing. A body is read with some leniency and compared with the
 /// one that is then written: what is taken is right.
+#[tactic(auto, using(crate::proofs::Lengths::long_is_none))]
 pub(crate) fn read_commit(alloc: Global, body: &[u8]) -> Result<Option<Commit>, AllocError>
     ensures some { IfOk result (λ commit. IfSome commit (λ c. IsCommit c × (body.now ≡ body_text c))) }
     ensures none { result ≡ Ok None → (c : Commit) → IsCommit c → body.now ≢ body_text c }
 {
+    if body.len() > BODY_MAX {
+        return Ok(None);
+    }
     let Some(commit) = guess(alloc, body)? else {
         return Ok(None);
     };

@@ -1,11 +1,11 @@
 //! The zones that are stored on a disk, changed by one record at a time.
-ghost use Rattle.std.specs.Prelude.{◌≡◌, ◌⊎◌, ◌*◌, ◌+◌, ◌<◌, ◌≤◌, ◌++◌, ◌↔◌, [], ◌∷◌, List, ℕ, length, option_map, slice_get, Some, true, false, IfOk, IfErr, OnOk, OnErr, IfSome, IsErrOf, IsSome, IsTrue};
+ghost use Rattle.std.specs.Prelude.{◌≡◌, ◌≢◌, ◌⊎◌, ◌*◌, ◌+◌, ◌<◌, ◌≤◌, ◌++◌, ◌↔◌, [], ◌∷◌, List, ℕ, length, option_map, slice_get, Some, true, false, IfOk, IfErr, OnOk, OnErr, IfSome, IsErrOf, IsSome, IsTrue};
 ghost use Rattle.std.specs.Option.{ForSome};
 ghost use Rattle.indexmap.specs.IndexMap.{spare};
 ghost use Rattle.zn_base.specs.Disk.{View, Leaves};
 ghost use Rattle.zn_base.specs.Streams.{Rose};
 ghost use Rattle.zone_disk.specs.Bank.{Formats, KeepsMeaning, IsBeforeOrAfter as IsOneMore};
-ghost use Rattle.zone_disk.specs.Image.{Stands};
+ghost use Rattle.zone_disk.specs.Image.{IsUnformatted, Stands};
 ghost use Rattle.commit_journal.specs.Bodies.{IsCommit, IsStorable};
 ghost use Rattle.commit_journal.specs.Journal.{has_room, Leave};
 ghost use Rattle.commit_journal.specs.Store.{change_text, outcome_by, row_of, HasZones, IsBeforeOrAfter, Says, Stores, StoresOneMore};
@@ -49,6 +49,7 @@ fn count_of<D: Disk>(bank: &Bank<D>) -> usize
     ensures count { result ≡ length bank.now.records }
     ensures few { result < 8388608 }
 {
+    // The clauses of `used` bound the bytes in use, and so the records.
     let _used = bank.used();
     bank.records().len()
 }
@@ -160,8 +161,9 @@ impl<D: Disk> Store<D> {
         ensures any_moment_err { (D.view disk).Keeps → IfErr result (λ e. Leaves (D.view disk) (D.view e.1) (KeepsMeaning (D.view disk))) }
         ensures lasts { (D.view disk).Keeps → IfOk result (λ store. (image : List ℕ) → (D.view store.bank.disk).Now image → Stores store.bank.records store.rows image) }
 
-        // What is unformatted becomes a new store, and every other store stays as it is.
+        // What is unformatted becomes a new store, and every other disk stays as it is, also one that is refused.
         ensures formats { (D.view disk).Keeps → IfOk result (λ store. Formats (D.view disk).reads (D.view store.bank.disk).reads) }
+        ensures refused_same { (D.view disk).Keeps → (IsUnformatted (D.view disk).reads → ⊥) → IfErr result (λ e. (D.view e.1).reads ≡ (D.view disk).reads) }
         ensures sound { IfOk result (λ store. store.bank.sound ≡ true) }
 
         ensures model { IfOk result (λ store. (D.view disk).Keeps ↔ (D.view store.bank.disk).Keeps) }
@@ -169,11 +171,13 @@ impl<D: Disk> Store<D> {
         ensures faults { IfOk result (λ store. (D.view disk).faults ≤ (D.view store.bank.disk).faults) }
         ensures faults_err { IfErr result (λ e. (D.view disk).faults ≤ (D.view e.1).faults) }
         ensures cause { IfErr result (λ e. e.0 ≡ StoreFault.DiskFault → Rose (D.view disk).faults (D.view e.1).faults) }
+        ensures only { IfErr result (λ e. e.0 ≢ StoreFault.BankFull) }
     {
         let bank = match Bank::open(alloc, disk) {
             Ok(bank) => bank,
             Err((fault, disk)) => return Err((StoreFault::from(fault), disk)),
         };
+        // The clauses of `count_of` bound the records, as `replay` asks.
         let _count = count_of(&bank);
         match replay(alloc, bank.records()) {
             Ok(zones) => Ok(Store { bank, zones }),

@@ -1,7 +1,7 @@
 //! Stores on disks in memory: their bytes, what is left after stops, and a store that another program wrote.
 use super::*;
 use export_read::read_export;
-use std::alloc::Global;
+use std::alloc::{AllocError, Global};
 use std::process::Abort;
 use std::test::Fail;
 use uuid::Uuid;
@@ -194,6 +194,29 @@ fn a_wrong_byte_is_told(rt: HostRuntime) -> Result<(), Fail> {
         assert!(rt; *place < bytes.len());
         bytes[*place] = *byte;
         assert_eq!(rt; opened(&rt, rt.alloc(), bytes)?, *want, "at {place}");
+    }
+    Ok(())
+}
+
+// The store with so many zeros in its record's revision.
+fn store_of_digits(alloc: Global, digits: u16) -> Result<Vec<u8>, AllocError> {
+    let mut body = STORE[21..98].to_vec(alloc)?;
+    body.resize(77 + digits as usize, b'0')?;
+    body.extend_from_slice(&STORE[108..196])?;
+    let size = 165 + digits as u32;
+    let mut bytes = STORE[..17].to_vec(alloc)?;
+    bytes.extend_from_slice(&size.to_be_bytes())?;
+    bytes.extend_from_slice(&body)?;
+    bytes.push(0)?;
+    Ok(bytes)
+}
+
+#[test]
+fn a_revision_of_any_length_is_looked_at(rt: HostRuntime) -> Result<(), Fail> {
+    for digits in [0, 9, 10, 11, 20_000] {
+        let bytes = store_of_digits(rt.alloc(), digits)?;
+        let came = opened(&rt, rt.alloc(), bytes)?;
+        assert_eq!(rt; came, Err(StoreFault::RecordForm(1)), "{digits} digits");
     }
     Ok(())
 }

@@ -1,8 +1,9 @@
 -- What the steps of formatting may leave.
-use Rattle.std.proofs.Common.{◌≡◌, ◌≢◌, inl, inr, ℕ, suc, ◌≤◌, List, [], ◌∷◌, ◌++◌, length, get_or, drop, refl, sym, ◌∙◌, ap, subst, arith}
+use Rattle.std.proofs.Common.{◌≡◌, ◌≢◌, inl, inr, ⊎_elim, ℕ, suc, ◌≤◌, List, [], ◌∷◌, ◌++◌, length, get_or, drop, refl, sym, ◌∙◌, ap, subst, arith}
 use Rattle.std.proofs.lemmas.List.{drop_all}
 use Rattle.std.proofs.lemmas.Bool.{cases_eq}
-use Rattle.zn_base.specs.Disk.{View, IsDurable, Leaves, OnlyLooks, Torn, patched}
+use Rattle.std.specs.Prelude.{Result}
+use Rattle.zn_base.specs.Disk.{View, IsSound, IsDurable, GoesOn, NoMore, Leaves, OnlyLooks, Torn, patched}
 use Rattle.zone_disk.specs.Image.{IsFormatted, IsUnformatted, IsSame, Stands}
 use Rattle.zone_disk.specs.Bank.{KeepsMeaning, Formats, new_store}
 use Rattle.zone_disk.specs.Format.{IsHeadless}
@@ -115,3 +116,11 @@ stays_durable old mid keeps durable q c now = durable c (q.crash c now) ∙ sym 
 pub all_same : (old mid new : View) → old.Keeps → old.Now old.reads → mid.reads ≡ old.reads → Leaves old mid (λ c. old.Now c) → Leaves mid new (IsSame mid.reads) → Leaves old new (KeepsMeaning old)
 all_same old mid new keeps now same first rest =
     joined old mid new _ (weaker old mid _ _ (λ c was. (c, was, λ bodies. (λ s. s, λ s. s))) first) (weaker mid new _ _ (λ c s. (old.reads, now, subst (λ (l : List ℕ). IsSame l c) same s)) rest)
+
+-- a call after which a crash may leave nothing new
+pub leaves_no_more : {T E : Type 0} (old mid : View) (r : Result T E) → IsSound old → NoMore old mid → GoesOn old mid r → Leaves old mid (λ c. old.Now c)
+leaves_no_more old mid r sound none goes = record {
+  later = goes.later;
+  each = λ image s. ⊎_elim (λ was. sound.only_now image was) (λ now. none image now) (goes.adds_now old.moment image (omega arith) s);
+  before = λ t image le s. ⊎_elim (λ was. inl was) (λ now. inr (none image now)) (goes.adds_now t image le s);
+}

@@ -1,9 +1,9 @@
 -- Which bytes may stand in a header.
-use Rattle.std.proofs.Common.{◌≡◌, ◌≢◌, inl, inr, ℕ, ◌<◌, get_or, arith}
-use Rattle.std.specs.Prelude.{true}
+use Rattle.std.proofs.Common.{◌≡◌, ◌≢◌, inl, inr, ℕ, zero, suc, ◌<◌, ◌-◌, List, [], ◌∷◌, get_or, take, refl, arith}
+use Rattle.std.specs.Prelude.{true, false, nat_le, ◌==◌}
 use Rattle.std.proofs.lemmas.Bool.{cases_eq}
 use Rattle.std.proofs.lemmas.Bool.Decides.{nat_tests}
-use Rattle.std.proofs.lemmas.List.{get_or-set_other}
+use Rattle.std.proofs.lemmas.List.{get_or-set_other, get_or_append_left}
 use Rattle.zone_disk.specs.Image.{header, may_stand}
 
 -- a header's bytes are the same for every selector, but for the selector
@@ -24,3 +24,19 @@ header_may s k lt bank = elim (cases_eq k 9) [
   | inl nine ↦ rw nine (may_select s bank)
   | inr other ↦ may_at k (get_or (header s) k 0) lt other (header_at s k other)
 ]
+
+abbrev tail : List ℕ
+tail = 90 ∷ 78 ∷ 83 ∷ 84 ∷ 79 ∷ 82 ∷ 69 ∷ 49 ∷ 65 ∷ 0 ∷ 0 ∷ 0 ∷ 0 ∷ 0 ∷ 0 ∷ 0 ∷ []
+
+-- behind the head gate
+tail_at : (k : ℕ) → 0 < k → k < 16 → get_or tail (k - 1) 0 ≡ get_or (header 65) k 0
+tail_at zero more less = absurd (omega arith)
+tail_at (suc k) more less =
+    let e : suc k - 1 ≡ k = omega arith in
+    rw e (get_or_append_left (take 15 tail) (0 ∷ []) 0 k (omega arith))
+
+pub may_behind : (k byte : ℕ) → 0 < k → k < 16 → k ≢ 9 → (byte == get_or tail (k - 1) 0) ≡ may_stand k byte
+may_behind k byte more less other =
+    let here : nat_le 16 k ≡ false = grind (arith, nat_tests) in
+    let there : (k == 9) ≡ false = grind (arith, nat_tests) in
+    rw (here, there, tail_at k more less) refl

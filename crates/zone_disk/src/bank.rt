@@ -1,8 +1,8 @@
 //! A list of bodies on a disk, each behind a gate byte that is opened once the body is on the disk.
-ghost use Rattle.std.specs.Prelude.{◌≡◌, ◌⊎◌, ◌*◌, ◌+◌, ◌<◌, ◌≤◌, ◌-◌, ◌^◌, ◌++◌, ◌↔◌, [], ◌∷◌, List, ℕ, length, IfOk, IfErr, OnOk, OnErr, IsErrOf, IsTrue, Bool, true, false, Result, vec_capacity};
+ghost use Rattle.std.specs.Prelude.{◌≡◌, ◌≢◌, ◌⊎◌, ◌*◌, ◌+◌, ◌<◌, ◌≤◌, ◌-◌, ◌^◌, ◌++◌, ◌↔◌, [], ◌∷◌, List, ℕ, length, IfOk, IfErr, OnOk, OnErr, IsErrOf, IsTrue, Bool, true, false, Result, vec_capacity};
 ghost use Rattle.zn_base.specs.Disk.{View, Leaves, IsDurable};
 ghost use Rattle.zn_base.specs.Streams.{Rose};
-ghost use Rattle.zone_disk.specs.Image.{BANK, used_by, Stands};
+ghost use Rattle.zone_disk.specs.Image.{BANK, used_by, IsUnformatted, Stands};
 ghost use Rattle.zone_disk.specs.Bank.{IsSettled, IsBeforeOrAfter, KeepsMeaning, Formats, Answers, outcome_by};
 
 use crate::format::prepare;
@@ -40,11 +40,13 @@ fn ready<D: Disk>(alloc: Global, disk: &mut D) -> Result<Records, BankFault>
     ensures any_moment { (D.view disk.old).Keeps → Leaves (D.view disk.old) (D.view disk.new) (KeepsMeaning (D.view disk.old)) }
     ensures settled { (D.view disk.old).Keeps → IfOk result (λ r. IsSettled (D.view disk.new) r.bodies.items) }
     ensures formats { (D.view disk.old).Keeps → OnOk result (Formats (D.view disk.old).reads (D.view disk.new).reads) }
+    ensures other { (D.view disk.old).Keeps → (IsUnformatted (D.view disk.old).reads → ⊥) → (D.view disk.new).reads ≡ (D.view disk.old).reads }
     ensures counted { IfOk result (λ r. r.used ≡ used_by r.bodies.items) }
     ensures within { IfOk result (λ r. r.used ≤ BANK) }
     ensures model { (D.view disk.old).Keeps ↔ (D.view disk.new).Keeps }
     ensures faults { (D.view disk.old).faults ≤ (D.view disk.new).faults }
     ensures cause { IsErrOf result BankFault.DiskFault → Rose (D.view disk.old).faults (D.view disk.new).faults }
+    ensures only { IfErr result (λ e. e ≢ BankFault.BankFull) }
 {
     prepare(disk)?;
     read_all(alloc, disk)
@@ -77,8 +79,9 @@ impl<D: Disk> Bank<D> {
         ensures any_moment_err { (D.view disk).Keeps → IfErr result (λ e. Leaves (D.view disk) (D.view e.1) (KeepsMeaning (D.view disk))) }
         ensures lasts { (D.view disk).Keeps → IfOk result (λ bank. (image : List ℕ) → (D.view bank.disk).Now image → Stands image bank.records) }
 
-        // What is unformatted becomes a new store, and every other store stays as it is.
+        // What is unformatted becomes a new store, and every other disk stays as it is, also one that is refused.
         ensures formats { (D.view disk).Keeps → IfOk result (λ bank. Formats (D.view disk).reads (D.view bank.disk).reads) }
+        ensures refused_same { (D.view disk).Keeps → (IsUnformatted (D.view disk).reads → ⊥) → IfErr result (λ e. (D.view e.1).reads ≡ (D.view disk).reads) }
         ensures sound { IfOk result (λ bank. bank.sound ≡ true) }
         ensures used { IfOk result (λ bank. bank.used ≡ used_by bank.records) }
 
@@ -87,6 +90,7 @@ impl<D: Disk> Bank<D> {
         ensures faults { IfOk result (λ bank. (D.view disk).faults ≤ (D.view bank.disk).faults) }
         ensures faults_err { IfErr result (λ e. (D.view disk).faults ≤ (D.view e.1).faults) }
         ensures cause { IfErr result (λ e. e.0 ≡ BankFault.DiskFault → Rose (D.view disk).faults (D.view e.1).faults) }
+        ensures only { IfErr result (λ e. e.0 ≢ BankFault.BankFull) }
     {
         let mut disk = disk;
         match ready(alloc, &mut disk) {

@@ -73,6 +73,7 @@ fn format_blank<D: Disk>(disk: &mut D) -> Result<(), Failed>
 fn format<D: Disk>(disk: &mut D) -> Result<(), Failed>
     ensures any_moment { (D.view disk.old).Keeps → IsDurable (D.view disk.old) → Leaves (D.view disk.old) (D.view disk.new) (IsSame (D.view disk.old).reads) }
     ensures formats { (D.view disk.old).Keeps → OnOk result (Formats (D.view disk.old).reads (D.view disk.new).reads) }
+    ensures other { (D.view disk.old).Keeps → (IsUnformatted (D.view disk.old).reads → ⊥) → (D.view disk.new).reads ≡ (D.view disk.old).reads }
     ensures durable { (D.view disk.old).Keeps → IsDurable (D.view disk.old) → OnOk result (IsDurable (D.view disk.new)) }
     ensures model { (D.view disk.old).Keeps ↔ (D.view disk.new).Keeps }
     ensures cause { HasCause (D.view disk.old).faults (D.view disk.new).faults result }
@@ -89,6 +90,7 @@ fn format<D: Disk>(disk: &mut D) -> Result<(), Failed>
 pub fn prepare<D: Disk>(disk: &mut D) -> Result<(), Failed>
     ensures any_moment { (D.view disk.old).Keeps → Leaves (D.view disk.old) (D.view disk.new) (KeepsMeaning (D.view disk.old)) }
     ensures formats { (D.view disk.old).Keeps → OnOk result (Formats (D.view disk.old).reads (D.view disk.new).reads) }
+    ensures other { (D.view disk.old).Keeps → (IsUnformatted (D.view disk.old).reads → ⊥) → (D.view disk.new).reads ≡ (D.view disk.old).reads }
     ensures durable { (D.view disk.old).Keeps → OnOk result (IsDurable (D.view disk.new)) }
     ensures model { (D.view disk.old).Keeps ↔ (D.view disk.new).Keeps }
     ensures cause { HasCause (D.view disk.old).faults (D.view disk.new).faults result }

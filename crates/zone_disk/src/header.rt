@@ -5,15 +5,14 @@ ghost use Rattle.zone_disk.specs.Image.{may_stand, is_right, IsFirstWrong};
 /// Behind the head gate: the form's name, the selector, six zeros and a closed first gate.
 pub const TAIL: [u8; 16] = [90, 78, 83, 84, 79, 82, 69, 49, 65, 0, 0, 0, 0, 0, 0, 0];
 
-const HEADER: [u8; 16] = [1, 90, 78, 83, 84, 79, 82, 69, 49, 65, 0, 0, 0, 0, 0, 0];
-
 fn may_stand(place: usize, byte: u8) -> bool
     ensures { result ≡ may_stand place byte }
 {
     match place {
-        16.. => true,
+        0 => byte == 1,
         9 => byte != 0x42,
-        _ => byte == HEADER[place],
+        16.. => true,
+        _ => byte == TAIL[place - 1],
     }
 }
 

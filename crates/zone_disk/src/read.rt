@@ -1,4 +1,4 @@
-//! Reading what stands on a disk, in large pieces and no further than to the closed gate.
+//! Reading what stands on a disk, in large pieces, of which the one with the closed gate is the last.
 ghost use Rattle.std.specs.Prelude.{◌≡◌, ◌≢◌, ◌⊎◌, ◌↔◌, ◌+◌, ◌-◌, ◌≤◌, ◌<◌, ◌^◌, ◌++◌, [], ◌∷◌, List, ℕ, length, min, take, drop, get_or, true, false, IfOk, IfErr, OnOk, OnErr, IsErrOf, IsTrue, MatchOption};
 ghost use Rattle.zn_base.specs.Disk.{View, OnlyLooks};
 ghost use Rattle.zn_base.specs.Streams.{Rose};
@@ -123,6 +123,7 @@ fn read_records<D: Disk>(
     ensures within { IfOk result (λ r. r.used ≤ BANK) }
     ensures looks { OnlyLooks (D.view disk.old) (D.view disk.new) }
     ensures cause { IsErrOf result BankFault.DiskFault → Rose (D.view disk.old).faults (D.view disk.new).faults }
+    ensures only { IfErr result (λ e. e ≢ BankFault.BankFull) }
 {
     let mut bodies = Vec::new(alloc);
     let mut place = 16;
@@ -170,6 +171,7 @@ pub fn read_all<D: Disk>(alloc: Global, disk: &mut D) -> Result<Records, BankFau
     ensures within { IfOk result (λ r. r.used ≤ BANK) }
     ensures looks { OnlyLooks (D.view disk.old) (D.view disk.new) }
     ensures cause { IsErrOf result BankFault.DiskFault → Rose (D.view disk.old).faults (D.view disk.new).faults }
+    ensures only { IfErr result (λ e. e ≢ BankFault.BankFull) }
 {
     let mut piece = new_piece(alloc)?;
     let mut bytes = read_front(alloc, disk, &mut piece)?;

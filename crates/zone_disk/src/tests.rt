@@ -73,26 +73,45 @@ fn assert_left(
     Ok(())
 }
 
+// What is left of a run from a disk, with a fault or a stop at one call. Without them it makes so many calls.
+fn assert_left_by(
+    rt: &impl Abort,
+    alloc: Global,
+    start: &[u8],
+    calls: u64,
+    number: u64,
+) -> Result<(), AllocError> {
+    for (failing, stop) in [(Some(number), None), (None, Some(number))] {
+        let disk = disk_of(rt, alloc, start.to_vec(alloc)?, failing, stop)?;
+        let (count, fault, disk) = run(alloc, disk);
+        assert_eq!(rt;
+            fault,
+            if number <= calls {
+                Some(BankFault::DiskFault)
+            } else {
+                None
+            }
+        );
+        for fill in FILLS {
+            let image = disk.after_crash(alloc, fill)?;
+            assert_left(rt, alloc, image, count)?;
+        }
+    }
+    Ok(())
+}
+
 #[test]
 fn every_stop_and_every_single_fault_leaves_the_acknowledged_bodies(
     rt: HostRuntime,
 ) -> Result<(), Fail> {
-    for number in 1..24 {
-        for (failing, stop) in [(Some(number), None), (None, Some(number))] {
-            let empty = disk_of(&rt, rt.alloc(), Vec::new(rt.alloc()), failing, stop)?;
-            let (count, fault, disk) = run(rt.alloc(), empty);
-            assert_eq!(rt;
-                fault,
-                if number <= 22 {
-                    Some(BankFault::DiskFault)
-                } else {
-                    None
-                }
-            );
-            for fill in FILLS {
-                let image = disk.after_crash(rt.alloc(), fill)?;
-                assert_left(&rt, rt.alloc(), image, count)?;
-            }
+    let starts = [
+        (b"".as_slice(), 22),
+        (b"\x01".as_slice(), 22),
+        (b"xxxxx".as_slice(), 20),
+    ];
+    for (start, calls) in starts.iter() {
+        for number in 1..24 {
+            assert_left_by(&rt, rt.alloc(), start, *calls, number)?;
         }
     }
     Ok(())
@@ -110,16 +129,50 @@ fn a_store_byte_by_byte(rt: HostRuntime) -> Result<(), Fail> {
 
 const STORE: &[u8] = b"\x01ZNSTORE1A\0\0\0\0\0\0\x01\0\0\0\x03one\0";
 
-// What opening comes to: the number of bodies, or the fault.
+const EMPTY: &[u8] = b"\x01ZNSTORE1A\0\0\0\0\0\0\0";
+
+// What opening comes to: the number of bodies, or the fault. The disk is as it is then.
+fn opened_and_left(alloc: Global, disk: MemDisk) -> (Result<usize, BankFault>, MemDisk) {
+    match Bank::open(alloc, disk) {
+        Ok(bank) => {
+            let count = bank.records().len();
+            (Ok(count), bank.into_disk())
+        }
+        Err((fault, disk)) => (Err(fault), disk),
+    }
+}
+
 fn opened(
     rt: &impl Abort,
     alloc: Global,
     bytes: Vec<u8>,
 ) -> Result<Result<usize, BankFault>, AllocError> {
-    match Bank::open(alloc, disk_of(rt, alloc, bytes, None, None)?) {
-        Ok(bank) => Ok(Ok(bank.records().len())),
-        Err((fault, _disk)) => Ok(Err(fault)),
+    let disk = disk_of(rt, alloc, bytes, None, None)?;
+    let (came, _disk) = opened_and_left(alloc, disk);
+    Ok(came)
+}
+
+#[test]
+fn a_disk_of_other_bytes_is_formatted_up_to_17_of_them(rt: HostRuntime) -> Result<(), Fail> {
+    let cases = [
+        (1, Ok(0)),
+        (17, Ok(0)),
+        (18, Err(BankFault::NotAStore(0))),
+        (20, Err(BankFault::NotAStore(0))),
+    ];
+    for (size, want) in cases {
+        let bytes = Vec::from_elem(rt.alloc(), b'x', size)?;
+        let disk = disk_of(&rt, rt.alloc(), bytes, None, None)?;
+        let (came, disk) = opened_and_left(rt.alloc(), disk);
+        let left = if want.is_ok() {
+            EMPTY.to_vec(rt.alloc())?
+        } else {
+            Vec::from_elem(rt.alloc(), b'x', size)?
+        };
+        assert_eq!(rt; came, want);
+        assert_eq!(rt; disk.bytes(), left.as_slice());
     }
+    Ok(())
 }
 
 #[test]
@@ -193,6 +246,27 @@ fn the_bank_is_full_to_the_byte(rt: HostRuntime) -> Result<(), Fail> {
             bank.append(rt.alloc(), &[7; 100]).err(),
             Some(BankFault::BankFull)
         );
+    }
+    Ok(())
+}
+
+// The bank's last byte is at 33,554,447.
+#[test]
+fn the_next_gate_lies_inside_the_bank(rt: HostRuntime) -> Result<(), Fail> {
+    let room = Room {
+        length: 33_554_449,
+        calls: 16,
+        written: 512,
+    };
+    for (size, want) in [
+        (33_554_426, Ok(1)),
+        (33_554_427, Err(BankFault::BadRecord(16))),
+    ] {
+        let bytes = store_of(rt.alloc(), size)?;
+        assert!(rt; bytes.len() <= 33_554_449);
+        let disk = MemDisk::new(rt.alloc(), bytes, room, Vec::new(rt.alloc()), None)?;
+        let (came, _disk) = opened_and_left(rt.alloc(), disk);
+        assert_eq!(rt; came, want);
     }
     Ok(())
 }

@@ -26,12 +26,12 @@ returns-in_default-cut_line-2 c = λ row is state rest.
     let line = c.in-Some-cut_line.ensures (hyphenated_text lower row.uuid) (behind_uuid row) (uuid_lacks row.uuid) rest in
     absurd (c.in_default-cut_line-2.ensures (padded 10 row.revision) (export_text row.config) (padded_lacks 10 row.revision) line.1)
 
-pub returns-in_default-number : goal.returns-in_default-number
-returns-in_default-number c = λ row is state rest.
+pub returns-in_default-revision_of : goal.returns-in_default-revision_of
+returns-in_default-revision_of c = λ row is state rest.
     let line = c.in-Some-cut_line.ensures (hyphenated_text lower row.uuid) (behind_uuid row) (uuid_lacks row.uuid) rest in
     let next = c.in-Some-cut_line-2.ensures (padded 10 row.revision) (export_text row.config) (padded_lacks 10 row.revision) line.1 in
-    let number : c.number.result ≡ Some row.revision = c.number.ensures 10 row.revision is.fits (ten_digits row.revision is.fits) next.0 in
-    absurd (cc (c.in_default-number.is, number))
+    let number : c.revision_of.result ≡ Some row.revision = c.revision_of.ensures row.revision is.fits (ten_digits row.revision is.fits) next.0 in
+    absurd (cc (c.in_default-revision_of.is, number))
 
 pub returns-in_default-2 : goal.returns-in_default-2
 returns-in_default-2 c = λ row is state rest.
@@ -46,10 +46,10 @@ returns c = λ row is state rest.
     let next = c.in-Some-cut_line-2.ensures (padded 10 row.revision) (export_text row.config) (padded_lacks 10 row.revision) line.1 in
     let state_is : Some c.in-Some.state ≡ Some row.state = sym c.in-Some.is ∙ c.stored.ensures ∙ ap stored_state state ∙ stored_state_text row.state is.state in
     let uuid_is : Some c.in-Some-read_uuid.uuid ≡ Some row.uuid = sym c.in-Some-read_uuid.is ∙ c.read_uuid.ensures row.uuid is.uuid line.0 in
-    let number_is : Some c.in-Some-number.revision ≡ Some row.revision = sym c.in-Some-number.is ∙ c.number.ensures 10 row.revision is.fits (ten_digits row.revision is.fits) next.0 in
+    let number_is : Some c.in-Some-revision_of.revision ≡ Some row.revision = sym c.in-Some-revision_of.is ∙ c.revision_of.ensures row.revision is.fits (ten_digits row.revision is.fits) next.0 in
     let config_is : Some c.in-Some-2.config ≡ Some row.config = sym c.in-Some-2.is ∙ c.in_ok-config.ensures row.config is.config next.1 in
     let a : c.in-Some.state ≡ row.state = cc in
     let b : c.in-Some-read_uuid.uuid ≡ row.uuid = cc in
-    let d : c.in-Some-number.revision ≡ row.revision = cc in
+    let d : c.in-Some-revision_of.revision ≡ row.revision = cc in
     let e : c.in-Some-2.config ≡ row.config = cc in
-    ap (λ (r : Record). Some r) (same_record (record { state = c.in-Some.state; uuid = c.in-Some-read_uuid.uuid; revision = c.in-Some-number.revision; config = c.in-Some-2.config }) row a b d e)
+    ap (λ (r : Record). Some r) (same_record (record { state = c.in-Some.state; uuid = c.in-Some-read_uuid.uuid; revision = c.in-Some-revision_of.revision; config = c.in-Some-2.config }) row a b d e)
