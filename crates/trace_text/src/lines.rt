@@ -3,7 +3,8 @@ ghost use Rattle.std.specs.Prelude.{◌≡◌, ◌≤◌, ◌+◌, [], length, p
 ghost use Rattle.std.specs.List.{list_all};
 ghost use Rattle.std.specs.Option.{option_copied};
 ghost use Rattle.zn_base.specs.Answers.{AnswersUnless};
-ghost use Rattle.trace_text.specs.Lines.{after_word, begins_with, event_of, first_word, is_no_event, is_space, number_of, session_of, turn_of, types};
+ghost use Rattle.zone_machine.specs.Lines.{is_space};
+ghost use Rattle.trace_text.specs.Lines.{after_word, begins_with, event_of, first_word, is_no_event, number_of, session_of, turn_of, types};
 
 use crate::LineFault;
 use std::alloc::Global;

@@ -1,5 +1,6 @@
 pub mod Examples
 mod Pool_examples
+mod Turn_examples
 pub mod Same_laws
 pub mod Laws
 pub mod Own_worlds

@@ -20,3 +20,4 @@ pub mod Machine
 pub mod Same
 pub mod Pools
 pub mod Histories
+pub mod Turns_left

@@ -3,7 +3,7 @@ ghost use Rattle.std.specs.Prelude.{◌≡◌, ◌+◌, ◌≤◌, [], ◌∷◌
 ghost use Rattle.std.specs.List.{ends_with, list_all, starts_with};
 ghost use Rattle.std.specs.Option.{option_map};
 ghost use Rattle.zn_base.specs.Firsts.{first_of, is_nil};
-ghost use Rattle.zone_machine.specs.Lines.{after_word, command_of, is_space, is_word, is_word_byte, line_of, path_word, request_word, tool_command, word_after_flag, words, zone_command, zoneadm_command, zonecfg_command};
+ghost use Rattle.zone_machine.specs.Lines.{after_word, begins_token, command_of, is_space, is_word, is_word_byte, line_of, path_word, request_word, tool_command, word_after_flag, words, zone_command, zoneadm_command, zonecfg_command};
 ghost use Rattle.zone_machine.specs.Lines_seen.{BeginsWord, EndsWord, GivesRest, GivesWord, IsWordFirst, command_seen, line_seen, word_seen};
 
 use crate::daemon::RequestKind;
@@ -130,7 +130,7 @@ fn word_after_flag(text: &[u8]) -> Option<&[u8]>
 fn is_word_byte(byte: u8) -> bool
     ensures { result ≡ is_word_byte byte }
 {
-    !matches!(byte, b'"' | b'(' | b')' | b';' | b'=' | b'[' | b']')
+    !matches!(byte, b'"' | b'(' | b')' | b';' | b'=')
 }
 
 fn has_word_bytes(bytes: &[u8]) -> bool
@@ -139,10 +139,19 @@ fn has_word_bytes(bytes: &[u8]) -> bool
     bytes.iter().all(|byte| is_word_byte(*byte))
 }
 
+fn begins_token(bytes: &[u8]) -> bool
+    ensures { result ≡ begins_token bytes.now }
+{
+    match bytes.first() {
+        Some(byte) => !matches!(*byte, b'[' | b']'),
+        None => false,
+    }
+}
+
 fn is_word(bytes: &[u8]) -> bool
     ensures { result ≡ is_word bytes.now }
 {
-    !bytes.is_empty() && has_word_bytes(bytes)
+    begins_token(bytes) && has_word_bytes(bytes)
 }
 
 fn begins_with_zonepath(word: &[u8]) -> bool

@@ -13,7 +13,7 @@ use zn_base::{AbsPath, Owned, ZoneName};
 fn first_place<T>(list: &[Owned<T>], zone: &ZoneName) -> Option<usize>
     ensures { result ≡ position (λ o. bytes_eq zone.now o.zone) list.now }
 {
-    list.iter().position(|owned| zone.same(&owned.zone))
+    list.iter().position(|owned| *zone == owned.zone)
 }
 
 /// Where the first thing of a zone stands.
@@ -56,14 +56,14 @@ pub(crate) fn place<T: Drop>(
 pub(crate) fn end_all<T: Drop>(list: &mut Vec<Owned<T>>, zone: &ZoneName)
     ensures { list.new.items ≡ edit_list zone.now (Go (λ x. true)) list.old.items }
 {
-    list.retain(|owned| !zone.same(&owned.zone));
+    list.retain(|owned| *zone != owned.zone);
 }
 
 fn place_above(list: &[Owned<Process>], zone: &ZoneName, pid: u32) -> Option<usize>
     ensures { result ≡ position (λ o. is_above zone.now pid o) list.now }
 {
     list.iter()
-        .position(|owned| zone.same(&owned.zone) && owned.it.pid >= pid)
+        .position(|owned| *zone == owned.zone && owned.it.pid >= pid)
 }
 
 /// A process comes before those of its zone that have a greater number.
@@ -91,5 +91,5 @@ fn is_at(dir: &AbsPath, mount: &Mount) -> bool
 pub(crate) fn unmount(list: &mut Vec<Owned<Mount>>, zone: &ZoneName, dir: &AbsPath)
     ensures { list.new.items ≡ edit_list zone.now (Go (is_at dir.now)) list.old.items }
 {
-    list.retain(|owned| !(zone.same(&owned.zone) && is_at(dir, &owned.it)));
+    list.retain(|owned| !(*zone == owned.zone && is_at(dir, &owned.it)));
 }

@@ -73,7 +73,7 @@ fn plan_need(job: &Job, mounted: bool) -> Need
 fn has_thing<T>(list: &[Owned<T>], zone: &ZoneName) -> bool
     ensures { result ≡ list_any (λ o. bytes_eq zone.now o.zone) list.now }
 {
-    list.iter().any(|owned| zone.same(&owned.zone))
+    list.iter().any(|owned| *zone == owned.zone)
 }
 
 fn is_mounted(mounts: &[Owned<Mount>], zone: &ZoneName) -> bool

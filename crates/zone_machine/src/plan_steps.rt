@@ -1,7 +1,7 @@
 //! The steps of a request's plan, each one turn of the zone's daemon.
-ghost use Rattle.std.specs.Prelude.{[], ◌++◌, ◌<◌, ◌∷◌, ◌≡◌, IfOk, IsSome, IsTrue, Some, codes, drop, length, true};
+ghost use Rattle.std.specs.Prelude.{[], ◌++◌, ◌<◌, ◌∷◌, ◌≡◌, IfOk, IsSome, Some, codes, drop, length, true};
+ghost use Rattle.std.specs.Option.{option_map};
 ghost use Rattle.zn_base.specs.Owned_lists.{Come, Go};
-ghost use Rattle.zn_base.specs.Text.{is_text};
 ghost use Rattle.zn_base.specs.declared.grant.Grant.{Grant as A_grant};
 ghost use Rattle.zone_machine.specs.Decisions.{A_pid, A_serial, A_zid, Decision, act_of};
 ghost use Rattle.zone_machine.specs.Desks_seen.{job_seen};
@@ -19,35 +19,38 @@ use crate::objects::{Id, Mount, Process};
 use crate::records::{Config, Record};
 use crate::work::{Came, ObjectEdit, Seen, Work};
 use std::alloc::{AllocError, Global};
-use zn_base::{AbsPath, Grant, PathFault, Text, TextFault, ZoneState};
+use zn_base::{AbsPath, Grant, PathFault, Text, ZoneState};
 
-// A text that is known to be one.
-fn text(alloc: Global, bytes: &[u8]) -> Result<Text, AllocError>
-    requires { IsTrue (is_text bytes.now) }
-    ensures { IfOk result (λ text. text ≡ bytes.now) }
+// A step is done, with what came and what it did to the objects, and the plan goes on behind it.
+fn passed(
+    job: &mut Job,
+    came: Option<Came>,
+    objects: ObjectEdit,
+    shown: Step,
+) -> Result<Work, AllocError>
+    requires { job.old.at < length job.old.steps.items }
+    ensures { IfOk result (CarriesOut
+        (λ d. record { came = option_map arrival_of came; effect = advance d (job_seen job.old) (rest_of job.old) (object_edits objects) shown })
+        job.new) }
 {
-    match Text::read(alloc, bytes) {
-        Ok(text) => Ok(text),
-        Err(TextFault::Memory) => Err(AllocError),
-        Err(TextFault::BadText(_) | TextFault::TextLong) => unreachable!(),
-    }
+    job.count(&shown)?;
+    job.at += 1;
+    Ok(Work {
+        came,
+        objects,
+        ended: None,
+        reply: TurnReply::Stepped(shown),
+    })
 }
 
-// A step is done, with what it did to the objects, and the plan goes on behind it.
+// A step is done with which nothing came.
 fn advanced(job: &mut Job, objects: ObjectEdit, shown: Step) -> Result<Work, AllocError>
     requires { job.old.at < length job.old.steps.items }
     ensures { IfOk result (CarriesOut
         (λ d. bare (advance d (job_seen job.old) (rest_of job.old) (object_edits objects) shown))
         job.new) }
 {
-    job.count(&shown)?;
-    job.at += 1;
-    Ok(Work {
-        came: None,
-        objects,
-        ended: None,
-        reply: TurnReply::Stepped(shown),
-    })
+    passed(job, None, objects, shown)
 }
 
 // The same where the plan stays where it is.
@@ -72,14 +75,7 @@ fn arrived(job: &mut Job, came: Came, shown: Step) -> Result<Work, AllocError>
         (λ d. record { came = Some (arrival_of came); effect = advance d (job_seen job.old) (rest_of job.old) [] shown })
         job.new) }
 {
-    job.count(&shown)?;
-    job.at += 1;
-    Ok(Work {
-        came: Some(came),
-        objects: ObjectEdit::Nothing,
-        ended: None,
-        reply: TurnReply::Stepped(shown),
-    })
+    passed(job, Some(came), ObjectEdit::Nothing, shown)
 }
 
 // A step failed, and the request will end so.
@@ -145,7 +141,7 @@ fn start_init(job: &mut Job, alloc: Global, grant: Grant) -> Result<Work, AllocE
             let process = Process {
                 pid,
                 parent: 0,
-                name: text(alloc, b"init")?,
+                name: Text::of(alloc, b"init")?,
             };
             arrived(job, Came::Process(process), Step::Init(Some(pid)))
         }
@@ -159,7 +155,7 @@ fn root_special(alloc: Global, config: &Config) -> Result<Text, AllocError>
 {
     let mut bytes = Vec::from_slice(alloc, config.zonepath.bytes())?;
     bytes.extend_from_slice(b"/root")?;
-    text(alloc, &bytes)
+    Text::of(alloc, &bytes)
 }
 
 /// The root directory.
@@ -180,7 +176,7 @@ fn root_mount(alloc: Global, config: &Config) -> Result<Mount, AllocError>
 {
     Ok(Mount {
         dir: root_dir(alloc)?,
-        fstype: text(alloc, b"root")?,
+        fstype: Text::of(alloc, b"root")?,
         special: root_special(alloc, config)?,
     })
 }

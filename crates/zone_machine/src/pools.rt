@@ -40,7 +40,7 @@ fn numbered(pool: Pool, number: Option<u32>) -> Grant
 fn has_path(zone: &ZoneName, path: &AbsPath, row: &Owned<Record>) -> bool
     ensures { result ≡ (not (bytes_eq zone.now row.now.zone) && bytes_eq path.now row.now.it.config.zonepath) }
 {
-    !zone.same(&row.zone) && path.bytes() == row.it.config.zonepath.bytes()
+    *zone != row.zone && path.bytes() == row.it.config.zonepath.bytes()
 }
 
 fn path_taken(rows: &[Owned<Record>], zone: &ZoneName, path: &AbsPath) -> bool

@@ -11,10 +11,13 @@ pub enum Refusal {
     BadValue,
     /// The zone is stored already, and `-F` is missing.
     NeedForce,
+    /// A pool denies what the line asks of it.
     Denied(Pool),
+    /// The zone isn't stored.
     NoZone,
     /// The session waits for this ticket.
     Waiting(u32),
+    /// Eight requests of the zone wait, or its ticket numbers are used up.
     DeskFull,
     /// The line is none that the session knows.
     Usage,

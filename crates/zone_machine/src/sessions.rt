@@ -47,7 +47,7 @@ fn waits_for(session: &Session, zone: &ZoneName, ticket: u32) -> bool
         Session::Awaiting {
             zone: other,
             ticket: awaited,
-        } => zone.same(other) && *awaited == ticket,
+        } => zone == other && *awaited == ticket,
     }
 }
 

@@ -18,7 +18,7 @@ use zn_base::{AbsPath, Owned, ZoneName, ZoneState};
 fn count_of<T>(list: &[Owned<T>], zone: &ZoneName) -> usize
     ensures { result ≡ length (mine zone.now list.now) }
 {
-    list.iter().filter(|owned| zone.same(&owned.zone)).count()
+    list.iter().filter(|owned| *zone == owned.zone).count()
 }
 
 fn later_dir<'m>(
@@ -28,14 +28,14 @@ fn later_dir<'m>(
 ) -> Option<&'m AbsPath>
     ensures { option_map (λ dir. dir.now) result ≡ (if bytes_eq zone.now owned.now.zone then Some owned.now.it.dir else option_map (λ dir. dir.now) last.entry) }
 {
-    if zone.same(&owned.zone) {
+    if *zone == owned.zone {
         Some(&owned.it.dir)
     } else {
         last
     }
 }
 
-// The greatest directory of a zone's mounts.
+// The directory of a zone's last mount, which is the only one today.
 fn last_dir(
     alloc: Global,
     mounts: &[Owned<Mount>],

@@ -38,7 +38,7 @@ pub(crate) struct Work {
 #[derive(Drop)]
 pub(crate) struct Seen {
     pub(crate) processes: usize,
-    /// The greatest directory of the zone's mounts.
+    /// The directory of the zone's last mount, which is the only one today.
     pub(crate) last_dir: Option<AbsPath>,
     pub(crate) zid: Option<u32>,
 }

@@ -2,3 +2,4 @@ mod Examples
 pub mod Purge
 pub mod Runs
 pub mod Steady
+pub mod Ending

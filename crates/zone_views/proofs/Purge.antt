@@ -71,6 +71,11 @@ pub record Agree (z : Name) (S T : State) : Type 0 where
   pub world : world z S ≡ world z T
   pub purged : IsPurged z T
 
+-- a session of the second that z's world doesn't show is idle
+pub away_is_idle : (z : Name) (s : Session_mode) → IsOwn z s → doing z s ≡ None → s ≡ Idle
+away_is_idle z Idle own away = refl
+away_is_idle z (At y x) own away = let e : bytes_eq z y ≡ true = subst (λ w. bytes_eq z w ≡ true) (sym own) (same_self z) in let none : Some x ≡ None = simp e at away in cc
+
 -- they give each event that concerns z the same subject
 pub subjects : (z : Name) (S T : State) (e : Event) → Agree z S T → concerns z (subject S e) ≡ true → subject T e ≡ subject S e
 unfolding subject

@@ -1,20 +1,25 @@
 //! The laws, over every state or every history.
-ghost use Rattle.std.specs.Prelude.{◌≡◌, ◌⊎◌, Bool, List, Some, false, true};
+ghost use Rattle.std.specs.Prelude.{◌<◌, ◌≡◌, ◌≢◌, ◌⊎◌, Bool, List, None, Some, false, true, ℕ};
 ghost use Rattle.std.specs.List.{list_all};
 ghost use Rattle.zn_base.specs.Moves.{may_move};
 ghost use Rattle.zn_base.specs.Names.{Name};
 ghost use Rattle.zn_base.specs.declared.grant.Grant.{Grant};
+ghost use Rattle.zone_machine.specs.Decisions.{says};
 ghost use Rattle.zone_machine.specs.Histories.{after, any_grant, asked, concerns, history, is_history, is_legal, only, replay, replies, run};
 ghost use Rattle.zone_machine.specs.Machine.{need, one, opening, subject};
-ghost use Rattle.zone_machine.specs.State.{State, stored, zone_state};
+ghost use Rattle.zone_machine.specs.State.{Idle, State, stored, zone_state};
+ghost use Rattle.zone_machine.specs.Turns_left.{turns_left};
 ghost use Rattle.zone_machine.specs.Worlds.{world};
+ghost use Rattle.zone_machine.specs.declared.daemon.TurnReply.TheVariants.{Idle as Idle_turn};
 ghost use Rattle.zone_machine.specs.declared.events.Entry.{Entry};
 ghost use Rattle.zone_machine.specs.declared.events.Event.{Event};
+ghost use Rattle.zone_machine.specs.declared.events.Event.TheVariants.{Turn};
 ghost use Rattle.zone_machine.specs.declared.events.Subject.TheVariants.{Zone};
 ghost use Rattle.zone_machine.specs.declared.records.Commit.{Commit};
+ghost use Rattle.zone_machine.specs.declared.replies.Head.TheVariants.{Turned};
 ghost use Rattle.zone_views.specs.Storable.{are_storable};
 
-/// An event that belongs neither to a zone nor to the whole system leaves the zone's world as it was.
+/// An event that belongs neither to the zone nor to the whole system leaves the zone's world as it was.
 pub fn others_change_nothing()
     ensures { (z : Name) (S : State) (e : Event) (g : Grant) → concerns z (subject S e) ≡ false
         → world z (one S e g).state ≡ world z S }
@@ -32,12 +37,17 @@ pub fn own_world_decides()
 {}
 
 /// A state that only entries of a zone and of the whole system reached has the same subject for each event
-/// that concerns the zone in a state with the same world of it.
+/// that concerns the zone in a state with the same world of it. A session that is away from the zone there is
+/// idle in it.
 pub fn subjects_agree()
-    ensures { (z : Name) (S : State) (commits : List Commit) (h : List Entry) (e : Event)
+    ensures agree { (z : Name) (S : State) (commits : List Commit) (h : List Entry) (e : Event)
         → is_history any_grant (opening commits) h ≡ true → list_all (λ entry. concerns z entry.subject) h ≡ true
         → world z S ≡ world z (after (opening commits) h)
         → concerns z (subject S e) ≡ true → subject (after (opening commits) h) e ≡ subject S e }
+    ensures away { (z : Name) (S : State) (commits : List Commit) (h : List Entry) (n : ℕ)
+        → is_history any_grant (opening commits) h ≡ true → list_all (λ entry. concerns z entry.subject) h ≡ true
+        → world z S ≡ world z (after (opening commits) h)
+        → (world z S).sessions n ≡ None → (after (opening commits) h).sessions n ≡ Idle }
 {}
 
 /// What the machine makes of any events is a history, under the grants that the pools give and under any that
@@ -75,4 +85,12 @@ pub fn states_move_along_the_table()
     ensures { (z : Name) (commits : List Commit) (h : List Entry) (e : Event) (g : Grant)
         → are_storable commits ≡ true → let S = after (opening commits) h in let T = (one S e g).state in
         (zone_state z T ≡ zone_state z S) ⊎ ((subject S e ≡ Zone z) × (may_move (zone_state z S) (zone_state z T) ≡ true)) }
+{}
+
+/// After any history a turn of a zone that isn't idle leaves its daemon fewer turns than it had, whatever it is
+/// granted. So turns come to an end where no more is asked.
+pub fn turns_come_to_an_end()
+    ensures { (z : Name) (commits : List Commit) (h : List Entry) (g : Grant)
+        → let S = after (opening commits) h in let a = one S (Turn z) g in
+        a.reply ≢ says (Turned Idle_turn) → turns_left (world z a.state) < turns_left (world z S) }
 {}

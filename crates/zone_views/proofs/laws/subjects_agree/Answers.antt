@@ -1,8 +1,14 @@
+use Rattle.std.proofs.Common.{◌∙◌, ap, sym}
 use Rattle.zone_machine.specs.Histories.{after}
 use Rattle.zone_machine.specs.Machine.{opening}
-use Rattle.zone_views.proofs.Purge.{IsPurged-after, subjects}
+use Rattle.zone_views.proofs.Purge.{IsPurged-after, away_is_idle, subjects}
 use Rattle.zone_views.proofs.laws.subjects_agree.Goals as goal
 
-pub returns : goal.returns
-returns c = λ z S commits h e is all w concerned.
+pub returns-clause-agree : goal.returns-clause-agree
+returns-clause-agree c = λ z S commits h e is all w concerned.
     subjects z S (after (opening commits) h) e (record { world = w; purged = IsPurged-after z (opening commits) h is all (record { sessions = λ n. tt }) }) concerned
+
+pub returns-clause-away : goal.returns-clause-away
+returns-clause-away c = λ z S commits h n is all w away.
+    away_is_idle z ((after (opening commits) h).sessions n) ((IsPurged-after z (opening commits) h is all (record { sessions = λ n. tt })).sessions n)
+    (sym (ap (λ w. w.sessions n) w) ∙ away)
