@@ -1,32 +1,16 @@
 -- What an editor answers and stands for, by what its subcommand made of what was open.
 use Rattle.std.proofs.Common.{◌≡◌, ◌⊎◌, inl, inr, ℕ, List, [], ◌∷◌, ◌++◌, true, Option, Some, None, Result, Ok, Err, refl, ap, sym, subst, ◌∙◌}
 use Rattle.std.proofs.lemmas.List.{append-nil}
-use Rattle.zn_base.specs.Answers.{AnswersUnless}
 use Rattle.zonecfg_scopes.specs.declared.base.Base.{Base}
 use Rattle.zonecfg_scopes.specs.declared.command.Command.{Command}
 use Rattle.zonecfg_scopes.specs.declared.command.EditReply.{EditReply}
 use Rattle.zonecfg_scopes.specs.declared.fault.EditFault.{EditFault}
 use Rattle.zonecfg_scopes.specs.declared.fault.EditFault.TheVariants.{Memory}
 use Rattle.zonecfg_scopes.specs.Denotes.{Follows, GoesOn, Stands, list_after}
-use Rattle.zonecfg_scopes.specs.Edited.{Edited, IsAfter, answer_of, answered, base_config, commands_of, lines_after, reply_of, with_command}
+use Rattle.zonecfg_scopes.specs.Edited.{Edited, IsAfter, base_config, commands_of, lines_after, with_command}
 use Rattle.zonecfg_scopes.specs.Forms.{command_of}
 use Rattle.zonecfg_scopes.specs.Open.{Open}
-use Rattle.zonecfg_scopes.specs.Scopes.{made}
 use Rattle.zonecfg_scopes.proofs.Steps.{goes_on}
-
--- a refusal is the one of the tables, or memory ran out
-pub refused : (command : Command) (old new : Open) (fault : EditFault) → Follows command old new (Err fault) → (fault ≡ Memory) ⊎ (answered command (made command old) ≡ Err fault)
-refused command old new Memory f = inl refl
-refused command old new fault f = inr (ap (answered command) f.0)
-
--- after a fault all is as before
-pub unchanged : (command : Command) (old new : Open) (fault : EditFault) → Follows command old new (Err fault) → new ≡ old
-unchanged command old new Memory f = f
-unchanged command old new fault f = f.1
-
--- what was done is answered
-pub done : (command : Command) (old new : Open) → Follows command old new (Ok tt) → answered command (made command old) ≡ Ok (reply_of command)
-done command old new f = ap (answered command) f
 
 shifted : (read : Result Command EditFault) (xs ys : List Command) → with_command read (xs ++ ys) ≡ with_command read xs ++ ys
 shifted (Ok command) xs ys = refl

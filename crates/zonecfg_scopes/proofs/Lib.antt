@@ -10,3 +10,4 @@ pub mod Sameness
 pub mod Changed
 pub mod Ran
 pub mod Lines
+pub mod Shown

@@ -6,11 +6,12 @@ use Rattle.zonecfg_scopes.specs.declared.base.Base.{Base}
 use Rattle.zonecfg_scopes.specs.declared.command.Command.{Command}
 use Rattle.zonecfg_scopes.specs.declared.command.Command.TheVariants.{Blank, Add, Append, Cancel, Clear, Commit, Create, Delete, End, Exit, Export, Help, Info, Remove, RemoveItem, Revert, Select, Set, Verify}
 use Rattle.zonecfg_scopes.specs.declared.command.EditReply.{EditReply}
-use Rattle.zonecfg_scopes.specs.declared.command.EditReply.TheVariants.{Done, WantCommit, WantDelete, WantExit, WantExport, WantHelp, WantInfo, WantRevert, WantVerify}
+use Rattle.zonecfg_scopes.specs.declared.command.EditReply.TheVariants.{Done, Lines, WantCommit, WantDelete, WantExit, WantRevert, WantVerify}
 use Rattle.zonecfg_scopes.specs.declared.fault.EditFault.{EditFault}
 use Rattle.zonecfg_scopes.specs.declared.fault.EditFault.TheVariants.{Memory}
 use Rattle.zonecfg_scopes.specs.Denotes.{Stands, whole}
 use Rattle.zonecfg_scopes.specs.Forms.{command_of}
+use Rattle.zonecfg_scopes.specs.Info.{export_lines, help_line, info_lines}
 use Rattle.zonecfg_scopes.specs.Open.{Open}
 use Rattle.zonecfg_scopes.specs.OpenOf.{config_of}
 use Rattle.zonecfg_scopes.specs.Same.{same_contents}
@@ -35,25 +36,25 @@ revision_of (Some b) = b.revision
 abbrev pub opened_on : List ℕ → Option Base → Edited
 opened_on name base = record { name = name; base = base; opened = whole (base_config base) }
 
--- the answer to a subcommand that is not refused
-abbrev pub reply_of : Command → EditReply
-reply_of Commit = WantCommit
-reply_of (Delete force) = WantDelete
-reply_of (Exit force) = WantExit force
-reply_of Export = WantExport
-reply_of Help = WantHelp
-reply_of (Info topic) = WantInfo topic
-reply_of (Revert force) = WantRevert
-reply_of Verify = WantVerify
-reply_of command = Done
+-- the answer to a subcommand that is not refused, by the editor before it
+abbrev pub reply_of : Command → Edited → EditReply
+reply_of Commit e = WantCommit
+reply_of (Delete force) e = WantDelete
+reply_of (Exit force) e = WantExit force
+reply_of Export e = Lines (export_lines e.opened)
+reply_of Help e = Lines (help_line ∷ [])
+reply_of (Info topic) e = Lines (info_lines topic e.name e.opened)
+reply_of (Revert force) e = WantRevert
+reply_of Verify e = WantVerify
+reply_of command e = Done
 
-abbrev pub answered : Command → Result Open EditFault → Result EditReply EditFault
-answered command (Ok o) = Ok (reply_of command)
-answered command (Err fault) = Err fault
+abbrev pub answered : Command → Edited → Result Open EditFault → Result EditReply EditFault
+answered command e (Ok o) = Ok (reply_of command e)
+answered command e (Err fault) = Err fault
 
 -- what a subcommand is answered
 abbrev pub answer_of : Command → Edited → Result EditReply EditFault
-answer_of command e = answered command (made command e.opened)
+answer_of command e = answered command e (made command e.opened)
 
 abbrev pub answer_by : Result Command EditFault → Edited → Result EditReply EditFault
 answer_by (Ok command) e = answer_of command e

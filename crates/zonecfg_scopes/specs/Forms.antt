@@ -24,19 +24,24 @@ use Rattle.zonecfg_scopes.specs.Commands.{list_named, topic_named, verb_named}
 use Rattle.zonecfg_scopes.specs.Faults.{lexed}
 use Rattle.zonecfg_scopes.specs.Words.{are_pairs, behind_flag, first_value_missed, has_flag, is_equals, said}
 
--- a subcommand with nothing behind it
-abbrev pub alone : List Token → Command → Result Command EditFault
-alone [] command = Ok command
-alone ts command = Err Usage
+-- what stands with nothing behind it
+abbrev pub alone : {A : Type 0} → List Token → A → Result A EditFault
+alone [] it = Ok it
+alone ts it = Err Usage
 
 -- a subcommand that ends with a value
 abbrev pub with_value : (Value → Command) → Result Value LexFault → Result Command EditFault
 with_value command (Ok value) = Ok (command value)
 with_value command (Err fault) = Err (lexed fault)
 
--- `[-F]` and nothing more
-abbrev pub forced : (Bool → Command) → List ℕ → List Token → Result Command EditFault
-forced command line ts = alone (behind_flag (codes "-F") line ts) (command (has_flag (codes "-F") line ts))
+-- `[-F]` and nothing more: whether it is given
+abbrev pub force_of : List ℕ → List Token → Result Bool EditFault
+force_of line ts = alone (behind_flag (codes "-F") line ts) (has_flag (codes "-F") line ts)
+
+-- a subcommand with the `-F` that was read
+abbrev pub with_force : (Bool → Command) → Result Bool EditFault → Result Command EditFault
+with_force command (Ok force) = Ok (command force)
+with_force command (Err fault) = Err fault
 
 -- `create [-F] [-b]`
 abbrev pub create_of : List ℕ → List Token → Result Command EditFault
@@ -123,14 +128,14 @@ form_of verb.Cancel line ts = alone ts Cancel
 form_of verb.Clear line ts = clear_of line ts
 form_of verb.Commit line ts = alone ts Commit
 form_of verb.Create line ts = create_of line ts
-form_of verb.Delete line ts = forced Delete line ts
+form_of verb.Delete line ts = with_force Delete (force_of line ts)
 form_of verb.End line ts = alone ts End
-form_of verb.Exit line ts = forced Exit line ts
+form_of verb.Exit line ts = with_force Exit (force_of line ts)
 form_of verb.Export line ts = alone ts Export
 form_of verb.Help line ts = alone ts Help
 form_of verb.Info line ts = info_of line ts
 form_of verb.Remove line ts = remove_of line ts
-form_of verb.Revert line ts = forced Revert line ts
+form_of verb.Revert line ts = with_force Revert (force_of line ts)
 form_of verb.Select line ts = select_by (matching_of line ts)
 form_of verb.Set line ts = set_of line ts
 form_of verb.Verify line ts = alone ts Verify

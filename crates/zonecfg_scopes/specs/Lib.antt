@@ -8,5 +8,6 @@ pub mod Scopes
 pub mod Removal
 pub mod Denotes
 pub mod Same
+pub mod Info
 pub mod Edited
 pub mod Laws

@@ -2,7 +2,8 @@
 ghost use Rattle.std.specs.Prelude.{◌≡◌};
 ghost use Rattle.zonecfg_scopes.specs.Commands.{list_name, list_named, topic_named};
 
-use config_terms::Kind;
+use crate::line::Line;
+use config_terms::{Kind, Listing};
 use zn_base::Text;
 use zone_config::Setting;
 use zonecfg_lex::{Pairs, Value};
@@ -56,40 +57,17 @@ pub enum Command {
     Verify,
 }
 
-/// What a subcommand is answered that is not refused: it is done, or there is something for the caller to
-/// show or to do. `WantExit(true)` is `exit -F`.
-#[derive(Clone, Copy, Debug, PartialEq, Eq)]
+/// What a subcommand is answered that is not refused: it is done, or there are lines to show, or there is
+/// something for the caller to do. `WantExit(true)` is `exit -F`.
+#[derive(Drop)]
 pub enum EditReply {
     Done,
-    WantHelp,
-    WantInfo(Topic),
-    WantExport,
+    Lines(Listing<Line>),
     WantVerify,
     WantCommit,
     WantRevert,
     WantDelete,
     WantExit(bool),
-}
-
-impl Command {
-    ghost use Rattle.zonecfg_scopes.specs.Edited.{reply_of};
-
-    /// What it is answered where it is not refused.
-    pub fn reply(&self) -> EditReply
-        ensures { result ≡ reply_of self.now }
-    {
-        match self {
-            Command::Commit => EditReply::WantCommit,
-            Command::Delete { .. } => EditReply::WantDelete,
-            Command::Exit { force } => EditReply::WantExit(*force),
-            Command::Export => EditReply::WantExport,
-            Command::Help => EditReply::WantHelp,
-            Command::Info(topic) => EditReply::WantInfo(*topic),
-            Command::Revert { .. } => EditReply::WantRevert,
-            Command::Verify => EditReply::WantVerify,
-            _ => EditReply::Done,
-        }
-    }
 }
 
 impl ListProperty {

@@ -2,16 +2,20 @@
 ghost use Rattle.std.specs.Prelude.{◌≡◌, ◌≤◌, ◌↔◌, IfOk, IsTrue, OnErr, OnOk, List, Some, length, Err, ℕ, option_copied};
 ghost use Rattle.zn_base.specs.Answers.{AnswersUnless};
 ghost use Rattle.zonecfg_scopes.specs.Denotes.{GoesOn};
+ghost use Rattle.zonecfg_scopes.specs.Info.{info_lines};
 ghost use Rattle.zonecfg_scopes.specs.OpenOf.{config_of};
-ghost use Rattle.zonecfg_scopes.specs.Edited.{after_command, after_line, answer_of, is_changed, line_answer, lines_after, opened_on, revision_of, IsAfter, IsChanged};
+ghost use Rattle.zonecfg_scopes.specs.Edited.{after_command, after_line, answer_of, is_changed, line_answer, lines_after, opened_on, reply_of, revision_of, IsAfter, IsChanged};
 
 use crate::base::Base;
-use crate::command::{Command, EditReply};
+use crate::command::{Command, EditReply, Topic};
 use crate::fault::EditFault;
 use crate::forms::read_command;
+use crate::info::help;
+use crate::line::Line;
 use crate::opened::Opened;
 use crate::same::same_contents;
-use std::alloc::Global;
+use config_terms::Listing;
+use std::alloc::{AllocError, Global};
 use std::marker::Model;
 use zn_base::ZoneName;
 use zone_config::ZoneConfig;
@@ -71,10 +75,35 @@ impl Editor {
         ensures held { self.new ≡ record self.old { opened = self.new.opened } }
         ensures stands { GoesOn command.now self.old.opened self.new.opened result }
     {
+        // The lines come first: should memory run out over them, nothing was done.
+        let reply = self.reply(alloc, command)?;
         match self.opened.obey(alloc, command) {
-            Ok(()) => Ok(command.reply()),
+            Ok(()) => Ok(reply),
             Err(fault) => Err(fault),
         }
+    }
+
+    // What a subcommand is answered where it is not refused.
+    fn reply(&self, alloc: Global, command: &Command) -> Result<EditReply, AllocError>
+        ensures { IfOk result (λ reply. reply ≡ reply_of command.now self.now) }
+    {
+        match command {
+            Command::Commit => Ok(EditReply::WantCommit),
+            Command::Delete { .. } => Ok(EditReply::WantDelete),
+            Command::Exit { force } => Ok(EditReply::WantExit(*force)),
+            Command::Export => Ok(EditReply::Lines(self.opened.export(alloc)?)),
+            Command::Help => Ok(EditReply::Lines(help(alloc)?)),
+            Command::Info(topic) => Ok(EditReply::Lines(self.info(alloc, *topic)?)),
+            Command::Revert { .. } => Ok(EditReply::WantRevert),
+            Command::Verify => Ok(EditReply::WantVerify),
+            _ => Ok(EditReply::Done),
+        }
+    }
+
+    fn info(&self, alloc: Global, topic: Topic) -> Result<Listing<Line>, AllocError>
+        ensures { IfOk result (λ lines. lines ≡ info_lines topic self.now.name self.now.opened) }
+    {
+        self.opened.info(alloc, self.name.bytes(), topic)
     }
 
     /// Takes a new base: its configuration is open, in the global scope. After want of memory all is as

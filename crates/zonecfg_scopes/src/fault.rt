@@ -21,7 +21,7 @@ pub enum Scope {
 pub enum EditFault {
     #[error("out of memory")]
     Memory,
-    /// A subcommand without tokens, or tokens that are no value where the form has one. Places count from
+    /// The line can't be cut into tokens, or tokens are no value where the form has one. Places count from
     /// the subcommand's first byte.
     #[error("{0}")]
     Lex(LexFault),

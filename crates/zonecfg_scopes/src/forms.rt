@@ -3,7 +3,7 @@ ghost use Rattle.std.specs.Prelude.{◌≡◌, ◌≤◌, All, Ok, length};
 ghost use Rattle.std.specs.List.{list_any};
 ghost use Rattle.zn_base.specs.Answers.{AnswersUnless};
 ghost use Rattle.zonecfg_lex.specs.Value.{IsReadable, value_of};
-ghost use Rattle.zonecfg_scopes.specs.Forms.{add_of, alone, clear_of, command_of, create_of, forced, form_of, info_of, matching_by, matching_of, names_list, remove_matching, remove_of, select_by, set_of};
+ghost use Rattle.zonecfg_scopes.specs.Forms.{add_of, alone, clear_of, command_of, create_of, force_of, form_of, info_of, matching_by, matching_of, names_list, remove_matching, remove_of, select_by, set_of};
 
 use crate::EditFault;
 use crate::command::{Command, ListProperty, Matching, Topic};
@@ -15,14 +15,22 @@ use config_terms::Kind;
 use std::alloc::Global;
 use zonecfg_lex::{LexFault, Pair, Pairs, Token, given_text, pairs, part_tokens, value};
 
-fn alone(tokens: &[Token], command: Command) -> Result<Command, EditFault>
-    ensures { result ≡ alone tokens.now command }
+fn alone<T: Drop>(tokens: &[Token], it: T) -> Result<T, EditFault>
+    ensures { result ≡ alone tokens.now it }
 {
     if tokens.is_empty() {
-        Ok(command)
+        Ok(it)
     } else {
         Err(EditFault::Usage)
     }
+}
+
+// `[-F]`: whether it is given.
+fn force(line: &[u8], args: &[Token]) -> Result<bool, EditFault>
+    requires { All (IsReadable line.now) args.now }
+    ensures { result ≡ force_of line.now args.now }
+{
+    alone(behind_flag(line, args, b"-F"), has_flag(line, args, b"-F"))
 }
 
 // `create [-F] [-b]`
@@ -37,30 +45,6 @@ fn create(line: &[u8], args: &[Token]) -> Result<Command, EditFault>
         behind_flag(line, rest, b"-b"),
         Command::Create { force, bare },
     )
-}
-
-fn delete(line: &[u8], args: &[Token]) -> Result<Command, EditFault>
-    requires { All (IsReadable line.now) args.now }
-    ensures { result ≡ forced Command.Delete line.now args.now }
-{
-    let force = has_flag(line, args, b"-F");
-    alone(behind_flag(line, args, b"-F"), Command::Delete { force })
-}
-
-fn exit(line: &[u8], args: &[Token]) -> Result<Command, EditFault>
-    requires { All (IsReadable line.now) args.now }
-    ensures { result ≡ forced Command.Exit line.now args.now }
-{
-    let force = has_flag(line, args, b"-F");
-    alone(behind_flag(line, args, b"-F"), Command::Exit { force })
-}
-
-fn revert(line: &[u8], args: &[Token]) -> Result<Command, EditFault>
-    requires { All (IsReadable line.now) args.now }
-    ensures { result ≡ forced Command.Revert line.now args.now }
-{
-    let force = has_flag(line, args, b"-F");
-    alone(behind_flag(line, args, b"-F"), Command::Revert { force })
 }
 
 // `add KIND`, `add options VALUE`, `add value VALUE`
@@ -225,14 +209,20 @@ fn form(alloc: Global, verb: Verb, line: &[u8], args: &[Token]) -> Result<Comman
         Verb::Clear => clear(alloc, line, args),
         Verb::Commit => alone(args, Command::Commit),
         Verb::Create => create(line, args),
-        Verb::Delete => delete(line, args),
+        Verb::Delete => Ok(Command::Delete {
+            force: force(line, args)?,
+        }),
         Verb::End => alone(args, Command::End),
-        Verb::Exit => exit(line, args),
+        Verb::Exit => Ok(Command::Exit {
+            force: force(line, args)?,
+        }),
         Verb::Export => alone(args, Command::Export),
         Verb::Help => alone(args, Command::Help),
         Verb::Info => info(line, args),
         Verb::Remove => remove(alloc, line, args),
-        Verb::Revert => revert(line, args),
+        Verb::Revert => Ok(Command::Revert {
+            force: force(line, args)?,
+        }),
         Verb::Select => select(alloc, line, args),
         Verb::Set => set(alloc, line, args),
         Verb::Verify => alone(args, Command::Verify),

@@ -8,7 +8,9 @@ mod command;
 mod editor;
 mod fault;
 mod forms;
+mod info;
 mod laws;
+mod line;
 mod opened;
 mod removal;
 mod same;
@@ -21,6 +23,7 @@ pub use editor::Editor;
 pub use fault::{EditFault, Scope};
 pub use forms::read_command;
 pub use laws::{lines_denote, one_stands};
+pub use line::Line;
 pub use opened::{Opened, ResourceScope};
 
 #[cfg(test)]

@@ -5,17 +5,20 @@ ghost use Rattle.config_terms.specs.Edits.{Changes};
 ghost use Rattle.config_terms.specs.Fields.{kind_of};
 ghost use Rattle.zone_config.specs.Resources.{count_of};
 ghost use Rattle.zonecfg_scopes.specs.Denotes.{Follows};
+ghost use Rattle.zonecfg_scopes.specs.Info.{export_lines, info_lines};
 ghost use Rattle.zonecfg_scopes.specs.Open.{Nothing, Whole};
 ghost use Rattle.zonecfg_scopes.specs.OpenOf.{config_of};
 ghost use Rattle.zonecfg_scopes.specs.Scopes.{created, put_back, resource_at, selection, is_in_place, is_placed};
 
 use crate::command::{Command, ListProperty, Matching, Topic};
+use crate::info::{resource_lines, topic_lines};
+use crate::line::{Line, export_lines};
 use crate::removal::remove_matching;
 use crate::{EditFault, Scope};
-use config_terms::{ConfigFault, Kind, Resource, Twin};
+use config_terms::{ConfigFault, Kind, Listing, Resource, Twin};
 use std::alloc::{AllocError, Global};
 use std::marker::Model;
-use zn_base::{Text, TextFault};
+use zn_base::Text;
 use zone_config::{Contents, ZoneConfig, blank};
 use zonecfg_lex::Value;
 
@@ -52,11 +55,7 @@ fn wrong_scope(scope: &ResourceScope) -> EditFault
 fn ipkg(alloc: Global) -> Result<Value, EditFault>
     ensures { AnswersUnless EditFault.Memory (Ok (Value.Simple (codes "ipkg"))) result }
 {
-    match Text::read(alloc, b"ipkg") {
-        Ok(text) => Ok(Value::Simple(text)),
-        Err(TextFault::Memory) => Err(EditFault::Memory),
-        Err(TextFault::BadText(_) | TextFault::TextLong) => unreachable!(),
-    }
+    Ok(Value::Simple(Text::of(alloc, b"ipkg")?))
 }
 
 #[tactic(auto, using(crate::proofs::Branded::branded))]
@@ -160,6 +159,34 @@ impl Opened {
         ensures { option_copied result ≡ config_of self.now }
     {
         self.config.as_ref()
+    }
+
+    /// The lines of what `info` shows, by the zone's name.
+    #[tactic(auto, unfolding(crate::specs::Info::info_lines))]
+    pub fn info(
+        &self,
+        alloc: Global,
+        name: &[u8],
+        topic: Topic,
+    ) -> Result<Listing<Line>, AllocError>
+        ensures { IfOk result (λ lines. lines ≡ info_lines topic name.now self.now) }
+    {
+        match (&self.config, &self.scope) {
+            (None, _) => Ok(Listing::new(alloc)),
+            (Some(config), None) => topic_lines(alloc, topic, name, config.contents()),
+            (Some(_), Some(scope)) => resource_lines(alloc, &scope.resource),
+        }
+    }
+
+    /// The lines of `export`.
+    #[tactic(auto, unfolding(crate::specs::Info::export_lines))]
+    pub fn export(&self, alloc: Global) -> Result<Listing<Line>, AllocError>
+        ensures { IfOk result (λ lines. lines ≡ export_lines self.now) }
+    {
+        match (&self.config, &self.scope) {
+            (Some(config), None) => export_lines(alloc, config),
+            _ => Ok(Listing::new(alloc)),
+        }
     }
 
     /// The same is open in the copy.

@@ -89,20 +89,45 @@ fn faults_have_their_places(rt: HostRuntime) -> Result<(), Fail> {
     Ok(())
 }
 
-type Row = (&'static [u8], Result<EditReply, EditFault>);
+// A reply without its lines.
+#[derive(Clone, Copy, Debug, PartialEq, Eq)]
+enum Reply {
+    Done,
+    Lines,
+    Verify,
+    Commit,
+    Revert,
+    Delete,
+    Exit(bool),
+}
+
+fn replied(reply: &EditReply) -> Reply {
+    match reply {
+        EditReply::Done => Reply::Done,
+        EditReply::Lines(_) => Reply::Lines,
+        EditReply::WantVerify => Reply::Verify,
+        EditReply::WantCommit => Reply::Commit,
+        EditReply::WantRevert => Reply::Revert,
+        EditReply::WantDelete => Reply::Delete,
+        EditReply::WantExit(force) => Reply::Exit(*force),
+    }
+}
+
+type Row = (&'static [u8], Result<Reply, EditFault>);
 
 // What a line is answered, unless memory ran out.
 fn answer(
     alloc: Global,
     editor: &mut Editor,
     line: &[u8],
-) -> Result<Result<EditReply, EditFault>, Fail> {
+) -> Result<Result<Reply, EditFault>, Fail> {
     if line.len() > 4200 {
         return Ok(Err(EditFault::Usage));
     }
     match editor.command(alloc, line) {
+        Ok(reply) => Ok(Ok(replied(&reply))),
         Err(EditFault::Memory) => Err(EditFault::Memory.into()),
-        answer => Ok(answer),
+        Err(fault) => Ok(Err(fault)),
     }
 }
 
@@ -116,7 +141,7 @@ fn answers(rt: &impl Abort, alloc: Global, editor: &mut Editor, rows: &[Row]) ->
 // Lines of which none is refused, and none asks for something.
 fn done(rt: &impl Abort, alloc: Global, editor: &mut Editor, lines: &[&[u8]]) -> Result<(), Fail> {
     for line in lines {
-        assert_eq!(rt; answer(alloc, editor, line)?, Ok(EditReply::Done));
+        assert_eq!(rt; answer(alloc, editor, line)?, Ok(Reply::Done));
     }
     Ok(())
 }
@@ -171,15 +196,15 @@ fn text_after(
     told(rt, alloc, &mut editor, rows)
 }
 
-const DONE: Result<EditReply, EditFault> = Ok(EditReply::Done);
+const DONE: Result<Reply, EditFault> = Ok(Reply::Done);
 
-const IN_NO_SCOPE: Result<EditReply, EditFault> = Err(EditFault::WrongScope(Scope::Global));
+const IN_NO_SCOPE: Result<Reply, EditFault> = Err(EditFault::WrongScope(Scope::Global));
 
-const IN_FS: Result<EditReply, EditFault> = Err(EditFault::WrongScope(Scope::Resource(Kind::Fs)));
+const IN_FS: Result<Reply, EditFault> = Err(EditFault::WrongScope(Scope::Resource(Kind::Fs)));
 
 const ANSWERS: [Row; 22] = [
     (b"set autoboot=true", Err(EditFault::NothingOpen)),
-    (b"help", Ok(EditReply::WantHelp)),
+    (b"help", Ok(Reply::Lines)),
     (b"create", DONE),
     (b"create -b", Err(EditFault::NeedForce)),
     (b"set zonepath=/zones/web", DONE),
@@ -206,9 +231,9 @@ const ANSWERS: [Row; 22] = [
         b"remove -F fs",
         Err(EditFault::Config(ConfigFault::NoMatch)),
     ),
-    (b"info", Ok(EditReply::WantInfo(Topic::Everything))),
-    (b"revert -F", Ok(EditReply::WantRevert)),
-    (b"exit -F", Ok(EditReply::WantExit(true))),
+    (b"info", Ok(Reply::Lines)),
+    (b"revert -F", Ok(Reply::Revert)),
+    (b"exit -F", Ok(Reply::Exit(true))),
 ];
 
 const WEB: &[u8] = b"create -b
@@ -393,4 +418,52 @@ fn run(rt: &impl Abort, alloc: Global) -> Result<bool, Fail> {
 fn changes_are_told_from_the_base(rt: HostRuntime) -> Result<(), Fail> {
     assert!(rt; run(&rt, rt.alloc())?);
     Ok(())
+}
+
+// The lines that a line is answered, each with a newline.
+fn lines(alloc: Global, editor: &mut Editor, line: &[u8]) -> Result<Vec<u8>, Fail> {
+    let mut text = Vec::new(alloc);
+    if line.len() > 4200 {
+        return Ok(text);
+    }
+    if let EditReply::Lines(lines) = editor.command(alloc, line)? {
+        for line in lines.as_slice() {
+            text.extend_from_slice(line.bytes())?;
+            text.push(b'\n')?;
+        }
+    }
+    Ok(text)
+}
+
+const SHOWN: [(&[u8], &[u8]); 5] = [
+    (
+        b"help",
+        b"add cancel clear commit create delete end exit export help info remove revert select set verify\n",
+    ),
+    (
+        b"info",
+        b"zonename: web\nzonepath: /zones/web\nbrand: ipkg\nautoboot: false\nbootargs: \npool: \nlimitpriv: \nscheduling-class: \nip-type: shared\nhostid: \nfs-allowed: \nfs:\n    dir: /usr\n    options: [ro]\n",
+    ),
+    (b"info pool", b"pool: \n"),
+    (b"info max-lwps", b""),
+    (
+        b"export",
+        b"create -b\nset zonepath=/zones/web\nset brand=ipkg\nset autoboot=false\nset ip-type=shared\nadd fs\nset dir=/usr\nadd options [ro]\nend\n",
+    ),
+];
+
+fn show(rt: &impl Abort, alloc: Global, editor: &mut Editor) -> Result<(), Fail> {
+    done(rt, alloc, editor, &MAKE)?;
+    done(rt, alloc, editor, &ADD)?;
+    for (line, wanted) in SHOWN {
+        let text = lines(alloc, editor, line)?;
+        assert_eq!(rt; text.as_slice(), wanted);
+    }
+    Ok(())
+}
+
+#[test]
+fn lines_are_shown(rt: HostRuntime) -> Result<(), Fail> {
+    let mut editor = begun(rt.alloc(), None)?;
+    show(&rt, rt.alloc(), &mut editor)
 }

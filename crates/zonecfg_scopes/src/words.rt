@@ -6,12 +6,14 @@ ghost use Rattle.zonecfg_scopes.specs.Words.{are_pairs, begins_pair, behind_flag
 
 use zonecfg_lex::{Token, TokenKind};
 
+/// Whether a token is a bare word.
 pub fn is_word(token: Token) -> bool
     ensures { result ≡ is_word token.kind }
 {
     token.kind == TokenKind::Word
 }
 
+/// Whether a token is an equals sign.
 pub fn is_equals(token: Token) -> bool
     ensures { result ≡ is_equals token.kind }
 {
