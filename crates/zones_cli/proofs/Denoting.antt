@@ -23,7 +23,7 @@ use Rattle.zones_cli.specs.declared.refusal.Refusal.{Refusal}
 use Rattle.zones_cli.specs.declared.status.TheConstants.{DONE}
 use Rattle.zones_cli.specs.Denoted.{ExportsDenoted, script_of, subcommands_by, subcommands_in, subcommands_of}
 use Rattle.zones_cli.specs.Exporting.{edited, ended, exported, led_on, written_unless_flawed}
-use Rattle.zones_cli.specs.Lines.{lines_of}
+use Rattle.zn_base.specs.Lines.{lines_of}
 use Rattle.zones_cli.specs.Output.{Output, is_past_limit, limit_at, written}
 use Rattle.zones_cli.specs.Subcommands.{all_in_turn, known_brands, edit_of, goes_on, in_turn, is_elsewhere, looked_over, obeyed, obeyed_as, passed, unless_flawed, verified}
 

@@ -2,7 +2,7 @@
 use Rattle.std.proofs.Common.{◌≡◌, ◌<◌, ℕ, true, false, cond, List, [], ◌∷◌, ◌++◌, length, Option, Some, None, IfSome, refl, arith}
 use Rattle.std.specs.Option.{option_map}
 use Rattle.zonecfg_scopes.specs.Open.{Open}
-use Rattle.zones_cli.specs.Lines.{is_newline, lines_of, with_first}
+use Rattle.zn_base.specs.Lines.{is_newline, lines_of, with_first}
 use Rattle.zones_cli.specs.Reading.{lines_left}
 use Rattle.zones_cli.specs.Exporting.{edited, exported}
 use Rattle.zones_cli.specs.Output.{limit_at}

@@ -15,7 +15,8 @@ use Rattle.zone_machine.specs.Pools.{or_else}
 use Rattle.zone_machine.specs.State.{State}
 use Rattle.zone_machine.specs.declared.events.Entry.{Entry}
 use Rattle.zone_machine.specs.declared.events.Event.{Event}
-use Rattle.zones_cli.specs.Lines.{is_newline, lines_of, with_first}
+use Rattle.zn_base.specs.Lines.{is_newline, lines_of, with_first}
+use Rattle.zones_cli.specs.Lines.{AreWhole}
 use Rattle.zones_cli.specs.Reading.{BeginsLine, FirstIsLong}
 use Rattle.zones_cli.specs.Run.{HasFront}
 use Rattle.zones_cli.specs.Tracing.{AnswersRead, At_end, At_fault, Ending, HasReplies, HasWritten, Past_limit, Run, Stops, Tells, ends, entry_text, left_to_tell, replies_text, run_of, run_on, script_from, told, told_refusal, trace_fault_of, traced, with_line, with_script}
@@ -118,6 +119,7 @@ reads_up_to stands refused n held holds bytes left (Some input) run begins =
       taken = known.past;
       begun = begins.begun;
       clean = begins.clean;
+      ended = ended known.fresh (sym known.here ∙ begins.taken);
       read = ap Some known.all ∙ ap (before_known known.past) (sym known.here ∙ begins.taken) ∙ sym (before_known-append left known.past begins.begun);
       text = run.text ∙ ap (λ entries. after_known held (replies_text entries)) (sym entries);
     }
@@ -125,6 +127,16 @@ reads_up_to stands refused n held holds bytes left (Some input) run begins =
     before_known-append : (known : Option (List ℕ)) (xs ys : List ℕ) → before_known (xs ++ ys) known ≡ before_known xs (before_known ys known)
     before_known-append None xs ys = refl
     before_known-append (Some bs) xs ys = ap Some (append_assoc xs ys bs)
+
+    none_behind : (begun : List ℕ) (left : Option (List ℕ)) → Some [] ≡ before_known begun left → (begun ≡ []) × IsAtEnd left
+    none_behind begun None e = absurd (cc)
+    none_behind [] (Some []) e = (refl, refl)
+    none_behind [] (Some (b ∷ bs)) e = absurd (cc)
+    none_behind (b ∷ begun) (Some bs) e = absurd (cc)
+
+    ended : {past to_come : List ℕ} → AreWhole past ⊎ (to_come ≡ []) → Some to_come ≡ before_known begins.begun left → AreWhole past ⊎ ((begins.begun ≡ []) × IsAtEnd left)
+    ended (inl whole) e = inl whole
+    ended (inr none) e = inr (none_behind begins.begun left (ap Some (sym none) ∙ e))
 
 -- a front of a text in the midst of a longer one
 front_within : (held between holds : Option (List ℕ)) (before text more : List ℕ) (count : ℕ) → between ≡ after_known held before → holds ≡ after_known between (take count text) → HasFront held holds (before ++ (text ++ more))

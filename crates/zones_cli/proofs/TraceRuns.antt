@@ -11,16 +11,13 @@ use Rattle.zone_machine.specs.Pools.{allowed, or_else}
 use Rattle.zone_machine.specs.State.{State}
 use Rattle.zone_machine.specs.declared.events.Entry.{Entry}
 use Rattle.zone_machine.specs.declared.events.Event.{Event}
-use Rattle.zones_cli.specs.Lines.{has_newline, is_newline, lines_of, with_first}
+use Rattle.zn_base.specs.Lines.{is_newline, lines_of, with_first}
+use Rattle.zones_cli.specs.Lines.{AreWhole, has_newline}
 use Rattle.zones_cli.specs.Reading.{TakesLine}
 use Rattle.zones_cli.specs.Tracing.{IsAnswered, TakesEvent, entry_text, is_refusal, replies_text, run_of, run_on}
 use Rattle.zones_cli.proofs.Cuts.{cut_at, cut_whole}
 use Rattle.zones_cli.proofs.Fronts.{after_known-append, after_known-nil}
 use Rattle.zones_cli.proofs.Traces.{answers_line, or_else-None, refused_at_line, skips_line}
-
--- bytes that are no line begun: none, or some whose last is a newline
-abbrev pub AreWhole : List ℕ → Type 0
-AreWhole past = (past ≡ []) ⊎ ((front : List ℕ) × (past ≡ front ++ 10 ∷ []))
 
 -- of a known input: what was taken as lines, and what is to come. Whatever lines follow those taken, the run over them
 -- all is the run that has come so far and goes on with them

@@ -11,7 +11,7 @@ use Rattle.zonecfg_scopes.specs.declared.fault.Scope.TheVariants.{Resource}
 use Rattle.zonecfg_scopes.specs.Open.{Open, Nothing, Whole, Inside}
 use Rattle.zones_cli.specs.declared.refusal.Refusal.{Refusal}
 use Rattle.zones_cli.specs.declared.status.TheConstants.{REFUSED}
-use Rattle.zones_cli.specs.Lines.{lines_of}
+use Rattle.zn_base.specs.Lines.{lines_of}
 use Rattle.zones_cli.specs.Output.{Output, complained, is_past_limit, limit_at, written}
 use Rattle.zones_cli.specs.Refusals.{flawed, refusal_text, refused}
 use Rattle.zones_cli.specs.Subcommands.{known_brands, edit_of}

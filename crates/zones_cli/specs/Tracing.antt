@@ -1,7 +1,8 @@
 -- What `trace` writes for the whole of its input: its lines are read, their events make a history of the zone machine
 -- from no record on, and the history's replies are printed.
-use Rattle.std.specs.Prelude.{ℕ, List, [], ◌∷◌, ◌++◌, ◌+◌, ◌≡◌, map, take, Bool, true, false, Option, Some, None, Result, Ok, Err, codes, if◌then◌else◌}
+use Rattle.std.specs.Prelude.{ℕ, List, [], ◌∷◌, ◌++◌, ◌+◌, ◌≡◌, ◌⊎◌, map, take, Bool, true, false, Option, Some, None, Result, Ok, Err, codes, if◌then◌else◌}
 use Rattle.std.specs.Fmt.{decimal}
+use Rattle.std.specs.Io.KnownBytes.{IsAtEnd}
 use Rattle.std.specs.List.{flat_map}
 use Rattle.zn_base.specs.Streams.{after_known, before_known}
 use Rattle.trace_text.specs.Faults.{fault_text}
@@ -26,7 +27,8 @@ use Rattle.zones_cli.specs.declared.trace.TraceFault.{TraceFault}
 use Rattle.zones_cli.specs.declared.trace.TraceFault.TheVariants.{Memory as No_memory, Read}
 use Rattle.zones_cli.specs.declared.trace.Stop.{Stop}
 use Rattle.zones_cli.specs.declared.trace.Stop.TheVariants.{Memory as No_room, Grammar}
-use Rattle.zones_cli.specs.Lines.{has_newline, lines_of}
+use Rattle.zn_base.specs.Lines.{lines_of}
+use Rattle.zones_cli.specs.Lines.{AreWhole, has_newline}
 use Rattle.zones_cli.specs.Outcomes.{complaint_output}
 use Rattle.zones_cli.specs.declared.outcome.Complaint.{Complaint}
 use Rattle.zones_cli.specs.Output.{Output, complained, is_past_limit, limit_at, written}
@@ -142,12 +144,13 @@ pub record HasReplies (held holds : Option (List ℕ)) (run : Run) : Type 0 wher
   pub count : ℕ
   pub taken : holds ≡ after_known held (replies_text (take count run.entries))
 
--- the source failed after some bytes and the beginning of a line: the lines of those bytes were answered, and their
--- replies written
+-- the source failed after some whole lines and the beginning of one: just those lines were answered, and their replies
+-- written. Only a last line, with nothing behind it, may be answered without its newline
 pub record AnswersRead (input left held holds : Option (List ℕ)) : Type 0 where
   pub taken : List ℕ
   pub begun : List ℕ
   pub clean : has_newline begun ≡ false
+  pub ended : AreWhole taken ⊎ ((begun ≡ []) × IsAtEnd left)
   pub read : input ≡ before_known (taken ++ begun) left
   pub text : holds ≡ after_known held (replies_text (run_of taken).entries)
 

@@ -1,8 +1,7 @@
 //! What a line of `export` does to the configuration that is open: its subcommands, from left to right, up to
 //! the first that is refused (zonecfg(8), SUBCOMMANDS).
-ghost use Rattle.std.specs.Prelude.{◌≡◌, ◌≤◌, length, All, IfOk, IsTrue};
+ghost use Rattle.std.specs.Prelude.{◌≡◌, ◌≤◌, length, All, IfOk};
 ghost use Rattle.zonecfg_lex.specs.Parts.{IsSpanWithin};
-ghost use Rattle.zn_base.specs.Text.{is_text};
 ghost use Rattle.zonecfg_scopes.specs.OpenOf.{config_of};
 ghost use Rattle.zones_cli.specs.Subcommands.{Edits, edit_of, in_turn, is_elsewhere, known_brands, looked_over, obeyed, obeyed_as, verified};
 ghost use Rattle.zonecfg_scopes.specs.Forms.{command_of};
@@ -10,29 +9,17 @@ ghost use Rattle.zonecfg_scopes.specs.Forms.{command_of};
 use crate::refusal::Refusal;
 use config_verify::verify;
 use std::alloc::{AllocError, Global};
-use zn_base::{Text, TextFault};
+use zn_base::Text;
 use zonecfg_lex::{Span, parts};
 use zonecfg_scopes::{Command, EditFault, Editor, read_command};
-
-fn brand(alloc: Global, name: &[u8]) -> Result<Text, AllocError>
-    requires { IsTrue (is_text name.now) }
-    ensures { IfOk result (λ text. text ≡ name.now) }
-{
-    match Text::read(alloc, name) {
-        Ok(text) => Ok(text),
-        Err(TextFault::Memory) => Err(AllocError),
-        Err(TextFault::BadText(_)) => unreachable!(),
-        Err(TextFault::TextLong) => unreachable!(),
-    }
-}
 
 /// The brands that a zone may have.
 pub fn known_brands(alloc: Global) -> Result<Vec<Text>, AllocError>
     ensures { IfOk result (λ names. names.items ≡ known_brands) }
 {
     let mut names = Vec::new(alloc);
-    names.push(brand(alloc, b"ipkg")?)?;
-    names.push(brand(alloc, b"lx")?)?;
+    names.push(Text::of(alloc, b"ipkg")?)?;
+    names.push(Text::of(alloc, b"lx")?)?;
     Ok(names)
 }
 

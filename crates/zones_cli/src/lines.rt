@@ -4,7 +4,8 @@ ghost use Rattle.std.specs.Prelude.{◌≡◌, ◌<◌, ◌≤◌, ◌+◌, ◌+
 ghost use Rattle.std.specs.Io.KnownBytes.{IsAtEnd};
 ghost use Rattle.std.specs.List.{after_first, before_first};
 ghost use Rattle.zn_base.specs.Streams.{Rose, before_known};
-ghost use Rattle.zones_cli.specs.Lines.{has_newline, is_newline};
+ghost use Rattle.zn_base.specs.Lines.{is_newline};
+ghost use Rattle.zones_cli.specs.Lines.{has_newline};
 ghost use Rattle.zones_cli.specs.Reading.{BeginsLine, GivesLine, TakesBytes, TakesPart, lines_left};
 ghost use Rattle.zones_cli.specs.declared.lines.ReadFault.TheVariants.{Memory};
 
@@ -61,7 +62,7 @@ enum Part {
 /// Bytes that were read and not used yet.
 #[derive(Drop)]
 pub struct Ahead {
-    piece: [u8; 4096],
+    piece: [u8; PIECE],
     from: usize,
     to: usize,
 }

@@ -1,5 +1,6 @@
-//! The program `zones`: zone configurations read, checked and written. Its one contract is that of
-//! `run_zones`, over any source and sinks: what a whole input comes to, and what each exit status means.
+//! The program `zones`: zone configurations read, checked and written, and traces run by the zone machine. Its
+//! one contract is that of `run_zones`, over any source and sinks: what a whole input comes to, and what each
+//! exit status means.
 #![tactic(auto)]
 
 mod edit;

@@ -114,7 +114,8 @@ fn run_trace<S: Source, K: Sink, E: Sink>(
 }
 
 /// Does what the words say, and answers the exit status. `out` and `err` are standard output and
-/// standard error. The input is read line by line, and no further than the line that ends the run.
+/// standard error. Lines are answered one at a time, up to the one that ends the run, and less than a piece of
+/// the input is read beyond it.
 pub fn run_zones<S: Source, K: Sink, E: Sink>(
     alloc: Global,
     words: &[String],

@@ -1,5 +1,6 @@
 //! The command `trace`: the events of the input go through a zone machine that begins with nothing
-//! stored, one after the other, and each reply is written as it is given.
+//! stored, one after the other. Their replies are written together, before more is read where no line is
+//! begun, and when many of them wait.
 ghost use Rattle.std.specs.Prelude.{◌≡◌, ◌≤◌, ◌⊎◌, ℕ, List, [], Err, IfErr, length, IfOk, IfSome, IsErrOf, OnErr, OnOk, Option};
 ghost use Rattle.zn_base.specs.Streams.{Rose, after_known};
 ghost use Rattle.zone_machine.specs.Machine.{opening};
@@ -156,8 +157,8 @@ fn write_some<K: Sink>(ahead: &Ahead, waiting: &mut Vec<u8>, out: &mut K) -> Res
 }
 
 // Takes all lines, one at a time, up to the first that is outside the grammar or past a limit. What is
-// left to tell is answered, and the last replies wait to be written. Nothing waits where no byte of a next
-// line is there, so whoever types a line gets its reply.
+// left to tell is answered, and the last replies wait to be written. Nothing waits while the first byte of a
+// line is read, so whoever types whole lines gets each reply before the next line is read.
 fn take_lines<S: Source, K: Sink>(
     alloc: Global,
     machine: &mut Machine,
@@ -194,6 +195,7 @@ fn take_lines<S: Source, K: Sink>(
             Err(Stop::Grammar(fault)) => return Ok(Some(Complaint::Grammar(before + 1, fault))),
         }
     }
+    write_some(&ahead, waiting, out)?;
     if ahead.refill(source)? {
         return Ok(Some(Complaint::Limit(LINES_MAX + 1)));
     }

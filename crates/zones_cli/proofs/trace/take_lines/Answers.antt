@@ -75,17 +75,34 @@ loop-before-preserved g c =
       write = omega (arith, c.loop-before.invariant.write, c.write_some.ensures.later);
     }
 
+pub returns-in_err-write_some-2-clause-front : goal.returns-in_err-write_some-2-clause-front
+returns-in_err-write_some-2-clause-front g c = λ _. flushed_front _ _ _ _ _ c.loop-before.invariant.written (has_replies _ _ _ _ _ _ _ c.loop-before.invariant.run) c.in_err-write_some-2.ensures.front
+
+pub returns-in_err-write_some-2-clause-written : goal.returns-in_err-write_some-2-clause-written
+returns-in_err-write_some-2-clause-written g c = written_on _ _ _ c.loop-before.invariant.written (written_front _ _ _ c.in_err-write_some-2.ensures.front)
+
 pub returns-in_err-refill-clause-answered : goal.returns-in_err-refill-clause-answered
-returns-in_err-refill-clause-answered g c = λ _. has_replies _ _ _ _ _ _ _ c.loop-before.invariant.run
+returns-in_err-refill-clause-answered g c = λ _. has_replies _ _ _ _ _ _ _ (runs_told _ _ _ _ _ _ _ _ c.in_ok-write_some-2.ensures.same c.loop-before.invariant.run)
 
 pub returns-in_err-refill-clause-taken : goal.returns-in_err-refill-clause-taken
-returns-in_err-refill-clause-taken g c = λ is. reads_up_to _ _ _ _ _ _ _ _ c.loop-before.invariant.run (begins_nothing _ _ c.in_err-refill.ensures.kept)
+returns-in_err-refill-clause-taken g c = λ is.
+    reads_up_to _ _ _ _ _ _ _ _ (runs_told _ _ _ _ _ _ _ _ c.in_ok-write_some-2.ensures.same c.loop-before.invariant.run) (begins_nothing _ _ c.in_err-refill.ensures.kept)
+
+pub returns-in_err-refill-clause-written : goal.returns-in_err-refill-clause-written
+returns-in_err-refill-clause-written g c = written_on _ _ _ c.loop-before.invariant.written c.in_ok-write_some-2.ensures.written
 
 pub returns-then-branch-clause-told : goal.returns-then-branch-clause-told
 returns-then-branch-clause-told g c =
-    tells_last _ _ _ _ _ _ _ _ _ c.loop-before.invariant.run (omega (arith, c.loop-before-test.false, c.loop-before.auto.before-end)) c.in_ok-refill.ensures.bytes (c.in_ok-refill.ensures.more c.if-branch.true)
+    tells_last _ _ _ _ _ _ _ _ _ (runs_told _ _ _ _ _ _ _ _ c.in_ok-write_some-2.ensures.same c.loop-before.invariant.run)
+    (omega (arith, c.loop-before-test.false, c.loop-before.auto.before-end)) c.in_ok-refill.ensures.bytes (c.in_ok-refill.ensures.more c.if-branch.true)
+
+pub returns-then-branch-clause-written : goal.returns-then-branch-clause-written
+returns-then-branch-clause-written g c = written_on _ _ _ c.loop-before.invariant.written c.in_ok-write_some-2.ensures.written
 
 pub returns-clause-told : goal.returns-clause-told
 returns-clause-told g c =
     let end = c.in_ok-refill.ensures.end c.if-branch.false in
-    tells_last_end _ _ _ _ _ _ _ _ _ _ c.loop-before.invariant.run c.in_ok-refill.ensures.bytes end.0 end.1 c.ended-2.ensures
+    tells_last_end _ _ _ _ _ _ _ _ _ _ (runs_told _ _ _ _ _ _ _ _ c.in_ok-write_some-2.ensures.same c.loop-before.invariant.run) c.in_ok-refill.ensures.bytes end.0 end.1 c.ended-2.ensures
+
+pub returns-clause-written : goal.returns-clause-written
+returns-clause-written g c = written_on _ _ _ c.loop-before.invariant.written c.in_ok-write_some-2.ensures.written
