@@ -18,7 +18,7 @@ use Rattle.config_terms.specs.Fields.{field_rule, net_shown, rctl_shown, text_sh
 use Rattle.config_terms.specs.Texts.{is_bare_byte, setting, limit_text, limit_line, limit_lines, options_text, options_line, settings, entry_text, resource_text}
 use Rattle.config_terms.specs.Allowed.{fields_fit, entry_allowed, is_allowed, is_taken}
 use Rattle.config_terms.specs.Matches.{has_all, only_place}
-use Rattle.config_terms.specs.Edits.{empty, options_edited, limits_edited, list_edited, with_property, without_property, with_value, without_value}
+use Rattle.config_terms.specs.Edits.{empty, options_edited, list_edited, with_property, without_property, with_value, without_value}
 
 least : number_of (codes "1") ≡ Some 1
 unfolding number_of
@@ -311,15 +311,15 @@ limit : List ℕ → List ℕ → List Pair
 limit number action = pair (codes "priv") (codes "privileged") ∷ pair (codes "limit") number ∷ pair (codes "action") action ∷ []
 
 value_put : with_property (codes "value") (Complex (limit (codes "7") (codes "deny"))) (Rctl shares) ≡ Ok (Rctl (record shares { values = record { limit = 7; deny = true } ∷ [] }))
-unfolding shares pair limit number_of limits_edited list_edited with_property
+unfolding shares pair limit number_of list_edited with_property
 value_put = refl
 
 value_removed : without_value (codes "value") (Complex (limit (codes "20") (codes "none"))) (Rctl shares) ≡ Ok (Rctl (record shares { values = record { limit = 3; deny = true } ∷ [] }))
-unfolding shares pair limit number_of limits_edited list_edited without_value
+unfolding shares pair limit number_of list_edited without_value
 value_removed = refl
 
 other_action_there : without_value (codes "value") (Complex (limit (codes "20") (codes "deny"))) (Rctl shares) ≡ Err NoMatch
-unfolding shares pair limit number_of limits_edited list_edited without_value
+unfolding shares pair limit number_of list_edited without_value
 other_action_there = refl
 
 other_action : with_value (codes "value") (Complex (limit (codes "7") (codes "signal"))) (empty kind.Rctl) ≡ Err BadValue

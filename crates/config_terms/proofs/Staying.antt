@@ -31,7 +31,7 @@ use Rattle.config_terms.specs.Numbers.{digits_value, has_no_leading_zero, is_lim
 use Rattle.config_terms.specs.Rules.{obeys, fits}
 use Rattle.config_terms.specs.Fields.{field_rule, path_text, named, kind_of, fs_shown, net_shown, text_shown, rctl_shown, attr_shown}
 use Rattle.config_terms.specs.Allowed.{is_allowed_limit, is_kept_path, fields_fit, entry_allowed, is_allowed}
-use Rattle.config_terms.specs.Edits.{empty, kept_path, fs_with, net_with, device_with, rctl_with, attr_with, dataset_with, with_field, field_set, option_texts, options_given, are_limit_pairs, limit_of_pairs, limit_given, without_first, without_each, edited, passes_options, options_edited, same_limit, limits_edited, and_then, fs_edited, rctl_edited, list_edited, without_list, put_in, with_property, cleared_in, without_property, edited_in, with_value, without_value}
+use Rattle.config_terms.specs.Edits.{empty, kept_path, fs_with, net_with, device_with, rctl_with, attr_with, dataset_with, with_field, field_set, option_texts, options_given, are_limit_pairs, limit_of_pairs, limit_given, without_first, without_each, edited, passes_options, options_edited, same_limit, and_then, fs_edited, rctl_edited, list_edited, without_list, put_in, with_property, cleared_in, without_property, edited_in, with_value, without_value}
 use Rattle.config_terms.specs.Staying.{IsEdited}
 use Rattle.config_terms.proofs.Paths.{obeyed_fits}
 
@@ -317,10 +317,9 @@ fs_edit_stays edit v f g h e =
     subst P same (options_stay f second.0 all h)
 
 rctl_edit_stays : (edit : ListEdit) (v : Value) (r s : rctl.Rctl) → is_allowed (Rctl r) ≡ true → rctl_edited edit v r ≡ Ok s → is_allowed (Rctl s) ≡ true
-unfolding limits_edited
 rctl_edit_stays edit v r s h e =
-    let first = and_then_ok (ok_or (limit_given v) BadValue) (λ given. and_then (limits_edited edit (given ∷ []) r.values) (λ vs. Ok (record r { values = vs }))) s e in
-    let second = and_then_ok (limits_edited edit (first.0 ∷ []) r.values) (λ vs. Ok (record r { values = vs })) s first.1.1 in
+    let first = and_then_ok (ok_or (limit_given v) BadValue) (λ given. and_then (edited same_limit edit (given ∷ []) r.values) (λ vs. Ok (record r { values = vs }))) s e in
+    let second = and_then_ok (edited same_limit edit (first.0 ∷ []) r.values) (λ vs. Ok (record r { values = vs })) s first.1.1 in
     let old = parts kind.Rctl (rctl_shown r) [] r.values h in
     let given = both_true (is_allowed_limit first.0) true (given_limit v first.0 (or_bad_value (limit_given v) first.0 first.1.0)) refl in
     let all = all_edited same_limit is_allowed_limit edit (first.0 ∷ []) r.values second.0 given old.values second.1.0 in

@@ -168,9 +168,6 @@ options_edited edit given xs = if passes_options edit given xs then Err (TooMany
 abbrev pub same_limit : Limit → Limit → Bool
 same_limit v w = v.limit == w.limit && beq v.deny w.deny
 
-unfoldable pub limits_edited : ListEdit → List Limit → List Limit → Result (List Limit) ConfigFault
-limits_edited edit given xs = edited same_limit edit given xs
-
 -- an answer, made of another one where that is no refusal
 abbrev pub and_then : {A B : Type 0} → Result A ConfigFault → (A → Result B ConfigFault) → Result B ConfigFault
 and_then (Ok x) f = f x
@@ -182,7 +179,7 @@ fs_edited edit v f =
 
 abbrev pub rctl_edited : ListEdit → Value → rctl.Rctl → Result rctl.Rctl ConfigFault
 rctl_edited edit v r =
-    and_then (ok_or (limit_given v) BadValue) (λ given. and_then (limits_edited edit (given ∷ []) r.values) (λ vs. Ok (record r { values = vs })))
+    and_then (ok_or (limit_given v) BadValue) (λ given. and_then (edited same_limit edit (given ∷ []) r.values) (λ vs. Ok (record r { values = vs })))
 
 -- an edit of the list of a resource by a value
 unfoldable pub list_edited : ListEdit → Value → Resource → Result Resource ConfigFault

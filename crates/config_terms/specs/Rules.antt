@@ -1,27 +1,26 @@
 -- What a value may be.
 use Rattle.std.specs.Prelude.{ℕ, List, [], ◌∷◌, length, Bool, false, nat_le, nat_eq, not, is_some, ◌&&◌, ◌||◌, ◌==◌, codes}
+use Rattle.std.specs.Char.{is_ascii_alphanumeric}
 use Rattle.std.specs.List.{list_all, list_any, starts_with}
 use Rattle.std.specs.Str.{bytes_eq}
+use Rattle.zn_base.specs.Names.{is_name_byte}
 use Rattle.zn_base.specs.Path.{is_path}
+use Rattle.zn_base.specs.Text.{is_text_byte}
 use Rattle.config_terms.specs.declared.rules.Rule.{Rule}
 use Rattle.config_terms.specs.declared.rules.Rule.TheVariants.{RootedPath, OwnPath, Flag, ShortName, Simple, IpWay, HostId, Number, TypeWord, OptionWord, ControlName, AttributeName, AttributeForm}
 use Rattle.config_terms.specs.Numbers.{number_of}
 
 -- a letter or a digit
 abbrev pub is_alphanumeric : ℕ → Bool
-is_alphanumeric b = (nat_le 48 b && nat_le b 57) || (nat_le 65 b && nat_le b 90) || (nat_le 97 b && nat_le b 122)
+is_alphanumeric b = is_ascii_alphanumeric b
 
--- a letter, a digit, `_`, `-` or `.`
-abbrev pub is_name_byte : ℕ → Bool
-is_name_byte b = is_alphanumeric b || b == 95 || b == 45 || b == 46
-
--- one of these or `/`
+-- a letter, a digit, `_`, `-`, `.` or `/`
 abbrev pub is_option_byte : ℕ → Bool
 is_option_byte b = is_name_byte b || b == 47
 
 -- a printable byte other than `"`
 abbrev pub is_simple_byte : ℕ → Bool
-is_simple_byte b = nat_le 32 b && nat_le b 126 && not (b == 34)
+is_simple_byte b = is_text_byte b && not (b == 34)
 
 -- a digit or `a` to `f`
 abbrev pub is_hex_byte : ℕ → Bool

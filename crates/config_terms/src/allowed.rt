@@ -9,7 +9,7 @@ use crate::{Entry, Kind, Limit, Resource, Rule};
 use zn_base::{AbsPath, Text};
 
 /// The greatest number of options of one fs.
-pub const OPTIONS_MAX: usize = 32;
+pub(crate) const OPTIONS_MAX: usize = 32;
 
 #[tactic(auto, unfolding(crate::specs::Allowed::fields_fit))]
 fn fields_fit<T: Entry>(kind: Kind, entry: &T) -> bool
@@ -35,10 +35,10 @@ fn are_limits(values: &[Limit]) -> bool
     values.iter().all(|value| value.limit >= 1)
 }
 
-/// Whether a resource of a kind may stand in a configuration: each property is unset or has a value that
-/// its rule allows. How many options there are is counted elsewhere. It takes no memory.
+// Whether each property of a resource is unset or has a value that its rule allows. How many options there
+// are is counted elsewhere.
 #[tactic(auto, unfolding(crate::specs::Allowed::entry_allowed))]
-pub fn entry_allowed<T: Entry>(kind: Kind, entry: &T) -> bool
+fn entry_allowed<T: Entry>(kind: Kind, entry: &T) -> bool
     ensures { result ≡ entry_allowed kind (T.shown entry.now) (T.options entry.now) (T.values entry.now) }
 {
     fields_fit(kind, entry) && are_options(entry.options()) && are_limits(entry.values())

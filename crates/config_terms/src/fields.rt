@@ -76,8 +76,8 @@ impl Field {
     }
 }
 
-// All of them, in the order in which they are printed.
-const KINDS: [Kind; 6] = [
+/// All kinds of resources, in the order in which they are shown and printed (zonecfg(8), RESOURCES).
+pub const KINDS: [Kind; 6] = [
     Kind::Fs,
     Kind::Net,
     Kind::Device,

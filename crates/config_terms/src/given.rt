@@ -11,7 +11,7 @@ use crate::lists::ListEdit;
 use crate::numbers::number_of;
 use std::alloc::{AllocError, Global};
 use std::slice::from_ref;
-use zn_base::{AbsPath, PathFault, Text};
+use zn_base::{AbsPath, Text};
 use zonecfg_lex::{Pair, Value};
 
 fn option_texts(texts: &[Text]) -> Option<&[Text]>
@@ -93,11 +93,5 @@ pub fn path_kept(alloc: Global, text: &[u8]) -> Result<Option<AbsPath>, AllocErr
     if text.is_empty() {
         return Ok(None);
     }
-    match AbsPath::read(alloc, text) {
-        Ok(path) => Ok(Some(path)),
-        Err(PathFault::Memory) => Err(AllocError),
-        Err(PathFault::PathLong) => unreachable!(),
-        Err(PathFault::NotAbsolute) => unreachable!(),
-        Err(PathFault::BadComponent(_)) => unreachable!(),
-    }
+    Ok(Some(AbsPath::of(alloc, text)?))
 }

@@ -20,20 +20,19 @@ mod rules;
 mod terms;
 mod texts;
 
-pub use allowed::{OPTIONS_MAX, entry_allowed};
 pub use entry::{Entry, path_text};
 pub use fault::ConfigFault;
-pub use fields::{Field, Named};
+pub use fields::{Field, KINDS, Named};
 pub use given::path_kept;
 pub use laws::edits_stay_allowed;
 pub use lines::{push_limit, push_options};
-pub use listing::{LISTING_MAX, Listing, Twin};
+pub use listing::{Listing, Twin};
 pub use matches::{find_entry, has_all, has_key, is_taken, is_taken_but};
 pub use numbers::number_of;
 pub use printing::{entry_length, push_entries, push_entry};
 pub use rules::Rule;
 pub use terms::{Attr, Fs, IpType, Kind, Limit, Net, Rctl, Resource};
-pub use texts::{push_setting, setting_length};
+pub use texts::{push_pieces, push_setting, setting_length};
 
 #[cfg(test)]
 mod tests;

@@ -15,7 +15,8 @@ fn action(deny: bool) -> &'static [u8]
     if deny { b"deny" } else { b"none" }
 }
 
-/// Puts a value of an rctl behind `out`: `(priv=privileged,limit=N,action=A)`.
+/// Puts a value of an rctl behind `out`: `(priv=privileged,limit=N,action=A)`. After want of memory `out` has
+/// what it had, and perhaps a front of the text.
 #[tactic(auto, unfolding(crate::specs::Texts::limit_text))]
 pub fn push_limit(out: &mut Vec<u8>, value: Limit) -> Result<(), AllocError>
     ensures { OnOk result (out.new.items ≡ out.old.items ++ limit_text value) }
@@ -118,7 +119,8 @@ fn push_bracketed(out: &mut Vec<u8>, first: &[u8], more: &[Text]) -> Result<(), 
     Ok(())
 }
 
-/// Puts options behind `out`: `[a,b]`.
+/// Puts options behind `out`: `[a,b]`. After want of memory `out` has what it had, and perhaps a front of the
+/// text.
 #[tactic(auto, unfolding(crate::specs::Texts::options_text))]
 pub fn push_options(out: &mut Vec<u8>, options: &[Text]) -> Result<(), AllocError>
     ensures { OnOk result (out.new.items ≡ out.old.items ++ options_text options.now) }

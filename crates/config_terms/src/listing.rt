@@ -1,11 +1,12 @@
 //! Lists of a bounded length.
 ghost use Rattle.std.specs.Prelude.{◌≡◌, ◌<◌, ◌≤◌, ◌++◌, [], ◌∷◌, length, is_ok, if◌then◌else◌, remove, slice_set, slice_index_or, slice_get, Some, IfOk};
+ghost use Rattle.std.specs.Cmp.Lexicographic.{lists_equiv, lists_per, pointwise};
 
 use std::alloc::{AllocError, Global};
 use std::marker::Model;
 
-/// The greatest length of a list, so that a place in it is a `u32`. No input of the program fills one.
-pub const LISTING_MAX: usize = 4_294_967_295;
+// The greatest length of a list, so that a place in it is a `u32`. No input of the program fills one.
+const LISTING_MAX: usize = 4_294_967_295;
 
 /// At most 4,294,967,295 items in order. Contracts see their list. Memory counts as wanting for one more.
 #[derive(Drop)]
@@ -114,18 +115,39 @@ impl<T: Drop> Listing<T> {
     }
 }
 
+impl<T: PartialEq> PartialEq for Listing<T> {
+    ghost eq = { pointwise T.eq };
+
+    ghost laws = { lists_per T.PartialEq.laws };
+
+    fn eq(&self, other: &Listing<T>) -> bool {
+        self.as_slice() == other.as_slice()
+    }
+}
+
+impl<T: Eq> Eq for Listing<T> {
+    ghost laws = { lists_equiv T.Eq.laws };
+}
+
 /// What can be copied, to an equal value.
 pub trait Twin: Drop {
     fn twin(&self, alloc: Global) -> Result<Self, AllocError>
         ensures { IfOk result (λ x. x ≡ self.now) };
 }
 
+/// A list of equal items.
+pub(crate) fn twins<T: Twin>(alloc: Global, items: &[T]) -> Result<Listing<T>, AllocError>
+    ensures { IfOk result (λ list. list ≡ items.now) }
+{
+    let mut list = Listing::new(alloc);
+    for item in items {
+        list.push(item.twin(alloc)?)?;
+    }
+    Ok(list)
+}
+
 impl<T: Twin> Twin for Listing<T> {
     fn twin(&self, alloc: Global) -> Result<Self, AllocError> {
-        let mut items = Vec::new(alloc);
-        for item in &self.items {
-            items.push(item.twin(alloc)?)?;
-        }
-        Ok(Listing { items })
+        twins(alloc, self.as_slice())
     }
 }

@@ -1,10 +1,10 @@
 //! Edits of the list of a resource.
-ghost use Rattle.std.specs.Prelude.{◌≡◌, ◌++◌, Bool, IfOk, OnOk, OnErr, position};
-ghost use Rattle.std.specs.Str.{bytes_eq};
-ghost use Rattle.config_terms.specs.Edits.{Changes, same_limit, edited, passes_options, options_edited, limits_edited};
+ghost use Rattle.std.specs.Prelude.{◌≡◌, ◌++◌, OnOk, OnErr, position};
+ghost use Rattle.config_terms.specs.Edits.{Changes, edited, passes_options, options_edited};
 
 use crate::allowed::OPTIONS_MAX;
-use crate::{ConfigFault, Limit, Listing, Twin};
+use crate::listing::twins;
+use crate::{ConfigFault, Listing, Twin};
 use std::alloc::{AllocError, Global};
 use zn_base::Text;
 
@@ -16,59 +16,25 @@ pub enum ListEdit {
     Remove,
 }
 
-/// An item of a list, which can be looked for.
-pub trait Item: Twin {
-    ghost same: { Self → Self → Bool };
-
-    fn same(&self, other: &Self) -> bool
-        ensures { result ≡ same self.now other.now };
-}
-
-impl Item for Text {
-    ghost same = { bytes_eq };
-
-    fn same(&self, other: &Self) -> bool {
-        self.bytes() == other.bytes()
-    }
-}
-
-impl Item for Limit {
-    ghost same = { same_limit };
-
-    fn same(&self, other: &Self) -> bool {
-        self.limit == other.limit && self.deny == other.deny
-    }
-}
-
-fn twins<T: Item>(alloc: Global, items: &[T]) -> Result<Listing<T>, AllocError>
-    ensures { IfOk result (λ list. list ≡ items.now) }
-{
-    let mut list = Listing::new(alloc);
-    for item in items {
-        list.push(item.twin(alloc)?)?;
-    }
-    Ok(list)
-}
-
-fn add_all<T: Item>(alloc: Global, list: &mut Listing<T>, items: &[T]) -> Result<(), AllocError>
+fn add_all<T: Twin>(alloc: Global, list: &mut Listing<T>, items: &[T]) -> Result<(), AllocError>
     ensures ok { OnOk result (list.new ≡ list.old ++ items.now) }
     ensures err { OnErr result (list.new ≡ list.old) }
 {
     list.append(twins(alloc, items)?)
 }
 
-fn place_of<T: Item>(item: &T, items: &[T]) -> Option<usize>
-    ensures { result ≡ position (T.same item.now) items.now }
+fn place_of<T: PartialEq>(item: &T, items: &[T]) -> Option<usize>
+    ensures { result ≡ position (T.eq item.now) items.now }
 {
-    items.iter().position(|other| item.same(other))
+    items.iter().position(|other| item == other)
 }
 
-fn remove_each<T: Item>(
+fn remove_each<T: Twin + PartialEq>(
     alloc: Global,
     list: &mut Listing<T>,
     items: &[T],
 ) -> Result<(), ConfigFault>
-    ensures { Changes list.old list.new result (edited T.same ListEdit.Remove items.now list.old) }
+    ensures { Changes list.old list.new result (edited T.eq ListEdit.Remove items.now list.old) }
 {
     let mut kept = list.twin(alloc)?;
     for item in items {
@@ -81,13 +47,14 @@ fn remove_each<T: Item>(
     Ok(())
 }
 
-fn edit_list<T: Item>(
+/// Edits a list. After a fault it is as before.
+pub(crate) fn edit_list<T: Twin + PartialEq>(
     alloc: Global,
     edit: ListEdit,
     list: &mut Listing<T>,
     items: &[T],
 ) -> Result<(), ConfigFault>
-    ensures { Changes list.old list.new result (edited T.same edit items.now list.old) }
+    ensures { Changes list.old list.new result (edited T.eq edit items.now list.old) }
 {
     match edit {
         ListEdit::Put => *list = twins(alloc, items)?,
@@ -121,17 +88,4 @@ pub(crate) fn edit_options(
         return Err(ConfigFault::TooMany(OPTIONS_MAX));
     }
     edit_list(alloc, edit, options, given)
-}
-
-/// Edits the values of an rctl. After a fault they are as before.
-#[tactic(auto, unfolding(crate::specs::Edits::limits_edited))]
-pub(crate) fn edit_limits(
-    alloc: Global,
-    edit: ListEdit,
-    values: &mut Listing<Limit>,
-    given: &[Limit],
-) -> Result<(), ConfigFault>
-    ensures { Changes values.old values.new result (limits_edited edit given.now values.old) }
-{
-    edit_list(alloc, edit, values, given)
 }

@@ -32,10 +32,7 @@ fn digits_value(text: &[u8]) -> Option<u64>
 {
     let mut number: u64 = 0;
     for byte in text {
-        let Some(more) = with_digit(number, byte.saturating_sub(b'0')) else {
-            return None;
-        };
-        number = more;
+        number = with_digit(number, byte.saturating_sub(b'0'))?;
     }
     Some(number)
 }

@@ -30,7 +30,8 @@ fn settings_length<T: Entry>(kind: Kind, entry: &T) -> usize
     total
 }
 
-/// Puts the text of a resource behind `out`: `add KIND`, the properties that are set, `end` (zonecfg(8)).
+/// Puts the text of a resource behind `out`: `add KIND`, the properties that are set, `end` (zonecfg(8)). After
+/// want of memory `out` has what it had, and perhaps a front of the text.
 #[tactic(auto, unfolding(crate::specs::Texts::entry_text))]
 pub fn push_entry<T: Entry>(out: &mut Vec<u8>, kind: Kind, entry: &T) -> Result<(), AllocError>
     ensures { OnOk result (out.new.items ≡ out.old.items ++ entry_text kind (T.shown entry.now) (T.options entry.now) (T.values entry.now)) }
@@ -56,7 +57,8 @@ pub fn entry_length<T: Entry>(kind: Kind, entry: &T) -> usize
         + limit_lines_length(entry.values())
 }
 
-/// Puts the texts of resources of one kind behind `out`.
+/// Puts the texts of resources of one kind behind `out`. After want of memory `out` has what it had, and perhaps
+/// a front of the text.
 pub fn push_entries<T: Entry>(
     out: &mut Vec<u8>,
     kind: Kind,

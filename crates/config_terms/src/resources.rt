@@ -5,7 +5,7 @@ ghost use Rattle.config_terms.specs.Fields.{kind_of};
 ghost use Rattle.config_terms.specs.Edits.{Changes, ChangesSurely, empty, kept_path, fs_with, net_with, device_with, rctl_with, attr_with, dataset_with, with_dir, with_field, field_set, fs_edited, rctl_edited, list_edited, without_list, put_in, cleared_in, edited_in, with_property, without_property, with_value, without_value};
 
 use crate::given::{limit_given, options_given, path_kept};
-use crate::lists::{ListEdit, edit_limits, edit_options};
+use crate::lists::{ListEdit, edit_list, edit_options};
 use crate::{Attr, ConfigFault, Field, Fs, Kind, Listing, Named, Net, Rctl, Resource};
 use std::alloc::Global;
 use zn_base::{AbsPath, Text};
@@ -65,7 +65,7 @@ impl Rctl {
     {
         match limit_given(value) {
             None => Err(ConfigFault::BadValue),
-            Some(given) => edit_limits(alloc, edit, &mut self.values, &[given]),
+            Some(given) => edit_list(alloc, edit, &mut self.values, &[given]),
         }
     }
 }

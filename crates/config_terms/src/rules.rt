@@ -1,10 +1,11 @@
 //! What a value may be.
 ghost use Rattle.std.specs.Prelude.{◌≡◌, ◌∷◌, []};
 ghost use Rattle.std.specs.List.{list_all};
-ghost use Rattle.config_terms.specs.Rules.{is_alphanumeric, is_name_byte, is_option_byte, is_simple_byte, is_hex_byte, begins_in, obeys, fits};
+ghost use Rattle.zn_base.specs.Names.{is_name_byte};
+ghost use Rattle.config_terms.specs.Rules.{is_alphanumeric, is_option_byte, is_simple_byte, is_hex_byte, begins_in, obeys, fits};
 
 use crate::numbers::number_of;
-use zn_base::is_path;
+use zn_base::{is_name_byte, is_path, is_text_byte};
 
 /// What a value of a property may be (zonecfg(8), PROPERTIES). An empty value is a value of no property:
 /// where the rule takes it, setting it unsets the property.
@@ -45,12 +46,6 @@ pub fn is_alphanumeric(byte: u8) -> bool
     byte.is_ascii_alphanumeric()
 }
 
-fn is_name_byte(byte: u8) -> bool
-    ensures { result ≡ is_name_byte byte }
-{
-    is_alphanumeric(byte) || byte == b'_' || byte == b'-' || byte == b'.'
-}
-
 fn is_option_byte(byte: u8) -> bool
     ensures { result ≡ is_option_byte byte }
 {
@@ -60,7 +55,7 @@ fn is_option_byte(byte: u8) -> bool
 fn is_simple_byte(byte: u8) -> bool
     ensures { result ≡ is_simple_byte byte }
 {
-    (b' '..=b'~').contains(&byte) && byte != b'"'
+    is_text_byte(byte) && byte != b'"'
 }
 
 fn is_hex_byte(byte: u8) -> bool

@@ -25,7 +25,7 @@ pub enum Kind {
 
 /// A file system that is mounted in the zone. A text that is empty is a property that is not set, here
 /// and in every other resource.
-#[derive(Drop)]
+#[derive(PartialEq, Eq, Drop)]
 pub struct Fs {
     pub dir: Option<AbsPath>,
     pub special: Text,
@@ -36,7 +36,7 @@ pub struct Fs {
 }
 
 /// A network interface of the zone.
-#[derive(Drop)]
+#[derive(PartialEq, Eq, Drop)]
 pub struct Net {
     pub address: Text,
     /// The property `allowed-address`.
@@ -54,14 +54,14 @@ pub struct Limit {
 }
 
 /// A resource control of the zone.
-#[derive(Drop)]
+#[derive(PartialEq, Eq, Drop)]
 pub struct Rctl {
     pub name: Text,
     pub values: Listing<Limit>,
 }
 
 /// A generic attribute of the zone.
-#[derive(Drop)]
+#[derive(PartialEq, Eq, Drop)]
 pub struct Attr {
     pub name: Text,
     /// The property `type`.

@@ -56,8 +56,9 @@ fn value_length(value: &[u8]) -> usize
     }
 }
 
-/// Puts pieces of text behind `out`, one after another.
-pub(crate) fn push_pieces(out: &mut Vec<u8>, pieces: &[&[u8]]) -> Result<(), AllocError>
+/// Puts pieces of text behind `out`, one after another. After want of memory `out` has what it had, and perhaps
+/// a front of the text.
+pub fn push_pieces(out: &mut Vec<u8>, pieces: &[&[u8]]) -> Result<(), AllocError>
     ensures { OnOk result (out.new.items ≡ out.old.items ++ flat_map (λ p. p.now) pieces.now) }
 {
     for piece in pieces {
@@ -67,7 +68,8 @@ pub(crate) fn push_pieces(out: &mut Vec<u8>, pieces: &[&[u8]]) -> Result<(), All
 }
 
 /// Puts the line `set NAME=VALUE` behind `out`, where the value is not empty: an empty one is a property
-/// that is not set. A value prints bare where each of its bytes may stand so, and else in double quotes.
+/// that is not set. A value prints bare where each of its bytes may stand so, and else in double quotes. After
+/// want of memory `out` has what it had, and perhaps a front of the text.
 #[tactic(auto, unfolding(crate::specs::Texts::setting))]
 pub fn push_setting(out: &mut Vec<u8>, name: &[u8], value: &[u8]) -> Result<(), AllocError>
     ensures { OnOk result (out.new.items ≡ out.old.items ++ setting name.now value.now) }

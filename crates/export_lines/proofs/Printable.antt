@@ -7,6 +7,7 @@ use Rattle.std.proofs.lemmas.Bool.{and_parts, or_cases}
 use Rattle.std.proofs.lemmas.Bool.Decides.{nat_tests}
 use Rattle.std.proofs.lemmas.Slice.Eq.{bytes_eq-Decides}
 use Rattle.zn_base.specs.declared.path.PathFault.TheVariants.{NotAbsolute, PathLong}
+use Rattle.zn_base.specs.Names.{is_name_byte}
 use Rattle.zn_base.specs.Path.{first_bad, first_bad_below_root, is_component, is_component_byte, is_path, is_slash, path_from_root, path_unless}
 use Rattle.zn_base.specs.Text.{is_text, is_text_byte}
 use Rattle.config_terms.specs.Allowed.{attr_allowed, dataset_allowed, device_allowed, entry_allowed, fields_fit, fs_allowed, is_allowed_limit, is_kept_path, net_allowed, rctl_allowed}
@@ -27,7 +28,7 @@ use Rattle.zone_config.specs.Sound.{IsSound}
 use Rattle.zone_config.specs.declared.terms.Contents.{Contents}
 use Rattle.zone_config.specs.declared.terms.Property.{Property}
 use Rattle.zone_config.specs.declared.terms.Property.TheVariants.{Zonepath, Brand, Autoboot, Bootargs, Pool, Limitpriv, SchedulingClass, IpType, Hostid, FsAllowed}
-use Rattle.config_terms.specs.Rules.{fits, begins_in, is_alphanumeric, is_hex_byte, is_name_byte, is_one_of, is_option_byte, is_run, is_simple_byte, obeys}
+use Rattle.config_terms.specs.Rules.{fits, begins_in, is_alphanumeric, is_hex_byte, is_one_of, is_option_byte, is_run, is_simple_byte, obeys}
 use Rattle.config_terms.specs.declared.rules.Rule.{Rule}
 use Rattle.config_terms.specs.declared.rules.Rule.TheVariants.{RootedPath, OwnPath, Flag, ShortName, Simple, IpWay, HostId, Number, TypeWord, OptionWord, ControlName, AttributeName, AttributeForm}
 

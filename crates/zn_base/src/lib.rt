@@ -26,7 +26,7 @@ pub use file_disk::FileDisk;
 pub use grant::{Grant, Pool};
 pub use memory::{MemSink, MemSource};
 pub use memory_disk::MemDisk;
-pub use name::{NameFault, ZoneName};
+pub use name::{NameFault, ZoneName, is_name_byte};
 pub use owned::Owned;
 pub use path::{AbsPath, PathFault, is_path};
 pub use pattern::glob;

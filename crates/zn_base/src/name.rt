@@ -28,7 +28,7 @@ pub enum NameFault {
     #[error("the name is longer than 63 bytes")]
     TooLong,
     /// The place of the first byte that doesn't belong there, from 0.
-    #[error("byte {0} doesn't belong into a zone's name")]
+    #[error("byte {0} doesn't belong in a zone's name")]
     BadByte(usize),
     /// The global zone's own name, and the names that begin with `SUNW`.
     #[error("the name is reserved")]
@@ -68,7 +68,8 @@ fn is_letter_or_digit(byte: u8) -> bool
     byte.is_ascii_alphanumeric()
 }
 
-fn is_name_byte(byte: u8) -> bool
+/// Whether a zone's name may have a byte: a letter, a digit, `_`, `-` or `.`.
+pub fn is_name_byte(byte: u8) -> bool
     ensures { result ≡ is_name_byte byte }
 {
     is_letter_or_digit(byte) || byte == b'_' || byte == b'-' || byte == b'.'
@@ -84,14 +85,8 @@ fn first_wrong(bytes: &[u8]) -> Option<usize>
     ensures { result ≡ first_wrong bytes.now }
 {
     match bytes {
-        [] => None,
-        [first, ..] => {
-            if is_letter_or_digit(*first) {
-                first_other(bytes)
-            } else {
-                Some(0)
-            }
-        }
+        [first, ..] if !is_letter_or_digit(*first) => Some(0),
+        _ => first_other(bytes),
     }
 }
 

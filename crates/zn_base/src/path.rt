@@ -1,5 +1,7 @@
 //! Absolute paths.
-ghost use Rattle.std.specs.Prelude.{◌≡◌, ◌+◌, ◌≤◌, ◌<◌, length, IfOk, IsTrue, position, drop};
+ghost use Rattle.std.specs.Prelude.{◌≡◌, ◌+◌, ◌≤◌, ◌<◌, length, IfOk, IsTrue, bytes_eq, position, drop};
+ghost use Rattle.std.specs.Cmp.{partial_equiv_from_equiv};
+ghost use Rattle.std.specs.Cmp.Lexicographic.{nat_list_eq_equiv};
 ghost use Rattle.std.specs.List.{slice_split, list_all};
 ghost use Rattle.std.specs.Result.{result_and};
 ghost use Rattle.zn_base.specs.declared.path.PathFault.TheVariants.{Memory};
@@ -142,6 +144,14 @@ impl AbsPath {
         ensures { AnswersUnless PathFault.Memory (path_of bytes.now) result }
     {
         check(bytes)?;
+        Ok(AbsPath::of(alloc, bytes)?)
+    }
+
+    /// The path that the bytes are, which are known to be one.
+    pub fn of(alloc: Global, bytes: &[u8]) -> Result<AbsPath, AllocError>
+        requires { IsTrue (is_path bytes.now) }
+        ensures { IfOk result (λ path. path ≡ bytes.now) }
+    {
         Ok(AbsPath {
             bytes: Vec::from_slice(alloc, bytes)?,
         })
@@ -159,10 +169,22 @@ impl AbsPath {
     pub fn copy(&self, alloc: Global) -> Result<AbsPath, AllocError>
         ensures { IfOk result (λ path. path ≡ self.now) }
     {
-        Ok(AbsPath {
-            bytes: Vec::from_slice(alloc, &self.bytes)?,
-        })
+        AbsPath::of(alloc, self.bytes())
     }
+}
+
+impl PartialEq for AbsPath {
+    ghost eq = { bytes_eq };
+
+    ghost laws = { partial_equiv_from_equiv nat_list_eq_equiv };
+
+    fn eq(&self, other: &AbsPath) -> bool {
+        self.bytes() == other.bytes()
+    }
+}
+
+impl Eq for AbsPath {
+    ghost laws = { nat_list_eq_equiv };
 }
 
 #[cfg(test)]
@@ -171,11 +193,12 @@ mod tests {
     use std::test::Fail;
 
     #[test]
-    fn paths_are_read_and_copied(rt: HostRuntime) -> Result<(), Fail> {
-        for path in [b"/".as_slice(), b"/zones/web", b"/a/...", b"/.a"] {
+    fn paths_are_read_copied_and_compared(rt: HostRuntime) -> Result<(), Fail> {
+        let web = AbsPath::of(rt.alloc(), b"/zones/web")?;
+        for path in [b"/".as_slice(), b"/zones/db", b"/a/...", b"/.a"] {
             let read = AbsPath::read(rt.alloc(), path)?;
             assert_eq!(rt; read.bytes(), path);
-            assert_eq!(rt; read.copy(rt.alloc())?.bytes(), path);
+            assert!(rt; read == read.copy(rt.alloc())? && read != web);
         }
         Ok(())
     }

@@ -15,7 +15,7 @@ fn begins_range(items: &[u8], at: usize) -> bool
 fn is_between(low: u8, byte: u8, high: u8) -> bool
     ensures { result ≡ (nat_le low byte && nat_le byte high) }
 {
-    low <= byte && byte <= high
+    (low..=high).contains(&byte)
 }
 
 #[tactic(auto, using(crate::proofs::Patterns::listing))]

@@ -1,5 +1,7 @@
 //! Printable texts of a bounded length.
-ghost use Rattle.std.specs.Prelude.{◌≡◌, ◌≤◌, [], IfOk, IsTrue, length, position, not};
+ghost use Rattle.std.specs.Prelude.{◌≡◌, ◌≤◌, [], IfOk, IsTrue, bytes_eq, length, position, not};
+ghost use Rattle.std.specs.Cmp.{partial_equiv_from_equiv};
+ghost use Rattle.std.specs.Cmp.Lexicographic.{nat_list_eq_equiv};
 ghost use Rattle.zn_base.specs.declared.text.TextFault.TheVariants.{Memory};
 ghost use Rattle.zn_base.specs.Answers.{AnswersUnless};
 ghost use Rattle.zn_base.specs.Text.{is_text, is_text_byte, text_of};
@@ -106,10 +108,22 @@ impl Text {
     pub fn copy(&self, alloc: Global) -> Result<Text, AllocError>
         ensures { IfOk result (λ text. text ≡ self.now) }
     {
-        Ok(Text {
-            bytes: Vec::from_slice(alloc, &self.bytes)?,
-        })
+        Text::of(alloc, self.bytes())
     }
+}
+
+impl PartialEq for Text {
+    ghost eq = { bytes_eq };
+
+    ghost laws = { partial_equiv_from_equiv nat_list_eq_equiv };
+
+    fn eq(&self, other: &Text) -> bool {
+        self.bytes() == other.bytes()
+    }
+}
+
+impl Eq for Text {
+    ghost laws = { nat_list_eq_equiv };
 }
 
 #[cfg(test)]
@@ -118,11 +132,12 @@ mod tests {
     use std::test::Fail;
 
     #[test]
-    fn texts_are_read_and_copied(rt: HostRuntime) -> Result<(), Fail> {
+    fn texts_are_read_copied_and_compared(rt: HostRuntime) -> Result<(), Fail> {
         let text = Text::read(rt.alloc(), b"web team ~")?;
         assert_eq!(rt; text.bytes(), b"web team ~".as_slice());
         assert_eq!(rt; Text::of(rt.alloc(), b"ipkg")?.bytes(), b"ipkg".as_slice());
         assert_eq!(rt; text.copy(rt.alloc())?.bytes(), b"web team ~".as_slice());
+        assert!(rt; text == text.copy(rt.alloc())? && text != Text::empty(rt.alloc()));
         assert_eq!(rt; Text::empty(rt.alloc()).bytes(), b"".as_slice());
         assert!(rt; matches!(Text::read(rt.alloc(), b"a\tb"), Err(TextFault::BadText(1))));
         assert_eq!(rt; Text::read(rt.alloc(), &[b'~'; 4200])?.bytes().len(), 4200);

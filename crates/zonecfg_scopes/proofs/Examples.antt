@@ -25,7 +25,7 @@ use Rattle.zone_config.specs.Property as property
 use Rattle.zonecfg_scopes.specs.Commands.{verb_named}
 use Rattle.zonecfg_scopes.specs.Edited.{Edited, after_lines, line_answer, opened_on}
 use Rattle.zonecfg_scopes.specs.Forms.{command_of, form_of}
-use Rattle.zonecfg_scopes.specs.Info.{alias_lines, all_lines, entry_lines, export_lines, field_lines, help_line, info_lines, kind_lines, limit_line, lines_in, options_line, set_line, topic_lines}
+use Rattle.zonecfg_scopes.specs.Info.{alias_lines, all_lines, entry_lines, export_lines, field_lines, help_line, info_lines, kind_lines, limit_line, options_line, set_line, topic_lines}
 use Rattle.zonecfg_scopes.specs.Open.{Whole}
 use Rattle.zonecfg_scopes.specs.Scopes.{made}
 
@@ -142,7 +142,7 @@ unfolding after command_of edits.with_property entry_lines field_lines form_of i
 scope_shown = refl
 
 exported : export_lines (Whole property.blank) ≡ codes "create -b" ∷ codes "set autoboot=false" ∷ codes "set ip-type=shared" ∷ []
-unfolding export_lines export_text lines_in setting
+unfolding export_lines export_text setting
 exported = refl
 
 blank_shown : info_lines Everything (codes "web") (Whole property.blank) ≡ codes "zonename: web" ∷ codes "zonepath: " ∷ codes "brand: " ∷ codes "autoboot: false" ∷ codes "bootargs: "

@@ -1,7 +1,7 @@
 -- The lines that the editor shows: those of `help`, `export` and `info` (zonecfg(8), SUBCOMMANDS).
 use Rattle.std.specs.Prelude.{ℕ, List, [], ◌∷◌, ◌++◌, Option, Some, None, codes, find, map}
-use Rattle.std.specs.List.{flat_map, join_with_byte, slice_split}
-use Rattle.zn_base.specs.Lines.{is_newline}
+use Rattle.std.specs.List.{flat_map, join_with_byte}
+use Rattle.zn_base.specs.Lines.{lines_of}
 use Rattle.config_terms.specs.declared.fields.Field.{Field}
 use Rattle.config_terms.specs.declared.terms.Kind.{Kind}
 use Rattle.config_terms.specs.declared.terms.Kind.TheVariants as kind
@@ -25,15 +25,6 @@ use Rattle.zonecfg_scopes.specs.Open.{Open, Nothing, Whole, Inside}
 -- the line of `help`: the words that begin subcommands, with spaces between them
 unfoldable pub help_line : List ℕ
 help_line = join_with_byte 32 (map verb_name verbs)
-
-abbrev pub all_but_last : {A : Type 0} → List A → List A
-all_but_last [] = []
-all_but_last (x ∷ []) = []
-all_but_last (x ∷ y ∷ xs) = x ∷ all_but_last (y ∷ xs)
-
--- the lines of a text, each up to its newline
-unfoldable pub lines_in : List ℕ → List (List ℕ)
-lines_in text = all_but_last (slice_split is_newline text)
 
 -- the line of a name and a value
 abbrev pub named_line : List ℕ → List ℕ → List ℕ
@@ -107,5 +98,5 @@ info_lines topic name (Inside c r at) = resource_lines r
 
 -- the lines of `export`, which the global scope alone has
 unfoldable pub export_lines : Open → List (List ℕ)
-export_lines (Whole c) = lines_in (export_text c)
+export_lines (Whole c) = lines_of (export_text c)
 export_lines o = []

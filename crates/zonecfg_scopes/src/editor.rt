@@ -54,8 +54,9 @@ impl Editor {
         Ok(Editor { name, base, opened })
     }
 
-    /// Does what a subcommand says (zonecfg(8), SUBCOMMANDS), a line without its newline and comment. A
-    /// refused one leaves the editor as it was, and so does want of memory.
+    /// Does what one subcommand says (zonecfg(8), SUBCOMMANDS): a typed line without its newline, or a part of
+    /// it between semicolons. A `#` begins a word here. A refused one leaves the editor as it was, and so does
+    /// want of memory.
     pub fn command(&mut self, alloc: Global, line: &[u8]) -> Result<EditReply, EditFault>
         requires { length line.now ≤ 4200 }
         ensures answer { AnswersUnless EditFault.Memory (line_answer line.now self.old) result }
@@ -77,10 +78,8 @@ impl Editor {
     {
         // The lines come first: should memory run out over them, nothing was done.
         let reply = self.reply(alloc, command)?;
-        match self.opened.obey(alloc, command) {
-            Ok(()) => Ok(reply),
-            Err(fault) => Err(fault),
-        }
+        self.opened.obey(alloc, command)?;
+        Ok(reply)
     }
 
     // What a subcommand is answered where it is not refused.

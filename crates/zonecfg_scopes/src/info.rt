@@ -9,34 +9,10 @@ ghost use Rattle.zonecfg_scopes.specs.Info.{alias_lines, all_lines, entry_lines,
 
 use crate::command::Topic;
 use crate::line::{Line, push_line};
-use config_terms::{Entry, Kind, Limit, Listing, Rctl, Resource, push_limit, push_options};
+use config_terms::{Entry, KINDS, Kind, Limit, Listing, Rctl, Resource, push_limit, push_options};
 use std::alloc::{AllocError, Global};
 use zn_base::Text;
-use zone_config::{Alias, Contents, Property, Setting};
-
-// All of them, in the order in which they are shown.
-const PROPERTIES: [Property; 10] = [
-    Property::Zonepath,
-    Property::Brand,
-    Property::Autoboot,
-    Property::Bootargs,
-    Property::Pool,
-    Property::Limitpriv,
-    Property::SchedulingClass,
-    Property::IpType,
-    Property::Hostid,
-    Property::FsAllowed,
-];
-
-// All of them, in the order in which they are shown.
-const KINDS: [Kind; 6] = [
-    Kind::Fs,
-    Kind::Net,
-    Kind::Device,
-    Kind::Rctl,
-    Kind::Attr,
-    Kind::Dataset,
-];
+use zone_config::{Alias, Contents, PROPERTIES, Property, Setting};
 
 const HELP: &[u8] =
     b"add cancel clear commit create delete end exit export help info remove revert select set verify";

@@ -24,7 +24,6 @@ pub use fault::{EditFault, Scope};
 pub use forms::read_command;
 pub use laws::{lines_denote, one_stands};
 pub use line::Line;
-pub use opened::{Opened, ResourceScope};
 
 #[cfg(test)]
 mod tests;

@@ -1,11 +1,10 @@
 //! Lines that the editor shows, and those of an export text.
 ghost use Rattle.std.specs.Prelude.{◌≡◌, ◌<◌, ◌+◌, ◌++◌, [], ◌∷◌, IfOk, OnOk, drop, length, position, take};
 ghost use Rattle.std.specs.List.{flat_map};
-ghost use Rattle.zn_base.specs.Lines.{is_newline};
+ghost use Rattle.zn_base.specs.Lines.{is_newline, lines_of};
 ghost use Rattle.zone_config.specs.Export.{export_text};
-ghost use Rattle.zonecfg_scopes.specs.Info.{lines_in};
 
-use config_terms::Listing;
+use config_terms::{Listing, push_pieces};
 use std::alloc::{AllocError, Global};
 use std::marker::Model;
 use zone_config::{ZoneConfig, export};
@@ -49,15 +48,6 @@ impl Line {
     }
 }
 
-fn push_pieces(out: &mut Vec<u8>, pieces: &[&[u8]]) -> Result<(), AllocError>
-    ensures { OnOk result (out.new.items ≡ out.old.items ++ flat_map (λ p. p.now) pieces.now) }
-{
-    for piece in pieces {
-        out.extend_from_slice(piece)?;
-    }
-    Ok(())
-}
-
 fn line_of(alloc: Global, pieces: &[&[u8]]) -> Result<Line, AllocError>
     ensures { IfOk result (λ line. line ≡ flat_map (λ p. p.now) pieces.now) }
 {
@@ -94,8 +84,9 @@ fn behind(text: &[u8], at: usize) -> &[u8]
     &text[at + 1..]
 }
 
-fn lines_in(alloc: Global, text: &[u8]) -> Result<Listing<Line>, AllocError>
-    ensures { IfOk result (λ lines. lines ≡ lines_in text.now) }
+// The lines of a text, each without its newline.
+fn lines_of(alloc: Global, text: &[u8]) -> Result<Listing<Line>, AllocError>
+    ensures { IfOk result (λ lines. lines ≡ lines_of text.now) }
 {
     let mut lines = Listing::new(alloc);
     let mut rest = text;
@@ -103,15 +94,18 @@ fn lines_in(alloc: Global, text: &[u8]) -> Result<Listing<Line>, AllocError>
         lines.push(Line::from_slice(alloc, front(rest, at))?)?;
         rest = behind(rest, at);
     }
+    if !rest.is_empty() {
+        lines.push(Line::from_slice(alloc, rest)?)?;
+    }
     Ok(lines)
 }
 
 /// The lines of the export text of a configuration.
 pub fn export_lines(alloc: Global, config: &ZoneConfig) -> Result<Listing<Line>, AllocError>
-    ensures { IfOk result (λ lines. lines ≡ lines_in (export_text config.now)) }
+    ensures { IfOk result (λ lines. lines ≡ lines_of (export_text config.now)) }
 {
     match export(alloc, config) {
-        Ok(text) => lines_in(alloc, &text),
+        Ok(text) => lines_of(alloc, &text),
         // Memory is all that an export text can want.
         Err(_) => Err(AllocError),
     }
