@@ -8,7 +8,7 @@ mod table;
 
 pub use limit::{PrivFault, limit_of};
 pub use set::PrivSet;
-pub use table::{COUNT, number_of};
+pub use table::number_of;
 
 #[cfg(test)]
 mod tests;

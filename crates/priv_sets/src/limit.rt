@@ -38,10 +38,7 @@ fn named(word: &[u8]) -> Option<PrivSet>
     if word == b"all".as_slice() {
         return Some(PrivSet::everything());
     }
-    match number_of(word) {
-        Some(number) => Some(PrivSet::only(number)),
-        None => None,
-    }
+    Some(PrivSet::only(number_of(word)?))
 }
 
 #[tactic(auto, unfolding(crate::specs::Limit::rule_of))]
@@ -58,10 +55,8 @@ fn rule_of(is_first: bool, word: &[u8]) -> Option<Rule>
         [b'!' | b'-', name @ ..] => (false, name),
         _ => (true, word),
     };
-    match named(name) {
-        Some(covered) => Some(Rule { adds, covered }),
-        None => None,
-    }
+    let covered = named(name)?;
+    Some(Rule { adds, covered })
 }
 
 #[tactic(auto, unfolding(crate::specs::Limit::applied))]
@@ -143,8 +138,5 @@ fn spoken(text: &[u8]) -> &[u8]
 pub fn limit_of(text: &[u8]) -> Result<PrivSet, PrivFault>
     ensures { result ≡ limit_of text.now }
 {
-    match set_of_words(spoken(text)) {
-        Ok(set) => judged(set),
-        Err(fault) => Err(fault),
-    }
+    judged(set_of_words(spoken(text))?)
 }

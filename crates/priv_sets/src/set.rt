@@ -58,8 +58,8 @@ impl PrivSet {
         }
     }
 
-    /// The set of one privilege.
-    pub fn only(number: u8) -> PrivSet
+    // The set of one privilege.
+    pub(crate) fn only(number: u8) -> PrivSet
         requires { number < 40 }
         ensures { result ≡ only number }
     {

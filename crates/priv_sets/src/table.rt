@@ -3,8 +3,8 @@ ghost use Rattle.std.specs.Prelude.{◌≡◌, ◌<◌, IfSome, Some, bytes_eq, 
 ghost use Rattle.priv_sets.specs.Rows.{row_of};
 ghost use Rattle.priv_sets.specs.Table.{is_of, number_of, privileges};
 
-/// How many privileges there are.
-pub const COUNT: u8 = 40;
+// How many privileges there are.
+pub(crate) const COUNT: u8 = 40;
 
 /// What a zone may and must have.
 #[derive(Clone, Copy, PartialEq, Eq)]
@@ -222,10 +222,7 @@ pub fn number_of(name: &[u8]) -> Option<u8>
     ensures number { result ≡ number_of name.now }
     ensures in_table { IfSome result (λ number. number < 40) }
 {
-    match first_named(privileges(), name) {
-        Some(number) => Some(number as u8),
-        None => None,
-    }
+    Some(first_named(privileges(), name)? as u8)
 }
 
 // The name of a number, for messages.

@@ -145,7 +145,7 @@ pub fn value(alloc: Global, line: &[u8], tokens: &[Token]) -> Result<Value, LexF
         return Err(LexFault::NoValue(place));
     }
     let [first, rest @ ..] = tokens else {
-        return Err(LexFault::NoValue(line.len()));
+        unreachable!();
     };
     made_value(alloc, line, *first, rest)
 }

@@ -6,6 +6,7 @@
 mod bytes;
 mod fault;
 mod grammar;
+mod laws;
 mod lexer;
 mod scope;
 mod spans;
@@ -14,6 +15,7 @@ mod values;
 
 pub use fault::LexFault;
 pub use grammar::{given_text, pairs, value};
+pub use laws::values_fit;
 pub use lexer::{part_tokens, tokens};
 pub use spans::parts;
 pub use token::{Span, Token, TokenKind};
