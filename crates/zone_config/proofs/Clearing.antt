@@ -45,10 +45,10 @@ unset_taken p c s h =
     let fits : nat_lt 32768 (length (export_text (without_value p c))) ≡ false = grind (arith, nat_tests) in
     rw fits refl
 
-kept-refused : (p : Property) (c : Contents) → IsSound c → IfErr (sized (without_value p c)) (MayRefuseClear (Some (Kept p)))
+kept-refused : (p : Property) (c : Contents) → IsSound c → IfErr (sized (without_value p c)) (MayRefuseClear (Some (Kept p)) c)
 kept-refused Autoboot c s =
     let size = length (export_text (without_value Autoboot c)) in
-    elim (nat_lt 32768 size) as (λ b. nat_lt 32768 size ≡ b → IfErr (cond {A = Result Contents ConfigFault} b (Err (fault.TooLarge size)) (Ok (without_value Autoboot c))) (MayRefuseClear (Some (Kept Autoboot)))) [
+    elim (nat_lt 32768 size) as (λ b. nat_lt 32768 size ≡ b → IfErr (cond {A = Result Contents ConfigFault} b (Err (fault.TooLarge size)) (Ok (without_value Autoboot c))) (MayRefuseClear (Some (Kept Autoboot)) c)) [
       | true ↦ λ e. grind (arith, nat_tests)
       | false ↦ λ e. tt
     ] refl
@@ -62,13 +62,13 @@ kept-refused IpType c s = rw (unset_taken IpType c s (λ e. cc)) tt
 kept-refused Hostid c s = rw (unset_taken Hostid c s (λ e. cc)) tt
 kept-refused FsAllowed c s = rw (unset_taken FsAllowed c s (λ e. cc)) tt
 
-alias-refused : (a : Alias) (c : Contents) → IfErr (alias_cleared a c) (MayRefuseClear (Some (Aliased a)))
+alias-refused : (a : Alias) (c : Contents) → IfErr (alias_cleared a c) (MayRefuseClear (Some (Aliased a)) c)
 unfolding alias_cleared
 alias-refused a c =
-    elim (is_held a c.rctl) as (λ b. IfErr (cond {A = Result Contents ConfigFault} b (Err fault.AliasHeld) (Ok (without_rctl (place_of a c.rctl) c))) (MayRefuseClear (Some (Aliased a)))) [
-      | true ↦ tt
-      | false ↦ tt
-    ]
+    elim (is_held a c.rctl) as (λ b. is_held a c.rctl ≡ b → IfErr (cond {A = Result Contents ConfigFault} b (Err fault.AliasHeld) (Ok (without_rctl (place_of a c.rctl) c))) (MayRefuseClear (Some (Aliased a)) c)) [
+      | true ↦ λ e. e
+      | false ↦ λ e. tt
+    ] refl
 
 -- a list without the one item that passes a test
 filter-without : {A : Type 0} (p : A → Bool) (xs : List A) (i : ℕ) (s : Parts p xs i) → filter (λ y. not (p y)) (remove xs i) ≡ filter (λ y. not (p y)) xs
@@ -102,7 +102,7 @@ named-Ok (Some (Kept p)) c d s h =
     subst (ShowsText p (unset_text p) c) (sym (fits_in (without_value p c) d h)) (shows_text p (unset_text p) c (shown_unset p c))
 named-Ok (Some (Aliased a)) c d s h = alias-Ok a c d s h
 
-named-refused : (o : Option Setting) (c : Contents) → IsSound c → IfErr (named_cleared o c) (MayRefuseClear o)
+named-refused : (o : Option Setting) (c : Contents) → IsSound c → IfErr (named_cleared o c) (MayRefuseClear o c)
 named-refused None c s = tt
 named-refused (Some (Kept p)) c s = kept-refused p c s
 named-refused (Some (Aliased a)) c s = alias-refused a c
@@ -111,9 +111,9 @@ cleared : (name : List ℕ) (old new : Contents) → IsSound old → without_pro
 unfolding without_property
 cleared name old new s h = named-Ok (setting_named name) old new s h
 
-refusal : (name : List ℕ) (old : Contents) (e : ConfigFault) → IsSound old → without_property name old ≡ Err e → MayRefuseClear (setting_named name) e
+refusal : (name : List ℕ) (old : Contents) (e : ConfigFault) → IsSound old → without_property name old ≡ Err e → MayRefuseClear (setting_named name) old e
 unfolding without_property
-refusal name old e s h = subst (λ (r : Result Contents ConfigFault). IfErr r (MayRefuseClear (setting_named name))) h (named-refused (setting_named name) old s)
+refusal name old e s h = subst (λ (r : Result Contents ConfigFault). IfErr r (MayRefuseClear (setting_named name) old)) h (named-refused (setting_named name) old s)
 
 pub clears : ClearsWhereNamed
 clears name old new (Ok done) s h = record { cleared = cleared name old new s h; refused = tt }

@@ -23,7 +23,7 @@ use Rattle.zone_config.specs.Export.{export_text, sized}
 use Rattle.zone_config.specs.Sound.{IsSound, count}
 use Rattle.zone_config.specs.Resources.{added, limit_passed, replaced, unless_passed}
 use Rattle.zone_config.specs.Edits.{alias_rctl, alias_set, is_held, is_named_for, limit_set, named_set, place_of, property_set, rctl_put, setting_set, with_property}
-use Rattle.zone_config.specs.Settable.{IsWantOfRoom, SetsWhereAllowed, Shows, ShowsLimit, ShowsText, allows, allows_value, is_settable}
+use Rattle.zone_config.specs.Settable.{MayRefuseSet, SetsWhereAllowed, Shows, ShowsLimit, ShowsText, allows, allows_value, is_settable}
 use Rattle.zone_config.proofs.Lists.{first_false, rest_false}
 use Rattle.zone_config.proofs.PropertyEdits.{Lists, lists-with, shown-with, shown_obeyed}
 use Rattle.zone_config.proofs.Aliases.{Parts, none_behind, none_passes, parted, slice_set-middle}
@@ -36,9 +36,10 @@ fits_in c d h =
       | false ↦ λ g. cc
     ] h
 
-wants_room : (c : Contents) → IfErr (sized c) IsWantOfRoom
-wants_room c =
-    elim (nat_lt 32768 (length (export_text c))) as (λ b. nat_lt 32768 (length (export_text c)) ≡ b → IfErr (cond {A = Result Contents ConfigFault} b (Err (fault.TooLarge (length (export_text c)))) (Ok c)) IsWantOfRoom) [
+-- the text alone is too long
+too_long : (t : Setting) (old c : Contents) → IfErr (sized c) (MayRefuseSet (Some t) old)
+too_long t old c =
+    elim (nat_lt 32768 (length (export_text c))) as (λ b. nat_lt 32768 (length (export_text c)) ≡ b → IfErr (cond {A = Result Contents ConfigFault} b (Err (fault.TooLarge (length (export_text c)))) (Ok c)) (MayRefuseSet (Some t) old)) [
       | true ↦ λ e. grind (arith, nat_tests)
       | false ↦ λ e. tt
     ] refl
@@ -58,8 +59,8 @@ shows_text p v c h = record {
   same = ap (λ (l : Lists). map resource.Fs l.0 ++ map resource.Net l.1 ++ map resource.Device l.2 ++ map resource.Rctl l.3 ++ map resource.Attr l.4 ++ map resource.Dataset l.5) (lists-with p v c);
 }
 
-property-room : (p : Property) (v : List ℕ) (c : Contents) → obeys (property_rule p) v ≡ true → IfErr (property_set p v c) IsWantOfRoom
-property-room p v c h = rw h (wants_room (with_value p v c))
+property-refused : (p : Property) (v : List ℕ) (c : Contents) → obeys (property_rule p) v ≡ true → IfErr (property_set p v c) (MayRefuseSet (Some (Kept p)) c)
+property-refused p v c h = rw h (too_long (Kept p) c (with_value p v c))
 
 -- a list with one item that passes a test, and what does not pass as it was
 record HasOne {A : Type 0} (p : A → Bool) (xs ys : List A) (x : A) : Type 0 where
@@ -123,20 +124,20 @@ added-Ok r c d h =
       | false ↦ λ g. fits_in (added (resource.Rctl r) c) d g
     ] h
 
-added-room : (r : Rctl) (c : Contents) → IfErr (unless_passed (limit_passed (resource.Rctl r) c) (added (resource.Rctl r) c)) IsWantOfRoom
-added-room r c =
-    elim (nat_le 256 (count c)) as (λ b. IfErr (unless_passed (cond b (Some 256) None) (added (resource.Rctl r) c)) IsWantOfRoom) [
-      | true ↦ refl
-      | false ↦ wants_room (added (resource.Rctl r) c)
-    ]
+added-refused : (a : Alias) (r : Rctl) (c : Contents) → place_of a c.rctl ≡ None → IfErr (unless_passed (limit_passed (resource.Rctl r) c) (added (resource.Rctl r) c)) (MayRefuseSet (Some (Aliased a)) c)
+added-refused a r c at =
+    elim (nat_le 256 (count c)) as (λ b. nat_le 256 (count c) ≡ b → IfErr (unless_passed (cond b (Some 256) None) (added (resource.Rctl r) c)) (MayRefuseSet (Some (Aliased a)) c)) [
+      | true ↦ λ e. record { none = at; told = refl; full = grind (arith, nat_tests) }
+      | false ↦ λ e. too_long (Aliased a) c (added (resource.Rctl r) c)
+    ] refl
 
 put-Ok : (a : Alias) (n : ℕ) (o : Option ℕ) (c d : Contents) → IsSound c → place_of a c.rctl ≡ o → rctl_put o (alias_rctl a n) c ≡ Ok d → IsLimited a n c d
 put-Ok a n (Some i) c d s at h = subst (IsLimited a n c) (sym (fits_in (replaced i (resource.Rctl (alias_rctl a n)) c) d h)) (limited_in_place a n i c s at)
 put-Ok a n None c d s at h = subst (IsLimited a n c) (sym (added-Ok (alias_rctl a n) c d h)) (limited_anew a n c at)
 
-put-room : (o : Option ℕ) (r : Rctl) (c : Contents) → IfErr (rctl_put o r c) IsWantOfRoom
-put-room (Some i) r c = wants_room (replaced i (resource.Rctl r) c)
-put-room None r c = added-room r c
+put-refused : (a : Alias) (o : Option ℕ) (r : Rctl) (c : Contents) → place_of a c.rctl ≡ o → IfErr (rctl_put o r c) (MayRefuseSet (Some (Aliased a)) c)
+put-refused a (Some i) r c at = too_long (Aliased a) c (replaced i (resource.Rctl r) c)
+put-refused a None r c at = added-refused a r c at
 
 limit-Ok : (a : Alias) (n : ℕ) (c d : Contents) → IsSound c → limit_set a (Some n) c ≡ Ok d → IsLimited a n c d
 limit-Ok a n c d s h =
@@ -145,12 +146,12 @@ limit-Ok a n c d s h =
       | false ↦ λ g. put-Ok a n (place_of a c.rctl) c d s refl g
     ] h
 
-limit-room : (a : Alias) (n : ℕ) (c : Contents) → IfErr (limit_set a (Some n) c) IsWantOfRoom
-limit-room a n c =
-    elim (is_held a c.rctl) as (λ b. IfErr (cond b (Err fault.AliasHeld) (rctl_put (place_of a c.rctl) (alias_rctl a n) c)) IsWantOfRoom) [
-      | true ↦ tt
-      | false ↦ put-room (place_of a c.rctl) (alias_rctl a n) c
-    ]
+number-refused : (a : Alias) (n : ℕ) (c : Contents) → IfErr (limit_set a (Some n) c) (MayRefuseSet (Some (Aliased a)) c)
+number-refused a n c =
+    elim (is_held a c.rctl) as (λ b. is_held a c.rctl ≡ b → IfErr (cond b (Err fault.AliasHeld) (rctl_put (place_of a c.rctl) (alias_rctl a n) c)) (MayRefuseSet (Some (Aliased a)) c)) [
+      | true ↦ λ e. e
+      | false ↦ λ e. put-refused a (place_of a c.rctl) (alias_rctl a n) c refl
+    ] refl
 
 shows_limit : (a : Alias) (text : List ℕ) (n : ℕ) (c d : Contents) → number_of text ≡ Some n → IsLimited a n c d → ShowsLimit a text c d
 shows_limit a text n c d e l = record {
@@ -181,30 +182,35 @@ named-put (Some t) (Simple text) c d s h = setting-put t text c d s h
 named-put (Some t) (Complex pairs) c d s h = absurd (cc)
 named-put (Some t) (Items texts) c d s h = absurd (cc)
 
-limit-refused : (a : Alias) (o : Option ℕ) (c : Contents) → is_some o ≡ true → IfErr (limit_set a o c) IsWantOfRoom
+limit-refused : (a : Alias) (o : Option ℕ) (c : Contents) → is_some o ≡ true → IfErr (limit_set a o c) (MayRefuseSet (Some (Aliased a)) c)
 limit-refused a None c h = absurd (cc)
-limit-refused a (Some n) c h = limit-room a n c
+limit-refused a (Some n) c h = number-refused a n c
 
-setting-refused : (t : Setting) (text : List ℕ) (c : Contents) → allows t text ≡ true → IfErr (setting_set t text c) IsWantOfRoom
+setting-refused : (t : Setting) (text : List ℕ) (c : Contents) → allows t text ≡ true → IfErr (setting_set t text c) (MayRefuseSet (Some t) c)
 unfolding alias_set
-setting-refused (Kept p) text c h = property-room p text c h
+setting-refused (Kept p) text c h = property-refused p text c h
 setting-refused (Aliased a) text c h = limit-refused a (number_of text) c h
 
-named-refused : (o : Option Setting) (value : Value) (c : Contents) → allows_value o value ≡ true → IfErr (named_set o value c) IsWantOfRoom
+named-refused : (o : Option Setting) (value : Value) (c : Contents) → allows_value o value ≡ true → IfErr (named_set o value c) (MayRefuseSet o c)
 named-refused None value c h = absurd (cc)
 named-refused (Some t) (Simple text) c h = setting-refused t text c h
 named-refused (Some t) (Complex pairs) c h = absurd (cc)
 named-refused (Some t) (Items texts) c h = absurd (cc)
 
-refusal : (name : List ℕ) (value : Value) (old : Contents) (e : ConfigFault) → with_property name value old ≡ Err e → IsTrue (is_settable name value) → IsWantOfRoom e
+refusal : (name : List ℕ) (value : Value) (old : Contents) (e : ConfigFault) → with_property name value old ≡ Err e → IsTrue (is_settable name value) → MayRefuseSet (setting_named name) old e
 unfolding with_property
-refusal name value old e h allowed = subst (λ (r : Result Contents ConfigFault). IfErr r IsWantOfRoom) h (named-refused (setting_named name) value old allowed)
+refusal name value old e h allowed = subst (λ (r : Result Contents ConfigFault). IfErr r (MayRefuseSet (setting_named name) old)) h (named-refused (setting_named name) value old allowed)
 
 put : (name : List ℕ) (value : Value) (old new : Contents) → IsSound old → with_property name value old ≡ Ok new → Put (setting_named name) value old new
 unfolding with_property
 put name value old new s h = named-put (setting_named name) value old new s h
 
+-- memory may always be wanting where there is such a property
+memory : (o : Option Setting) (value : Value) (old : Contents) → allows_value o value ≡ true → MayRefuseSet o old fault.Memory
+memory None value old h = absurd (cc)
+memory (Some t) value old h = tt
+
 pub sets : SetsWhereAllowed
 sets name value old new (Ok done) s h = let is = put name value old new s h in record { allowed = is.allowed; refused = λ _. tt; shows = is.shows }
-sets name value old new (Err fault.Memory) s h = record { allowed = tt; refused = λ _. tt; shows = tt }
+sets name value old new (Err fault.Memory) s h = record { allowed = tt; refused = memory (setting_named name) value old; shows = tt }
 sets name value old new (Err e) s h = record { allowed = tt; refused = λ allowed. refusal name value old _ h.0 allowed; shows = tt }

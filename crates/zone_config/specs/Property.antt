@@ -1,5 +1,5 @@
 -- The properties of the global scope: a row for each (zonecfg(8), PROPERTIES).
-use Rattle.std.specs.Prelude.{ℕ, List, [], ◌∷◌, Bool, true, false, Option, None, find, codes, if◌then◌else◌}
+use Rattle.std.specs.Prelude.{ℕ, List, [], ◌∷◌, ◌++◌, Bool, true, false, map, Option, None, find, codes, if◌then◌else◌}
 use Rattle.std.specs.Str.{bytes_eq}
 use Rattle.config_terms.specs.declared.terms.IpType.TheVariants.{Shared, Exclusive}
 use Rattle.config_terms.specs.declared.terms.IpType as ip
@@ -116,6 +116,9 @@ alias_name CpuShares = codes "cpu-shares"
 alias_name MaxLwps = codes "max-lwps"
 alias_name MaxProcesses = codes "max-processes"
 
+abbrev pub aliases : List Alias
+aliases = CpuShares ∷ MaxLwps ∷ MaxProcesses ∷ []
+
 -- the name of the rctl that an alias is kept as
 abbrev pub rctl_name : Alias → List ℕ
 rctl_name CpuShares = codes "zone.cpu-shares"
@@ -132,10 +135,9 @@ abbrev pub setting_name : Setting → List ℕ
 setting_name (Kept p) = property_name p
 setting_name (Aliased a) = alias_name a
 
+-- what can be set in the global scope
 abbrev pub settings : List Setting
-settings =
-    Kept Zonepath ∷ Kept Brand ∷ Kept Autoboot ∷ Kept Bootargs ∷ Kept Pool ∷ Kept Limitpriv ∷ Kept SchedulingClass ∷ Kept IpType
-    ∷ Kept Hostid ∷ Kept FsAllowed ∷ Aliased CpuShares ∷ Aliased MaxLwps ∷ Aliased MaxProcesses ∷ []
+settings = map Kept properties ++ map Aliased aliases
 
 -- what a name stands for
 unfoldable pub setting_named : List ℕ → Option Setting

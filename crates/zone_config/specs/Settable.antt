@@ -1,5 +1,5 @@
 -- What a user of `set_property` and `clear_property` relies on.
-use Rattle.std.specs.Prelude.{◌≡◌, ◌≢◌, ℕ, List, [], ◌∷◌, ◌++◌, Bool, false, not, filter, is_some, map, Option, Some, None, Result, IfErr, OnOk, IsTrue, ◌<◌}
+use Rattle.std.specs.Prelude.{◌≡◌, ◌≢◌, ℕ, List, [], ◌∷◌, ◌++◌, Bool, false, not, filter, is_some, map, Option, Some, None, Result, IfErr, OnOk, IsTrue, ◌<◌, ◌≤◌}
 use Rattle.zonecfg_lex.specs.declared.values.Value.{Value}
 use Rattle.zonecfg_lex.specs.declared.values.Value.TheVariants.{Simple}
 use Rattle.config_terms.specs.declared.fault.ConfigFault.{ConfigFault}
@@ -15,9 +15,9 @@ use Rattle.zone_config.specs.declared.terms.Property.{Property}
 use Rattle.zone_config.specs.declared.terms.Property.TheVariants.{Autoboot}
 use Rattle.zone_config.specs.declared.terms.Setting.{Setting}
 use Rattle.zone_config.specs.declared.terms.Setting.TheVariants.{Kept, Aliased}
-use Rattle.zone_config.specs.Edits.{alias_rctl, is_named_for, with_property, without_property}
+use Rattle.zone_config.specs.Edits.{alias_rctl, is_held, is_named_for, place_of, with_property, without_property}
 use Rattle.zone_config.specs.Property.{property_rule, setting_named, shown, unset_text}
-use Rattle.zone_config.specs.Sound.{IsSound}
+use Rattle.zone_config.specs.Sound.{IsSound, count}
 
 abbrev pub allows : Setting → List ℕ → Bool
 allows (Kept p) text = obeys (property_rule p) text
@@ -52,18 +52,26 @@ Shows (Some (Kept p)) (Simple text) old new = ShowsText p text old new
 Shows (Some (Aliased a)) (Simple text) old new = ShowsLimit a text old new
 Shows s value old new = ⊥
 
--- the refusals that are left where a value is allowed: an rctl of another form holds the alias, or there is no room
-abbrev pub IsWantOfRoom : ConfigFault → Type 0
-IsWantOfRoom Memory = Unit {0}
-IsWantOfRoom AliasHeld = Unit {0}
-IsWantOfRoom (TooMany limit) = limit ≡ 256
-IsWantOfRoom (TooLarge size) = 32768 < size
-IsWantOfRoom fault = ⊥
+-- an alias has no rctl yet, and there are as many resources as there may be
+pub record HasNoPlace (a : Alias) (limit : ℕ) (old : Contents) : Type 0 where
+  pub none : place_of a old.rctl ≡ None
+  pub told : limit ≡ 256
+  pub full : 256 ≤ count old
 
--- it succeeds only where the value is allowed; there it is refused only for want of room; and then the value shows
+-- how setting an allowed value may fail: for want of memory, or the text is too long; and of an alias, an rctl of another
+-- form holds it, or there is no place for its rctl
+abbrev pub MayRefuseSet : Option Setting → Contents → ConfigFault → Type 0
+MayRefuseSet None old fault = ⊥
+MayRefuseSet (Some s) old Memory = Unit {0}
+MayRefuseSet (Some s) old (TooLarge size) = 32768 < size
+MayRefuseSet (Some (Aliased a)) old AliasHeld = IsTrue (is_held a old.rctl)
+MayRefuseSet (Some (Aliased a)) old (TooMany limit) = HasNoPlace a limit old
+MayRefuseSet (Some s) old fault = ⊥
+
+-- it succeeds only where the value is allowed; there it fails only in these ways; and where it succeeds the value shows
 pub record Sets (name : List ℕ) (value : Value) (old new : Contents) (result : Result (Unit {0}) ConfigFault) : Type 0 where
   pub allowed : OnOk result (IsTrue (is_settable name value))
-  pub refused : IsTrue (is_settable name value) → IfErr result IsWantOfRoom
+  pub refused : IsTrue (is_settable name value) → IfErr result (MayRefuseSet (setting_named name) old)
   pub shows : OnOk result (Shows (setting_named name) value old new)
 
 abbrev pub SetsWhereAllowed : Type 0
@@ -83,16 +91,17 @@ IsCleared None old new = ⊥
 IsCleared (Some (Kept p)) old new = ShowsText p (unset_text p) old new
 IsCleared (Some (Aliased a)) old new = HasNoLimit a old new
 
--- why a property of this name may not be cleared: there is none, an rctl holds the alias, or `false` is too long
-abbrev pub MayRefuseClear : Option Setting → ConfigFault → Type 0
-MayRefuseClear None UnknownProperty = Unit {0}
-MayRefuseClear (Some (Aliased a)) AliasHeld = Unit {0}
-MayRefuseClear (Some (Kept Autoboot)) (TooLarge size) = 32768 < size
-MayRefuseClear s fault = ⊥
+-- how clearing a property of a name may fail: there is none, an rctl of another form holds the alias, or the text with
+-- `false` is too long
+abbrev pub MayRefuseClear : Option Setting → Contents → ConfigFault → Type 0
+MayRefuseClear None old UnknownProperty = Unit {0}
+MayRefuseClear (Some (Aliased a)) old AliasHeld = IsTrue (is_held a old.rctl)
+MayRefuseClear (Some (Kept Autoboot)) old (TooLarge size) = 32768 < size
+MayRefuseClear s old fault = ⊥
 
 pub record Clears (name : List ℕ) (old new : Contents) (result : Result (Unit {0}) ConfigFault) : Type 0 where
   pub cleared : OnOk result (IsCleared (setting_named name) old new)
-  pub refused : IfErr result (MayRefuseClear (setting_named name))
+  pub refused : IfErr result (MayRefuseClear (setting_named name) old)
 
 abbrev pub ClearsWhereNamed : Type 0
 ClearsWhereNamed =

@@ -19,8 +19,8 @@ use std::ops::Deref;
 use zn_base::Text;
 use zonecfg_lex::{Pair, Value};
 
-/// The greatest length of an export text, in bytes.
-pub const TEXT_MAX: usize = 32_768;
+// The greatest length of an export text, in bytes.
+const TEXT_MAX: usize = 32_768;
 
 /// A configuration: each property that is set has a value that its rule allows, no two rctls, attrs or
 /// datasets have one name and no two devices one match, there are at most 256 resources, 100 of them file

@@ -17,6 +17,7 @@ pub use config::{ZoneConfig, blank};
 pub use config_terms::{Attr, ConfigFault, Fs, IpType, Kind, Limit, Listing, Net, Rctl, Resource};
 pub use laws::{clears_where_named, sets_where_allowed};
 pub use printing::export;
+pub use property::PROPERTIES;
 pub use terms::{Alias, Contents, Property, Setting};
 
 #[cfg(test)]

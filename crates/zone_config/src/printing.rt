@@ -5,23 +5,9 @@ ghost use Rattle.config_terms.specs.Texts.{attr_text, dataset_text, device_text,
 ghost use Rattle.zone_config.specs.Export.{export_text, property_line};
 ghost use Rattle.zone_config.specs.Property.{properties};
 
-use crate::{Contents, Property, ZoneConfig};
+use crate::{Contents, PROPERTIES, Property, ZoneConfig};
 use config_terms::{ConfigFault, Kind, push_entries, push_setting};
 use std::alloc::{AllocError, Global};
-
-// All of them, in the order in which they are printed.
-const PROPERTIES: [Property; 10] = [
-    Property::Zonepath,
-    Property::Brand,
-    Property::Autoboot,
-    Property::Bootargs,
-    Property::Pool,
-    Property::Limitpriv,
-    Property::SchedulingClass,
-    Property::IpType,
-    Property::Hostid,
-    Property::FsAllowed,
-];
 
 fn push_lines(
     out: &mut Vec<u8>,

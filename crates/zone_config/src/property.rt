@@ -5,22 +5,22 @@ ghost use Rattle.zone_config.specs.Property.{alias_name, denies, property_name, 
 use crate::{Alias, Property, Setting};
 use config_terms::Rule;
 
-// Each name of the global scope.
-const SETTINGS: [Setting; 13] = [
-    Setting::Kept(Property::Zonepath),
-    Setting::Kept(Property::Brand),
-    Setting::Kept(Property::Autoboot),
-    Setting::Kept(Property::Bootargs),
-    Setting::Kept(Property::Pool),
-    Setting::Kept(Property::Limitpriv),
-    Setting::Kept(Property::SchedulingClass),
-    Setting::Kept(Property::IpType),
-    Setting::Kept(Property::Hostid),
-    Setting::Kept(Property::FsAllowed),
-    Setting::Aliased(Alias::CpuShares),
-    Setting::Aliased(Alias::MaxLwps),
-    Setting::Aliased(Alias::MaxProcesses),
+/// All kept properties of the global scope, in the order in which they are shown and printed (zonecfg(8),
+/// PROPERTIES).
+pub const PROPERTIES: [Property; 10] = [
+    Property::Zonepath,
+    Property::Brand,
+    Property::Autoboot,
+    Property::Bootargs,
+    Property::Pool,
+    Property::Limitpriv,
+    Property::SchedulingClass,
+    Property::IpType,
+    Property::Hostid,
+    Property::FsAllowed,
 ];
+
+const ALIASES: [Alias; 3] = [Alias::CpuShares, Alias::MaxLwps, Alias::MaxProcesses];
 
 impl Property {
     /// The property's name.
@@ -43,7 +43,7 @@ impl Property {
     }
 
     /// What a value of the property may be.
-    pub fn rule(self) -> Rule
+    pub(crate) fn rule(self) -> Rule
         ensures { result ≡ property_rule self }
     {
         match self {
@@ -57,7 +57,7 @@ impl Property {
     }
 
     /// What the property shows while it is not set.
-    pub fn unset_text(self) -> &'static [u8]
+    pub(crate) fn unset_text(self) -> &'static [u8]
         ensures text { result.now ≡ unset_text self }
         ensures short { length result.now ≤ 16 }
     {
@@ -70,8 +70,8 @@ impl Property {
 }
 
 impl Alias {
-    /// The name under which the limit is set.
-    pub fn name(self) -> &'static [u8]
+    // The name under which the limit is set.
+    fn name(self) -> &'static [u8]
         ensures { result.now ≡ alias_name self }
     {
         match self {
@@ -93,7 +93,7 @@ impl Alias {
     }
 
     /// Whether what goes past the limit is denied.
-    pub fn denies(self) -> bool
+    pub(crate) fn denies(self) -> bool
         ensures { result ≡ denies self }
     {
         !matches!(self, Alias::CpuShares)
@@ -115,9 +115,11 @@ impl Setting {
     pub fn named(name: &[u8]) -> Option<Setting>
         ensures { result ≡ setting_named name.now }
     {
-        SETTINGS
+        PROPERTIES
             .iter()
             .copied()
+            .map(Setting::Kept)
+            .chain(ALIASES.iter().copied().map(Setting::Aliased))
             .find(|setting| setting.name() == name)
     }
 }

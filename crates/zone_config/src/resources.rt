@@ -9,11 +9,11 @@ use config_terms::{ConfigFault, Kind, Resource, entry_length, find_entry, is_tak
 use std::alloc::AllocError;
 use zonecfg_lex::Pair;
 
-/// The greatest number of resources of a configuration.
-pub const RESOURCES_MAX: usize = 256;
+// The greatest number of resources of a configuration.
+const RESOURCES_MAX: usize = 256;
 
-/// The greatest number of file systems among them.
-pub const FS_MAX: usize = 100;
+// The greatest number of file systems among them.
+const FS_MAX: usize = 100;
 
 impl Contents {
     #[tactic(auto, unfolding(crate::specs::Sound::count))]

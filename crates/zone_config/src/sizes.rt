@@ -11,7 +11,7 @@ use config_terms::{Resource, entry_length, setting_length};
 
 /// The length once a property shows a value.
 #[tactic(auto, using(crate::proofs::PropertyEdits::size_with))]
-pub fn size_with(contents: &Contents, size: usize, property: Property, value: &[u8]) -> usize
+pub(crate) fn size_with(contents: &Contents, size: usize, property: Property, value: &[u8]) -> usize
     requires kept { IsKept contents.now size }
     requires shows { shown property (with_value property value.now contents.now) ≡ value.now }
     requires short { length value.now ≤ 4200 }
@@ -23,7 +23,7 @@ pub fn size_with(contents: &Contents, size: usize, property: Property, value: &[
 
 /// The length once there is one more resource.
 #[tactic(auto, using(crate::proofs::ResourceEdits::size_added))]
-pub fn size_added(contents: &Contents, size: usize, resource: &Resource) -> usize
+pub(crate) fn size_added(contents: &Contents, size: usize, resource: &Resource) -> usize
     requires { IsKept contents.now size }
     ensures { result ≡ length (export_text (added resource.now contents.now)) }
 {
@@ -32,7 +32,12 @@ pub fn size_added(contents: &Contents, size: usize, resource: &Resource) -> usiz
 
 /// The length once a resource has the place of another of its kind.
 #[tactic(auto, using(crate::proofs::ResourceEdits::size_replaced))]
-pub fn size_replaced(contents: &Contents, size: usize, place: usize, resource: &Resource) -> usize
+pub(crate) fn size_replaced(
+    contents: &Contents,
+    size: usize,
+    place: usize,
+    resource: &Resource,
+) -> usize
     requires kept { IsKept contents.now size }
     requires place { place < count_of (kind_of resource.now) contents.now }
     ensures { result ≡ length (export_text (replaced place resource.now contents.now)) }
