@@ -1,5 +1,5 @@
 -- Addresses, and the values of attributes.
-use Rattle.std.specs.Prelude.{ℕ, List, [], ◌∷◌, ◌+◌, Bool, true, false, nat_le, ◌&&◌, ◌||◌, ◌==◌, Option, Some, None, codes, drop, position, take, if◌then◌else◌}
+use Rattle.std.specs.Prelude.{ℕ, List, [], ◌∷◌, Bool, true, false, nat_le, ◌&&◌, ◌||◌, ◌==◌, Option, Some, None, codes, if◌then◌else◌}
 use Rattle.std.specs.Char.{is_ascii_digit}
 use Rattle.std.specs.List.{before_first, slice_split}
 use Rattle.std.specs.Str.{bytes_eq}
@@ -26,13 +26,14 @@ are_four_octets words = false
 unfoldable pub is_plain_address : List ℕ → Bool
 is_plain_address text = are_four_octets (slice_split is_dot text)
 
-abbrev pub has_prefix_at : Option ℕ → List ℕ → Bool
-has_prefix_at None text = is_plain_address text
-has_prefix_at (Some place) text = is_plain_address (take place text) && is_up_to 32 (drop (place + 1) text)
+abbrev pub has_prefix : List (List ℕ) → Bool
+has_prefix (a ∷ []) = is_plain_address a
+has_prefix (a ∷ n ∷ []) = is_plain_address a && is_up_to 32 n
+has_prefix parts = false
 
 -- such an address, and perhaps a slash and a number from 0 to 32
 unfoldable pub is_address : List ℕ → Bool
-is_address text = has_prefix_at (position is_slash text) text
+is_address text = has_prefix (slice_split is_slash text)
 
 -- an address without its prefix
 unfoldable pub without_prefix : List ℕ → List ℕ

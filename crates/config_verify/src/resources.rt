@@ -1,11 +1,11 @@
 //! The flaws of resources.
-ghost use Rattle.std.specs.Prelude.{◌≡◌, ◌<◌, ◌≤◌, ◌^◌, ◌&&◌, ◌==◌, [], bytes_eq, is_some, length, not};
+ghost use Rattle.std.specs.Prelude.{◌≡◌, ◌<◌, ◌≤◌, ◌^◌, ◌&&◌, ◌||◌, ◌==◌, [], bytes_eq, is_some, length, not};
 ghost use Rattle.std.specs.List.{flat_map, list_any};
 ghost use Rattle.config_terms.specs.declared.fields.Field.TheVariants.{FsDir, FsSpecial};
 ghost use Rattle.config_terms.specs.declared.fields.Named.TheVariants.{Many, One};
 ghost use Rattle.config_terms.specs.declared.terms.Kind.TheVariants as kind;
-ghost use Rattle.config_verify.specs.declared.flaw.Flaw.TheVariants.{AttrForm};
-ghost use Rattle.config_verify.specs.Flaws.{claimed, dir_flaws, each_behind, flaws_of_attr, flaws_of_dataset, flaws_of_device, flaws_of_fs, flaws_of_net, flaws_of_rctl, form_flaws, has_dir, has_form, has_special, is_claimed, is_unset, needed, needs_address, needs_text, unless, Finds};
+ghost use Rattle.config_verify.specs.declared.flaw.Flaw.TheVariants.{AttrForm, BadAddress};
+ghost use Rattle.config_verify.specs.Flaws.{claimed, dir_flaws, each_behind, flaws_of_attr, flaws_of_dataset, flaws_of_device, flaws_of_fs, flaws_of_net, flaws_of_rctl, form_flaws, has_dir, has_form, has_special, is_claimed, is_unset, needed, needs_text, unless, Finds};
 ghost use Rattle.config_verify.specs.Values.{is_address, is_of_form, is_plain_address};
 
 use crate::Flaw;
@@ -150,20 +150,11 @@ fn form_flaw(ip: IpType, before: &[Net], net: &Net) -> Result<(), Flaw>
     }
 }
 
-fn needs_address(alloc: Global, text: &Text) -> Result<(), Flaw>
-    ensures { Finds (needs_address is_address text.now) result }
+// The flaw of an address that is set and not right.
+fn needs_address(alloc: Global, text: &Text, is_right: bool) -> Result<(), Flaw>
+    ensures { Finds (unless (is_unset text.now || is_right) (BadAddress text.now)) result }
 {
-    if !is_set(text) || is_address(text.bytes()) {
-        Ok(())
-    } else {
-        Err(Flaw::BadAddress(text.copy(alloc)?))
-    }
-}
-
-fn needs_router(alloc: Global, text: &Text) -> Result<(), Flaw>
-    ensures { Finds (needs_address is_plain_address text.now) result }
-{
-    if !is_set(text) || is_plain_address(text.bytes()) {
+    if !is_set(text) || is_right {
         Ok(())
     } else {
         Err(Flaw::BadAddress(text.copy(alloc)?))
@@ -176,9 +167,13 @@ fn flaw_of_net(alloc: Global, ip: IpType, before: &[Net], net: &Net) -> Result<(
 {
     needs_text(&net.physical, Kind::Net, Named::One(Field::NetPhysical))?;
     form_flaw(ip, before, net)?;
-    needs_address(alloc, &net.address)?;
-    needs_address(alloc, &net.allowed)?;
-    needs_router(alloc, &net.defrouter)
+    needs_address(alloc, &net.address, is_address(net.address.bytes()))?;
+    needs_address(alloc, &net.allowed, is_address(net.allowed.bytes()))?;
+    needs_address(
+        alloc,
+        &net.defrouter,
+        is_plain_address(net.defrouter.bytes()),
+    )
 }
 
 pub(crate) fn flaw_of_nets(alloc: Global, ip: IpType, all: &[Net]) -> Result<(), Flaw>
@@ -201,8 +196,8 @@ fn flaw_of_device(device: &Text) -> Result<(), Flaw>
 pub(crate) fn flaw_of_devices(all: &[Text]) -> Result<(), Flaw>
     ensures { Finds (flat_map flaws_of_device all.now) result }
 {
-    for place in 0..all.len() {
-        flaw_of_device(&all[place])?;
+    for device in all {
+        flaw_of_device(device)?;
     }
     Ok(())
 }
@@ -223,8 +218,8 @@ fn flaw_of_rctl(rctl: &Rctl) -> Result<(), Flaw>
 pub(crate) fn flaw_of_rctls(all: &[Rctl]) -> Result<(), Flaw>
     ensures { Finds (flat_map flaws_of_rctl all.now) result }
 {
-    for place in 0..all.len() {
-        flaw_of_rctl(&all[place])?;
+    for rctl in all {
+        flaw_of_rctl(rctl)?;
     }
     Ok(())
 }
@@ -251,8 +246,8 @@ fn flaw_of_attr(alloc: Global, attr: &Attr) -> Result<(), Flaw>
 pub(crate) fn flaw_of_attrs(alloc: Global, all: &[Attr]) -> Result<(), Flaw>
     ensures { Finds (flat_map flaws_of_attr all.now) result }
 {
-    for place in 0..all.len() {
-        flaw_of_attr(alloc, &all[place])?;
+    for attr in all {
+        flaw_of_attr(alloc, attr)?;
     }
     Ok(())
 }
@@ -267,8 +262,8 @@ fn flaw_of_dataset(dataset: &Text) -> Result<(), Flaw>
 pub(crate) fn flaw_of_datasets(all: &[Text]) -> Result<(), Flaw>
     ensures { Finds (flat_map flaws_of_dataset all.now) result }
 {
-    for place in 0..all.len() {
-        flaw_of_dataset(&all[place])?;
+    for dataset in all {
+        flaw_of_dataset(dataset)?;
     }
     Ok(())
 }

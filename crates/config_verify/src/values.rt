@@ -72,7 +72,7 @@ pub(crate) fn is_plain_address(text: &[u8]) -> bool
     }
 }
 
-#[tactic(auto, unfolding(crate::specs::Values::is_address))]
+#[tactic(auto, using(crate::proofs::Addresses::no_slash, crate::proofs::Addresses::good_front, crate::proofs::Addresses::bad_front))]
 pub(crate) fn is_address(text: &[u8]) -> bool
     ensures { result ≡ is_address text.now }
 {

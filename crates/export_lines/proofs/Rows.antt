@@ -17,8 +17,8 @@ use Rattle.config_terms.specs.declared.terms.Limit.{Limit}
 use Rattle.export_lines.proofs.Again.{IsPlain, command_again, none_of, own}
 use Rattle.export_lines.proofs.Cuts.{AreLines, IsOneLine, lines_of-ended}
 use Rattle.export_lines.proofs.Printable.{ArePlain, plain-script}
-use Rattle.export_lines.proofs.Texts.{text-script}
-use Rattle.export_lines.specs.Commands.{line_of, script, text_of}
+use Rattle.export_lines.proofs.Texts.{text-script, text_of}
+use Rattle.export_lines.specs.Commands.{line_of, script}
 use Rattle.zn_base.specs.Lines.{is_newline, lines_of}
 use Rattle.export_lines.specs.Lines.{ended}
 use Rattle.export_lines.specs.Reading.{command_of}

@@ -8,12 +8,16 @@ use Rattle.config_terms.specs.Texts.{attr_text, dataset_text, device_text, entry
 use Rattle.config_terms.specs.declared.fields.Field.{Field}
 use Rattle.config_terms.specs.declared.terms.Kind.{Kind}
 use Rattle.config_terms.specs.declared.terms.Limit.{Limit}
-use Rattle.export_lines.specs.Commands.{attr_commands, dataset_commands, device_commands, entry_commands, fs_commands, line_of, net_commands, property_commands, rctl_commands, script, text_of, where_any, where_set}
+use Rattle.export_lines.specs.Commands.{attr_commands, dataset_commands, device_commands, entry_commands, fs_commands, line_of, net_commands, property_commands, rctl_commands, script, where_any, where_set}
 use Rattle.export_lines.specs.declared.command.Command.{Command}
 use Rattle.export_lines.specs.declared.command.Command.TheVariants.{Value, End}
 use Rattle.zone_config.specs.Export.{export_text, property_line}
 use Rattle.zone_config.specs.Property.{properties}
 use Rattle.zone_config.specs.declared.terms.Contents.{Contents}
+
+-- commands as a text: each has a line of its own
+abbrev pub text_of : List Command → List ℕ
+text_of commands = flat_map (λ x. line_of x ++ 10 ∷ []) commands
 
 pub text-append : (xs ys : List Command) → text_of (xs ++ ys) ≡ text_of xs ++ text_of ys
 text-append xs ys = flat_map-append (λ x. line_of x ++ 10 ∷ []) xs ys

@@ -66,7 +66,3 @@ unfoldable pub script : Contents → List Command
 script c =
     Create ∷ (flat_map (property_commands c) properties ++ (flat_map fs_commands c.fs ++ (flat_map net_commands c.net
     ++ (flat_map device_commands c.device ++ (flat_map rctl_commands c.rctl ++ (flat_map attr_commands c.attr ++ flat_map dataset_commands c.dataset))))))
-
--- commands as a text: each has a line of its own
-abbrev pub text_of : List Command → List ℕ
-text_of commands = flat_map (λ x. line_of x ++ 10 ∷ []) commands

@@ -1,5 +1,5 @@
 //! The command that a line may say.
-ghost use Rattle.std.specs.Prelude.{◌≡◌, ◌==◌, ◌<◌, ◌≤◌, ◌+◌, [], length, position, drop, take, IfOk, None, Some, if◌then◌else◌, option_copied};
+ghost use Rattle.std.specs.Prelude.{◌≡◌, ◌==◌, [], position, IfOk, None, Some, if◌then◌else◌, option_copied};
 ghost use Rattle.std.specs.List.{after_first, before_first, list_all, slice_split};
 ghost use Rattle.zn_base.specs.Text.{is_text};
 ghost use Rattle.export_lines.specs.Reading.{behind, command_of, is_comma, limit_of, opening_of, options_of, set_of, setting_of, texts_among, unquoted, without_last};
@@ -89,37 +89,17 @@ fn opening_of(name: &[u8]) -> Option<Command>
     }
 }
 
-fn rest_behind(bytes: &[u8], at: usize) -> &[u8]
-    requires { at < length bytes.now }
-    ensures { result.now ≡ drop (at + 1) bytes.now }
-{
-    &bytes[at + 1..]
-}
-
-fn front(bytes: &[u8], at: usize) -> &[u8]
-    requires { at < length bytes.now }
-    ensures { result.now ≡ take at bytes.now }
-{
-    &bytes[..at]
-}
-
 // The options that the pieces between commas are, if each is a text.
 fn texts_of(alloc: Global, bytes: &[u8]) -> Result<Option<Listing<Text>>, AllocError>
     ensures { IfOk result (λ texts. texts ≡ texts_among (slice_split is_comma bytes.now)) }
 {
     let mut texts = Listing::new(alloc);
-    let mut rest = bytes;
-    while let Some(at) = place_of(rest, b',') {
-        let Some(piece) = text(alloc, front(rest, at))? else {
+    for piece in bytes.split(|b| *b == b',') {
+        let Some(option) = text(alloc, piece)? else {
             return Ok(None);
         };
-        texts.push(piece)?;
-        rest = rest_behind(rest, at);
+        texts.push(option)?;
     }
-    let Some(piece) = text(alloc, rest)? else {
-        return Ok(None);
-    };
-    texts.push(piece)?;
     Ok(Some(texts))
 }
 

@@ -21,8 +21,8 @@ use Rattle.config_terms.specs.declared.terms.Kind.{Kind}
 use Rattle.config_terms.specs.declared.terms.Limit.{Limit}
 use Rattle.config_terms.specs.declared.terms.Resource.{Resource}
 use Rattle.export_lines.proofs.Printable.{fits-set}
-use Rattle.export_lines.proofs.Texts.{text-append, text-where_set}
-use Rattle.export_lines.specs.Commands.{entry_commands, text_of, where_any, where_set}
+use Rattle.export_lines.proofs.Texts.{text-append, text-where_set, text_of}
+use Rattle.export_lines.specs.Commands.{entry_commands, where_any, where_set}
 use Rattle.export_lines.specs.declared.command.Command.{Command}
 use Rattle.export_lines.specs.declared.command.Command.TheVariants.{Open, Options, Value, End}
 use Rattle.zone_config.specs.Export.{export_text}

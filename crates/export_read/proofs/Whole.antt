@@ -10,7 +10,8 @@ use Rattle.export_lines.proofs.Again.{command_again}
 use Rattle.export_lines.proofs.Cuts.{AreLines, lines_are, lines_of-ended}
 use Rattle.export_lines.proofs.Printable.{ArePlain, plain-script}
 use Rattle.export_lines.proofs.Rows.{ended-map, lines-script, plain_lines}
-use Rattle.export_lines.specs.Commands.{attr_commands, dataset_commands, device_commands, fs_commands, line_of, net_commands, property_commands, rctl_commands, script, text_of}
+use Rattle.export_lines.proofs.Texts.{text_of}
+use Rattle.export_lines.specs.Commands.{attr_commands, dataset_commands, device_commands, fs_commands, line_of, net_commands, property_commands, rctl_commands, script}
 use Rattle.zn_base.specs.Lines.{lines_of}
 use Rattle.export_lines.specs.Lines.{ended}
 use Rattle.export_lines.specs.declared.command.Command.{Command}

@@ -8,7 +8,7 @@ ghost use Rattle.zone_config.specs.Resources.{with_resource};
 ghost use Rattle.export_read.specs.Drafts.{closed, ended_in, opened, put, set_in, with_limit, with_options};
 ghost use Rattle.export_read.specs.Halts.{Puts};
 
-use crate::halt::{Halt, halt_of};
+use crate::halt::Halt;
 use config_terms::{Limit, Listing, Resource};
 use export_lines::Command;
 use std::alloc::Global;
@@ -32,10 +32,8 @@ pub fn with_property(
 ) -> Result<ZoneConfig, Halt>
     ensures { Puts (result_ok (with_property name.now (Simple value) config)) result }
 {
-    match config.set_property(alloc, name, &Value::Simple(value)) {
-        Ok(()) => Ok(config),
-        Err(fault) => Err(halt_of(fault)),
-    }
+    config.set_property(alloc, name, &Value::Simple(value))?;
+    Ok(config)
 }
 
 #[tactic(auto, using(crate::proofs::Refusals::done, crate::proofs::Refusals::refused))]
@@ -47,20 +45,16 @@ pub fn with_own(
 ) -> Result<Resource, Halt>
     ensures { Puts (result_ok (with_own name.now (Simple value) resource)) result }
 {
-    match resource.set_property(alloc, name, &Value::Simple(value)) {
-        Ok(()) => Ok(resource),
-        Err(fault) => Err(halt_of(fault)),
-    }
+    resource.set_property(alloc, name, &Value::Simple(value))?;
+    Ok(resource)
 }
 
 #[tactic(auto, using(crate::proofs::Refusals::done, crate::proofs::Refusals::refused))]
 pub fn with_resource(mut config: ZoneConfig, resource: Resource) -> Result<ZoneConfig, Halt>
     ensures { Puts (result_ok (with_resource resource config)) result }
 {
-    match config.add_resource(resource) {
-        Ok(()) => Ok(config),
-        Err(fault) => Err(halt_of(fault)),
-    }
+    config.add_resource(resource)?;
+    Ok(config)
 }
 
 fn with_options(resource: Resource, options: Listing<Text>) -> Result<Resource, Halt>

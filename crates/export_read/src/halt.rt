@@ -21,12 +21,14 @@ impl From<AllocError> for Halt {
     }
 }
 
-/// What a fault of a call on a configuration means for the line that made the call.
-pub fn halt_of(fault: ConfigFault) -> Halt
-    ensures { result ≡ halt_of fault }
-{
-    match fault {
-        ConfigFault::Memory => Halt::Memory,
-        _ => Halt::Refused,
+impl From<ConfigFault> for Halt {
+    ghost from_gives = { λ fault e. e ≡ halt_of fault };
+
+    // What a fault of a call on a configuration means for the line that made the call.
+    fn from(fault: ConfigFault) -> Self {
+        match fault {
+            ConfigFault::Memory => Halt::Memory,
+            _ => Halt::Refused,
+        }
     }
 }

@@ -55,10 +55,7 @@ fn drafted(alloc: Global, text: &[u8]) -> Result<Draft, Halt>
     let mut draft = start(alloc)?;
     let mut rest = text;
     while !rest.is_empty() {
-        match put_line(alloc, draft, first_line(rest)) {
-            Ok(next) => draft = next,
-            Err(halt) => return Err(halt),
-        }
+        draft = put_line(alloc, draft, first_line(rest))?;
         rest = behind_line(rest);
     }
     Ok(draft)

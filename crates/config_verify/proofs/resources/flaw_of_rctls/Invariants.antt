@@ -4,5 +4,5 @@ use Rattle.config_verify.specs.Flaws.{first, flaws_of_rctl}
 use Rattle.config_verify.proofs.resources.flaw_of_rctls.Given as goal
 
 -- those before the place have no flaw
-abbrev pub invariant-loop-place : goal.invariant-loop-place
-invariant-loop-place l = first (flat_map flaws_of_rctl l.all) ≡ first (flat_map flaws_of_rctl (drop l.place l.all))
+abbrev pub invariant-loop-rctl : goal.invariant-loop-rctl
+invariant-loop-rctl l = first (flat_map flaws_of_rctl l.all) ≡ first (flat_map flaws_of_rctl (drop l.rctl-index l.all))
