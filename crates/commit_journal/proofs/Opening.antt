@@ -1,16 +1,31 @@
 -- What opening an image as a store comes to.
-use Rattle.std.proofs.Common.{◌≡◌, ℕ, List, ap, subst}
+use Rattle.std.proofs.Common.{◌≡◌, ℕ, List, [], ap, arith, subst}
 use Rattle.std.specs.Prelude.{Result, Ok, Err}
 use Rattle.zone_disk.specs.declared.fault.BankFault.{BankFault}
 use Rattle.zone_disk.specs.declared.fault.BankFault.TheVariants as bank
-use Rattle.zone_disk.specs.Image.{Opens, OpensOneWay, Stands}
+use Rattle.zone_disk.specs.Bank.{Formats}
+use Rattle.zone_disk.specs.Image.{IsUnformatted, Opens, OpensOneWay, Stands}
 use Rattle.commit_journal.specs.declared.fault.StoreFault.{StoreFault}
 use Rattle.commit_journal.specs.declared.fault.StoreFault.TheVariants.{Memory, NotAStore, BadRecord, DiskFault, BankFull, RecordForm}
 use Rattle.commit_journal.specs.Faults.{of_bank}
 use Rattle.commit_journal.specs.Journal.{IsFirstBad, Leave}
+use Rattle.commit_journal.specs.Replay.{Stops}
 use Rattle.commit_journal.specs.Store.{IsOutOfForm, OpensStore, Stores}
 use Rattle.commit_journal.specs.Stored.{Rows}
 use Rattle.commit_journal.proofs.Says.{first_one, leave_one, none_bad}
+
+-- no bodies stop nothing
+none_stops : (e : StoreFault) → Stops [] e → ⊥
+none_stops Memory h = absurd (omega arith)
+none_stops (RecordForm serial) h = absurd (omega (arith, h.positive, h.within))
+none_stops DiskFault h = h
+none_stops BankFull h = h
+none_stops (NotAStore place) h = h
+none_stops (BadRecord place) h = h
+
+-- where bodies stop, the disk had some, so that it was no unformatted one
+pub still_there : (old new : List ℕ) (bodies : List (List ℕ)) (e : StoreFault) → Formats old new → (IsUnformatted old → bodies ≡ []) → Stops bodies e → new ≡ old
+still_there old new bodies e formats empty stops = formats.other (λ u. none_stops e (subst (λ (l : List (List ℕ)). Stops l e) (empty u) stops))
 
 -- one thing at most
 module _ (one_way : OpensOneWay) (image : List ℕ) where

@@ -1,4 +1,4 @@
--- What the bodies of a store say, and the first that says nothing.
+-- What the bodies of a store say, and the first that is out of form or that may not follow those before it.
 use Rattle.std.specs.Prelude.{◌≡◌, ℕ, ◌+◌, ◌-◌, ◌≤◌, List, ◌∷◌, ◌++◌, length, take, map, All, Bool, nat_le, IsTrue}
 use Rattle.zone_disk.specs.Image.{BANK}
 use Rattle.commit_journal.specs.declared.records.Commit.{Commit}

@@ -49,7 +49,7 @@ StoresOneMore bodies rows z row image = Stores (bodies ++ change_text z row ∷ 
 abbrev pub IsBeforeOrAfter : List (List ℕ) → Rows → Name → Option Record → List ℕ → Type 0
 IsBeforeOrAfter bodies rows z row image = Stores bodies rows image ⊎ StoresOneMore bodies rows z row image
 
--- the image stands for bodies of which the one of this number is the first that says nothing
+-- the image stands for bodies of which the one of this number is the first that is out of form, removes a zone that isn't stored, or stores a 257th
 pub record IsOutOfForm (image : List ℕ) (serial : ℕ) : Type 0 where
   pub bodies : List (List ℕ)
   pub stands : Stands image bodies

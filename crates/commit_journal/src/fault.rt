@@ -18,7 +18,8 @@ pub enum StoreFault {
     DiskFault,
     #[error("the bank is full")]
     BankFull,
-    /// The number of the first record that says nothing, from 1.
+    /// The number, from 1, of the first record that is out of form, removes a zone that isn't stored, or
+    /// stores a 257th.
     #[error("record {0} is out of form")]
     RecordForm(u32),
 }

@@ -18,6 +18,5 @@ mod uuids;
 pub use fault::StoreFault;
 pub use laws::{applies_one_by_one, one_commit_a_body, opens_store_one_way};
 pub use records::{Commit, Record};
-pub use rows::ZONES_MAX;
 pub use store::Store;
 pub use uuids::uuid_of;

@@ -30,7 +30,8 @@ fn take_in(alloc: Global, zones: &mut Zones, body: &[u8]) -> Result<bool, AllocE
     Ok(true)
 }
 
-/// The zones that bodies leave, or the number of the first body that says nothing.
+/// The zones that bodies leave, or the number, from 1, of the first one that is out of form, removes a zone
+/// that isn't stored, or stores a 257th. No bodies leave no zones, which takes no memory.
 pub(crate) fn replay(alloc: Global, bodies: &[Body]) -> Result<Zones, StoreFault>
     requires { length bodies.now < 2 ^ 32 }
     ensures zones { IfOk result (λ zones. HasZones bodies.now (rows_of zones.entries)) }

@@ -10,8 +10,8 @@ use crate::Record;
 use indexmap::IndexMap;
 use zn_base::ZoneName;
 
-/// How many zones a store has at most.
-pub const ZONES_MAX: usize = 256;
+// How many zones a store has at most.
+const ZONES_MAX: usize = 256;
 
 /// The stored zones by their names, each with its record.
 pub(crate) type Zones = IndexMap<ZoneName, Record>;

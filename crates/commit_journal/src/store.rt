@@ -20,9 +20,7 @@ use crate::{Record, StoreFault};
 use std::alloc::{AllocError, Global};
 use std::marker::Model;
 use zn_base::{Disk, ZoneName};
-use zone_disk::{Bank, BankFault};
-
-const BANK_BYTES: usize = 33_554_432;
+use zone_disk::{BANK_BYTES, Bank, BankFault};
 
 /// The stored zones in the order of their creation, and the disk with the records that leave them. Contracts
 /// see a `Ledger`: the bank, and the zones with what is stored of each.
@@ -98,10 +96,7 @@ fn append<D: Disk>(bank: &mut Bank<D>, alloc: Global, body: &[u8]) -> Result<(),
     ensures model { (D.view bank.old.disk).Keeps ↔ (D.view bank.new.disk).Keeps }
     ensures faults { (D.view bank.old.disk).faults ≤ (D.view bank.new.disk).faults }
 {
-    match bank.append(alloc, body) {
-        Ok(()) => Ok(()),
-        Err(fault) => Err(StoreFault::from(fault)),
-    }
+    Ok(bank.append(alloc, body)?)
 }
 
 // Writes the record of a zone to the disk, once all memory is taken that is then needed.
@@ -152,6 +147,7 @@ fn write<D: Disk>(
 impl<D: Disk> Store<D> {
     /// Opens a store, and formats a disk that is unformatted. A crash at any moment meanwhile leaves what
     /// stands for the same records. A fault hands the disk back.
+    #[tactic(auto, using(crate::proofs::Opening::still_there))]
     pub fn open(alloc: Global, disk: D) -> Result<Store<D>, (StoreFault, D)>
         // The answer is what the disk's bytes come to, unless memory or the disk fails.
         ensures answers { (D.view disk).Keeps → Says (D.view disk).reads (outcome_by (λ store. store.bank.records) (λ store. store.rows) (λ e. e.0) result) }
@@ -161,9 +157,11 @@ impl<D: Disk> Store<D> {
         ensures any_moment_err { (D.view disk).Keeps → IfErr result (λ e. Leaves (D.view disk) (D.view e.1) (KeepsMeaning (D.view disk))) }
         ensures lasts { (D.view disk).Keeps → IfOk result (λ store. (image : List ℕ) → (D.view store.bank.disk).Now image → Stores store.bank.records store.rows image) }
 
-        // What is unformatted becomes a new store, and every other disk stays as it is, also one that is refused.
+        // What is unformatted becomes a new store, and every other disk stays as it is. After a fault other than
+        // that of the disk, want of memory included, each disk is as it was.
         ensures formats { (D.view disk).Keeps → IfOk result (λ store. Formats (D.view disk).reads (D.view store.bank.disk).reads) }
-        ensures refused_same { (D.view disk).Keeps → (IsUnformatted (D.view disk).reads → ⊥) → IfErr result (λ e. (D.view e.1).reads ≡ (D.view disk).reads) }
+        ensures refused_same { (D.view disk).Keeps → IfErr result (λ e. e.0 ≢ StoreFault.DiskFault → (D.view e.1).reads ≡ (D.view disk).reads) }
+        ensures other_same { (D.view disk).Keeps → (IsUnformatted (D.view disk).reads → ⊥) → IfErr result (λ e. (D.view e.1).reads ≡ (D.view disk).reads) }
         ensures sound { IfOk result (λ store. store.bank.sound ≡ true) }
 
         ensures model { IfOk result (λ store. (D.view disk).Keeps ↔ (D.view store.bank.disk).Keeps) }

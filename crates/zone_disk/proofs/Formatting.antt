@@ -2,7 +2,7 @@
 use Rattle.std.proofs.Common.{◌≡◌, ◌≢◌, inl, inr, ⊎_elim, ℕ, suc, ◌≤◌, List, [], ◌∷◌, ◌++◌, length, get_or, drop, refl, sym, ◌∙◌, ap, subst, arith}
 use Rattle.std.proofs.lemmas.List.{drop_all}
 use Rattle.std.proofs.lemmas.Bool.{cases_eq}
-use Rattle.std.specs.Prelude.{Result}
+use Rattle.std.specs.Prelude.{Result, Ok, Err, OnOk}
 use Rattle.zn_base.specs.Disk.{View, IsSound, IsDurable, GoesOn, NoMore, Leaves, OnlyLooks, Torn, patched}
 use Rattle.zone_disk.specs.Image.{IsFormatted, IsUnformatted, IsSame, Stands}
 use Rattle.zone_disk.specs.Bank.{KeepsMeaning, Formats, new_store}
@@ -64,8 +64,9 @@ module _ (old mid : View) (h : IsHeadless old.reads) (first : Leaves old mid (To
   after_head new wrote second =
       joined old mid new _ after_tail (weaker mid new _ _ (λ c torn. torn_head (get_or old.reads 0 1) c (subst (λ (l : List ℕ). Torn 0 1 l c) (wrote ∙ wrote_tail old.reads h) torn)) second)
 
-pub header_done : (old mid new : List ℕ) → IsHeadless old → mid ≡ patched old 1 tail → new ≡ patched mid 0 (1 ∷ []) → new ≡ new_store
-header_done old mid new h wrote opened = opened ∙ ap (λ (l : List ℕ). patched l 0 (1 ∷ [])) (wrote ∙ wrote_tail old h) ∙ patched_byte [] (get_or old 0 1) tail 0 refl 1
+pub header_done : {T E : Type 0} (r : Result T E) (old mid new : List ℕ) → IsHeadless old → mid ≡ patched old 1 tail → OnOk r (new ≡ patched mid 0 (1 ∷ [])) → OnOk r (new ≡ new_store)
+header_done (Ok done) old mid new h wrote opened = opened ∙ ap (λ (l : List ℕ). patched l 0 (1 ∷ [])) (wrote ∙ wrote_tail old h) ∙ patched_byte [] (get_or old 0 1) tail 0 refl 1
+header_done (Err e) old mid new h wrote opened = tt
 
 pub after_first : (old mid new : View) → length old.reads ≤ 1 → Leaves old mid (Torn 0 1 old.reads) → Leaves mid new (λ c. Stands c []) → Leaves old new (λ c. Stands c [])
 after_first old mid new le first rest = joined old mid new _ (weaker old mid _ _ (λ c torn. torn_first old.reads c le torn) first) rest

@@ -1,15 +1,14 @@
 -- Opening an image comes to at most one thing.
 use Rattle.std.proofs.Common.{◌≡◌, ◌⊎◌, inl, inr, ℕ, zero, suc, ◌+◌, ◌-◌, ◌<◌, ◌≤◌, List, [], ◌∷◌, ◌++◌, length, take, drop, get_or, refl, sym, ◌∙◌, ap, subst, arith, append_assoc, length-append, take-append-drop}
 use Rattle.std.specs.Prelude.{true, Result, Ok, Err, IfOk, IfErr}
-use Rattle.std.proofs.lemmas.Bool.{cases_lt, cases_eq, false≢true}
+use Rattle.std.proofs.lemmas.Bool.{cases_lt, false≢true}
 use Rattle.std.proofs.lemmas.List.{append_cancel_left}
 use Rattle.zone_disk.specs.declared.fault.BankFault.{BankFault}
 use Rattle.zone_disk.specs.declared.fault.BankFault.TheVariants.{NotAStore, BadRecord, DiskFault, BankFull, Memory}
 use Rattle.zone_disk.specs.Image.{four, blocks, header, front, BANK, is_right, IsCut, IsFormatted, IsUnformatted, IsFirstWrong, IsBadRecord, Stands, Opens}
 use Rattle.zone_disk.specs.Image.Stands.{formatted, unformatted}
-use Rattle.zone_disk.specs.Bank.{Formats, Says, IsSaid, Answers, outcome_by}
+use Rattle.zone_disk.specs.Bank.{Says, outcome_by}
 use Rattle.zone_disk.specs.Read.{Explains}
-use Rattle.zone_disk.proofs.Formatting.{whole}
 use Rattle.zone_disk.proofs.Blocks.{laid_out, length-front}
 use Rattle.zone_disk.proofs.Unique.{IsStop, shut_stops, unique, stands_unique, front_right}
 
@@ -107,55 +106,15 @@ one_way image (Err DiskFault) b s t = absurd s
 one_way image (Err BankFull) b s t = absurd s
 one_way image (Err Memory) b s t = absurd s
 
--- an unformatted image or not
-is_unformatted : (image : List ℕ) → IsUnformatted image ⊎ (IsUnformatted image → ⊥)
-is_unformatted [] = inl tt
-is_unformatted (x ∷ []) = inl tt
-is_unformatted (x ∷ y ∷ rest) = elim (cases_eq x 1) [
-  | inl one ↦ inr (λ u. u.0 one)
-  | inr shut ↦ elim (cases_lt 15 (length rest)) [
-    | inl long ↦ inr (λ u. omega (arith, u.1, long))
-    | inr short ↦ inl (shut, short)
-  ]
-]
-
--- what is read after formatting, said of the image before it
-module _ (old mid : List ℕ) (formats : Formats old mid) where
-  stands_before : (bodies : List (List ℕ)) → IsFormatted mid bodies → Stands old bodies
-  stands_before bodies f = elim (is_unformatted old) [
-    | inl u ↦
-        let new : Stands mid [] = formatted (subst (λ (l : List ℕ). IsFormatted l []) (sym (formats.unformatted u)) whole) in
-        unformatted u (stands_unique mid bodies [] (formatted f) new)
-    | inr other ↦ formatted (subst (λ (l : List ℕ). IsFormatted l bodies) (formats.other other) f)
-  ]
-
-  new_store_right : IsUnformatted old → (k : ℕ) → k < 17 → is_right mid k ≡ true
-  new_store_right u = formatted_right mid [] (subst (λ (l : List ℕ). IsFormatted l []) (sym (formats.unformatted u)) whole)
-
+-- what is read of a disk that isn't unformatted, said of the image before
+module _ (old mid : List ℕ) (other : IsUnformatted old → ⊥) (same : mid ≡ old) where
   explained_before : (fault : BankFault) → Explains fault mid → (fault ≡ Memory) ⊎ (fault ≡ DiskFault) ⊎ Opens old (Err fault)
   explained_before Memory e = inl refl
   explained_before DiskFault e = inr (inl refl)
   explained_before BankFull e = absurd e
-  explained_before (NotAStore place) e = elim (is_unformatted old) [
-    | inl u ↦ absurd (right_not_wrong mid place (new_store_right u) e)
-    | inr other ↦ inr (inr (other, subst (λ (l : List ℕ). IsFirstWrong l place) (formats.other other) e))
-  ]
-  explained_before (BadRecord place) e = elim (is_unformatted old) [
-    | inl u ↦ absurd (formatted_not_bad mid [] place (subst (λ (l : List ℕ). IsFormatted l []) (sym (formats.unformatted u)) whole) e)
-    | inr other ↦ inr (inr (subst (λ (l : List ℕ). IsBadRecord l place) (formats.other other) e))
-  ]
+  explained_before (NotAStore place) e = inr (inr (other, subst (λ (l : List ℕ). IsFirstWrong l place) same e))
+  explained_before (BadRecord place) e = inr (inr (subst (λ (l : List ℕ). IsBadRecord l place) same e))
 
-  says_before : {R : Type 0} (records : R → List (List ℕ)) (r : Result R BankFault) → IfOk r (λ r. IsFormatted mid (records r)) → IfErr r (λ e. Explains e mid) → Says old (outcome_by records (λ (e : BankFault). e) r)
-  says_before records (Ok r) ok err = stands_before (records r) ok
+  pub says_before : {R : Type 0} (records : R → List (List ℕ)) (r : Result R BankFault) → IfOk r (λ r. IsFormatted mid (records r)) → IfErr r (λ e. Explains e mid) → Says old (outcome_by records (λ (e : BankFault). e) r)
+  says_before records (Ok r) ok err = formatted (subst (λ (l : List ℕ). IsFormatted l (records r)) same ok)
   says_before records (Err e) ok err = explained_before e err
-
-exact_by : (image : List ℕ) (answer due : Result (List (List ℕ)) BankFault) → Says image answer → Opens image due → IsSaid due answer
-exact_by image (Ok bodies) due s d = one_way image due (Ok bodies) d s
-exact_by image (Err fault) due (inl memory) d = inl memory
-exact_by image (Err fault) due (inr (inl disk)) d = inr (inl disk)
-exact_by image (Err fault) due (inr (inr s)) d = inr (inr (one_way image due (Err fault) d s))
-
-pub answers_before : {R : Type 0} (records : R → List (List ℕ)) (old mid : List ℕ) (r : Result R BankFault) → Formats old mid → IfOk r (λ r. IsFormatted mid (records r)) → IfErr r (λ e. Explains e mid) → Answers old (outcome_by records (λ (e : BankFault). e) r)
-answers_before records old mid r formats ok err =
-    let says = says_before old mid formats records r ok err in
-    record { says = says; exact = λ due d. exact_by old _ due says d }

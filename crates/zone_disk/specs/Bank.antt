@@ -53,16 +53,6 @@ abbrev pub Says : List ℕ → Result (List (List ℕ)) BankFault → Type 0
 Says image (Ok bodies) = Opens image (Ok bodies)
 Says image (Err fault) = (fault ≡ Memory) ⊎ (fault ≡ DiskFault) ⊎ Opens image (Err fault)
 
--- and where opening the image comes to something, the answer is that
-abbrev pub IsSaid : Result (List (List ℕ)) BankFault → Result (List (List ℕ)) BankFault → Type 0
-IsSaid due (Ok bodies) = due ≡ Ok bodies
-IsSaid due (Err fault) = (fault ≡ Memory) ⊎ (fault ≡ DiskFault) ⊎ (due ≡ Err fault)
-
--- the answer is exactly what opening the image comes to, unless memory or the disk failed
-pub record Answers (image : List ℕ) (answer : Result (List (List ℕ)) BankFault) : Type 0 where
-  pub says : Says image answer
-  pub exact : (due : Result (List (List ℕ)) BankFault) → Opens image due → IsSaid due answer
-
 -- an answer's bodies or fault
 abbrev pub outcome_by : {R E : Type 0} → (R → List (List ℕ)) → (E → BankFault) → Result R E → Result (List (List ℕ)) BankFault
 outcome_by records fault (Ok r) = Ok (records r)

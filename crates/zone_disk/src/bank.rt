@@ -3,7 +3,7 @@ ghost use Rattle.std.specs.Prelude.{◌≡◌, ◌≢◌, ◌⊎◌, ◌*◌, �
 ghost use Rattle.zn_base.specs.Disk.{View, Leaves, IsDurable};
 ghost use Rattle.zn_base.specs.Streams.{Rose};
 ghost use Rattle.zone_disk.specs.Image.{BANK, used_by, IsUnformatted, Stands};
-ghost use Rattle.zone_disk.specs.Bank.{IsSettled, IsBeforeOrAfter, KeepsMeaning, Formats, Answers, outcome_by};
+ghost use Rattle.zone_disk.specs.Bank.{IsSettled, IsBeforeOrAfter, KeepsMeaning, Formats, Says, outcome_by};
 
 use crate::format::prepare;
 use crate::read::{Records, read_all};
@@ -12,7 +12,8 @@ use std::alloc::Global;
 use std::marker::Model;
 use zn_base::{Disk, put_durably};
 
-const BANK_BYTES: usize = 33_554_432;
+/// How many bytes of a store a bank has behind the header: gates, lengths and bodies.
+pub const BANK_BYTES: usize = 33_554_432;
 
 /// A list of bodies on a disk. Contracts see an `Account`: the disk, the bodies, the bytes of the bank in
 /// use, and whether more may be appended.
@@ -34,13 +35,15 @@ impl<D: Disk> Model for Bank<D> {
     ghost invariant = { λ b. IsKept (D.view b.disk) b.records.items b.used b.sound };
 }
 
-// Formats a disk that isn't formatted, and reads what stands on it.
+// Formats a disk that is unformatted, which takes no memory, and reads what stands on any other.
 fn ready<D: Disk>(alloc: Global, disk: &mut D) -> Result<Records, BankFault>
-    ensures answers { (D.view disk.old).Keeps → Answers (D.view disk.old).reads (outcome_by (λ r. r.bodies.items) (λ e. e) result) }
+    ensures answers { (D.view disk.old).Keeps → Says (D.view disk.old).reads (outcome_by (λ r. r.bodies.items) (λ e. e) result) }
     ensures any_moment { (D.view disk.old).Keeps → Leaves (D.view disk.old) (D.view disk.new) (KeepsMeaning (D.view disk.old)) }
     ensures settled { (D.view disk.old).Keeps → IfOk result (λ r. IsSettled (D.view disk.new) r.bodies.items) }
     ensures formats { (D.view disk.old).Keeps → OnOk result (Formats (D.view disk.old).reads (D.view disk.new).reads) }
+    ensures empty { (D.view disk.old).Keeps → IsUnformatted (D.view disk.old).reads → IfOk result (λ r. r.bodies.items ≡ []) }
     ensures other { (D.view disk.old).Keeps → (IsUnformatted (D.view disk.old).reads → ⊥) → (D.view disk.new).reads ≡ (D.view disk.old).reads }
+    ensures refused_same { (D.view disk.old).Keeps → IfErr result (λ e. e ≢ BankFault.DiskFault → (D.view disk.new).reads ≡ (D.view disk.old).reads) }
     ensures counted { IfOk result (λ r. r.used ≡ used_by r.bodies.items) }
     ensures within { IfOk result (λ r. r.used ≤ BANK) }
     ensures model { (D.view disk.old).Keeps ↔ (D.view disk.new).Keeps }
@@ -48,7 +51,12 @@ fn ready<D: Disk>(alloc: Global, disk: &mut D) -> Result<Records, BankFault>
     ensures cause { IsErrOf result BankFault.DiskFault → Rose (D.view disk.old).faults (D.view disk.new).faults }
     ensures only { IfErr result (λ e. e ≢ BankFault.BankFull) }
 {
-    prepare(disk)?;
+    if prepare(disk)? {
+        return Ok(Records {
+            bodies: Vec::new(alloc),
+            used: 1,
+        });
+    }
     read_all(alloc, disk)
 }
 
@@ -72,16 +80,19 @@ impl<D: Disk> Bank<D> {
     /// Opens a store, and formats a disk that is unformatted. A crash at any moment meanwhile leaves what
     /// stands for the same list of bodies. A fault hands the disk back.
     pub fn open(alloc: Global, disk: D) -> Result<Bank<D>, (BankFault, D)>
-        // The answer is exactly what the disk's bytes come to, unless memory or the disk fails.
-        ensures answers { (D.view disk).Keeps → Answers (D.view disk).reads (outcome_by (λ bank. bank.records) (λ e. e.0) result) }
+        // The answer is what the disk's bytes come to, unless memory or the disk fails.
+        ensures answers { (D.view disk).Keeps → Says (D.view disk).reads (outcome_by (λ bank. bank.records) (λ e. e.0) result) }
 
         ensures any_moment { (D.view disk).Keeps → IfOk result (λ bank. Leaves (D.view disk) (D.view bank.disk) (KeepsMeaning (D.view disk))) }
         ensures any_moment_err { (D.view disk).Keeps → IfErr result (λ e. Leaves (D.view disk) (D.view e.1) (KeepsMeaning (D.view disk))) }
         ensures lasts { (D.view disk).Keeps → IfOk result (λ bank. (image : List ℕ) → (D.view bank.disk).Now image → Stands image bank.records) }
 
-        // What is unformatted becomes a new store, and every other disk stays as it is, also one that is refused.
+        // What is unformatted becomes a new store, and every other disk stays as it is. After a fault other than
+        // that of the disk, want of memory included, each disk is as it was.
         ensures formats { (D.view disk).Keeps → IfOk result (λ bank. Formats (D.view disk).reads (D.view bank.disk).reads) }
-        ensures refused_same { (D.view disk).Keeps → (IsUnformatted (D.view disk).reads → ⊥) → IfErr result (λ e. (D.view e.1).reads ≡ (D.view disk).reads) }
+        ensures empty { (D.view disk).Keeps → IsUnformatted (D.view disk).reads → IfOk result (λ bank. bank.records ≡ []) }
+        ensures refused_same { (D.view disk).Keeps → IfErr result (λ e. e.0 ≢ BankFault.DiskFault → (D.view e.1).reads ≡ (D.view disk).reads) }
+        ensures other_same { (D.view disk).Keeps → (IsUnformatted (D.view disk).reads → ⊥) → IfErr result (λ e. (D.view e.1).reads ≡ (D.view disk).reads) }
         ensures sound { IfOk result (λ bank. bank.sound ≡ true) }
         ensures used { IfOk result (λ bank. bank.used ≡ used_by bank.records) }
 

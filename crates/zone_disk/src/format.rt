@@ -1,5 +1,5 @@
 //! Formatting a disk, so that a crash at any moment leaves one that stands for no body.
-ghost use Rattle.std.specs.Prelude.{◌≡◌, ◌≢◌, ◌⊎◌, ◌↔◌, ◌+◌, ◌≤◌, ◌<◌, ◌^◌, [], List, ℕ, length, IfOk, OnOk, OnErr};
+ghost use Rattle.std.specs.Prelude.{◌≡◌, ◌≢◌, ◌⊎◌, ◌↔◌, ◌+◌, ◌≤◌, ◌<◌, ◌^◌, [], List, ℕ, length, IfOk, IsTrue, OnOk, OnErr};
 ghost use Rattle.zn_base.specs.Disk.{View, OnlyLooks, Leaves, IsDurable};
 ghost use Rattle.zn_base.specs.Streams.{HasCause};
 ghost use Rattle.zone_disk.specs.Image.{Stands, IsUnformatted, IsSame};
@@ -54,8 +54,7 @@ fn put_header<D: Disk>(disk: &mut D) -> Result<(), Failed>
     ensures cause { HasCause (D.view disk.old).faults (D.view disk.new).faults result }
 {
     put_durably(disk, 1, &TAIL)?;
-    put_durably(disk, 0, &[1])?;
-    Ok(())
+    put_durably(disk, 0, &[1])
 }
 
 // Writes a closed head gate first, so that a crash leaves no open one before what belongs behind it.
@@ -70,7 +69,9 @@ fn format_blank<D: Disk>(disk: &mut D) -> Result<(), Failed>
     put_header(disk)
 }
 
-fn format<D: Disk>(disk: &mut D) -> Result<(), Failed>
+// Formats a disk that is unformatted, and says whether it was.
+fn format<D: Disk>(disk: &mut D) -> Result<bool, Failed>
+    ensures unformatted { (D.view disk.old).Keeps → IfOk result (λ was. IsTrue was ↔ IsUnformatted (D.view disk.old).reads) }
     ensures any_moment { (D.view disk.old).Keeps → IsDurable (D.view disk.old) → Leaves (D.view disk.old) (D.view disk.new) (IsSame (D.view disk.old).reads) }
     ensures formats { (D.view disk.old).Keeps → OnOk result (Formats (D.view disk.old).reads (D.view disk.new).reads) }
     ensures other { (D.view disk.old).Keeps → (IsUnformatted (D.view disk.old).reads → ⊥) → (D.view disk.new).reads ≡ (D.view disk.old).reads }
@@ -79,15 +80,17 @@ fn format<D: Disk>(disk: &mut D) -> Result<(), Failed>
     ensures cause { HasCause (D.view disk.old).faults (D.view disk.new).faults result }
 {
     match kind_of(disk)? {
-        Kind::Blank => format_blank(disk),
-        Kind::Headless => put_header(disk),
-        Kind::Formatted => Ok(()),
+        Kind::Blank => format_blank(disk)?,
+        Kind::Headless => put_header(disk)?,
+        Kind::Formatted => return Ok(false),
     }
+    Ok(true)
 }
 
-/// Syncs, and formats a disk that isn't formatted. A crash at any moment leaves what stands for the same
-/// list as before.
-pub fn prepare<D: Disk>(disk: &mut D) -> Result<(), Failed>
+/// Syncs, formats a disk that is unformatted, and says whether it was. A crash at any moment leaves what
+/// stands for the same list as before.
+pub fn prepare<D: Disk>(disk: &mut D) -> Result<bool, Failed>
+    ensures unformatted { (D.view disk.old).Keeps → IfOk result (λ was. IsTrue was ↔ IsUnformatted (D.view disk.old).reads) }
     ensures any_moment { (D.view disk.old).Keeps → Leaves (D.view disk.old) (D.view disk.new) (KeepsMeaning (D.view disk.old)) }
     ensures formats { (D.view disk.old).Keeps → OnOk result (Formats (D.view disk.old).reads (D.view disk.new).reads) }
     ensures other { (D.view disk.old).Keeps → (IsUnformatted (D.view disk.old).reads → ⊥) → (D.view disk.new).reads ≡ (D.view disk.old).reads }

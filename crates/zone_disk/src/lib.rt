@@ -12,7 +12,7 @@ mod read;
 #[cfg(test)]
 mod tests;
 
-pub use bank::Bank;
+pub use bank::{BANK_BYTES, Bank};
 pub use body::Body;
 pub use fault::BankFault;
 pub use laws::{opens_one_way, stands_for_one};

@@ -105,12 +105,12 @@ fn every_stop_and_every_single_fault_leaves_the_acknowledged_bodies(
     rt: HostRuntime,
 ) -> Result<(), Fail> {
     let starts = [
-        (b"".as_slice(), 22),
-        (b"\x01".as_slice(), 22),
-        (b"xxxxx".as_slice(), 20),
+        (b"".as_slice(), 21),
+        (b"\x01".as_slice(), 21),
+        (b"xxxxx".as_slice(), 19),
     ];
     for (start, calls) in starts.iter() {
-        for number in 1..24 {
+        for number in 1..23 {
             assert_left_by(&rt, rt.alloc(), start, *calls, number)?;
         }
     }
