@@ -1,13 +1,14 @@
 -- What a turn looks at.
-use Rattle.std.proofs.Common.{◌≡◌, ◌+◌, ◌<◌, ◌∷◌, ◌++◌, [], ℕ, List, Bool, Option, Some, None, true, false, filter, length, get_or, take, refl, ap, sym, ◌∙◌}
-use Rattle.std.specs.Prelude.{bytes_eq, count_by, is_some, if◌then◌else◌}
-use Rattle.std.specs.List.{list_any}
+use Rattle.std.proofs.Common.{◌≡◌, ◌+◌, ◌<◌, ◌∷◌, ◌++◌, [], ℕ, List, Bool, Option, Some, None, true, false, filter, length, get_or, take, refl, ap, sym, arith, ◌∙◌}
+use Rattle.std.specs.Prelude.{MatchOption, bytes_eq, count_by, is_some, if◌then◌else◌}
 use Rattle.std.specs.Option.{option_map}
 use Rattle.std.proofs.lemmas.List.{take_more, append-nil}
 use Rattle.std.proofs.lemmas.List.Elements.{filter_map-append}
 use Rattle.std.proofs.lemmas.List.Sums.{length-filter}
+use Rattle.zn_base.specs.Firsts.{first_of}
 use Rattle.zn_base.specs.Owned_lists.{mine, own}
 use Rattle.zn_base.specs.declared.owned.Owned.{Owned}
+use Rattle.zone_machine.specs.Lists_seen.{StandsAt, StandsNowhere}
 use Rattle.zone_machine.specs.Turns.{last_dir, last_of}
 use Rattle.zone_machine.specs.declared.objects.Mount.{Mount}
 
@@ -50,11 +51,12 @@ some_dir : (o : Option Mount) → is_some (option_map (λ m. m.dir) o) ≡ is_so
 some_dir None = refl
 some_dir (Some m) = refl
 
--- something is mounted where a mount of the zone is
-pub any_mounted : (z : List ℕ) (os : List (Owned Mount)) → list_any (λ o. bytes_eq z o.zone) os ≡ is_some (last_dir (mine z os))
-any_mounted z [] = refl
-any_mounted z (o ∷ os) = at_head (any_mounted z os) (bytes_eq z o.zone) refl
-  where
-    at_head : list_any (λ o. bytes_eq z o.zone) os ≡ is_some (last_dir (mine z os)) → (b : Bool) → bytes_eq z o.zone ≡ b → list_any (λ o. bytes_eq z o.zone) (o ∷ os) ≡ is_some (last_dir (mine z (o ∷ os)))
-    at_head ih true e = simp e (sym (some_dir (last_of (o.it ∷ mine z os)) ∙ some_last o.it (mine z os)))
-    at_head ih false e = simp e ih
+some_first : (ms : List Mount) (m : Mount) → first_of ms ≡ Some m → is_some (Some m) ≡ is_some (last_dir ms)
+some_first [] m h = absurd (cc)
+some_first (n ∷ ms) m h = sym (some_dir (last_of (n ∷ ms)) ∙ some_last n ms)
+
+-- something is mounted where a mount of the zone stands
+pub is_mounted : (z : List ℕ) (os : List (Owned Mount)) (at : Option ℕ) → MatchOption at (StandsNowhere z os) (λ i. StandsAt z i os) → is_some at ≡ is_some (last_dir (mine z os))
+is_mounted z os None h = rw h.none refl
+is_mounted z [] (Some i) h = absurd (omega (arith, h.fits))
+is_mounted z (o ∷ os) (Some i) h = some_first (mine z (o ∷ os)) (get_or (o ∷ os) i o).it (h.first o)

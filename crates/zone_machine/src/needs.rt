@@ -1,6 +1,5 @@
 //! What an event of a zone asks of the pools.
-ghost use Rattle.std.specs.Prelude.{◌≡◌, IfOk, bytes_eq, drop, is_some};
-ghost use Rattle.std.specs.List.{list_any};
+ghost use Rattle.std.specs.Prelude.{◌≡◌, IfOk, drop, is_some};
 ghost use Rattle.std.specs.Option.{option_map};
 ghost use Rattle.zn_base.specs.Owned_lists.{mine};
 ghost use Rattle.zn_base.specs.Firsts.{first_of};
@@ -70,16 +69,10 @@ fn plan_need(job: &Job, mounted: bool) -> Need
     }
 }
 
-fn has_thing<T>(list: &[Owned<T>], zone: &ZoneName) -> bool
-    ensures { result ≡ list_any (λ o. bytes_eq zone.now o.zone) list.now }
-{
-    list.iter().any(|owned| *zone == owned.zone)
-}
-
 fn is_mounted(mounts: &[Owned<Mount>], zone: &ZoneName) -> bool
     ensures { result ≡ is_some (last_dir (mine zone.now mounts.now)) }
 {
-    has_thing(mounts, zone)
+    place_of(mounts, zone).is_some()
 }
 
 // What the next turn of a desk asks.

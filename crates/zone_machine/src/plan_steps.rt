@@ -19,7 +19,7 @@ use crate::objects::{Id, Mount, Process};
 use crate::records::{Config, Record};
 use crate::work::{Came, ObjectEdit, Seen, Work};
 use std::alloc::{AllocError, Global};
-use zn_base::{AbsPath, Grant, PathFault, Text, ZoneState};
+use zn_base::{AbsPath, Grant, Text, ZoneState};
 
 // A step is done, with what came and what it did to the objects, and the plan goes on behind it.
 fn passed(
@@ -162,13 +162,7 @@ fn root_special(alloc: Global, config: &Config) -> Result<Text, AllocError>
 pub(crate) fn root_dir(alloc: Global) -> Result<AbsPath, AllocError>
     ensures { IfOk result (λ path. path ≡ codes "/") }
 {
-    match AbsPath::read(alloc, b"/") {
-        Ok(path) => Ok(path),
-        Err(PathFault::Memory) => Err(AllocError),
-        Err(PathFault::PathLong | PathFault::NotAbsolute | PathFault::BadComponent(_)) => {
-            unreachable!()
-        }
-    }
+    AbsPath::of(alloc, b"/")
 }
 
 fn root_mount(alloc: Global, config: &Config) -> Result<Mount, AllocError>
@@ -218,7 +212,8 @@ fn enter_state(
     Ok(work)
 }
 
-// All processes end. So many that their count is no `u32` don't fit into memory.
+// All processes end. Their numbers are 2 to 29999, each once, so that their count is always a `u32`; the type
+// of the tables doesn't keep that.
 fn kill_all(job: &mut Job, count: usize) -> Result<Work, AllocError>
     requires { job.old.at < length job.old.steps.items }
     ensures { IfOk result (CarriesOut

@@ -4,7 +4,7 @@ ghost use Rattle.std.specs.List.{list_any};
 ghost use Rattle.zone_machine.specs.Decisions.{A_path, A_pid, A_serial, A_zid, A_zone};
 ghost use Rattle.zone_machine.specs.Needs_seen.{asked_by};
 ghost use Rattle.zone_machine.specs.Numbers_seen.{is_among};
-ghost use Rattle.zone_machine.specs.Pools.{fits_asked, fits_pool, has_room, has_zid, is_pool, next_free, numbered, said_by_all};
+ghost use Rattle.zone_machine.specs.Pools.{fits_asked, fits_pool, has_place, has_room, has_zid, is_pool, next_free, numbered, said_by_all};
 ghost use Rattle.zone_machine.specs.Tables.{pools_in};
 ghost use Rattle.zone_machine.specs.Worlds.{has_pid};
 
@@ -15,6 +15,16 @@ use crate::records::Record;
 use crate::tables::Tables;
 use std::alloc::{AllocError, Global};
 use zn_base::{AbsPath, Grant, Owned, Pool, ZoneName};
+
+// The least number of a zone's process. The system's first process has 1.
+const PID_MIN: u32 = 2;
+
+const PID_MAX: u32 = 29_999;
+
+// The least id of a zone. The global zone has 0.
+const ZID_MIN: u32 = 1;
+
+const ZID_MAX: u32 = 9_999;
 
 fn pids(alloc: Global, processes: &[Owned<Process>]) -> Result<Vec<u32>, AllocError>
     ensures { IfOk result (λ v. v.items ≡ map (λ o. o.it.pid) processes.now) }
@@ -51,23 +61,43 @@ fn path_taken(rows: &[Owned<Record>], zone: &ZoneName, path: &AbsPath) -> bool
 
 impl Tables {
     fn next_pid(&self, alloc: Global) -> Result<Grant, AllocError>
-        ensures { IfOk result (λ grant. grant ≡ numbered Pool.Pids (next_free (pools_in self.now).pid_used 2 29999 self.now.last_pid)) }
+        ensures { IfOk result (λ grant. grant ≡ numbered Pool.Pids (next_free (pools_in self.now).pid_used PID_MIN PID_MAX self.now.last_pid)) }
     {
         let used = pids(alloc, &self.processes)?;
-        Ok(numbered(Pool::Pids, next_free(&used, 2, 29_999, self.last_pid)))
+        Ok(numbered(
+            Pool::Pids,
+            next_free(&used, PID_MIN, PID_MAX, self.last_pid),
+        ))
     }
 
     fn next_zid(&self, alloc: Global) -> Result<Grant, AllocError>
-        ensures { IfOk result (λ grant. grant ≡ numbered Pool.Zids (next_free (pools_in self.now).zid_used 1 9999 self.now.last_zid)) }
+        ensures { IfOk result (λ grant. grant ≡ numbered Pool.Zids (next_free (pools_in self.now).zid_used ZID_MIN ZID_MAX self.now.last_zid)) }
     {
         let used = zids(alloc, &self.ids)?;
-        Ok(numbered(Pool::Zids, next_free(&used, 1, 9_999, self.last_zid)))
+        Ok(numbered(
+            Pool::Zids,
+            next_free(&used, ZID_MIN, ZID_MAX, self.last_zid),
+        ))
+    }
+
+    // Whether a new zone still has a place.
+    fn has_place(&self) -> bool
+        ensures { result ≡ has_place (pools_in self.now) }
+    {
+        self.rows.len() < 256
+    }
+
+    /// Whether one more record can be counted.
+    pub(crate) fn has_room(&self) -> bool
+        ensures { result ≡ has_room (pools_in self.now) }
+    {
+        self.serial < u32::MAX
     }
 
     fn next_serial(&self) -> Grant
         ensures { result ≡ (if has_room (pools_in self.now) then Grant.Number (self.now.serial + 1) else Grant.Denied Pool.Store) }
     {
-        if self.serial < u32::MAX {
+        if self.has_room() {
             Grant::Number(self.serial + 1)
         } else {
             Grant::Denied(Pool::Store)
@@ -77,7 +107,7 @@ impl Tables {
     fn new_zone(&self, zone: &ZoneName, path: &AbsPath) -> Grant
         ensures { result ≡ said_by_all (pools_in self.now) zone.now (A_zone ∷ A_path path.now ∷ A_serial ∷ []) Grant.Nothing }
     {
-        if self.rows.len() >= 256 {
+        if !self.has_place() {
             return Grant::Denied(Pool::Zones);
         }
         if path_taken(&self.rows, zone, path) {
@@ -133,19 +163,19 @@ impl Tables {
     fn pid_fits(&self, number: u32) -> bool
         ensures { result ≡ fits_pool (pools_in self.now) number A_pid }
     {
-        (2..=29_999).contains(&number) && !pid_used(&self.processes, number)
+        (PID_MIN..=PID_MAX).contains(&number) && !pid_used(&self.processes, number)
     }
 
     fn zid_fits(&self, number: u32) -> bool
         ensures { result ≡ fits_pool (pools_in self.now) number A_zid }
     {
-        (1..=9_999).contains(&number) && !zid_used(&self.ids, number)
+        (ZID_MIN..=ZID_MAX).contains(&number) && !zid_used(&self.ids, number)
     }
 
     fn serial_fits(&self, number: u32) -> bool
         ensures { result ≡ fits_pool (pools_in self.now) number A_serial }
     {
-        number >= 1 && self.serial < u32::MAX
+        number >= 1 && self.has_room()
     }
 
     fn number_fits(&self, need: &Need, number: u32) -> bool
@@ -156,7 +186,7 @@ impl Tables {
             Need::Pid => self.pid_fits(number),
             Need::Zid => self.zid_fits(number),
             Need::Record => self.serial_fits(number),
-            Need::NewZone(_) => self.rows.len() < 256 && self.serial_fits(number),
+            Need::NewZone(_) => self.has_place() && self.serial_fits(number),
         }
     }
 

@@ -120,20 +120,6 @@ impl Tables {
         }
     }
 
-    // What an event of a zone is answered.
-    fn zone_head(
-        &mut self,
-        alloc: Global,
-        zone: &ZoneName,
-        event: &Event,
-        grant: Grant,
-    ) -> Result<Head, AllocError>
-        requires { subject_in self.old event.now ≡ Subject.Zone zone.now }
-        ensures { IfOk result (λ head. IsHead self.old event.now grant head self.new) }
-    {
-        self.act(alloc, zone, event, grant)
-    }
-
     // What an event of the global zone is answered.
     fn global_head(&self, alloc: Global, event: &Event) -> Result<Head, AllocError>
         requires { subject_in self.now event.now ≡ Subject.Global }
@@ -157,7 +143,7 @@ impl Tables {
         ensures { IfOk result (λ head. IsHead self.old event.now grant head self.new) }
     {
         match subject {
-            Subject::Zone(zone) => self.zone_head(alloc, zone, event, grant),
+            Subject::Zone(zone) => self.act(alloc, zone, event, grant),
             Subject::Global => self.global_head(alloc, event),
             Subject::Whole => unreachable!(),
         }

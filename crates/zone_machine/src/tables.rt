@@ -88,8 +88,8 @@ impl Tables {
     pub(crate) fn store(&mut self, zone: ZoneName, row: Record) -> Result<(), AllocError>
         ensures { OnOk result (Does zone (comes_world (New_record (Some row))) (came_rest zone (Some (New_record (Some row)))) self.old self.new) }
     {
-        // The pools give no number for such a record.
-        if self.serial == u32::MAX {
+        // Such a record can't be counted. The pools give no number for it, so this is never answered.
+        if !self.has_room() {
             return Err(AllocError);
         }
         place(&mut self.rows, zone, row)?;

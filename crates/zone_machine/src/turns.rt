@@ -14,7 +14,7 @@ use crate::plans::{may_begin, plan};
 use crate::records::Record;
 use crate::work::{ObjectEdit, Seen, Work};
 use std::alloc::{AllocError, Global};
-use zn_base::{Grant, ZoneState};
+use zn_base::Grant;
 
 // The request under way ends.
 fn finish(desk: &mut Desk, ticket: u32, outcome: Outcome) -> Work
@@ -41,10 +41,7 @@ fn begin(
         bare (begin (desk_seen desk.old) ticket kind (state_now row.now (desk_seen desk.old)) row.now.config)
         ≡ work_act w (desk_seen desk.new)) }
 {
-    let state = match desk.active {
-        Some(state) => state,
-        None => row.state,
-    };
+    let state = desk.active.unwrap_or(row.state);
     if !may_begin(kind, state) {
         return Ok(finish(desk, ticket, Outcome::WrongState(state)));
     }

@@ -52,7 +52,7 @@ pub(crate) fn usable_path(alloc: Global, word: &[u8]) -> Result<Option<AbsPath>,
 fn is_full(desk: &Desk) -> bool
     ensures { result ≡ is_full (desk_seen desk.now) }
 {
-    desk.waiting.len() > 7 || desk.last == u32::MAX
+    desk.waiting.len() >= 8 || desk.last == u32::MAX
 }
 
 // A request waits on a desk that isn't full.
