@@ -1,16 +1,17 @@
 -- A history of two zones, computed by the definitions.
-use Rattle.std.proofs.Common.{◌≡◌, ◌∷◌, ◌++◌, [], ℕ, List, true, false, Some, None, map, refl}
-use Rattle.std.specs.Prelude.{codes}
+use Rattle.std.proofs.Common.{◌≡◌, ◌∷◌, ◌++◌, ◌&&◌, [], ℕ, List, true, false, Some, None, map, refl}
+use Rattle.std.specs.Prelude.{codes, not, replicate}
+use Rattle.zn_base.specs.Same.{same_grant}
 use Rattle.zn_base.specs.declared.grant.Grant.{Grant}
 use Rattle.zn_base.specs.declared.grant.Grant.TheVariants.{Nothing, Number}
-use Rattle.zn_base.specs.declared.state.ZoneState.TheVariants.{Configured}
+use Rattle.zn_base.specs.declared.state.ZoneState.TheVariants.{Configured, Installed}
 use Rattle.zone_machine.specs.Edits.{comes, edit}
 use Rattle.zone_machine.specs.Histories.{after, any_grant, asked, history, is_history, is_legal, only, replies, run}
 use Rattle.zone_machine.specs.Lines.{line_of}
 use Rattle.zone_machine.specs.Machine.{decide, one, opening, subject}
-use Rattle.zone_machine.specs.Pools.{allowed, first_free}
+use Rattle.zone_machine.specs.Pools.{allowed, first_free, fits}
 use Rattle.zone_machine.specs.Same.{same_reply, same_subject}
-use Rattle.zone_machine.specs.State.{zone_state}
+use Rattle.zone_machine.specs.State.{State, zone_state}
 use Rattle.zone_machine.specs.Turns.{turn}
 use Rattle.zone_machine.specs.Typed.{typed}
 use Rattle.zone_machine.specs.Worlds.{view}
@@ -19,8 +20,10 @@ use Rattle.zone_machine.specs.declared.daemon.TurnReply.TheVariants.{Finished, I
 use Rattle.zone_machine.specs.declared.events.Entry.{Entry}
 use Rattle.zone_machine.specs.declared.events.Event.{Event}
 use Rattle.zone_machine.specs.declared.events.Event.TheVariants.{Session, Turn}
+use Rattle.zone_machine.specs.declared.records.Commit.{Commit}
 use Rattle.zone_machine.specs.declared.replies.Head.{Head}
 use Rattle.zone_machine.specs.declared.replies.Head.TheVariants.{Ok, Ticket, Turned}
+use Rattle.zone_views.specs.Numbers.{pids, zids}
 
 abbrev make : ℕ → List ℕ → Event
 make n zone = Session n (codes "zonecfg -z " ++ zone ++ codes " create -b; set zonepath=/zones/" ++ zone ++ codes "; set brand=ipkg")
@@ -66,3 +69,40 @@ to_boot e = record e { event = boot_a }
 told_of_another : is_history any_grant (opening []) (map to_boot (stated (Number 1))) ≡ false
 unfolding line_of typed turn view decide subject one first_free allowed edit comes same_reply same_subject
 told_of_another = refl
+
+-- two installed zones boot, up to the turn that starts init
+abbrev installed : List ℕ → Commit
+installed zone = record { zone = zone; stored = Some (record { state = Installed; revision = 1; config = record { zonepath = codes "/zones/" ++ zone } }) }
+
+abbrev both : State
+both = opening (installed (codes "a") ∷ installed (codes "b") ∷ [])
+
+abbrev boot : ℕ → List ℕ → List Event
+boot n zone = Session n (codes "zoneadm -z " ++ zone ++ codes " boot") ∷ replicate 10 (Turn zone)
+
+abbrev booted : State
+booted = after both (history both (boot 1 (codes "a") ++ boot 2 (codes "b")))
+
+process_numbers : pids booted ≡ 2 ∷ 3 ∷ []
+unfolding line_of typed turn view decide subject one first_free allowed edit comes
+process_numbers = refl
+
+zone_numbers : zids booted ≡ 1 ∷ 2 ∷ []
+unfolding line_of typed turn view decide subject one first_free allowed edit comes
+zone_numbers = refl
+
+-- grants that don't fit may give one number twice, and after a process number of 0 the pools give 1, which doesn't fit
+abbrev readied : ℕ → List ℕ → List (Event × Grant)
+readied n zone = map (λ e. (e, Number n)) (Session n (codes "zoneadm -z " ++ zone ++ codes " boot") ∷ replicate 9 (Turn zone))
+
+abbrev left_by : List (Event × Grant) → State
+left_by es = after both (run both es)
+
+same_number : pids (left_by (readied 1 (codes "a") ++ readied 2 (codes "b") ++ (Turn (codes "a"), Number 7) ∷ (Turn (codes "b"), Number 7) ∷ [])) ≡ 7 ∷ 7 ∷ []
+unfolding line_of typed turn view decide subject one first_free allowed edit comes
+same_number = refl
+
+unfit_number : let S = left_by (readied 1 (codes "a") ++ readied 2 (codes "b") ++ (Turn (codes "a"), Number 0) ∷ []) in
+    let e = Turn (codes "b") in (same_grant (allowed S e) (Number 1) && not (fits S e (allowed S e))) ≡ true
+unfolding line_of typed turn view decide subject one first_free allowed fits edit comes
+unfit_number = refl

@@ -3,3 +3,6 @@ pub mod Purge
 pub mod Runs
 pub mod Steady
 pub mod Ending
+pub mod Differing
+pub mod Granting
+pub mod Numbered

@@ -7,6 +7,7 @@ ghost use Rattle.zn_base.specs.declared.grant.Grant.{Grant};
 ghost use Rattle.zone_machine.specs.Decisions.{says};
 ghost use Rattle.zone_machine.specs.Histories.{after, any_grant, asked, concerns, history, is_history, is_legal, only, replay, replies, run};
 ghost use Rattle.zone_machine.specs.Machine.{need, one, opening, subject};
+ghost use Rattle.zone_machine.specs.Pools.{allowed, fits};
 ghost use Rattle.zone_machine.specs.State.{Idle, State, stored, zone_state};
 ghost use Rattle.zone_machine.specs.Turns_left.{turns_left};
 ghost use Rattle.zone_machine.specs.Worlds.{world};
@@ -17,6 +18,7 @@ ghost use Rattle.zone_machine.specs.declared.events.Event.TheVariants.{Turn};
 ghost use Rattle.zone_machine.specs.declared.events.Subject.TheVariants.{Zone};
 ghost use Rattle.zone_machine.specs.declared.records.Commit.{Commit};
 ghost use Rattle.zone_machine.specs.declared.replies.Head.TheVariants.{Turned};
+ghost use Rattle.zone_views.specs.Numbers.{AllDiffer, pids, zids};
 ghost use Rattle.zone_views.specs.Storable.{are_storable};
 
 /// An event that belongs neither to the zone nor to the whole system leaves the zone's world as it was.
@@ -57,6 +59,24 @@ pub fn runs_are_histories()
     ensures stated { (S : State) (es : List (Event × Grant)) → is_history any_grant S (run S es) ≡ true }
 {}
 
+/// After any history whose grants fit, the grant that the pools give fits too.
+pub fn allowed_grants_fit()
+    ensures now { (commits : List Commit) (h : List Entry) (e : Event)
+        → is_history fits (opening commits) h ≡ true → let S = after (opening commits) h in fits S e (allowed S e) ≡ true }
+    // So the grants of a legal history fit.
+    ensures legal { (commits : List Commit) (h : List Entry)
+        → is_legal (opening commits) h ≡ true → is_history fits (opening commits) h ≡ true }
+{}
+
+/// After any history whose grants fit, so after any legal one, no two processes have the same number, whatever
+/// zones they are of, and no two ids the same zone number.
+pub fn numbers_are_held_once()
+    ensures pids { (commits : List Commit) (h : List Entry)
+        → is_history fits (opening commits) h ≡ true → AllDiffer (pids (after (opening commits) h)) }
+    ensures zids { (commits : List Commit) (h : List Entry)
+        → is_history fits (opening commits) h ≡ true → AllDiffer (zids (after (opening commits) h)) }
+{}
+
 /// Removing the entries of all other zones, grants kept, changes no reply of a zone, whatever else is
 /// stored.
 pub fn purging_keeps_replies()
@@ -79,8 +99,8 @@ pub fn worlds_are_replayed()
         → is_history permits S h ≡ true → world z (after S h) ≡ replay z (world z S) (only z h) }
 {}
 
-/// After any history an event leaves the state of each zone as it was, or the zone is its subject and
-/// moves along the transition table.
+/// From records whose states are configured, incomplete or installed, after any history, an event leaves the
+/// state of each zone as it was, or the zone is its subject and moves along the transition table.
 pub fn states_move_along_the_table()
     ensures { (z : Name) (commits : List Commit) (h : List Entry) (e : Event) (g : Grant)
         → are_storable commits ≡ true → let S = after (opening commits) h in let T = (one S e g).state in

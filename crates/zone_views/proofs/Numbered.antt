@@ -1,0 +1,114 @@
+-- In every state of a history with grants that fit, the process numbers differ, and so do the zone numbers.
+use Rattle.std.proofs.Common.{◌≡◌, ◌∷◌, ◌≤◌, ◌&&◌, [], ℕ, List, true, Option, arith, refl, subst, sym}
+use Rattle.std.specs.Prelude.{bytes_eq, nat_le, not}
+use Rattle.std.specs.List.{IsDistinct, list_all}
+use Rattle.std.proofs.lemmas.Bool.{and_from, and_parts, false≢true, leb-true, not-true}
+use Rattle.zn_base.proofs.Same_laws.{grant-Decides}
+use Rattle.zn_base.specs.Names.{Name}
+use Rattle.zn_base.specs.declared.grant.Grant.{Grant}
+use Rattle.zn_base.specs.declared.grant.Grant.TheVariants.{Nothing, Number, Yes, Denied}
+use Rattle.zone_machine.specs.Decisions.{A_pid, A_zid, Ask, Asked, Decision, Just, act_of, acts, after_came, asked_of}
+use Rattle.zone_machine.specs.Edits.{A_process, A_record, An_id, Comes, Edit, Here, Ids_go, Of_mounts, Processes_go, Set_desk, Sweep, arrived, below, comes, edit, edits}
+use Rattle.zone_machine.specs.Histories.{after, after_entry, is_allowed, is_history, is_legal, is_told}
+use Rattle.zone_machine.specs.Machine.{decide, one, one_of, opening, session_number, subject}
+use Rattle.zone_machine.specs.Pools.{allowed, allowed_of, fits, fits_asked, fits_of, fits_pool, pools_of}
+use Rattle.zone_machine.specs.State.{State}
+use Rattle.zone_machine.specs.Worlds.{view}
+use Rattle.zone_machine.specs.declared.events.Entry.{Entry}
+use Rattle.zone_machine.specs.declared.events.Event.{Event}
+use Rattle.zone_machine.specs.declared.events.Subject.{Subject}
+use Rattle.zone_machine.specs.declared.events.Subject.TheVariants.{Zone, Global, Whole}
+use Rattle.zone_machine.specs.declared.records.Commit.{Commit}
+use Rattle.zone_views.proofs.Differing.{differ-come, differ-filter, differ-put}
+use Rattle.zone_views.proofs.Granting.{asks-decide, asks_rightly, decision-fits, is_asked_for}
+use Rattle.zone_views.specs.Numbers.{AllDiffer, pids, zids}
+
+pub record AreNumbered (S : State) : Type 0 where
+  pub pids : AllDiffer (pids S)
+  pub zids : AllDiffer (zids S)
+  pub last : 1 ≤ S.last_pid
+
+-- what goes leaves it so
+numbered-edit : (z : Name) (n : Option ℕ) (e : Edit) (S : State) → AreNumbered S → AreNumbered (edit z n e S)
+unfolding edit
+numbered-edit z n (Processes_go p) S h = record { pids = differ-filter (λ p. p.pid) (λ o. not (bytes_eq z o.zone && p o.it)) S.processes h.pids; zids = h.zids; last = h.last }
+numbered-edit z n (Of_mounts e) S h = record { pids = h.pids; zids = h.zids; last = h.last }
+numbered-edit z n (Ids_go p) S h = record { pids = h.pids; zids = differ-filter (λ i. i.zid) (λ o. not (bytes_eq z o.zone && p o.it)) S.ids h.zids; last = h.last }
+numbered-edit z n (Set_desk d) S h = record { pids = h.pids; zids = h.zids; last = h.last }
+numbered-edit z n (Here d) S h = record { pids = h.pids; zids = h.zids; last = h.last }
+numbered-edit z n (Sweep f) S h = record { pids = h.pids; zids = h.zids; last = h.last }
+
+numbered-edits : (z : Name) (n : Option ℕ) (es : List Edit) (S : State) → AreNumbered S → AreNumbered (edits z n es S)
+numbered-edits z n [] S h = h
+numbered-edits z n (e ∷ es) S h = numbered-edits z n es (edit z n e S) (numbered-edit z n e S h)
+
+-- what comes has a number that fits
+numbered-comes : (z : Name) (c : Comes) (asked : List Asked) (n : ℕ) (S : State) → is_asked_for c asked ≡ true → list_all (fits_pool (pools_of S) n) asked ≡ true → AreNumbered S → AreNumbered (comes z (arrived c n) S)
+unfolding comes
+numbered-comes z (A_process p) (A_pid ∷ []) n S a f h =
+    let range = (and_parts (nat_le 2 n && nat_le n 29999) (not ((pools_of S).pid_used n)) (and_parts _ true f).0) in
+    let least = leb-true 2 n (and_parts (nat_le 2 n) (nat_le n 29999) range.0).0 in
+    record { pids = differ-put (λ p. p.pid) z (below n) (record p { pid = n }) S.processes (not-true ((pools_of S).pid_used n) range.1) h.pids; zids = h.zids; last = omega (arith, least) }
+numbered-comes z (An_id i) (A_zid ∷ []) n S a f h =
+    let range = (and_parts (nat_le 1 n && nat_le n 9999) (not ((pools_of S).zid_used n)) (and_parts _ true f).0) in
+    record { pids = h.pids; zids = differ-come (λ i. i.zid) z (record i { zid = n }) S.ids (not-true ((pools_of S).zid_used n) range.1) h.zids; last = h.last }
+numbered-comes z (A_record row) asked n S a f h = record { pids = h.pids; zids = h.zids; last = h.last }
+numbered-comes z c asked n S a f h = absurd (false≢true a)
+
+numbered-came : (z : Name) (d : Decision) (g : Grant) (S : State) → asks_rightly d ≡ true → fits_asked (pools_of S) (asked_of d) g ≡ true → AreNumbered S → AreNumbered (after_came z (act_of d g).came S)
+numbered-came z (Just e) g S a f h = h
+numbered-came z (Ask c (x ∷ asked) denied given) (Number n) S a f h = numbered-comes z c (x ∷ asked) n S a f h
+numbered-came z (Ask c asked denied given) Nothing S a f h = h
+numbered-came z (Ask c asked denied given) (Denied pool) S a f h = h
+numbered-came z (Ask c [] denied given) (Number n) S a f h = absurd (false≢true f)
+numbered-came z (Ask c [] denied given) Yes S a f h = absurd (false≢true f)
+numbered-came z (Ask c (x ∷ asked) denied given) Yes S a f h = absurd (false≢true f)
+
+numbered-of : (s : Subject) (S : State) (e : Event) (g : Grant) → fits_of s S e g ≡ true → AreNumbered S → AreNumbered (one_of s S e g).state
+numbered-of (Zone z) S e g f h =
+    let d = decide (view z S) e in
+    let T = acts z (session_number e) (act_of d g) S in
+    let k : AreNumbered T = numbered-edits z (session_number e) (act_of d g).effect.edits (after_came z (act_of d g).came S) (numbered-came z d g S (asks-decide (view z S) e) f h) in
+    record { pids = k.pids; zids = k.zids; last = k.last }
+numbered-of Global S e g f h = record { pids = h.pids; zids = h.zids; last = h.last }
+numbered-of Whole S e g f h = h
+
+numbered-one : (S : State) (e : Event) (g : Grant) → fits S e g ≡ true → AreNumbered S → AreNumbered (one S e g).state
+unfolding one fits
+numbered-one S e g f h = numbered-of (subject S e) S e g f h
+
+numbered-after : (S : State) (h : List Entry) → is_history fits S h ≡ true → AreNumbered S → AreNumbered (after S h)
+numbered-after S [] is n = n
+numbered-after S (e ∷ h) is n =
+    let parts = and_parts (is_told S e && fits S e.event e.grant) (is_history fits (after_entry S e) h) is in
+    numbered-after (after_entry S e) h parts.1 (numbered-one S e.event e.grant (and_parts (is_told S e) (fits S e.event e.grant) parts.0).1 n)
+
+numbered-opening : (commits : List Commit) → AreNumbered (opening commits)
+unfolding IsDistinct
+numbered-opening commits = record { pids = tt; zids = tt; last = omega arith }
+
+pub numbered-history : (commits : List Commit) (h : List Entry) → is_history fits (opening commits) h ≡ true → AreNumbered (after (opening commits) h)
+numbered-history commits h is = numbered-after (opening commits) h is (numbered-opening commits)
+
+-- the pools give a grant that fits
+allowed-of : (s : Subject) (S : State) (e : Event) → 1 ≤ S.last_pid → fits_of s S e (allowed_of s S e) ≡ true
+allowed-of (Zone z) S e last = decision-fits (pools_of S) z (decide (view z S) e) (asks-decide (view z S) e) last
+allowed-of Global S e last = refl
+allowed-of Whole S e last = refl
+
+pub allowed-fits : (S : State) (e : Event) → AreNumbered S → fits S e (allowed S e) ≡ true
+unfolding fits allowed
+allowed-fits S e n = allowed-of (subject S e) S e n.last
+
+-- so the grants of a legal history fit
+legal-after : (S : State) (h : List Entry) → is_legal S h ≡ true → AreNumbered S → is_history fits S h ≡ true
+legal-after S [] is n = refl
+legal-after S (e ∷ h) is n =
+    let parts = and_parts (is_told S e && is_allowed S e.event e.grant) (is_history is_allowed (after_entry S e) h) is in
+    let head = and_parts (is_told S e) (is_allowed S e.event e.grant) parts.0 in
+    let given : e.grant ≡ allowed S e.event = (grant-Decides e.grant (allowed S e.event)).0 head.1 in
+    let fit : fits S e.event e.grant ≡ true = subst (λ g. fits S e.event g ≡ true) (sym given) (allowed-fits S e.event n) in
+    and_from _ _ (and_from _ _ head.0 fit) (legal-after (after_entry S e) h parts.1 (numbered-one S e.event e.grant fit n))
+
+pub legal-fits : (commits : List Commit) (h : List Entry) → is_legal (opening commits) h ≡ true → is_history fits (opening commits) h ≡ true
+legal-fits commits h is = legal-after (opening commits) h is (numbered-opening commits)
