@@ -10,7 +10,8 @@ use Rattle.zones_cli.specs.declared.status.TheConstants.{REFUSED}
 use Rattle.zones_cli.specs.Denoted.{RefusesEnd, RefusesLine, subcommands_of}
 use Rattle.zones_cli.specs.Exporting.{edited, ended, exported, led_on, refused_at}
 use Rattle.zn_base.specs.Lines.{lines_of}
-use Rattle.zones_cli.specs.Output.{Output, is_past_limit, limit_at}
+use Rattle.zones_cli.specs.Complaints.{limit_at}
+use Rattle.zones_cli.specs.Output.{Output, is_past_limit}
 use Rattle.zones_cli.specs.Subcommands.{edit_of}
 use Rattle.zones_cli.proofs.Denoting.{line_stands}
 

@@ -18,19 +18,19 @@ use Rattle.zone_machine.specs.declared.events.Event.{Event}
 use Rattle.zn_base.specs.Lines.{is_newline, lines_of, with_first}
 use Rattle.zones_cli.specs.Lines.{AreWhole}
 use Rattle.zones_cli.specs.Reading.{BeginsLine, FirstIsLong}
-use Rattle.zones_cli.specs.Run.{HasFront}
-use Rattle.zones_cli.specs.Tracing.{AnswersRead, At_end, At_fault, Ending, HasReplies, HasWritten, Past_limit, Run, Stops, Tells, ends, entry_text, left_to_tell, replies_text, run_of, run_on, script_from, told, told_refusal, trace_fault_of, traced, with_line, with_script}
+use Rattle.zones_cli.specs.Run.{HasFront, run_fault_of}
+use Rattle.zones_cli.specs.Tracing.{AnswersRead, At_end, At_fault, Ending, HasReplies, HasWritten, Past_limit, Run, Stops, Tells, ends, entry_text, left_to_tell, replies_text, run_of, script_from, told, told_refusal, traced, with_line}
 use Rattle.zones_cli.specs.declared.outcome.Complaint.{Complaint}
 use Rattle.zones_cli.specs.declared.outcome.Complaint.TheVariants.{Grammar as Bad_line, Limit}
 use Rattle.zones_cli.specs.declared.trace.Stop.{Stop}
 use Rattle.zones_cli.specs.declared.trace.Stop.TheVariants.{Grammar, Memory as No_room}
-use Rattle.zones_cli.specs.declared.trace.TraceFault.TheVariants.{Memory, Read, Write}
-use Rattle.zones_cli.specs.declared.trace.TraceFault.{TraceFault}
+use Rattle.zones_cli.specs.declared.fault.RunFault.TheVariants.{Memory, Read, Write}
+use Rattle.zones_cli.specs.declared.fault.RunFault.{RunFault}
 use Rattle.zones_cli.specs.declared.lines.ReadFault.{ReadFault}
 use Rattle.zones_cli.specs.declared.lines.ReadFault.TheVariants.{Failed, Memory as No_memory}
 use Rattle.zones_cli.proofs.Fronts.{after_known-append, after_known-nil}
 use Rattle.zones_cli.proofs.TraceRuns.{RunsOn, known_run}
-use Rattle.zones_cli.proofs.Traces.{or_else-None, script_line}
+use Rattle.zones_cli.proofs.Traces.{from_first_line, or_else-None, run_on, script_line, with_script}
 
 abbrev ended_run : List Entry → Option ℕ → Ending → Run
 ended_run done refused ending = record { entries = done; refused = refused; ending = ending }
@@ -114,7 +114,7 @@ pub reads_up_to : (stands : State → Type 0) (refused : Option ℕ) (n : ℕ) (
 reads_up_to stands refused n held holds bytes left None run begins = tt
 reads_up_to stands refused n held holds bytes left (Some input) run begins =
     let known = run.known in
-    let entries : (run_of known.past).entries ≡ run.done = ap (λ lines. (run_on [] None 1 (opening []) lines).entries) (sym (append-nil (lines_of known.past))) ∙ ap (λ r. r.entries) (known.leads []) ∙ append-nil run.done in
+    let entries : (run_of known.past).entries ≡ run.done = ap (λ r. r.entries) (from_first_line known.past) ∙ ap (λ lines. (run_on [] None 1 (opening []) lines).entries) (sym (append-nil (lines_of known.past))) ∙ ap (λ r. r.entries) (known.leads []) ∙ append-nil run.done in
     record {
       taken = known.past;
       begun = begins.begun;
@@ -240,7 +240,7 @@ tells_fault stands refused n held holds line fault bytes new input run is h k sa
     tells_ending stands refused n held holds bytes input (At_fault n fault) (Some (Bad_line n fault)) run (at_fault n line fault bytes new is h k says) (λ done. refl)
 
 -- a run ended, and what waited then was not written whole
-pub ended_front : (result : Result (Option Complaint) TraceFault) (held holds now input : Option (List ℕ)) (waiting : List ℕ)
+pub ended_front : (result : Result (Option Complaint) RunFault) (held holds now input : Option (List ℕ)) (waiting : List ℕ)
     → IfOk result (λ complaint. IfSome input (λ bs. Tells complaint held (after_known holds waiting) (traced bs))) → (IsErrOf result Read ⊎ IsErrOf result Memory → IfSome input (λ bs. HasReplies held (after_known holds waiting) (run_of bs)))
     → (IsErrOf result Write → IfSome input (λ bs. HasFront held holds (traced bs).out)) → (IsErrOf result Write → waiting ≡ []) → HasWritten held holds → HasFront holds now waiting → IfSome input (λ bs. HasFront held now (traced bs).out)
 ended_front (Ok complaint) held holds now input waiting tells answered front none written stopped = flushed_front held holds now input waiting written (whole_replies complaint held (after_known holds waiting) input tells) stopped
@@ -269,7 +269,7 @@ begins_nothing old new same = record { begun = []; clean = refl; taken = same �
     nothing_before (Some bs) = refl
 
 -- a fault of reading that ends a trace as one is the source's
-pub source_failed : {T : Type 0} (r : Result T TraceFault) (fault : ReadFault) → IsErrAnd r (λ e. e ≡ trace_fault_of fault) → IsErrOf r Read → fault ≡ Failed
+pub source_failed : {T : Type 0} (r : Result T RunFault) (fault : ReadFault) → IsErrAnd r (λ e. e ≡ run_fault_of fault) → IsErrOf r Read → fault ≡ Failed
 source_failed (Ok x) fault said is = absurd (cc)
 source_failed (Err e) Failed said is = refl
 source_failed (Err e) No_memory said is = let read : e ≡ Read = cc in absurd (cc)

@@ -14,10 +14,10 @@ use Rattle.zone_machine.specs.declared.events.Event.{Event}
 use Rattle.zn_base.specs.Lines.{is_newline, lines_of, with_first}
 use Rattle.zones_cli.specs.Lines.{AreWhole, has_newline}
 use Rattle.zones_cli.specs.Reading.{TakesLine}
-use Rattle.zones_cli.specs.Tracing.{IsAnswered, TakesEvent, entry_text, is_refusal, replies_text, run_of, run_on}
+use Rattle.zones_cli.specs.Tracing.{IsAnswered, TakesEvent, entry_text, is_refusal, replies_text, run_of}
 use Rattle.zones_cli.proofs.Cuts.{cut_at, cut_whole}
 use Rattle.zones_cli.proofs.Fronts.{after_known-append, after_known-nil}
-use Rattle.zones_cli.proofs.Traces.{answers_line, or_else-None, refused_at_line, skips_line}
+use Rattle.zones_cli.proofs.Traces.{answers_line, from_first_line, or_else-None, refused_at_line, run_on, skips_line}
 
 -- of a known input: what was taken as lines, and what is to come. Whatever lines follow those taken, the run over them
 -- all is the run that has come so far and goes on with them
@@ -215,7 +215,7 @@ runs_line stands now_stands refused now n held holds now_holds line old new inpu
 -- the run of the input is the run over the bytes to come, from here on
 pub known_run : (refused : Option ℕ) (n : ℕ) (S : State) (done : List Entry) (bytes : Option (List ℕ)) (input : List ℕ) (known : Knows refused n S done bytes input) → run_of input ≡ run_on done refused n S (lines_of known.to_come)
 known_run refused n S done bytes input known =
-    ap run_of known.all ∙ ap (run_on [] None 1 (opening [])) (joined known.fresh) ∙ known.leads (lines_of known.to_come)
+    from_first_line input ∙ ap (λ bytes. run_on [] None 1 (opening []) (lines_of bytes)) known.all ∙ ap (run_on [] None 1 (opening [])) (joined known.fresh) ∙ known.leads (lines_of known.to_come)
   where
     joined : AreWhole known.past ⊎ (known.to_come ≡ []) → lines_of (known.past ++ known.to_come) ≡ lines_of known.past ++ lines_of known.to_come
     joined (inl whole) = lines_of-append known.past known.to_come whole

@@ -7,7 +7,24 @@ use Rattle.zone_machine.specs.Pools.{allowed, or_else}
 use Rattle.zone_machine.specs.State.{State}
 use Rattle.zone_machine.specs.declared.events.Entry.{Entry}
 use Rattle.zone_machine.specs.declared.events.Event.{Event}
-use Rattle.zones_cli.specs.Tracing.{Past_limit, Run, ends, first_refused, is_refusal, run_on, script_from, with_line, with_script}
+use Rattle.zone_machine.specs.Machine.{opening}
+use Rattle.zn_base.specs.Lines.{lines_of}
+use Rattle.zones_cli.specs.Tracing.{Past_limit, Run, Script, ends, first_refused, is_refusal, run_of, script_from, with_line}
+
+-- a run that has come so far, and goes on in a state with the lines from a number on
+abbrev pub with_history : List Entry → Option ℕ → Script → List Entry → Run
+with_history done refused script h =
+    record { entries = done ++ h; refused = or_else refused (first_refused script.events h); ending = script.ending }
+
+abbrev pub with_script : List Entry → Option ℕ → State → Script → Run
+with_script done refused S script = with_history done refused script (history S (map (λ e. e.1) script.events))
+
+abbrev pub run_on : List Entry → Option ℕ → ℕ → State → List (List ℕ) → Run
+run_on done refused number S lines = with_script done refused S (script_from number lines)
+
+-- the run of a whole input has come to nothing before its first line
+pub from_first_line : (bytes : List ℕ) → run_of bytes ≡ run_on [] None 1 (opening []) (lines_of bytes)
+from_first_line bytes = refl
 
 within : (n m : ℕ) → n ≤ 200000 → m ≤ 4096 → (nat_lt 200000 n || nat_lt 4096 m) ≡ false
 within n m h k = grind (arith, nat_tests)

@@ -4,6 +4,7 @@ pub mod Refusals
 pub mod Subcommands
 pub mod Words
 pub mod Output
+pub mod Complaints
 pub mod Exporting
 pub mod Outcomes
 pub mod Tracing

@@ -2,6 +2,10 @@
 use Rattle.std.specs.Prelude.{◌≡◌, ◌≤◌, ◌⊎◌, ◌++◌, ◌∷◌, [], ℕ, List, length, take, Option, codes}
 use Rattle.zn_base.specs.Streams.{Rose, after_known}
 use Rattle.zones_cli.specs.declared.status.TheConstants.{DONE, GRAMMAR, LIMIT, NO_MEMORY, READ_FAULT, REFUSED, USAGE, WRITE_FAULT}
+use Rattle.zones_cli.specs.declared.fault.RunFault.{RunFault}
+use Rattle.zones_cli.specs.declared.fault.RunFault.TheVariants.{Memory, Read, Write}
+use Rattle.zones_cli.specs.declared.lines.ReadFault.{ReadFault}
+use Rattle.zones_cli.specs.declared.lines.ReadFault.TheVariants.{Failed, Memory as No_memory}
 use Rattle.zones_cli.specs.Output.{Output}
 
 -- the statuses that the words and the whole input decide
@@ -37,3 +41,14 @@ write_fault_line = codes "write fault" ++ 10 ∷ []
 
 abbrev pub memory_line : List ℕ
 memory_line = codes "no memory" ++ 10 ∷ []
+
+-- the exit status of what ends a run
+abbrev pub fault_status : RunFault → ℕ
+fault_status Memory = NO_MEMORY
+fault_status Read = READ_FAULT
+fault_status Write = WRITE_FAULT
+
+-- what a fault of reading ends a run with
+abbrev pub run_fault_of : ReadFault → RunFault
+run_fault_of No_memory = Memory
+run_fault_of Failed = Read

@@ -1,11 +1,9 @@
 -- What `trace` writes for the whole of its input: its lines are read, their events make a history of the zone machine
 -- from no record on, and the history's replies are printed.
-use Rattle.std.specs.Prelude.{ℕ, List, [], ◌∷◌, ◌++◌, ◌+◌, ◌≡◌, ◌⊎◌, map, take, Bool, true, false, Option, Some, None, Result, Ok, Err, codes, if◌then◌else◌}
-use Rattle.std.specs.Fmt.{decimal}
+use Rattle.std.specs.Prelude.{ℕ, List, [], ◌∷◌, ◌++◌, ◌+◌, ◌≡◌, ◌⊎◌, map, take, Bool, true, false, Option, Some, None, Result, Ok, Err, if◌then◌else◌}
 use Rattle.std.specs.Io.KnownBytes.{IsAtEnd}
 use Rattle.std.specs.List.{flat_map}
 use Rattle.zn_base.specs.Streams.{after_known, before_known}
-use Rattle.trace_text.specs.Faults.{fault_text}
 use Rattle.trace_text.specs.Lines.{event_of}
 use Rattle.trace_text.specs.Replies.{reply_text}
 use Rattle.trace_text.specs.declared.fault.LineFault.{LineFault}
@@ -21,18 +19,14 @@ use Rattle.zone_machine.specs.declared.events.Entry.{Entry}
 use Rattle.zone_machine.specs.declared.events.Event.{Event}
 use Rattle.zone_machine.specs.declared.replies.Head.{Head}
 use Rattle.zone_machine.specs.declared.replies.Head.TheVariants.{Refused, Turned}
-use Rattle.zones_cli.specs.declared.lines.ReadFault.{ReadFault}
-use Rattle.zones_cli.specs.declared.lines.ReadFault.TheVariants.{Memory, Failed as Source_failed}
-use Rattle.zones_cli.specs.declared.trace.TraceFault.{TraceFault}
-use Rattle.zones_cli.specs.declared.trace.TraceFault.TheVariants.{Memory as No_memory, Read}
 use Rattle.zones_cli.specs.declared.trace.Stop.{Stop}
 use Rattle.zones_cli.specs.declared.trace.Stop.TheVariants.{Memory as No_room, Grammar}
 use Rattle.zn_base.specs.Lines.{lines_of}
 use Rattle.zones_cli.specs.Lines.{AreWhole, has_newline}
-use Rattle.zones_cli.specs.Outcomes.{complaint_output}
+use Rattle.zones_cli.specs.Complaints.{complaint_output, limit_at}
 use Rattle.zones_cli.specs.declared.outcome.Complaint.{Complaint}
-use Rattle.zones_cli.specs.Output.{Output, complained, is_past_limit, limit_at, written}
-use Rattle.zones_cli.specs.declared.status.TheConstants.{GRAMMAR, REFUSED}
+use Rattle.zones_cli.specs.declared.outcome.Complaint.TheVariants.{FirstRefused, Grammar as Bad_line}
+use Rattle.zones_cli.specs.Output.{Output, is_past_limit, written}
 
 -- how the lines end: at the end of the input, at a line outside the grammar, or past a limit
 pub data Ending : Type 0 where
@@ -88,20 +82,17 @@ pub record Run : Type 0 where
   pub refused : Option ℕ
   pub ending : Ending
 
--- a run that has come so far, and goes on in a state with the lines from a number on
-abbrev pub with_history : List Entry → Option ℕ → Script → List Entry → Run
-with_history done refused script h =
-    record { entries = done ++ h; refused = or_else refused (first_refused script.events h); ending = script.ending }
+-- a script's run, by the entries of its events
+abbrev pub run_by : Script → List Entry → Run
+run_by script entries = record { entries = entries; refused = first_refused script.events entries; ending = script.ending }
 
-abbrev pub with_script : List Entry → Option ℕ → State → Script → Run
-with_script done refused S script = with_history done refused script (history S (map (λ e. e.1) script.events))
+-- the entries are the history of the events, from a machine with nothing stored
+abbrev pub script_run : Script → Run
+script_run script = run_by script (history (opening []) (map (λ e. e.1) script.events))
 
-abbrev pub run_on : List Entry → Option ℕ → ℕ → State → List (List ℕ) → Run
-run_on done refused number S lines = with_script done refused S (script_from number lines)
-
--- the run of a whole input, from a machine with nothing stored
+-- the run of a whole input
 abbrev pub run_of : List ℕ → Run
-run_of bytes = run_on [] None 1 (opening []) (lines_of bytes)
+run_of bytes = script_run (script_from 1 (lines_of bytes))
 
 -- the text of an entry's reply, and of those of several
 abbrev pub entry_text : Entry → List ℕ
@@ -113,12 +104,11 @@ replies_text entries = flat_map entry_text entries
 -- at the end of the input the first refusal is told
 abbrev pub told_refusal : List ℕ → Option ℕ → Output
 told_refusal text None = written text
-told_refusal text (Some number) = record (complained REFUSED (codes "first refused line: " ++ decimal number)) { out = text }
+told_refusal text (Some number) = record (complaint_output (FirstRefused number)) { out = text }
 
 abbrev pub told_ending : List ℕ → Option ℕ → Ending → Output
 told_ending text refused At_end = told_refusal text refused
-told_ending text refused (At_fault number fault) =
-    record (complained GRAMMAR (codes "line " ++ decimal number ++ codes ": " ++ fault_text fault)) { out = text }
+told_ending text refused (At_fault number fault) = record (complaint_output (Bad_line number fault)) { out = text }
 told_ending text refused (Past_limit number) = record (limit_at number) { out = text }
 
 -- the output of a run
@@ -153,11 +143,6 @@ pub record AnswersRead (input left held holds : Option (List ℕ)) : Type 0 wher
   pub ended : AreWhole taken ⊎ ((begun ≡ []) × IsAtEnd left)
   pub read : input ≡ before_known (taken ++ begun) left
   pub text : holds ≡ after_known held (replies_text (run_of taken).entries)
-
--- what a fault of reading is in a trace
-abbrev pub trace_fault_of : ReadFault → TraceFault
-trace_fault_of Memory = No_memory
-trace_fault_of Source_failed = Read
 
 -- what an event was answered, in the state that the machine stood for
 pub record IsAnswered (stands new_stands : State → Type 0) (e : Event) (refusal : Bool) (holds new_holds : Option (List ℕ)) : Type 0 where

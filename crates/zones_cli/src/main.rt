@@ -5,6 +5,7 @@
 
 mod edit;
 mod export;
+mod fault;
 mod laws;
 mod lines;
 mod outcome;
@@ -16,7 +17,8 @@ mod tests;
 mod trace;
 mod words;
 
-use run::{run_zones, tell};
+use fault::RunFault;
+use run::{fail, run_zones};
 use std::process::ExitCode;
 use std::{env, io};
 use zn_base::{StdSink, StdSource};
@@ -41,8 +43,7 @@ fn main(rt: HostRuntime) -> ExitCode {
     let mut out = StdSink::new(rt.stdout());
     let mut err = StdSink::new(rt.stderr());
     let Ok(words) = read_words(&rt) else {
-        tell(&mut err, b"no memory\n");
-        return ExitCode::from(status::NO_MEMORY);
+        return ExitCode::from(fail(&mut err, RunFault::Memory));
     };
     ExitCode::from(run_zones(rt.alloc(), &words, &mut source, &mut out, &mut err))
 }

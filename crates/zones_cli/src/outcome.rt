@@ -1,6 +1,6 @@
 //! What the whole input comes to: a text on standard output, or a line on standard error.
 ghost use Rattle.std.specs.Prelude.{◌≡◌, ◌++◌, IfOk, OnOk};
-ghost use Rattle.zones_cli.specs.Outcomes.{complaint_status, complaint_text};
+ghost use Rattle.zones_cli.specs.Complaints.{complaint_status, complaint_text};
 
 use crate::refusal::{Refusal, push_refusal};
 use crate::status;

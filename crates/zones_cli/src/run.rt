@@ -1,28 +1,52 @@
 //! The top call of `zones`.
 ghost use Rattle.std.specs.Prelude.{◌≡◌, ◌≢◌, ◌≤◌, ◌⊎◌, ◌↔◌, ◌++◌, ◌∷◌, [], map, string_bytes, IfSome, None};
 ghost use Rattle.zn_base.specs.Streams.{Rose, TakesFront, after_known};
-ghost use Rattle.zones_cli.specs.Outcomes.{complaint_status, complaint_text};
+ghost use Rattle.zones_cli.specs.Complaints.{complaint_status, complaint_text};
 ghost use Rattle.zones_cli.specs.Program.{HasAnswered, HasAnsweredRead, output_of};
-ghost use Rattle.zones_cli.specs.Run.{Agrees, HasFront, IsDecided, IsStatus, TakesFronts, memory_line, read_fault_line, write_fault_line};
+ghost use Rattle.zones_cli.specs.Run.{Agrees, HasFront, IsDecided, IsStatus, TakesFronts, fault_status, memory_line, read_fault_line, write_fault_line};
 ghost use Rattle.zones_cli.specs.Words.{command_of};
 ghost use Rattle.zones_cli.specs.Tracing.{AnswersRead, HasReplies, run_of, traced};
 
 use crate::export::export_all;
-use crate::lines::ReadFault;
+use crate::fault::RunFault;
 use crate::outcome::{Complaint, Outcome};
 use crate::status::{DONE, NO_MEMORY, READ_FAULT, REFUSED, USAGE, WRITE_FAULT};
-use crate::trace::{TraceFault, trace_all};
+use crate::trace::trace_all;
 use crate::words::{Command, HELP, USAGE_LINE, VERSION, command_of};
 use std::alloc::Global;
 use zn_base::{Sink, Source, write_all};
 use zone_machine::Machine;
 
-/// Tries a line once; its failure changes nothing but the count of faults.
-pub fn tell<E: Sink>(err: &mut E, line: &[u8])
+// Tries a line once; its failure changes nothing but the count of faults.
+fn tell<E: Sink>(err: &mut E, line: &[u8])
     ensures front { TakesFront (E.holds err.old) (E.holds err.new) (E.faults err.old) (E.faults err.new) line.now }
     ensures later { E.faults err.old ≤ E.faults err.new }
 {
     let _ = write_all(err, line);
+}
+
+/// Tells what ends a run on standard error, and answers the exit status.
+pub fn fail<E: Sink>(err: &mut E, fault: RunFault) -> u8
+    ensures status { result ≡ fault_status fault }
+    ensures later { E.faults err.old ≤ E.faults err.new }
+    ensures read { result ≡ READ_FAULT → (fault ≡ RunFault.Read) × TakesFront (E.holds err.old) (E.holds err.new) (E.faults err.old) (E.faults err.new) read_fault_line }
+    ensures write { result ≡ WRITE_FAULT → (fault ≡ RunFault.Write) × TakesFront (E.holds err.old) (E.holds err.new) (E.faults err.old) (E.faults err.new) write_fault_line }
+    ensures memory { result ≡ NO_MEMORY → (fault ≡ RunFault.Memory) × TakesFront (E.holds err.old) (E.holds err.new) (E.faults err.old) (E.faults err.new) memory_line }
+{
+    match fault {
+        RunFault::Read => {
+            tell(err, b"read fault\n");
+            READ_FAULT
+        }
+        RunFault::Write => {
+            tell(err, b"write fault\n");
+            WRITE_FAULT
+        }
+        RunFault::Memory => {
+            tell(err, b"no memory\n");
+            NO_MEMORY
+        }
+    }
 }
 
 // Writes a text on standard output.
@@ -37,10 +61,7 @@ fn write_text<K: Sink, E: Sink>(out: &mut K, err: &mut E, text: &[u8]) -> u8
 {
     match write_all(out, text) {
         Ok(()) => DONE,
-        Err(_) => {
-            tell(err, b"write fault\n");
-            WRITE_FAULT
-        }
+        Err(_) => fail(err, RunFault::Write),
     }
 }
 
@@ -54,8 +75,7 @@ fn complain<E: Sink>(alloc: Global, err: &mut E, complaint: Complaint) -> u8
     ensures told { result ≡ WRITE_FAULT → TakesFronts (E.holds err.old) (E.holds err.new) (E.faults err.old) (E.faults err.new) (complaint_text complaint) write_fault_line }
 {
     let Ok(line) = complaint.line(alloc) else {
-        tell(err, b"no memory\n");
-        return NO_MEMORY;
+        return fail(err, RunFault::Memory);
     };
     if complaint.status() != REFUSED {
         tell(err, &line);
@@ -63,10 +83,7 @@ fn complain<E: Sink>(alloc: Global, err: &mut E, complaint: Complaint) -> u8
     }
     match write_all(err, &line) {
         Ok(()) => REFUSED,
-        Err(_) => {
-            tell(err, b"write fault\n");
-            WRITE_FAULT
-        }
+        Err(_) => fail(err, RunFault::Write),
     }
 }
 
@@ -98,18 +115,7 @@ fn run_trace<S: Source, K: Sink, E: Sink>(
     match trace_all(alloc, &mut machine, src, out) {
         Ok(None) => DONE,
         Ok(Some(complaint)) => complain(alloc, err, complaint),
-        Err(TraceFault::Read) => {
-            tell(err, b"read fault\n");
-            READ_FAULT
-        }
-        Err(TraceFault::Write) => {
-            tell(err, b"write fault\n");
-            WRITE_FAULT
-        }
-        Err(TraceFault::Memory) => {
-            tell(err, b"no memory\n");
-            NO_MEMORY
-        }
+        Err(fault) => fail(err, fault),
     }
 }
 
@@ -156,14 +162,7 @@ pub fn run_zones<S: Source, K: Sink, E: Sink>(
         Some(Command::Export) => match export_all(alloc, src) {
             Ok(Outcome::Text(text)) => write_text(out, err, &text),
             Ok(Outcome::Complains(complaint)) => complain(alloc, err, complaint),
-            Err(ReadFault::Failed) => {
-                tell(err, b"read fault\n");
-                READ_FAULT
-            }
-            Err(ReadFault::Memory) => {
-                tell(err, b"no memory\n");
-                NO_MEMORY
-            }
+            Err(fault) => fail(err, RunFault::from(fault)),
         },
         Some(Command::Trace) => run_trace(alloc, src, out, err),
         Some(Command::Help) => write_text(out, err, HELP),

@@ -1,6 +1,6 @@
 //! The exit statuses of `zones`.
 
-/// The input was read to its end and nothing was refused.
+/// All is done and nothing was refused.
 pub const DONE: u8 = 0;
 
 /// A line or the end of the input was refused.

@@ -9,40 +9,16 @@ ghost use Rattle.trace_text.specs.Lines.{event_of};
 ghost use Rattle.zones_cli.specs.Run.{HasFront};
 ghost use Rattle.zones_cli.specs.Tracing.{AnswersRead, HasReplies, HasWritten, IsAnswered, Stops, TakesEvent, Tells, is_refusal, is_refused_outcome, is_refused_turn, left_to_tell, run_of, told_refusal, traced};
 
-use crate::lines::{Ahead, Got, LINES_MAX, ReadFault, next_line};
+use crate::fault::RunFault;
+use crate::lines::{Ahead, Got, LINES_MAX, next_line};
 use crate::outcome::Complaint;
 use std::alloc::{AllocError, Global};
-use thiserror::Error;
 use trace_text::{LineFault, print_reply, read_line};
 use zn_base::{Sink, Source, write_all};
 use zone_machine::{Event, Head, Machine, Outcome, StepFault, TurnReply};
 
 // How many bytes of replies may wait before they are written.
 const WAITING_MAX: usize = 16384;
-
-/// Why a trace ended before its input did.
-#[derive(Clone, Copy, Debug, PartialEq, Eq, Error)]
-pub enum TraceFault {
-    #[error("out of memory")]
-    Memory,
-    #[error("the source has failed")]
-    Read,
-    #[error("standard output has failed")]
-    Write,
-}
-
-impl From<ReadFault> for TraceFault {
-    ghost use Rattle.zones_cli.specs.Tracing.{trace_fault_of};
-
-    ghost from_gives = { λ fault e. e ≡ trace_fault_of fault };
-
-    fn from(fault: ReadFault) -> Self {
-        match fault {
-            ReadFault::Memory => TraceFault::Memory,
-            ReadFault::Failed => TraceFault::Read,
-        }
-    }
-}
 
 fn is_refused_turn(turn: &TurnReply) -> bool
     ensures { result ≡ is_refused_turn turn.now }
@@ -126,28 +102,28 @@ fn take_line(
 }
 
 // Writes the replies that wait. None waits then; where standard output fails, a front of them was taken.
-fn write_waiting<K: Sink>(waiting: &mut Vec<u8>, out: &mut K) -> Result<(), TraceFault>
+fn write_waiting<K: Sink>(waiting: &mut Vec<u8>, out: &mut K) -> Result<(), RunFault>
     ensures all { OnOk result (K.holds out.new ≡ after_known (K.holds out.old) waiting.old.items) }
     ensures none { waiting.new.items ≡ [] }
     ensures front { OnErr result (HasFront (K.holds out.old) (K.holds out.new) waiting.old.items) }
-    ensures fault { OnErr result ((result ≡ Err TraceFault.Write) × Rose (K.faults out.old) (K.faults out.new)) }
+    ensures fault { OnErr result ((result ≡ Err RunFault.Write) × Rose (K.faults out.old) (K.faults out.new)) }
     ensures later { K.faults out.old ≤ K.faults out.new }
 {
     let written = write_all(out, waiting);
     waiting.clear();
     match written {
         Ok(()) => Ok(()),
-        Err(_) => Err(TraceFault::Write),
+        Err(_) => Err(RunFault::Write),
     }
 }
 
 // Writes the replies that wait, where there are many or nothing is ahead.
-fn write_some<K: Sink>(ahead: &Ahead, waiting: &mut Vec<u8>, out: &mut K) -> Result<(), TraceFault>
+fn write_some<K: Sink>(ahead: &Ahead, waiting: &mut Vec<u8>, out: &mut K) -> Result<(), RunFault>
     ensures same { OnOk result (after_known (K.holds out.new) waiting.new.items ≡ after_known (K.holds out.old) waiting.old.items) }
     ensures written { HasWritten (K.holds out.old) (K.holds out.new) }
     ensures none { OnErr result (waiting.new.items ≡ []) }
     ensures front { OnErr result (HasFront (K.holds out.old) (K.holds out.new) waiting.old.items) }
-    ensures fault { OnErr result ((result ≡ Err TraceFault.Write) × Rose (K.faults out.old) (K.faults out.new)) }
+    ensures fault { OnErr result ((result ≡ Err RunFault.Write) × Rose (K.faults out.old) (K.faults out.new)) }
     ensures later { K.faults out.old ≤ K.faults out.new }
 {
     if !ahead.is_empty() && waiting.len() < WAITING_MAX {
@@ -165,17 +141,17 @@ fn take_lines<S: Source, K: Sink>(
     source: &mut S,
     waiting: &mut Vec<u8>,
     out: &mut K,
-) -> Result<Option<Complaint>, TraceFault>
+) -> Result<Option<Complaint>, RunFault>
     requires stands { Stands (opening []) machine.old }
     requires none { waiting.old.items ≡ [] }
     ensures told { IfOk result (λ complaint. IfSome (S.left source.old) (λ bytes. Tells complaint (K.holds out.old) (after_known (K.holds out.new) waiting.new.items) (traced bytes))) }
-    ensures read { IsErrOf result TraceFault.Read → Rose (S.faults source.old) (S.faults source.new) }
-    ensures write { IsErrOf result TraceFault.Write → Rose (K.faults out.old) (K.faults out.new) }
-    ensures front { IsErrOf result TraceFault.Write → IfSome (S.left source.old) (λ bytes. HasFront (K.holds out.old) (K.holds out.new) (traced bytes).out) }
-    ensures answered { IsErrOf result TraceFault.Read ⊎ IsErrOf result TraceFault.Memory → IfSome (S.left source.old) (λ bytes. HasReplies (K.holds out.old) (after_known (K.holds out.new) waiting.new.items) (run_of bytes)) }
-    ensures taken { IsErrOf result TraceFault.Read → IfSome (S.left source.old) (λ _. AnswersRead (S.left source.old) (S.left source.new) (K.holds out.old) (after_known (K.holds out.new) waiting.new.items)) }
+    ensures read { IsErrOf result RunFault.Read → Rose (S.faults source.old) (S.faults source.new) }
+    ensures write { IsErrOf result RunFault.Write → Rose (K.faults out.old) (K.faults out.new) }
+    ensures front { IsErrOf result RunFault.Write → IfSome (S.left source.old) (λ bytes. HasFront (K.holds out.old) (K.holds out.new) (traced bytes).out) }
+    ensures answered { IsErrOf result RunFault.Read ⊎ IsErrOf result RunFault.Memory → IfSome (S.left source.old) (λ bytes. HasReplies (K.holds out.old) (after_known (K.holds out.new) waiting.new.items) (run_of bytes)) }
+    ensures taken { IsErrOf result RunFault.Read → IfSome (S.left source.old) (λ _. AnswersRead (S.left source.old) (S.left source.new) (K.holds out.old) (after_known (K.holds out.new) waiting.new.items)) }
     ensures written { HasWritten (K.holds out.old) (K.holds out.new) }
-    ensures none { IsErrOf result TraceFault.Write → waiting.new.items ≡ [] }
+    ensures none { IsErrOf result RunFault.Write → waiting.new.items ≡ [] }
     ensures read_later { S.faults source.old ≤ S.faults source.new }
     ensures write_later { K.faults out.old ≤ K.faults out.new }
 {
@@ -191,7 +167,7 @@ fn take_lines<S: Source, K: Sink>(
         }
         match take_line(alloc, machine, &line, before + 1, refused, waiting) {
             Ok(now) => refused = now,
-            Err(Stop::Memory) => return Err(TraceFault::Memory),
+            Err(Stop::Memory) => return Err(RunFault::Memory),
             Err(Stop::Grammar(fault)) => return Ok(Some(Complaint::Grammar(before + 1, fault))),
         }
     }
@@ -209,14 +185,14 @@ pub fn trace_all<S: Source, K: Sink>(
     machine: &mut Machine,
     source: &mut S,
     out: &mut K,
-) -> Result<Option<Complaint>, TraceFault>
+) -> Result<Option<Complaint>, RunFault>
     requires { Stands (opening []) machine.old }
     ensures told { IfOk result (λ complaint. IfSome (S.left source.old) (λ bytes. Tells complaint (K.holds out.old) (K.holds out.new) (traced bytes))) }
-    ensures read { IsErrOf result TraceFault.Read → Rose (S.faults source.old) (S.faults source.new) }
-    ensures write { IsErrOf result TraceFault.Write → Rose (K.faults out.old) (K.faults out.new) }
-    ensures front { IsErrOf result TraceFault.Write → IfSome (S.left source.old) (λ bytes. HasFront (K.holds out.old) (K.holds out.new) (traced bytes).out) }
-    ensures answered { IsErrOf result TraceFault.Read ⊎ IsErrOf result TraceFault.Memory → IfSome (S.left source.old) (λ bytes. HasReplies (K.holds out.old) (K.holds out.new) (run_of bytes)) }
-    ensures taken { IsErrOf result TraceFault.Read → IfSome (S.left source.old) (λ _. AnswersRead (S.left source.old) (S.left source.new) (K.holds out.old) (K.holds out.new)) }
+    ensures read { IsErrOf result RunFault.Read → Rose (S.faults source.old) (S.faults source.new) }
+    ensures write { IsErrOf result RunFault.Write → Rose (K.faults out.old) (K.faults out.new) }
+    ensures front { IsErrOf result RunFault.Write → IfSome (S.left source.old) (λ bytes. HasFront (K.holds out.old) (K.holds out.new) (traced bytes).out) }
+    ensures answered { IsErrOf result RunFault.Read ⊎ IsErrOf result RunFault.Memory → IfSome (S.left source.old) (λ bytes. HasReplies (K.holds out.old) (K.holds out.new) (run_of bytes)) }
+    ensures taken { IsErrOf result RunFault.Read → IfSome (S.left source.old) (λ _. AnswersRead (S.left source.old) (S.left source.new) (K.holds out.old) (K.holds out.new)) }
     ensures later { S.faults source.old ≤ S.faults source.new }
 {
     let mut waiting = Vec::new(alloc);
