@@ -32,7 +32,7 @@ EXPORTS = [
 ]
 TRACES = [
     b"S 1 zonecfg -z a create -b; set zonepath=/zones/a; set brand=ipkg\nS 1 zoneadm -z a install\n" + b"D a\n" * 10,
-    b"S 1 zonecfg -z b create -b; set zonepath=/zones/b; set brand=lx\nS 2 zoneadm -z b install\n" + b"D b\n" * 10
+    b"S 1 zonecfg -z b create -b; set zonepath=/zones/b; set brand=ipkg\nS 2 zoneadm -z b install\n" + b"D b\n" * 10
     + b"S 2 zoneadm -z b boot\n" + b"D b\n" * 13 + b"S 3 zoneadm -z b halt\n" + b"D b\n" * 11,
 ]
 PIECES = [b"\n", b";", b"\"", b"(", b"]", b"=", b"\0", b"\xff", b"S 64 ", b"@pids 7 ", b"D ", b" zonecfg -z ", b"set ", b"#", b"\r\n"]
