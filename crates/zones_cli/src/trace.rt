@@ -1,7 +1,7 @@
 //! The command `trace`: the events of the input go through a zone machine that begins with nothing
 //! stored, one after the other. Their replies are written together, before more is read where no line is
 //! begun, and when many of them wait.
-ghost use Rattle.std.specs.Prelude.{◌≡◌, ◌≤◌, ◌⊎◌, ℕ, List, [], Err, IfErr, length, IfOk, IfSome, IsErrOf, OnErr, OnOk, Option};
+ghost use Rattle.std.specs.Prelude.{◌≡◌, ◌≢◌, ◌<◌, ◌≤◌, ◌⊎◌, ℕ, List, [], Err, IfErr, length, IfOk, IfSome, IsErrOf, OnErr, OnOk, Option};
 ghost use Rattle.zn_base.specs.Streams.{Rose, after_known};
 ghost use Rattle.zone_machine.specs.Machine.{opening};
 ghost use Rattle.zone_machine.specs.Tables.{Stands};
@@ -120,6 +120,7 @@ fn write_waiting<K: Sink>(waiting: &mut Vec<u8>, out: &mut K) -> Result<(), RunF
 // Writes the replies that wait, where there are many or nothing is ahead.
 fn write_some<K: Sink>(ahead: &Ahead, waiting: &mut Vec<u8>, out: &mut K) -> Result<(), RunFault>
     ensures same { OnOk result (after_known (K.holds out.new) waiting.new.items ≡ after_known (K.holds out.old) waiting.old.items) }
+    ensures few { OnOk result ((waiting.new.items ≡ []) ⊎ ((length ahead.now ≢ 0) × (length waiting.new.items < WAITING_MAX))) }
     ensures written { HasWritten (K.holds out.old) (K.holds out.new) }
     ensures none { OnErr result (waiting.new.items ≡ []) }
     ensures front { OnErr result (HasFront (K.holds out.old) (K.holds out.new) waiting.old.items) }
