@@ -1,9 +1,8 @@
 -- Whether the configuration that is open is changed.
-use Rattle.std.proofs.Common.{◌≡◌, ◌≢◌, ◌&&◌, Bool, true, not, Option, refl}
+use Rattle.std.proofs.Common.{Option}
 use Rattle.std.specs.Bool.{Decides}
-use Rattle.std.specs.Option.{IsSome, is_some, option_eq}
+use Rattle.std.specs.Option.{IsSome, is_some}
 use Rattle.std.proofs.lemmas.Bool.Decides.{Decides-and, Decides-not}
-use Rattle.zone_config.specs.declared.terms.Contents.{Contents}
 use Rattle.zonecfg_scopes.specs.Edited.{Edited, IsChanged, base_config, is_changed}
 use Rattle.zonecfg_scopes.specs.OpenOf.{config_of}
 use Rattle.zonecfg_scopes.specs.Same.{same_contents}

@@ -1,5 +1,5 @@
 -- What was selected keeps its place.
-use Rattle.std.proofs.Common.{◌≡◌, ℕ, ◌<◌, Bool, true, false, cond, nat_lt, List, [], ◌∷◌, Option, Some, None, Result, Ok, Err, IsTrue, length, refl, ap, sym, subst, arith, ◌∙◌}
+use Rattle.std.proofs.Common.{◌≡◌, ℕ, ◌<◌, Bool, true, false, cond, nat_lt, List, [], ◌∷◌, Option, Some, None, Result, Ok, Err, length, refl, ap, subst, arith, ◌∙◌}
 use Rattle.std.specs.Prelude.{count_by, option_map, position, unwrap_or}
 use Rattle.std.proofs.lemmas.Bool.Decides.{nat_tests}
 use Rattle.std.proofs.lemmas.List.Quantifiers.{position-Some}
@@ -18,7 +18,7 @@ use Rattle.zone_config.specs.declared.terms.Contents.{Contents}
 use Rattle.zone_config.specs.Edits.{with_property, without_property}
 use Rattle.zone_config.specs.Resources.{count_of, found}
 use Rattle.zonecfg_scopes.specs.declared.command.Command.{Command}
-use Rattle.zonecfg_scopes.specs.declared.command.Command.TheVariants.{Blank, Add, Append, Cancel, Clear, Commit, Create, Delete, End, Exit, Export, Help, Info, Remove, RemoveItem, Revert, Select, Set, Verify}
+use Rattle.zonecfg_scopes.specs.declared.command.Command.TheVariants.{Blank, Add, Append, Cancel, Clear, Create, Delete, End, Exit, Help, Info, Remove, RemoveItem, Revert, Select, Set}
 use Rattle.zonecfg_scopes.specs.declared.command.Matching.{Matching}
 use Rattle.zonecfg_scopes.specs.declared.command.Topic.TheVariants.{Everything}
 use Rattle.zonecfg_scopes.specs.declared.fault.EditFault.{EditFault}
@@ -27,7 +27,7 @@ use Rattle.zonecfg_scopes.specs.declared.opened.ResourceScope.{ResourceScope}
 use Rattle.zonecfg_scopes.specs.Commands.{list_name}
 use Rattle.zonecfg_scopes.specs.Denotes.{Follows}
 use Rattle.zonecfg_scopes.specs.Open.{Open, Nothing, Whole, Inside}
-use Rattle.zonecfg_scopes.specs.Scopes.{given, is_in_place, is_placed, leaves, made, made_of_inside, made_of_nothing, made_of_whole, put_back, resource_at, selection, without_matching}
+use Rattle.zonecfg_scopes.specs.Scopes.{given, is_in_place, is_placed, leaves, made, made_of_inside, made_of_nothing, made_of_whole, put_back, resource_at, without_matching}
 use Rattle.zonecfg_scopes.proofs.SameKind.{KeepsKind, with_property-kind, with_value-kind, without_property-kind, without_value-kind}
 
 -- what is left open, if something is, is in its place

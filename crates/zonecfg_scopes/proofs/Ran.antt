@@ -5,16 +5,15 @@ use Rattle.std.proofs.lemmas.List.{append-nil}
 use Rattle.config_terms.specs.declared.fault.ConfigFault.{ConfigFault}
 use Rattle.config_terms.specs.declared.terms.Resource.{Resource}
 use Rattle.zone_config.specs.declared.terms.Contents.{Contents}
-use Rattle.zone_config.specs.Resources.{found}
 use Rattle.zonecfg_scopes.specs.declared.command.Command.{Command}
 use Rattle.zonecfg_scopes.specs.declared.command.Command.TheVariants.{Add, Append, Cancel, Clear, Create, Delete, End, Exit, Info, Remove, RemoveItem, Revert, Select, Set}
 use Rattle.zonecfg_scopes.specs.declared.command.Matching.{Matching}
 use Rattle.zonecfg_scopes.specs.declared.command.Topic.TheVariants.{Everything}
 use Rattle.zonecfg_scopes.specs.declared.fault.EditFault.{EditFault}
 use Rattle.zonecfg_scopes.specs.declared.opened.ResourceScope.{ResourceScope}
-use Rattle.zonecfg_scopes.specs.Denotes.{Begins, Builds, Denotes, EndsInside, Stands, Stays, adds, based, built_appended, built_cleared, built_from, built_kept, built_removed, built_set, denotes_cancelled, denotes_cleared, denotes_created, denotes_ended, denotes_kept, denotes_removed, denotes_set, fault_in, only_shows, refusal, selects, whole}
+use Rattle.zonecfg_scopes.specs.Denotes.{Begins, Builds, Denotes, Stands, Stays, adds, based, built_appended, built_cleared, built_from, built_kept, built_removed, built_set, denotes_cancelled, denotes_cleared, denotes_created, denotes_ended, denotes_kept, denotes_removed, denotes_set, fault_in, only_shows, refusal, selects, whole}
 use Rattle.zonecfg_scopes.specs.Edited.{or_stay, stepped}
-use Rattle.zonecfg_scopes.specs.Laws.{OneStands, StandsAlone}
+use Rattle.zonecfg_scopes.specs.Laws.{OneStands}
 use Rattle.zonecfg_scopes.specs.Open.{Open, Nothing, Whole, Inside}
 use Rattle.zonecfg_scopes.specs.Scopes.{created, given, leaves, made, made_of_inside, made_of_nothing, made_of_whole, resource_at}
 use Rattle.zonecfg_scopes.proofs.Steps.{stands_stepped}

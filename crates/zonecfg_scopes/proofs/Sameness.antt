@@ -1,5 +1,5 @@
 -- The tests of `Same` tell what is one.
-use Rattle.std.proofs.Common.{◌≡◌, ◌==◌, ◌&&◌, ℕ, Bool, true, false, List, Option, Some, None, refl, ap}
+use Rattle.std.proofs.Common.{◌≡◌, Bool, true, Option, Some, None, refl, ap}
 use Rattle.std.specs.Bool.{Decides}
 use Rattle.std.specs.Cmp.{booleans_Decides}
 use Rattle.std.specs.Cmp.Lexicographic.{pointwise}
@@ -8,11 +8,9 @@ use Rattle.std.specs.Str.{bytes_eq}
 use Rattle.std.proofs.lemmas.Bool.{false≢true}
 use Rattle.std.proofs.lemmas.Bool.Decides.{Decides-and, Decides-eqb, Decides-like}
 use Rattle.std.proofs.lemmas.Slice.Eq.{bytes_eq-Decides, slice_eq-Decides}
-use Rattle.std.proofs.Math.Bool.{beq}
 use Rattle.config_terms.specs.contracts.terms.IpType.{the_type as ip_type}
 use Rattle.config_terms.specs.declared.terms.Attr.{Attr}
 use Rattle.config_terms.specs.declared.terms.Fs.{Fs}
-use Rattle.config_terms.specs.declared.terms.IpType.{IpType}
 use Rattle.config_terms.specs.declared.terms.Limit.{Limit}
 use Rattle.config_terms.specs.declared.terms.Net.{Net}
 use Rattle.config_terms.specs.declared.terms.Rctl.{Rctl}

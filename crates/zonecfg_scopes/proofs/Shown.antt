@@ -1,5 +1,5 @@
 -- The line of `help`, a text that is cut at its newlines, and the lines of a whole configuration.
-use Rattle.std.proofs.Common.{◌≡◌, ◌==◌, ◌+◌, ◌<◌, ◌≤◌, nat_lt, not, suc, ℕ, Bool, true, false, cond, List, [], ◌∷◌, ◌++◌, codes, drop, length, map, take, Some, None, refl, ap, sym, ◌∙◌, subst, append_assoc, arith}
+use Rattle.std.proofs.Common.{◌≡◌, ◌==◌, ◌+◌, ◌<◌, ◌≤◌, nat_lt, not, suc, ℕ, true, false, cond, List, [], ◌∷◌, ◌++◌, codes, drop, length, map, take, Some, None, refl, ap, sym, ◌∙◌, subst, append_assoc, arith}
 use Rattle.std.proofs.lemmas.List.{append-nil}
 use Rattle.std.proofs.lemmas.Bool.Decides.{nat_tests}
 use Rattle.std.proofs.lemmas.List.Quantifiers.{position-Some}

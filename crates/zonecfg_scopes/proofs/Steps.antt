@@ -1,5 +1,5 @@
 -- One more subcommand: what stood for a list stands for the longer one.
-use Rattle.std.proofs.Common.{◌≡◌, ◌⊎◌, inl, inr, ℕ, List, [], ◌∷◌, ◌++◌, Bool, true, false, Option, Some, None, Result, Ok, Err, IsTrue, refl, ap, sym, subst, ◌∙◌, append_assoc}
+use Rattle.std.proofs.Common.{◌≡◌, inl, inr, ℕ, List, [], ◌∷◌, ◌++◌, true, false, Option, Some, None, Result, Ok, Err, refl, ap, sym, subst, ◌∙◌, append_assoc}
 use Rattle.config_terms.specs.declared.fault.ConfigFault.{ConfigFault}
 use Rattle.config_terms.specs.declared.terms.Resource.{Resource}
 use Rattle.config_terms.specs.Edits.{empty}
@@ -9,19 +9,19 @@ use Rattle.zone_config.specs.declared.terms.Contents.{Contents}
 use Rattle.zone_config.specs.Edits.{with_property, without_property}
 use Rattle.zone_config.specs.Resources.{found}
 use Rattle.zonecfg_scopes.specs.declared.command.Command.{Command}
-use Rattle.zonecfg_scopes.specs.declared.command.Command.TheVariants.{Blank, Add, Append, Cancel, Clear, Commit, Create, Delete, End, Exit, Export, Help, Info, Remove, RemoveItem, Revert, Select, Set, Verify}
+use Rattle.zonecfg_scopes.specs.declared.command.Command.TheVariants.{Blank, Add, Append, Cancel, Clear, Create, Delete, End, Exit, Help, Info, Remove, RemoveItem, Revert, Select, Set}
 use Rattle.zonecfg_scopes.specs.declared.command.Matching.{Matching}
-use Rattle.zonecfg_scopes.specs.declared.command.Topic.TheVariants.{Everything, Setting, Resources}
+use Rattle.zonecfg_scopes.specs.declared.command.Topic.TheVariants.{Everything}
 use Rattle.zonecfg_scopes.specs.declared.fault.EditFault.{EditFault}
 use Rattle.zonecfg_scopes.specs.declared.fault.EditFault.TheVariants.{Memory, NeedForce, NothingOpen, WrongScope}
 use Rattle.zonecfg_scopes.specs.declared.fault.Scope.TheVariants.{Global, Resource as Scoped}
 use Rattle.zonecfg_scopes.specs.Open.{Open, Nothing, Whole, Inside}
 use Rattle.zonecfg_scopes.specs.declared.opened.ResourceScope.{ResourceScope}
 use Rattle.zonecfg_scopes.specs.Commands.{list_name}
-use Rattle.zonecfg_scopes.specs.Denotes.{Begins, Builds, Denotes, EndsInside, Follows, GoesOn, Stands, Stays, adds, based, built_appended, built_cleared, built_from, built_kept, built_removed, built_set, denotes_cancelled, denotes_cleared, denotes_created, denotes_ended, denotes_kept, denotes_removed, denotes_set, fault_in, refusal, selects, whole}
+use Rattle.zonecfg_scopes.specs.Denotes.{Begins, Builds, Denotes, EndsInside, Follows, GoesOn, Stands, Stays, adds, built_appended, built_cleared, built_from, built_kept, built_removed, built_set, denotes_cancelled, denotes_cleared, denotes_created, denotes_ended, denotes_kept, denotes_removed, denotes_set, fault_in, refusal, selects}
 use Rattle.zonecfg_scopes.specs.Edited.{or_stay, stepped}
 use Rattle.zonecfg_scopes.specs.Faults.{passed_on}
-use Rattle.zonecfg_scopes.specs.Scopes.{created, given, leaves, made, needs_force, put_back, resource_at, without_matching}
+use Rattle.zonecfg_scopes.specs.Scopes.{given, leaves, made, put_back, resource_at, without_matching}
 
 module _ (base : Option Contents) (cs : List Command) where
   -- what is open after one more subcommand stands for the longer list

@@ -1,10 +1,10 @@
 -- What an editor holds, what it answers, and the list of lines that it stands for.
-use Rattle.std.specs.Prelude.{◌≡◌, ◌≢◌, ℕ, List, [], ◌∷◌, ◌++◌, Bool, not, ◌&&◌, Option, Some, None, IsSome, is_some, Result, Ok, Err}
+use Rattle.std.specs.Prelude.{◌≢◌, ℕ, List, [], ◌∷◌, ◌++◌, Bool, not, ◌&&◌, Option, Some, None, IsSome, is_some, Result, Ok, Err}
 use Rattle.std.specs.Option.{option_eq}
 use Rattle.zone_config.specs.declared.terms.Contents.{Contents}
 use Rattle.zonecfg_scopes.specs.declared.base.Base.{Base}
 use Rattle.zonecfg_scopes.specs.declared.command.Command.{Command}
-use Rattle.zonecfg_scopes.specs.declared.command.Command.TheVariants.{Blank, Add, Append, Cancel, Clear, Commit, Create, Delete, End, Exit, Export, Help, Info, Remove, RemoveItem, Revert, Select, Set, Verify}
+use Rattle.zonecfg_scopes.specs.declared.command.Command.TheVariants.{Commit, Delete, Exit, Export, Help, Info, Revert, Verify}
 use Rattle.zonecfg_scopes.specs.declared.command.EditReply.{EditReply}
 use Rattle.zonecfg_scopes.specs.declared.command.EditReply.TheVariants.{Done, Lines, WantCommit, WantDelete, WantExit, WantRevert, WantVerify}
 use Rattle.zonecfg_scopes.specs.declared.fault.EditFault.{EditFault}

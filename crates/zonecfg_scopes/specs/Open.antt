@@ -1,5 +1,5 @@
 -- What is open: nothing, a configuration in the global scope, or a resource of one.
-use Rattle.std.specs.Prelude.{ℕ, Option, Some, None}
+use Rattle.std.specs.Prelude.{ℕ, Option}
 use Rattle.config_terms.specs.declared.terms.Resource.{Resource}
 use Rattle.zone_config.specs.declared.terms.Contents.{Contents}
 

@@ -1,6 +1,6 @@
 -- What a subcommand makes of what is open, or why it is refused: a row for each subcommand that a scope
 -- has (zonecfg(8), SUBCOMMANDS).
-use Rattle.std.specs.Prelude.{ℕ, List, [], nat_lt, Bool, true, false, not, Option, Some, None, Result, Ok, Err, filter, option_map, slice_get, unwrap_or, codes, if◌then◌else◌}
+use Rattle.std.specs.Prelude.{ℕ, List, nat_lt, Bool, true, false, not, Option, Some, None, Result, Ok, Err, filter, option_map, slice_get, unwrap_or, codes}
 use Rattle.config_terms.specs.declared.fault.ConfigFault.{ConfigFault}
 use Rattle.config_terms.specs.declared.fault.ConfigFault.TheVariants as config
 use Rattle.config_terms.specs.declared.terms.Kind.{Kind}
@@ -17,7 +17,7 @@ use Rattle.zone_config.specs.Edits.{with_property, without_property}
 use Rattle.zone_config.specs.Property.{blank}
 use Rattle.zone_config.specs.Resources.{count_of, found, removed, with_replaced, with_resource}
 use Rattle.zonecfg_scopes.specs.declared.command.Command.{Command}
-use Rattle.zonecfg_scopes.specs.declared.command.Command.TheVariants.{Blank, Add, Append, Cancel, Clear, Commit, Create, Delete, End, Exit, Export, Help, Info, Remove, RemoveItem, Revert, Select, Set, Verify}
+use Rattle.zonecfg_scopes.specs.declared.command.Command.TheVariants.{Blank, Add, Append, Cancel, Clear, Create, Delete, End, Exit, Help, Info, Remove, RemoveItem, Revert, Select, Set}
 use Rattle.zonecfg_scopes.specs.declared.command.Matching.{Matching}
 use Rattle.zonecfg_scopes.specs.declared.command.Topic.TheVariants.{Everything}
 use Rattle.zonecfg_scopes.specs.declared.fault.EditFault.{EditFault}
