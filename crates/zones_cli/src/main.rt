@@ -19,12 +19,14 @@ mod words;
 
 use fault::RunFault;
 use run::{fail, run_zones};
+use std::alloc::AllocError;
+use std::env;
+use std::io::ErrorKind;
 use std::process::ExitCode;
-use std::{env, io};
 use zn_base::{StdSink, StdSource};
 
 // The words after the program's name. Words that can't be read, as those that are no UTF-8, are none.
-fn read_words(rt: &HostRuntime) -> io::Result<Vec<String>> {
+fn read_words(rt: &HostRuntime) -> Result<Vec<String>, AllocError> {
     let mut words = Vec::new(rt.alloc());
     match env::args(rt) {
         Ok(all) => {
@@ -33,7 +35,7 @@ fn read_words(rt: &HostRuntime) -> io::Result<Vec<String>> {
             }
             Ok(words)
         }
-        Err(fault) if fault.kind() == io::ErrorKind::OutOfMemory => Err(fault),
+        Err(fault) if fault.kind() == ErrorKind::OutOfMemory => Err(AllocError),
         Err(_) => Ok(words),
     }
 }
