@@ -2,6 +2,10 @@
 
 run(data) gives (status, standard output, standard error) for a whole input. It shares no code with the
 program and is meant for comparing the two; tools/fuzz_trace.py does that.
+
+Within 200,000 lines at most 256 zones are made, a zone holds one id and one process at most, and no pool of numbers
+comes to its end: a zone needs 26 lines to be booted and halted again. So no step of a request fails, and the model
+has neither `failed` nor `undone`.
 """
 
 import itertools
@@ -117,10 +121,7 @@ def typed(text):
 # The zones and their daemons.
 
 def next_number(numbers, last, used):
-    """The lowest free number above the last one given, or else the lowest free one.
-
-    There is always one: in 200,000 lines at most 256 zones are made, and each holds one of each at most.
-    """
+    """The lowest free number above the last one given, or else the lowest free one."""
     above = range(max(last + 1, numbers.start), numbers.stop)
     return next(number for number in itertools.chain(above, numbers) if number not in used)
 
@@ -218,7 +219,7 @@ class Host:
 
     def close(self, name, ticket):
         """Ends the wait of the session whose ticket it is."""
-        self.tickets = {number: open_ for number, open_ in self.tickets.items() if open_ != (name, ticket)}
+        self.tickets = {number: held for number, held in self.tickets.items() if held != (name, ticket)}
 
     def step(self, name, step):
         """Does one step of a request, and answers it as it is told."""
