@@ -24,8 +24,11 @@ none_stops (NotAStore place) h = h
 none_stops (BadRecord place) h = h
 
 -- where bodies stop, the disk had some, so that it was no unformatted one
+pub not_unformatted : (old : List ℕ) (bodies : List (List ℕ)) (e : StoreFault) → (IsUnformatted old → bodies ≡ []) → Stops bodies e → IsUnformatted old → ⊥
+not_unformatted old bodies e empty stops u = none_stops e (subst (λ (l : List (List ℕ)). Stops l e) (empty u) stops)
+
 pub still_there : (old new : List ℕ) (bodies : List (List ℕ)) (e : StoreFault) → Formats old new → (IsUnformatted old → bodies ≡ []) → Stops bodies e → new ≡ old
-still_there old new bodies e formats empty stops = formats.other (λ u. none_stops e (subst (λ (l : List (List ℕ)). Stops l e) (empty u) stops))
+still_there old new bodies e formats empty stops = formats.other (not_unformatted old bodies e empty stops)
 
 -- one thing at most
 module _ (one_way : OpensOneWay) (image : List ℕ) where

@@ -147,7 +147,7 @@ fn write<D: Disk>(
 impl<D: Disk> Store<D> {
     /// Opens a store, and formats a disk that is unformatted. A crash at any moment meanwhile leaves what
     /// stands for the same records. A fault hands the disk back.
-    #[tactic(auto, using(crate::proofs::Opening::still_there))]
+    #[tactic(auto, using(crate::proofs::Opening::still_there, crate::proofs::Opening::not_unformatted))]
     pub fn open(alloc: Global, disk: D) -> Result<Store<D>, (StoreFault, D)>
         // The answer is what the disk's bytes come to, unless memory or the disk fails.
         ensures answers { (D.view disk).Keeps → Says (D.view disk).reads (outcome_by (λ store. store.bank.records) (λ store. store.rows) (λ e. e.0) result) }
@@ -157,10 +157,11 @@ impl<D: Disk> Store<D> {
         ensures any_moment_err { (D.view disk).Keeps → IfErr result (λ e. Leaves (D.view disk) (D.view e.1) (KeepsMeaning (D.view disk))) }
         ensures lasts { (D.view disk).Keeps → IfOk result (λ store. (image : List ℕ) → (D.view store.bank.disk).Now image → Stores store.bank.records store.rows image) }
 
-        // What is unformatted becomes a new store, and every other disk stays as it is. After a fault other than
-        // that of the disk, want of memory included, each disk is as it was.
+        // What is unformatted becomes a new store, which takes no memory, and every other disk stays as it is. After a
+        // fault other than that of the disk, want of memory included, each disk is as it was.
         ensures formats { (D.view disk).Keeps → IfOk result (λ store. Formats (D.view disk).reads (D.view store.bank.disk).reads) }
         ensures refused_same { (D.view disk).Keeps → IfErr result (λ e. e.0 ≢ StoreFault.DiskFault → (D.view e.1).reads ≡ (D.view disk).reads) }
+        ensures unformatted { (D.view disk).Keeps → IsUnformatted (D.view disk).reads → IfErr result (λ e. e.0 ≡ StoreFault.DiskFault) }
         ensures other_same { (D.view disk).Keeps → (IsUnformatted (D.view disk).reads → ⊥) → IfErr result (λ e. (D.view e.1).reads ≡ (D.view disk).reads) }
         ensures sound { IfOk result (λ store. store.bank.sound ≡ true) }
 

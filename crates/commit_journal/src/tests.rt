@@ -221,7 +221,192 @@ fn a_revision_of_any_length_is_looked_at(rt: HostRuntime) -> Result<(), Fail> {
     Ok(())
 }
 
-// Another implementation of version 5 gives these UUIDs.
+#[test]
+fn a_revision_is_a_number_of_32_bits(rt: HostRuntime) -> Result<(), Fail> {
+    let cases = [
+        (b"0000000005".as_slice(), Ok((1, false))),
+        (b"4294967295", Ok((1, false))),
+        (b"4294967296", Err(StoreFault::RecordForm(1))),
+    ];
+    for (digits, want) in cases {
+        let mut bytes = STORE[..98].to_vec(rt.alloc())?;
+        bytes.extend_from_slice(digits)?;
+        bytes.extend_from_slice(&STORE[108..])?;
+        assert_eq!(rt; opened(&rt, rt.alloc(), bytes)?, want);
+    }
+    Ok(())
+}
+
+// A record that is not whole is told before one that is out of form, and no length is too large to be looked at.
+#[test]
+fn a_record_is_whole_before_it_is_read(rt: HostRuntime) -> Result<(), Fail> {
+    let cases = [
+        (b"\x01\0\0\0\x01x\0".as_slice(), StoreFault::RecordForm(1)),
+        (b"\x01\0\0\0\x01x\x01", StoreFault::BadRecord(22)),
+        (b"\x01\xff\xff\xff\xff\0", StoreFault::BadRecord(16)),
+    ];
+    for (bank, fault) in cases {
+        let mut bytes = STORE[..16].to_vec(rt.alloc())?;
+        bytes.extend_from_slice(bank)?;
+        assert_eq!(rt; opened(&rt, rt.alloc(), bytes)?, Err(fault));
+    }
+    Ok(())
+}
+
+// Opens the disk, removes web, which is stored, and says what came of it.
+fn remove_web(
+    rt: &impl Abort,
+    alloc: Global,
+    disk: MemDisk,
+) -> Result<(Result<u32, StoreFault>, MemDisk), Fail> {
+    let web = ZoneName::read(alloc, b"web")?;
+    match Store::open(alloc, disk) {
+        Ok(mut store) => {
+            assert!(rt; store.sound() && store.get(&web).is_some());
+            let answer = store.change(alloc, &web, None);
+            Ok((answer, store.into_disk()))
+        }
+        Err((fault, disk)) => Ok((Err(fault), disk)),
+    }
+}
+
+#[test]
+fn a_removal_byte_by_byte(rt: HostRuntime) -> Result<(), Fail> {
+    let disk = disk_of(&rt, rt.alloc(), STORE.to_vec(rt.alloc())?, None)?;
+    let (answer, disk) = remove_web(&rt, rt.alloc(), disk)?;
+    assert_eq!(rt; answer, Ok(2));
+    let mut left = STORE[..196].to_vec(rt.alloc())?;
+    left.extend_from_slice(b"\x01\0\0\0\x14zone web\nstate none\n\0")?;
+    assert_eq!(rt; disk.bytes(), left.as_slice());
+    assert_eq!(rt; opened(&rt, rt.alloc(), left)?, Ok((0, false)));
+    Ok(())
+}
+
+// Puts a record behind the last one of a store: a zone made or changed, or a removal.
+fn push_record(
+    alloc: Global,
+    bytes: &mut Vec<u8>,
+    name: &[u8],
+    removed: bool,
+) -> Result<(), AllocError> {
+    let mut body = b"zone ".to_vec(alloc)?;
+    body.extend_from_slice(name)?;
+    body.push(b'\n')?;
+    body.extend_from_slice(if removed {
+        b"state none\n".as_slice()
+    } else {
+        &STORE[30..196]
+    })?;
+    bytes.pop();
+    bytes.push(1)?;
+    bytes.extend_from_slice(&(body.len() as u64).to_be_bytes()[4..])?;
+    bytes.extend_from_slice(&body)?;
+    bytes.push(0)?;
+    Ok(())
+}
+
+// A store of some records: `+NAME` makes or changes a zone, and `-NAME` removes it.
+fn store_of(alloc: Global, records: &str) -> Result<Vec<u8>, AllocError> {
+    let mut bytes = STORE[..16].to_vec(alloc)?;
+    bytes.push(0)?;
+    for record in records.split(' ') {
+        match record.as_bytes() {
+            [b'-', name @ ..] => push_record(alloc, &mut bytes, name, true)?,
+            [_, name @ ..] => push_record(alloc, &mut bytes, name, false)?,
+            [] => {}
+        }
+    }
+    Ok(bytes)
+}
+
+// The names of the zones in their order, with a space behind each.
+fn names_of(alloc: Global, store: &Store<MemDisk>) -> Result<Vec<u8>, AllocError> {
+    let mut names = Vec::new(alloc);
+    for place in 0..store.count() {
+        names.extend_from_slice(store.at(place).0.bytes())?;
+        names.push(b' ')?;
+    }
+    Ok(names)
+}
+
+#[test]
+fn zones_stand_in_the_order_in_which_they_were_made(rt: HostRuntime) -> Result<(), Fail> {
+    let cases = [
+        ("+a +b +c", b"a b c ".as_slice(), 4),
+        ("+a +b +a", b"a b ", 4),
+        ("+a +b -a", b"b ", 4),
+        ("+a +b -a +a +b", b"b a ", 6),
+        ("+a -a", b"", 3),
+    ];
+    for (records, names, serial) in cases {
+        let bytes = store_of(rt.alloc(), records)?;
+        match Store::open(rt.alloc(), disk_of(&rt, rt.alloc(), bytes, None)?) {
+            Ok(store) => {
+                assert_eq!(rt;
+                    names_of(rt.alloc(), &store)?.as_slice(),
+                    names,
+                    "{records}"
+                );
+                assert_eq!(rt; store.next_serial(), serial, "{records}");
+            }
+            Err(_) => assert!(rt; false, "{records}"),
+        }
+    }
+    Ok(())
+}
+
+#[test]
+fn no_zone_is_removed_that_is_not_stored(rt: HostRuntime) -> Result<(), Fail> {
+    for (records, number) in [("-a", 1), ("+a -b", 2), ("+a -a -a", 3), ("+a -a -a +a", 3)] {
+        let came = opened(&rt, rt.alloc(), store_of(rt.alloc(), records)?)?;
+        assert_eq!(rt; came, Err(StoreFault::RecordForm(number)), "{records}");
+    }
+    Ok(())
+}
+
+// The name of three digits behind a letter.
+fn numbered(number: u8) -> [u8; 4] {
+    [
+        b'z',
+        b'0' + number / 100,
+        b'0' + number / 10 % 10,
+        b'0' + number % 10,
+    ]
+}
+
+#[test]
+fn at_most_256_zones_are_stored_at_once(rt: HostRuntime) -> Result<(), Fail> {
+    let mut bytes = STORE[..16].to_vec(rt.alloc())?;
+    bytes.push(0)?;
+    for number in 0..=255 {
+        push_record(rt.alloc(), &mut bytes, &numbered(number), false)?;
+    }
+    assert_eq!(rt;
+        opened(&rt, rt.alloc(), bytes.to_vec(rt.alloc())?)?,
+        Ok((256, false))
+    );
+    let mut more = bytes.to_vec(rt.alloc())?;
+    push_record(rt.alloc(), &mut more, b"web", false)?;
+    assert_eq!(rt;
+        opened(&rt, rt.alloc(), more)?,
+        Err(StoreFault::RecordForm(257))
+    );
+    push_record(rt.alloc(), &mut bytes, b"z005", true)?;
+    push_record(rt.alloc(), &mut bytes, b"web", false)?;
+    assert_eq!(rt;
+        opened(&rt, rt.alloc(), bytes.to_vec(rt.alloc())?)?,
+        Ok((256, false))
+    );
+    push_record(rt.alloc(), &mut bytes, b"z005", false)?;
+    assert_eq!(rt;
+        opened(&rt, rt.alloc(), bytes)?,
+        Err(StoreFault::RecordForm(259))
+    );
+    Ok(())
+}
+
+// Another implementation of version 5 gives these UUIDs. With the long names, what is hashed ends about the end of a
+// block.
 #[test]
 fn a_uuid_is_that_of_the_name_and_the_number(rt: HostRuntime) -> Result<(), Fail> {
     let web = ZoneName::read(rt.alloc(), b"web")?;
@@ -230,5 +415,17 @@ fn a_uuid_is_that_of_the_name_and_the_number(rt: HostRuntime) -> Result<(), Fail
     let a = ZoneName::read(rt.alloc(), b"a")?;
     let last = Uuid::try_parse_ascii(b"4849e5c4-3380-51bf-a8e7-962dd6a02083")?;
     assert_eq!(rt; uuid_of(rt.alloc(), &a, 4_294_967_295)?, last);
+    let long = [
+        (37, b"2381a684-71e5-5d00-ae8c-e2ca1400bef3".as_slice()),
+        (38, b"1b2919e6-fd63-5379-a4a0-ac74ff6ba2fb"),
+        (46, b"3b3201f4-af57-50ae-8f77-e58894d85122"),
+    ];
+    for (length, uuid) in long {
+        let mut name = Vec::new(rt.alloc());
+        name.resize(length, b'z')?;
+        let name = ZoneName::read(rt.alloc(), &name)?;
+        let want = Uuid::try_parse_ascii(uuid)?;
+        assert_eq!(rt; uuid_of(rt.alloc(), &name, 1)?, want, "{length} bytes");
+    }
     Ok(())
 }

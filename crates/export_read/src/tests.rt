@@ -142,8 +142,12 @@ fn a_text_is_read_and_its_copy_exports_the_same(rt: HostRuntime) -> Result<(), F
 
 #[test]
 fn a_fault_has_its_line(rt: HostRuntime) -> Result<(), Fail> {
-    let rows: [(&[u8], usize); 6] = [
+    let rows: [(&[u8], usize); 10] = [
         (b"", 1),
+        (b"\n", 1),
+        (b"create -b\r\n", 1),
+        (b"create -b\nset brand=ip", 3),
+        (b"create -b\nset hostid=ffffffff\n", 2),
         (
             b"create -b\nset brand=ipkg\nset zonepath=/zones/web\nset autoboot=false\nset ip-type=shared\n",
             3,
@@ -166,6 +170,48 @@ fn a_fault_has_its_line(rt: HostRuntime) -> Result<(), Fail> {
 fn each_line_of_a_whole_text_is_told(rt: HostRuntime) -> Result<(), Fail> {
     assert!(rt; fronts_are_told(rt.alloc(), all())?);
     assert!(rt; blanks_are_told(rt.alloc(), all())?);
+    Ok(())
+}
+
+// What is to be told of these lines behind those of the two properties that every text has; 0 where all is read.
+const BEHIND: &[(&[u8], usize)] = &[
+    (b"end\n", 4),
+    (b"\n", 4),
+    (b"set cpu-shares=1\n", 4),
+    (b"add fs\nend\nadd fs\nend\n", 0),
+    (b"add net\nend\nadd net\nend\n", 0),
+    (b"add net\nend\nadd fs\n", 6),
+    (b"add fs\nadd options [ro,ro]\nend\n", 0),
+    (b"add attr\nend\nadd attr\nset type=int\n", 7),
+    (
+        b"add attr\nset name=a\nend\nadd attr\nset type=int\nend\n",
+        0,
+    ),
+    (b"add attr\nset name=zone\n", 5),
+    (b"add attr\nset name=Zone\nend\n", 0),
+    (b"add rctl\nset name=zone\nend\n", 0),
+    (
+        b"add rctl\nend\nadd rctl\nadd value (priv=privileged,limit=1,action=deny)\n",
+        7,
+    ),
+    (
+        b"add rctl
+set name=zone.cpu-shares
+add value (priv=privileged,limit=1,action=deny)
+add value (priv=privileged,limit=1,action=deny)
+end
+",
+        0,
+    ),
+];
+
+#[test]
+fn resources_stand_behind_the_properties(rt: HostRuntime) -> Result<(), Fail> {
+    for (lines, line) in BEHIND {
+        let mut text = b"create -b\nset autoboot=true\nset ip-type=shared\n".to_vec(rt.alloc())?;
+        text.extend_from_slice(lines)?;
+        assert_eq!(rt; line_of_fault(rt.alloc(), &text)?, *line);
+    }
     Ok(())
 }
 

@@ -68,6 +68,25 @@ fn a_front_of_a_text_is_an_index_at_the_end_of_a_line(rt: HostRuntime) -> Result
     Ok(())
 }
 
+// A backslash stands before each colon and backslash of a path, and before nothing else.
+#[test]
+fn every_path_has_one_spelling(rt: HostRuntime) -> Result<(), Fail> {
+    let cases = [
+        (b"/".as_slice(), Ok(1)),
+        (b"/.\\:", Ok(1)),
+        (b"/\\.", Err(IndexFault::IndexLine(1))),
+        (b"/a\\", Err(IndexFault::IndexLine(1))),
+        (b"", Err(IndexFault::IndexLine(1))),
+    ];
+    for (path, came) in cases {
+        let mut text = b"a:installed:".to_vec(rt.alloc())?;
+        text.extend_from_slice(path)?;
+        text.extend_from_slice(b":8a2e61b6-8ea3-5b49-9719-c91d461d9a87\n")?;
+        assert_eq!(rt; count_rows(rt.alloc(), &text)?, came);
+    }
+    Ok(())
+}
+
 #[test]
 fn the_first_wrong_line_is_told(rt: HostRuntime) -> Result<(), Fail> {
     let faults = [

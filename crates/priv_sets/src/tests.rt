@@ -12,9 +12,10 @@ const DEFAULT: &str = "\
 
 #[test]
 fn limit_sets_are_read_and_printed(rt: HostRuntime) -> Result<(), Fail> {
-    let table: [(&[u8], &str); 6] = [
+    let table: [(&[u8], &str); 7] = [
         (b"", DEFAULT),
         (b"default", DEFAULT),
+        (b"default,proc_zone,-proc_zone", DEFAULT),
         (
             b"sys_mount,proc_fork,proc_exec",
             "proc_exec,proc_fork,sys_mount",
@@ -41,16 +42,24 @@ fn limit_sets_are_read_and_printed(rt: HostRuntime) -> Result<(), Fail> {
 
 #[test]
 fn faults_have_their_place_or_privilege(rt: HostRuntime) -> Result<(), Fail> {
-    let table: [(&[u8], PrivFault); 13] = [
+    let table: [(&[u8], PrivFault); 21] = [
         (b"default,zone", PrivFault::PrivWord(8)),
         (b"proc_exec,default", PrivFault::PrivWord(10)),
         (b"default,", PrivFault::PrivWord(8)),
+        (b"default,,all", PrivFault::PrivWord(8)),
+        (b"all,default", PrivFault::PrivWord(4)),
+        (b"!all,zone", PrivFault::PrivWord(5)),
         (b"basic", PrivFault::PrivWord(0)),
+        (b"PROC_FORK", PrivFault::PrivWord(0)),
+        (b"priv_proc_fork", PrivFault::PrivWord(0)),
         (b"!default", PrivFault::PrivWord(0)),
         (b"!", PrivFault::PrivWord(0)),
         (b"default,!proc_fork", PrivFault::PrivRequired(26)),
         (b"proc_audit,!proc_audit", PrivFault::PrivRequired(25)),
         (b"default,!all", PrivFault::PrivRequired(25)),
+        (b"-all", PrivFault::PrivRequired(25)),
+        (b"all,!proc_fork", PrivFault::PrivRequired(26)),
+        (b"default,proc_zone", PrivFault::PrivProhibited(33)),
         (b"all", PrivFault::PrivProhibited(4)),
         (b"all,!dtrace_kernel", PrivFault::PrivProhibited(33)),
         (

@@ -44,6 +44,7 @@ fn ready<D: Disk>(alloc: Global, disk: &mut D) -> Result<Records, BankFault>
     ensures empty { (D.view disk.old).Keeps → IsUnformatted (D.view disk.old).reads → IfOk result (λ r. r.bodies.items ≡ []) }
     ensures other { (D.view disk.old).Keeps → (IsUnformatted (D.view disk.old).reads → ⊥) → (D.view disk.new).reads ≡ (D.view disk.old).reads }
     ensures refused_same { (D.view disk.old).Keeps → IfErr result (λ e. e ≢ BankFault.DiskFault → (D.view disk.new).reads ≡ (D.view disk.old).reads) }
+    ensures unformatted { (D.view disk.old).Keeps → IsUnformatted (D.view disk.old).reads → IfErr result (λ e. e ≡ BankFault.DiskFault) }
     ensures counted { IfOk result (λ r. r.used ≡ used_by r.bodies.items) }
     ensures within { IfOk result (λ r. r.used ≤ BANK) }
     ensures model { (D.view disk.old).Keeps ↔ (D.view disk.new).Keeps }
@@ -87,11 +88,12 @@ impl<D: Disk> Bank<D> {
         ensures any_moment_err { (D.view disk).Keeps → IfErr result (λ e. Leaves (D.view disk) (D.view e.1) (KeepsMeaning (D.view disk))) }
         ensures lasts { (D.view disk).Keeps → IfOk result (λ bank. (image : List ℕ) → (D.view bank.disk).Now image → Stands image bank.records) }
 
-        // What is unformatted becomes a new store, and every other disk stays as it is. After a fault other than
-        // that of the disk, want of memory included, each disk is as it was.
+        // What is unformatted becomes a new store, which takes no memory, and every other disk stays as it is. After a
+        // fault other than that of the disk, want of memory included, each disk is as it was.
         ensures formats { (D.view disk).Keeps → IfOk result (λ bank. Formats (D.view disk).reads (D.view bank.disk).reads) }
         ensures empty { (D.view disk).Keeps → IsUnformatted (D.view disk).reads → IfOk result (λ bank. bank.records ≡ []) }
         ensures refused_same { (D.view disk).Keeps → IfErr result (λ e. e.0 ≢ BankFault.DiskFault → (D.view e.1).reads ≡ (D.view disk).reads) }
+        ensures unformatted { (D.view disk).Keeps → IsUnformatted (D.view disk).reads → IfErr result (λ e. e.0 ≡ BankFault.DiskFault) }
         ensures other_same { (D.view disk).Keeps → (IsUnformatted (D.view disk).reads → ⊥) → IfErr result (λ e. (D.view e.1).reads ≡ (D.view disk).reads) }
         ensures sound { IfOk result (λ bank. bank.sound ≡ true) }
         ensures used { IfOk result (λ bank. bank.used ≡ used_by bank.records) }
