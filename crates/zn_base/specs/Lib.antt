@@ -6,8 +6,6 @@ pub mod Lines
 pub mod Path
 pub mod Names
 pub mod Moves
-pub mod Owned_lists
-pub mod Firsts
 pub mod Same
 pub mod Disk
 pub mod MemoryDisk

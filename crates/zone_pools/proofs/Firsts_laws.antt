@@ -3,10 +3,10 @@ use Rattle.std.proofs.Common.{◌≡◌, ℕ, List, Bool, true, false, ◌∷◌
 use Rattle.std.specs.Prelude.{◌≢◌}
 use Rattle.std.specs.List.{cons_option}
 use Rattle.std.specs.Str.{bytes_eq}
-use Rattle.zn_base.specs.declared.owned.Owned.{Owned}
-use Rattle.zn_base.specs.Owned_lists.{own, mine}
-use Rattle.zn_base.specs.Firsts.{first_of, placed}
-use Rattle.zn_base.proofs.Owned_laws.{same_self, other_tag}
+use Rattle.zone_pools.specs.declared.owned.Owned.{Owned}
+use Rattle.zone_pools.specs.Owned_lists.{own, mine}
+use Rattle.zone_pools.specs.Firsts.{first_of, placed}
+use Rattle.zone_pools.proofs.Owned_laws.{same_self, other_tag}
 
 pub first-placed : {A : Type 0} (z : List ℕ) (a : A) (os : List (Owned A)) → first_of (mine z (placed z a os)) ≡ Some a
 first-placed z a [] = simp (same_self z)

@@ -1,7 +1,7 @@
 -- A flat list of tagged items: what an event of one zone may do with it, and what the zone sees of it.
 use Rattle.std.specs.Prelude.{ℕ, List, Option, Some, None, Bool, not, filter, map, bytes_eq, ◌&&◌, ◌++◌, ◌∷◌, [], if◌then◌else◌}
 use Rattle.std.specs.List.{filter_map}
-use Rattle.zn_base.specs.declared.owned.Owned.{Owned}
+use Rattle.zone_pools.specs.declared.owned.Owned.{Owned}
 
 abbrev pub own : {A : Type 0} → List ℕ → Owned A → Option A
 own z o = if bytes_eq z o.zone then Some o.it else None

@@ -1,5 +1,5 @@
 //! What zones own, each thing with its zone's name.
-use crate::name::ZoneName;
+use zn_base::ZoneName;
 
 /// A thing of a zone.
 #[derive(Drop)]

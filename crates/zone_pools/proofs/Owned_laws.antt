@@ -7,8 +7,8 @@ use Rattle.std.proofs.lemmas.Slice.Eq.{bytes_eq-Decides}
 use Rattle.std.proofs.lemmas.Bool.{false_from_ne_true}
 use Rattle.std.proofs.lemmas.List.Elements.{filter_map-append}
 use Rattle.std.proofs.lemmas.List.{append-nil}
-use Rattle.zn_base.specs.declared.owned.Owned.{Owned}
-use Rattle.zn_base.specs.Owned_lists.{own, mine, List_edit, Go, Come, Put, Change, edited, edit_list, changed, tag, put, put_tagged}
+use Rattle.zone_pools.specs.declared.owned.Owned.{Owned}
+use Rattle.zone_pools.specs.Owned_lists.{own, mine, List_edit, Go, Come, Put, Change, edited, edit_list, changed, tag, put, put_tagged}
 
 pub same_self : (z : List ℕ) → bytes_eq z z ≡ true
 same_self z = (bytes_eq-Decides z z).1 refl

@@ -1,7 +1,7 @@
 -- The first thing of a zone in a flat list, and what takes its place.
 use Rattle.std.specs.Prelude.{ℕ, List, Option, Some, None, Bool, true, false, bytes_eq, ◌∷◌, [], if◌then◌else◌}
-use Rattle.zn_base.specs.declared.owned.Owned.{Owned}
-use Rattle.zn_base.specs.Owned_lists.{tag}
+use Rattle.zone_pools.specs.declared.owned.Owned.{Owned}
+use Rattle.zone_pools.specs.Owned_lists.{tag}
 
 abbrev pub is_nil : {A : Type 0} → List A → Bool
 is_nil [] = true

@@ -1,0 +1,4 @@
+pub mod Owned_lists
+pub mod Firsts
+pub mod Places
+pub mod Same
