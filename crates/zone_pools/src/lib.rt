@@ -5,7 +5,9 @@
 mod grant;
 mod lists;
 mod owned;
+mod owners;
 
 pub use grant::{Grant, Pool};
 pub use lists::{add, end_all, place, place_of};
 pub use owned::Owned;
+pub use owners::{Keyed, Owners};
