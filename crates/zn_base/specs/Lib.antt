@@ -3,6 +3,8 @@ pub mod Streams
 pub mod Memory
 pub mod Text
 pub mod Lines
+pub mod Cuts
+pub mod Decimals
 pub mod Path
 pub mod Names
 pub mod Moves

@@ -1,5 +1,5 @@
 use Rattle.std.proofs.Common.{◌≡◌, take}
-use Rattle.config_terms.proofs.listing.twins.Given as goal
+use Rattle.zn_base.proofs.listing.try_clone_all.Given as goal
 
 abbrev pub invariant-loop-item : goal.invariant-loop-item
 invariant-loop-item g l = l.list ≡ take l.item-index l.items

@@ -1,6 +1,6 @@
 use Rattle.std.proofs.Common.{◌≡◌, ◌++◌, length}
 use Rattle.zn_base.specs.Lines.{lines_of}
-use Rattle.zonecfg_scopes.proofs.line.lines_of.Given as goal
+use Rattle.zn_base.proofs.cuts.lines.Given as goal
 
 abbrev pub invariant-loop-at : goal.invariant-loop-at
 invariant-loop-at l = l.lines ++ lines_of l.rest ≡ lines_of l.text

@@ -1,6 +1,6 @@
 use Rattle.std.proofs.Common.{◌≡◌, ◌<◌, ◌^◌, drop}
-use Rattle.config_terms.specs.Numbers.{digits_value}
-use Rattle.config_terms.proofs.numbers.digits_value.Given as goal
+use Rattle.zn_base.specs.Decimals.{digits_value}
+use Rattle.zn_base.proofs.decimals.digits_value.Given as goal
 
 abbrev pub invariant-loop-byte : goal.invariant-loop-byte
 invariant-loop-byte l = record {

@@ -1,8 +1,8 @@
 use Rattle.std.proofs.Common.{◌≡◌, ◌<◌, ◌^◌, ℕ, Option, None, rules, subst, sym}
 use Rattle.std.specs.Prelude.{SomeIff}
-use Rattle.config_terms.specs.Numbers.{digits_value}
-use Rattle.config_terms.proofs.Digits.{too_great}
-use Rattle.config_terms.proofs.numbers.digits_value.Goals as goal
+use Rattle.zn_base.specs.Decimals.{digits_value}
+use Rattle.zn_base.proofs.Digits.{too_great}
+use Rattle.zn_base.proofs.decimals.digits_value.Goals as goal
 
 pub returns-in_err-number : goal.returns-in_err-number
 returns-in_err-number c =

@@ -1,8 +1,8 @@
-//! Decimal numbers.
+//! Decimal numbers, read.
 ghost use Rattle.std.specs.Prelude.{◌≡◌, ◌+◌, ◌-◌, ◌*◌, ◌^◌, ◌<◌, IsTrue, SomeIff};
 ghost use Rattle.std.specs.Char.{is_ascii_digit};
 ghost use Rattle.std.specs.List.{list_all};
-ghost use Rattle.config_terms.specs.Numbers.{digits_value, has_no_leading_zero, number_of};
+ghost use Rattle.zn_base.specs.Decimals.{decimal_of, digits_value, has_no_leading_zero, is_spelled};
 
 fn has_no_leading_zero(text: &[u8]) -> bool
     ensures { result ≡ has_no_leading_zero text.now }
@@ -19,7 +19,13 @@ fn all_digits(text: &[u8]) -> bool
     text.iter().all(|byte| byte.is_ascii_digit())
 }
 
-// A number with one more digit behind it, where it fits.
+fn is_spelled(text: &[u8]) -> bool
+    ensures { result ≡ is_spelled text.now }
+{
+    has_no_leading_zero(text) && all_digits(text)
+}
+
+// A number with one more digit after it, where it fits.
 fn with_digit(number: u64, digit: u8) -> Option<u64>
     ensures { SomeIff result (10 * number + digit < 2 ^ 64) (10 * number + digit) }
 {
@@ -37,14 +43,17 @@ fn digits_value(text: &[u8]) -> Option<u64>
     Some(number)
 }
 
-/// The number from 1 to 18446744073709551615 that a text is, in decimal and without leading zero. It takes
-/// no memory.
-#[tactic(auto, unfolding(crate::specs::Numbers::number_of), using(crate::proofs::Digits::number_is))]
-pub fn number_of(text: &[u8]) -> Option<u64>
-    ensures { result ≡ number_of text.now }
+/// The number from 1 to the greatest one that a text is, in decimal and without leading zero. It takes no
+/// memory.
+#[tactic(auto, using(crate::proofs::Digits::decimal_is, crate::proofs::Digits::no_decimal, crate::proofs::Digits::not_spelled))]
+pub fn read_decimal(text: &[u8], most: u64) -> Option<u64>
+    ensures { result ≡ decimal_of most text.now }
 {
-    if !has_no_leading_zero(text) || !all_digits(text) {
+    if !is_spelled(text) {
         return None;
     }
-    digits_value(text)
+    match digits_value(text) {
+        Some(number) if number <= most => Some(number),
+        _ => None,
+    }
 }

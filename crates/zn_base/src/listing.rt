@@ -2,6 +2,7 @@
 ghost use Rattle.std.specs.Prelude.{◌≡◌, ◌<◌, ◌≤◌, ◌++◌, [], ◌∷◌, length, is_ok, if◌then◌else◌, remove, slice_set, slice_index_or, slice_get, Some, IfOk};
 ghost use Rattle.std.specs.Cmp.Lexicographic.{lists_equiv, lists_per, pointwise};
 
+use crate::TryClone;
 use std::alloc::{AllocError, Global};
 use std::marker::Model;
 
@@ -129,25 +130,19 @@ impl<T: Eq> Eq for Listing<T> {
     ghost laws = { lists_equiv T.Eq.laws };
 }
 
-/// What can be copied, to an equal value.
-pub trait Twin: Drop {
-    fn twin(&self, alloc: Global) -> Result<Self, AllocError>
-        ensures { IfOk result (λ x. x ≡ self.now) };
-}
-
 /// A list of equal items.
-pub(crate) fn twins<T: Twin>(alloc: Global, items: &[T]) -> Result<Listing<T>, AllocError>
+pub fn try_clone_all<T: TryClone>(alloc: Global, items: &[T]) -> Result<Listing<T>, AllocError>
     ensures { IfOk result (λ list. list ≡ items.now) }
 {
     let mut list = Listing::new(alloc);
     for item in items {
-        list.push(item.twin(alloc)?)?;
+        list.push(item.try_clone(alloc)?)?;
     }
     Ok(list)
 }
 
-impl<T: Twin> Twin for Listing<T> {
-    fn twin(&self, alloc: Global) -> Result<Self, AllocError> {
-        twins(alloc, self.as_slice())
+impl<T: TryClone> TryClone for Listing<T> {
+    fn try_clone(&self, alloc: Global) -> Result<Self, AllocError> {
+        try_clone_all(alloc, self.as_slice())
     }
 }
