@@ -1,6 +1,4 @@
 pub mod Answers
-pub mod Streams
-pub mod Memory
 pub mod Text
 pub mod Lines
 pub mod Path
@@ -9,10 +7,6 @@ pub mod Moves
 pub mod Owned_lists
 pub mod Firsts
 pub mod Same
-pub mod Disk
-pub mod MemoryDisk
-pub mod MemoryDiskIsSound
-pub mod FileDisk
 pub mod Glob
 pub mod Runs
 pub mod States
