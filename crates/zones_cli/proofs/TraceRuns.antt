@@ -2,7 +2,7 @@
 use Rattle.std.proofs.Common.{◌≡◌, ◌+◌, ◌≤◌, ◌<◌, ◌++◌, ◌⊎◌, ℕ, Bool, true, false, cond, List, [], ◌∷◌, length, Option, Some, None, IfSome, Result, Ok, Err, refl, ap, sym, subst, inl, inr, ◌∙◌, arith, append_assoc}
 use Rattle.std.specs.Io.KnownBytes.{IsAtEnd}
 use Rattle.std.proofs.lemmas.List.{append-nil}
-use Rattle.zn_base.specs.Streams.{after_known, before_known}
+use Rattle.zn_io.specs.Streams.{after_known, before_known}
 use Rattle.trace_text.specs.Lines.{event_of}
 use Rattle.trace_text.specs.declared.fault.LineFault.{LineFault}
 use Rattle.zone_machine.specs.Histories.{after_entry, entry_at}

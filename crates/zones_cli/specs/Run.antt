@@ -1,6 +1,6 @@
 -- What a run leaves on its two sinks, by its status.
 use Rattle.std.specs.Prelude.{◌≡◌, ◌≤◌, ◌⊎◌, ◌++◌, ◌∷◌, [], ℕ, List, length, take, Option, codes}
-use Rattle.zn_base.specs.Streams.{Rose, after_known}
+use Rattle.zn_io.specs.Streams.{Rose, after_known}
 use Rattle.zones_cli.specs.declared.status.TheConstants.{DONE, GRAMMAR, LIMIT, NO_MEMORY, READ_FAULT, REFUSED, USAGE, WRITE_FAULT}
 use Rattle.zones_cli.specs.declared.fault.RunFault.{RunFault}
 use Rattle.zones_cli.specs.declared.fault.RunFault.TheVariants.{Memory, Read, Write}

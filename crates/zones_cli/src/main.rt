@@ -23,7 +23,7 @@ use std::alloc::AllocError;
 use std::env;
 use std::io::ErrorKind;
 use std::process::ExitCode;
-use zn_base::{StdSink, StdSource};
+use zn_io::{StdSink, StdSource};
 
 // The words after the program's name. Words that can't be read, as those that are no UTF-8, are none.
 fn read_words(rt: &HostRuntime) -> Result<Vec<String>, AllocError> {

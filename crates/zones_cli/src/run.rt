@@ -1,6 +1,6 @@
 //! The top call of `zones`.
 ghost use Rattle.std.specs.Prelude.{◌≡◌, ◌≢◌, ◌≤◌, ◌⊎◌, ◌↔◌, ◌++◌, ◌∷◌, [], map, string_bytes, IfSome, None};
-ghost use Rattle.zn_base.specs.Streams.{Rose, TakesFront, after_known};
+ghost use Rattle.zn_io.specs.Streams.{Rose, TakesFront, after_known};
 ghost use Rattle.zones_cli.specs.Complaints.{complaint_status, complaint_text};
 ghost use Rattle.zones_cli.specs.Program.{HasAnswered, HasAnsweredRead, output_of};
 ghost use Rattle.zones_cli.specs.Run.{Agrees, HasFront, IsDecided, IsStatus, TakesFronts, fault_status, memory_line, read_fault_line, write_fault_line};
@@ -14,7 +14,7 @@ use crate::status::{DONE, NO_MEMORY, READ_FAULT, REFUSED, USAGE, WRITE_FAULT};
 use crate::trace::trace_all;
 use crate::words::{Command, HELP, USAGE_LINE, VERSION, command_of};
 use std::alloc::Global;
-use zn_base::{Sink, Source, write_all};
+use zn_io::{Sink, Source, write_all};
 use zone_machine::Machine;
 
 // Tries a line once; its failure changes nothing but the count of faults.

@@ -2,7 +2,7 @@
 //! stored, one after the other. Their replies are written together, before more is read where no line is
 //! begun, and when many of them wait.
 ghost use Rattle.std.specs.Prelude.{◌≡◌, ◌≢◌, ◌<◌, ◌≤◌, ◌⊎◌, ℕ, List, [], Err, IfErr, length, IfOk, IfSome, IsErrOf, OnErr, OnOk, Option};
-ghost use Rattle.zn_base.specs.Streams.{Rose, after_known};
+ghost use Rattle.zn_io.specs.Streams.{Rose, after_known};
 ghost use Rattle.zone_machine.specs.Machine.{opening};
 ghost use Rattle.zone_machine.specs.Tables.{Stands};
 ghost use Rattle.trace_text.specs.Lines.{event_of};
@@ -14,7 +14,7 @@ use crate::lines::{Ahead, Got, LINES_MAX, next_line};
 use crate::outcome::Complaint;
 use std::alloc::{AllocError, Global};
 use trace_text::{LineFault, print_reply, read_line};
-use zn_base::{Sink, Source, write_all};
+use zn_io::{Sink, Source, write_all};
 use zone_machine::{Event, Head, Machine, Outcome, StepFault, TurnReply};
 
 // How many bytes of replies may wait before they are written.

@@ -1,6 +1,6 @@
 use Rattle.std.proofs.Common.{◌∙◌, ap, refl, arith}
 use Rattle.std.specs.Prelude.{Err}
-use Rattle.zn_base.specs.Streams.{after_known}
+use Rattle.zn_io.specs.Streams.{after_known}
 use Rattle.zones_cli.proofs.TraceRuns.{runs_from_start, runs_line, runs_told}
 use Rattle.zones_cli.proofs.TraceEnds.{begins_nothing, flushed_front, has_replies, nothing_waits, nothing_written, reads_up_to, source_failed, stops_outside, tells_end, tells_fault, tells_last, tells_last_end, tells_long, written_front, written_on}
 use Rattle.zones_cli.proofs.trace.take_lines.Goals as goal

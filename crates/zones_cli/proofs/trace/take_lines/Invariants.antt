@@ -1,5 +1,5 @@
 use Rattle.std.proofs.Common.{◌+◌, ◌≤◌}
-use Rattle.zn_base.specs.Streams.{after_known, before_known}
+use Rattle.zn_io.specs.Streams.{after_known, before_known}
 use Rattle.zone_machine.specs.Tables.{Stands}
 use Rattle.zones_cli.specs.Tracing.{HasWritten}
 use Rattle.zones_cli.proofs.TraceRuns.{RunsOn}
