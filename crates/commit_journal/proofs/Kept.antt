@@ -4,9 +4,9 @@ use Rattle.std.specs.Prelude.{IfSome, OnErr, Result, Ok, Err, bytes_eq, filter, 
 use Rattle.std.specs.Option.{ForSome}
 use Rattle.std.proofs.lemmas.Bool.Decides.{nat_tests}
 use Rattle.zn_io.specs.Disk.{Leaves, View}
-use Rattle.zn_base.specs.Firsts.{placed}
+use Rattle.zone_pools.specs.Firsts.{placed}
 use Rattle.zn_base.specs.Names.{Name}
-use Rattle.zn_base.specs.declared.owned.Owned.{Owned}
+use Rattle.zone_pools.specs.declared.owned.Owned.{Owned}
 use Rattle.zn_io.proofs.Moments.{weaker}
 use Rattle.zone_disk.specs.declared.bank.TheConstants.{BANK_BYTES}
 use Rattle.zone_disk.specs.Bank.{IsBeforeOrAfter as IsOneMore}

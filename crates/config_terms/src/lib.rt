@@ -10,10 +10,8 @@ mod fields;
 mod given;
 mod laws;
 mod lines;
-mod listing;
 mod lists;
 mod matches;
-mod numbers;
 mod printing;
 mod resources;
 mod rules;
@@ -26,13 +24,11 @@ pub use fields::{Field, KINDS, Named};
 pub use given::path_kept;
 pub use laws::edits_stay_allowed;
 pub use lines::{push_limit, push_options};
-pub use listing::{Listing, Twin};
 pub use matches::{find_entry, has_all, has_key, is_taken, is_taken_but};
-pub use numbers::number_of;
 pub use printing::{entry_length, push_entries, push_entry};
 pub use rules::Rule;
 pub use terms::{Attr, Fs, IpType, Kind, Limit, Net, Rctl, Resource};
-pub use texts::{push_pieces, push_setting, setting_length};
+pub use texts::{push_setting, setting_length};
 
 #[cfg(test)]
 mod tests;

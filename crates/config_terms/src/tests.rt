@@ -3,8 +3,7 @@ use crate::lists::ListEdit;
 use std::alloc::Global;
 use std::process::Abort;
 use std::test::Fail;
-use zn_base::Text;
-use zonecfg_lex::{Pair, Pairs, Texts, Value};
+use zn_base::{Pair, Text, Value};
 
 fn text(alloc: Global, bytes: &[u8]) -> Result<Text, Fail> {
     Ok(Text::read(alloc, bytes)?)
@@ -19,7 +18,7 @@ fn list(alloc: Global, items: &[&[u8]]) -> Result<Value, Fail> {
     for item in items {
         texts.push(text(alloc, item)?)?;
     }
-    Ok(Value::List(Texts::new(texts)))
+    Ok(Value::List(Listing::from_vec(texts)))
 }
 
 fn pair(alloc: Global, name: &[u8], value: &[u8]) -> Result<Pair, Fail> {
@@ -34,7 +33,7 @@ fn limit(alloc: Global, number: &[u8], action: &[u8]) -> Result<Value, Fail> {
     pairs.push(pair(alloc, b"priv", b"privileged")?)?;
     pairs.push(pair(alloc, b"limit", number)?)?;
     pairs.push(pair(alloc, b"action", action)?)?;
-    Ok(Value::Complex(Pairs::new(pairs)))
+    Ok(Value::Complex(Listing::from_vec(pairs)))
 }
 
 fn printed(alloc: Global, resource: &Resource) -> Result<Vec<u8>, Fail> {
@@ -111,7 +110,7 @@ fn is_of(resource: &Resource, kind: Kind) -> bool {
 }
 
 fn twin(alloc: Global, resource: &Resource) -> Result<Resource, Fail> {
-    Ok(resource.twin(alloc)?)
+    Ok(resource.try_clone(alloc)?)
 }
 
 // A resource to which settings were made prints as wanted, and an empty one once they are cleared.

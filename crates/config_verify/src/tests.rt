@@ -5,9 +5,8 @@ use config_terms::{ConfigFault, Kind, Named, Resource};
 use std::alloc::{AllocError, Global};
 use std::process::Abort;
 use std::test::Fail;
-use zn_base::Text;
+use zn_base::{Text, Value};
 use zone_config::{ZoneConfig, blank};
-use zonecfg_lex::Value;
 
 // What is set of a zone, and of a resource after its kind, is told in words `NAME=VALUE`.
 const SHARED: &str = "zonepath=/z brand=ipkg";

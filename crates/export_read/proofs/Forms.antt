@@ -8,7 +8,7 @@ use Rattle.std.proofs.lemmas.Bool.{and_parts, not-true}
 use Rattle.std.proofs.lemmas.List.{map-append}
 use Rattle.std.proofs.lemmas.List.Concat.{flat_map-append}
 use Rattle.std.proofs.lemmas.List.Folds.{list_all-append}
-use Rattle.zonecfg_lex.specs.declared.values.Value.TheVariants.{Simple}
+use Rattle.zn_base.specs.declared.values.Value.TheVariants.{Simple}
 use Rattle.config_terms.specs.Allowed.{are_distinct, entry_allowed, fields_fit, has_key, is_allowed_limit, is_taken, is_taken_by}
 use Rattle.config_terms.specs.Edits.{with_property as with_own}
 use Rattle.config_terms.specs.Fields.{field_name, field_named, field_rule, fields_of, key_field}
@@ -20,11 +20,11 @@ use Rattle.config_terms.specs.declared.rules.Rule.TheVariants.{OptionWord}
 use Rattle.config_terms.specs.declared.terms.Kind.{Kind}
 use Rattle.config_terms.specs.declared.terms.Limit.{Limit}
 use Rattle.config_terms.specs.declared.terms.Resource.{Resource}
-use Rattle.export_lines.proofs.Printable.{fits-set}
-use Rattle.export_lines.proofs.Texts.{text-append, text-where_set, text_of}
-use Rattle.export_lines.specs.Commands.{entry_commands, where_any, where_set}
-use Rattle.export_lines.specs.declared.command.Command.{Command}
-use Rattle.export_lines.specs.declared.command.Command.TheVariants.{Open, Options, Value, End}
+use Rattle.export_read.proofs.Printable.{fits-set}
+use Rattle.export_read.proofs.Texts.{text-append, text-where_set, text_of}
+use Rattle.export_read.specs.Commands.{entry_commands, where_any, where_set}
+use Rattle.export_read.specs.declared.command.Command.{Command}
+use Rattle.export_read.specs.declared.command.Command.TheVariants.{Open, Options, Value, End}
 use Rattle.zone_config.specs.Export.{export_text}
 use Rattle.zone_config.specs.Resources.{with_resource}
 use Rattle.zone_config.specs.declared.terms.Contents.{Contents}

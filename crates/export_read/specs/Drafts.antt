@@ -3,7 +3,7 @@ use Rattle.std.specs.Prelude.{ℕ, List, [], ◌∷◌, ◌++◌, Bool, true, fa
 use Rattle.std.specs.List.{starts_with}
 use Rattle.std.specs.Result.{result_ok}
 use Rattle.std.specs.Str.{bytes_eq}
-use Rattle.zonecfg_lex.specs.declared.values.Value.TheVariants.{Simple}
+use Rattle.zn_base.specs.declared.values.Value.TheVariants.{Simple}
 use Rattle.config_terms.specs.Edits.{empty, with_property as with_own}
 use Rattle.config_terms.specs.Fields.{field_name, field_rule, key_field, kind_of}
 use Rattle.config_terms.specs.declared.fields.Field.{Field}
@@ -11,9 +11,9 @@ use Rattle.config_terms.specs.declared.terms.Limit.{Limit}
 use Rattle.config_terms.specs.declared.terms.Resource.{Resource}
 use Rattle.config_terms.specs.declared.terms.Resource.TheVariants.{Fs, Rctl}
 use Rattle.zn_base.specs.Lines.{lines_of}
-use Rattle.export_lines.specs.Reading.{command_of}
-use Rattle.export_lines.specs.declared.command.Command.{Command}
-use Rattle.export_lines.specs.declared.command.Command.TheVariants.{Create, Set, Open, Options, Value, End}
+use Rattle.export_read.specs.Reading.{command_of}
+use Rattle.export_read.specs.declared.command.Command.{Command}
+use Rattle.export_read.specs.declared.command.Command.TheVariants.{Create, Set, Open, Options, Value, End}
 use Rattle.zone_config.specs.Edits.{with_property}
 use Rattle.zone_config.specs.Export.{export_text}
 use Rattle.zone_config.specs.Property.{blank}

@@ -1,11 +1,11 @@
 pub mod Answers
 pub mod Text
 pub mod Lines
+pub mod Cuts
+pub mod Decimals
 pub mod Path
 pub mod Names
 pub mod Moves
-pub mod Owned_lists
-pub mod Firsts
 pub mod Same
 pub mod Glob
 pub mod Runs

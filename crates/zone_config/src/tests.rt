@@ -1,11 +1,9 @@
 //! Properties, aliases and resources, by tables. What they expect is worked out from docs/FORMATS.md by hand.
 use super::*;
-use config_terms::Listing;
 use std::alloc::Global;
 use std::process::Abort;
 use std::test::Fail;
-use zn_base::{AbsPath, Text};
-use zonecfg_lex::{Pair, Texts, Value};
+use zn_base::{AbsPath, Listing, Pair, Text, Value};
 
 const WEB: &[u8] = b"create -b
 set zonepath=/zones/web
@@ -208,7 +206,7 @@ fn each_property_takes_its_values(rt: HostRuntime) -> Result<(), Fail> {
 }
 
 fn refuses_in_order(rt: &impl Abort, alloc: Global, config: &mut ZoneConfig) -> Result<(), Fail> {
-    let list = Value::List(Texts::new(Vec::new(alloc)));
+    let list = Value::List(Listing::new(alloc));
     let unknown = refusal(config.set_property(alloc, b"dir", &list))?;
     assert_eq!(rt; unknown, Some(ConfigFault::UnknownProperty));
     let listed = refusal(config.set_property(alloc, b"pool", &list))?;

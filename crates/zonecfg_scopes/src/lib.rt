@@ -23,7 +23,6 @@ pub use editor::Editor;
 pub use fault::{EditFault, Scope};
 pub use forms::read_command;
 pub use laws::{lines_denote, one_stands};
-pub use line::Line;
 
 #[cfg(test)]
 mod tests;

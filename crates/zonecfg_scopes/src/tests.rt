@@ -4,9 +4,9 @@ use config_terms::{ConfigFault, Kind};
 use std::alloc::Global;
 use std::process::Abort;
 use std::test::Fail;
-use zn_base::{Text, ZoneName};
+use zn_base::{Text, Value, ZoneName};
 use zone_config::{ZoneConfig, blank, export};
-use zonecfg_lex::{LexFault, Value};
+use zonecfg_lex::LexFault;
 
 fn read(alloc: Global, line: &[u8]) -> Result<Command, EditFault> {
     if line.len() > 4200 {
