@@ -13,6 +13,3 @@ mod reader;
 
 pub use laws::export_texts_differ;
 pub use reader::read_export;
-
-#[cfg(test)]
-mod tests;

@@ -20,6 +20,3 @@ pub use lexer::{part_tokens, tokens};
 pub use spans::parts;
 pub use token::{Span, Token, TokenKind};
 pub use values::{Pair, Pairs, Texts, Value};
-
-#[cfg(test)]
-mod tests;

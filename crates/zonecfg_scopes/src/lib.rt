@@ -24,6 +24,3 @@ pub use fault::{EditFault, Scope};
 pub use forms::read_command;
 pub use laws::{lines_denote, one_stands};
 pub use line::Line;
-
-#[cfg(test)]
-mod tests;
