@@ -3,11 +3,11 @@ use Rattle.std.proofs.Common.{◌≡◌, inl, inr, ◌*◌, ◌≤◌, ◌<◌, 
 use Rattle.std.specs.Prelude.{IfSome, OnErr, Result, Ok, Err, bytes_eq, filter, option_map}
 use Rattle.std.specs.Option.{ForSome}
 use Rattle.std.proofs.lemmas.Bool.Decides.{nat_tests}
-use Rattle.zn_base.specs.Disk.{Leaves, View}
-use Rattle.zn_base.specs.Firsts.{placed}
+use Rattle.zn_io.specs.Disk.{Leaves, View}
+use Rattle.zone_pools.specs.Firsts.{placed}
 use Rattle.zn_base.specs.Names.{Name}
-use Rattle.zn_base.specs.declared.owned.Owned.{Owned}
-use Rattle.zn_base.proofs.Moments.{weaker}
+use Rattle.zone_pools.specs.declared.owned.Owned.{Owned}
+use Rattle.zn_io.proofs.Moments.{weaker}
 use Rattle.zone_disk.specs.Bank.{IsBeforeOrAfter as IsOneMore}
 use Rattle.zone_disk.specs.Image.{blocks, four, used_by, BANK, Stands}
 use Rattle.commit_journal.specs.declared.records.Commit.{Commit}

@@ -2,8 +2,8 @@
 use Rattle.std.proofs.Common.{◌≡◌, ℕ, List, [], ◌∷◌, true, false, Some, None, Ok, Err, codes, replicate, refl}
 use Rattle.std.specs.Fmt.{digits}
 use Rattle.std.specs.List.{list_all, list_any}
-use Rattle.zonecfg_lex.specs.declared.values.Pair.{Pair}
-use Rattle.zonecfg_lex.specs.declared.values.Value.TheVariants.{Simple, Complex, List as Items}
+use Rattle.zn_base.specs.declared.values.Pair.{Pair}
+use Rattle.zn_base.specs.declared.values.Value.TheVariants.{Simple, Complex, List as Items}
 use Rattle.config_terms.specs.declared.fault.ConfigFault.TheVariants.{UnknownProperty, BadValue, NoMatch, SeveralMatch, TooMany}
 use Rattle.config_terms.specs.declared.fields.Field.TheVariants.{FsSpecial, FsRaw, FsType, NetAddress, NetAllowed, NetPhysical, NetDefrouter, DeviceMatch, RctlName, AttrName, AttrType, AttrValue, DatasetName}
 use Rattle.config_terms.specs.declared.rules.Rule.TheVariants as rule
@@ -13,6 +13,7 @@ use Rattle.config_terms.specs.declared.terms.Fs as fs
 use Rattle.config_terms.specs.declared.terms.Net as net
 use Rattle.config_terms.specs.declared.terms.Rctl as rctl
 use Rattle.config_terms.specs.Numbers.{number_of}
+use Rattle.zn_base.specs.Decimals.{decimal_of}
 use Rattle.config_terms.specs.Rules.{obeys, fits}
 use Rattle.config_terms.specs.Fields.{field_rule, net_shown, rctl_shown, text_shown}
 use Rattle.config_terms.specs.Texts.{is_bare_byte, setting, limit_text, limit_line, limit_lines, options_text, options_line, settings, entry_text, resource_text}
@@ -21,27 +22,27 @@ use Rattle.config_terms.specs.Matches.{has_all, only_place}
 use Rattle.config_terms.specs.Edits.{empty, options_edited, list_edited, with_property, without_property, with_value, without_value}
 
 least : number_of (codes "1") ≡ Some 1
-unfolding number_of
+unfolding decimal_of
 least = refl
 
 greatest : number_of (codes "18446744073709551615") ≡ Some 18446744073709551615
-unfolding number_of
+unfolding decimal_of
 greatest = refl
 
 too_great : number_of (codes "18446744073709551616") ≡ None
-unfolding number_of
+unfolding decimal_of
 too_great = refl
 
 leading_zero : number_of (codes "01") ≡ None
-unfolding number_of
+unfolding decimal_of
 leading_zero = refl
 
 no_number : number_of (codes "0") ≡ None
-unfolding number_of
+unfolding decimal_of
 no_number = refl
 
 sign : number_of (codes "+1") ≡ None
-unfolding number_of
+unfolding decimal_of
 sign = refl
 
 longest : obeys rule.Simple (replicate 1023 97) ≡ true
@@ -311,15 +312,15 @@ limit : List ℕ → List ℕ → List Pair
 limit number action = pair (codes "priv") (codes "privileged") ∷ pair (codes "limit") number ∷ pair (codes "action") action ∷ []
 
 value_put : with_property (codes "value") (Complex (limit (codes "7") (codes "deny"))) (Rctl shares) ≡ Ok (Rctl (record shares { values = record { limit = 7; deny = true } ∷ [] }))
-unfolding shares pair limit number_of list_edited with_property
+unfolding shares pair limit decimal_of list_edited with_property
 value_put = refl
 
 value_removed : without_value (codes "value") (Complex (limit (codes "20") (codes "none"))) (Rctl shares) ≡ Ok (Rctl (record shares { values = record { limit = 3; deny = true } ∷ [] }))
-unfolding shares pair limit number_of list_edited without_value
+unfolding shares pair limit decimal_of list_edited without_value
 value_removed = refl
 
 other_action_there : without_value (codes "value") (Complex (limit (codes "20") (codes "deny"))) (Rctl shares) ≡ Err NoMatch
-unfolding shares pair limit number_of list_edited without_value
+unfolding shares pair limit decimal_of list_edited without_value
 other_action_there = refl
 
 other_action : with_value (codes "value") (Complex (limit (codes "7") (codes "signal"))) (empty kind.Rctl) ≡ Err BadValue

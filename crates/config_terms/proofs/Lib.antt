@@ -1,5 +1,4 @@
 pub mod Short
-pub mod Digits
 pub mod Alone
 pub mod Paths
 pub mod Staying

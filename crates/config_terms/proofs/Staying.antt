@@ -6,9 +6,9 @@ use Rattle.std.proofs.lemmas.List.Folds.{list_all-append}
 use Rattle.std.specs.List.{list_all}
 use Rattle.std.specs.Char.{is_ascii_digit}
 use Rattle.std.specs.Str.{bytes_eq}
-use Rattle.zonecfg_lex.specs.declared.values.Pair.{Pair}
-use Rattle.zonecfg_lex.specs.declared.values.Value.{Value}
-use Rattle.zonecfg_lex.specs.declared.values.Value.TheVariants.{Simple as Text, Complex, List as Items}
+use Rattle.zn_base.specs.declared.values.Pair.{Pair}
+use Rattle.zn_base.specs.declared.values.Value.{Value}
+use Rattle.zn_base.specs.declared.values.Value.TheVariants.{Simple as Text, Complex, List as Items}
 use Rattle.config_terms.specs.declared.fault.ConfigFault.{ConfigFault}
 use Rattle.config_terms.specs.declared.fault.ConfigFault.TheVariants.{BadValue, NoMatch, TooMany}
 use Rattle.config_terms.specs.declared.fields.Field.{Field}
@@ -27,7 +27,8 @@ use Rattle.config_terms.specs.declared.terms.Kind.{Kind}
 use Rattle.config_terms.specs.declared.terms.Kind.TheVariants as kind
 use Rattle.config_terms.specs.declared.terms.Resource.{Resource}
 use Rattle.config_terms.specs.declared.terms.Resource.TheVariants.{Fs, Net, Device, Rctl, Attr, Dataset}
-use Rattle.config_terms.specs.Numbers.{digits_value, has_no_leading_zero, is_limit, is_number, number_of}
+use Rattle.config_terms.specs.Numbers.{is_limit, number_of}
+use Rattle.zn_base.specs.Decimals.{decimal_of, digits_value, has_no_leading_zero, is_decimal}
 use Rattle.config_terms.specs.Rules.{obeys, fits}
 use Rattle.config_terms.specs.Fields.{field_rule, path_text, named, kind_of, fs_shown, net_shown, text_shown, rctl_shown, attr_shown}
 use Rattle.config_terms.specs.Allowed.{is_allowed_limit, is_kept_path, fields_fit, entry_allowed, is_allowed}
@@ -262,9 +263,9 @@ given_obey edit (Items ts) os h = texts_obey ts os h
 given_obey edit (Complex ps) os h = absurd (cc)
 
 number_is_limit : (t : List ℕ) (n : ℕ) → number_of t ≡ Some n → is_limit n ≡ true
-unfolding number_of
+unfolding decimal_of
 number_is_limit t n h =
-    elim (is_number t) as (λ b. is_number t ≡ b → cond b (Some (digits_value 0 t)) None ≡ Some n → is_limit n ≡ true) [
+    elim (is_decimal 18446744073709551615 t) as (λ b. is_decimal 18446744073709551615 t ≡ b → cond b (Some (digits_value 0 t)) None ≡ Some n → is_limit n ≡ true) [
       | true ↦ λ is e.
           let same : digits_value 0 t ≡ n = cc in
           rw same at (three (has_no_leading_zero t) (list_all is_ascii_digit t) (is_limit (digits_value 0 t)) is).2

@@ -3,9 +3,9 @@ use Rattle.std.specs.Prelude.{◌≡◌, ℕ, List, [], ◌∷◌, ◌++◌, len
 use Rattle.std.specs.List.{list_all}
 use mathlib.Core.Bool.{beq}
 use Rattle.std.specs.Str.{bytes_eq}
-use Rattle.zonecfg_lex.specs.declared.values.Pair.{Pair}
-use Rattle.zonecfg_lex.specs.declared.values.Value.{Value}
-use Rattle.zonecfg_lex.specs.declared.values.Value.TheVariants.{Simple, Complex, List as Items}
+use Rattle.zn_base.specs.declared.values.Pair.{Pair}
+use Rattle.zn_base.specs.declared.values.Value.{Value}
+use Rattle.zn_base.specs.declared.values.Value.TheVariants.{Simple, Complex, List as Items}
 use Rattle.config_terms.specs.declared.lists.ListEdit.{ListEdit}
 use Rattle.config_terms.specs.declared.lists.ListEdit.TheVariants.{Put, Add, Remove}
 use Rattle.config_terms.specs.declared.fault.ConfigFault.{ConfigFault}

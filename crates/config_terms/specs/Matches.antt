@@ -2,7 +2,7 @@
 use Rattle.std.specs.Prelude.{ℕ, List, Bool, false, nat_lt, Option, Some, None, Result, Ok, Err, count_by, position, if◌then◌else◌}
 use Rattle.std.specs.List.{list_all}
 use Rattle.std.specs.Str.{bytes_eq}
-use Rattle.zonecfg_lex.specs.declared.values.Pair.{Pair}
+use Rattle.zn_base.specs.declared.values.Pair.{Pair}
 use Rattle.config_terms.specs.declared.fault.ConfigFault.{ConfigFault}
 use Rattle.config_terms.specs.declared.fault.ConfigFault.TheVariants.{NoMatch, SeveralMatch}
 use Rattle.config_terms.specs.declared.fields.Field.{Field}

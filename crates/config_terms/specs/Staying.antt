@@ -1,6 +1,6 @@
 -- What edits keep true of a resource.
 use Rattle.std.specs.Prelude.{◌≡◌, ◌⊎◌, ℕ, List, Ok, IsTrue}
-use Rattle.zonecfg_lex.specs.declared.values.Value.{Value}
+use Rattle.zn_base.specs.declared.values.Value.{Value}
 use Rattle.config_terms.specs.declared.terms.Resource.{Resource}
 use Rattle.config_terms.specs.Allowed.{is_allowed}
 use Rattle.config_terms.specs.Edits.{with_property, without_property, with_value, without_value}

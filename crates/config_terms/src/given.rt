@@ -8,11 +8,9 @@ ghost use Rattle.config_terms.specs.Edits.{kept_path, option_texts, options_give
 use crate::Limit;
 use crate::allowed::are_options;
 use crate::lists::ListEdit;
-use crate::numbers::number_of;
 use std::alloc::{AllocError, Global};
 use std::slice::from_ref;
-use zn_base::{AbsPath, Text};
-use zonecfg_lex::{Pair, Value};
+use zn_base::{AbsPath, Pair, Text, Value, read_decimal};
 
 fn option_texts(texts: &[Text]) -> Option<&[Text]>
     ensures { option_copied result ≡ option_texts texts.now }
@@ -59,7 +57,7 @@ fn limit_of_pairs(privilege: &Pair, limit: &Pair, action: &Pair) -> Option<Limit
     {
         return None;
     }
-    let number = number_of(limit.value.bytes())?;
+    let number = read_decimal(limit.value.bytes(), u64::MAX)?;
     Some(Limit {
         limit: number,
         deny: action.value.bytes() == b"deny".as_slice(),

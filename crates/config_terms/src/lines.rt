@@ -4,10 +4,10 @@ ghost use Rattle.std.specs.List.{flat_map};
 ghost use Rattle.config_terms.specs.Texts.{action, limit_text, limit_line, limit_lines, bracketed, bracketed_line, options_text, options_line};
 
 use crate::Limit;
-use crate::texts::{bytes_of, push_pieces};
+use crate::texts::bytes_of;
 use itoa::Buffer;
 use std::alloc::AllocError;
-use zn_base::Text;
+use zn_base::{Text, push_pieces};
 
 fn action(deny: bool) -> &'static [u8]
     ensures { result.now ≡ action deny }

@@ -2,11 +2,10 @@
 ghost use Rattle.std.specs.Prelude.{◌≡◌, ◌++◌, OnOk, OnErr, position};
 ghost use Rattle.config_terms.specs.Edits.{Changes, edited, passes_options, options_edited};
 
+use crate::ConfigFault;
 use crate::allowed::OPTIONS_MAX;
-use crate::listing::twins;
-use crate::{ConfigFault, Listing, Twin};
 use std::alloc::{AllocError, Global};
-use zn_base::Text;
+use zn_base::{Listing, Text, TryClone, try_clone_all};
 
 /// An edit of a list by the items given: they take its place, follow it, or are taken out of it.
 #[derive(Clone, Copy, Debug, PartialEq, Eq)]
@@ -16,11 +15,11 @@ pub enum ListEdit {
     Remove,
 }
 
-fn add_all<T: Twin>(alloc: Global, list: &mut Listing<T>, items: &[T]) -> Result<(), AllocError>
+fn add_all<T: TryClone>(alloc: Global, list: &mut Listing<T>, items: &[T]) -> Result<(), AllocError>
     ensures ok { OnOk result (list.new ≡ list.old ++ items.now) }
     ensures err { OnErr result (list.new ≡ list.old) }
 {
-    list.append(twins(alloc, items)?)
+    list.append(try_clone_all(alloc, items)?)
 }
 
 fn place_of<T: PartialEq>(item: &T, items: &[T]) -> Option<usize>
@@ -29,14 +28,14 @@ fn place_of<T: PartialEq>(item: &T, items: &[T]) -> Option<usize>
     items.iter().position(|other| item == other)
 }
 
-fn remove_each<T: Twin + PartialEq>(
+fn remove_each<T: TryClone + PartialEq>(
     alloc: Global,
     list: &mut Listing<T>,
     items: &[T],
 ) -> Result<(), ConfigFault>
     ensures { Changes list.old list.new result (edited T.eq ListEdit.Remove items.now list.old) }
 {
-    let mut kept = list.twin(alloc)?;
+    let mut kept = list.try_clone(alloc)?;
     for item in items {
         let Some(place) = place_of(item, kept.as_slice()) else {
             return Err(ConfigFault::NoMatch);
@@ -48,7 +47,7 @@ fn remove_each<T: Twin + PartialEq>(
 }
 
 /// Edits a list. After a fault it is as before.
-pub(crate) fn edit_list<T: Twin + PartialEq>(
+pub(crate) fn edit_list<T: TryClone + PartialEq>(
     alloc: Global,
     edit: ListEdit,
     list: &mut Listing<T>,
@@ -57,7 +56,7 @@ pub(crate) fn edit_list<T: Twin + PartialEq>(
     ensures { Changes list.old list.new result (edited T.eq edit items.now list.old) }
 {
     match edit {
-        ListEdit::Put => *list = twins(alloc, items)?,
+        ListEdit::Put => *list = try_clone_all(alloc, items)?,
         ListEdit::Add => add_all(alloc, list, items)?,
         ListEdit::Remove => return remove_each(alloc, list, items),
     }

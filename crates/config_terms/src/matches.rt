@@ -4,7 +4,7 @@ ghost use Rattle.config_terms.specs.Allowed.{has_key, is_taken};
 ghost use Rattle.config_terms.specs.Matches.{is_text, has_pair, has_all, only_place};
 
 use crate::{ConfigFault, Entry, Field, Kind};
-use zonecfg_lex::Pair;
+use zn_base::Pair;
 
 // Whether a property that a name stands for shows a text.
 fn is_text<T: Entry>(entry: &T, field: Option<Field>, text: &[u8]) -> bool

@@ -4,9 +4,10 @@ ghost use Rattle.std.specs.List.{flat_map};
 ghost use Rattle.config_terms.specs.Texts.{settings, entry_text};
 
 use crate::lines::{limit_lines_length, options_line_length, push_limit_lines, push_options_line};
-use crate::texts::{push_pieces, push_setting, setting_length};
+use crate::texts::{push_setting, setting_length};
 use crate::{Entry, Kind};
 use std::alloc::AllocError;
+use zn_base::push_pieces;
 
 #[tactic(auto, unfolding(crate::specs::Texts::settings))]
 fn push_settings<T: Entry>(out: &mut Vec<u8>, kind: Kind, entry: &T) -> Result<(), AllocError>

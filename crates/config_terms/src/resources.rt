@@ -6,10 +6,9 @@ ghost use Rattle.config_terms.specs.Edits.{Changes, ChangesSurely, empty, kept_p
 
 use crate::given::{limit_given, options_given, path_kept};
 use crate::lists::{ListEdit, edit_list, edit_options};
-use crate::{Attr, ConfigFault, Field, Fs, Kind, Listing, Named, Net, Rctl, Resource};
+use crate::{Attr, ConfigFault, Field, Fs, Kind, Named, Net, Rctl, Resource};
 use std::alloc::Global;
-use zn_base::{AbsPath, Text};
-use zonecfg_lex::Value;
+use zn_base::{AbsPath, Listing, Text, Value};
 
 // A text in the place of a simple property. A dir has a place of its own: here it can be unset alone.
 impl Fs {

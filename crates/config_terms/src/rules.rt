@@ -4,8 +4,7 @@ ghost use Rattle.std.specs.List.{list_all};
 ghost use Rattle.zn_base.specs.Names.{is_name_byte};
 ghost use Rattle.config_terms.specs.Rules.{is_alphanumeric, is_option_byte, is_simple_byte, is_hex_byte, begins_in, obeys, fits};
 
-use crate::numbers::number_of;
-use zn_base::{is_name_byte, is_path, is_text_byte};
+use zn_base::{is_name_byte, is_path, is_text_byte, read_decimal};
 
 /// What a value of a property may be (zonecfg(8), PROPERTIES). An empty value is a value of no property:
 /// where the rule takes it, setting it unsets the property.
@@ -130,7 +129,7 @@ impl Rule {
             Rule::HostId => {
                 value.len() <= 8 && all_hex_bytes(value) && value != b"ffffffff".as_slice()
             }
-            Rule::Number => number_of(value).is_some(),
+            Rule::Number => read_decimal(value, u64::MAX).is_some(),
             Rule::TypeWord => 1 <= value.len() && value.len() <= 15 && all_alphanumeric(value),
             Rule::OptionWord => 1 <= value.len() && value.len() <= 63 && all_option_bytes(value),
             Rule::ControlName => 1 <= value.len() && value.len() <= 63 && all_name_bytes(value),

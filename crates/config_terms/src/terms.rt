@@ -1,9 +1,8 @@
 //! What a configuration consists of.
 ghost use Rattle.std.specs.Prelude.{◌≡◌, IfOk};
 
-use crate::listing::{Listing, Twin};
 use std::alloc::{AllocError, Global};
-use zn_base::{AbsPath, Text};
+use zn_base::{AbsPath, Listing, Text, TryClone};
 
 /// How a zone reaches its network (zones(7), ip-type).
 #[derive(Clone, Copy, Debug, PartialEq, Eq)]
@@ -80,47 +79,26 @@ pub enum Resource {
     Dataset(Text),
 }
 
-impl Twin for Text {
-    fn twin(&self, alloc: Global) -> Result<Self, AllocError> {
-        self.copy(alloc)
-    }
-}
-
-impl Twin for AbsPath {
-    fn twin(&self, alloc: Global) -> Result<Self, AllocError> {
-        self.copy(alloc)
-    }
-}
-
-impl<T: Twin> Twin for Option<T> {
-    fn twin(&self, alloc: Global) -> Result<Self, AllocError> {
-        match self {
-            None => Ok(None),
-            Some(item) => Ok(Some(item.twin(alloc)?)),
-        }
-    }
-}
-
-impl Twin for Limit {
-    fn twin(&self, _: Global) -> Result<Self, AllocError> {
+impl TryClone for Limit {
+    fn try_clone(&self, _: Global) -> Result<Self, AllocError> {
         Ok(*self)
     }
 }
 
-impl Twin for Fs {
-    fn twin(&self, alloc: Global) -> Result<Self, AllocError> {
+impl TryClone for Fs {
+    fn try_clone(&self, alloc: Global) -> Result<Self, AllocError> {
         Ok(Fs {
-            dir: self.dir.twin(alloc)?,
+            dir: self.dir.try_clone(alloc)?,
             special: self.special.copy(alloc)?,
             raw: self.raw.copy(alloc)?,
             fstype: self.fstype.copy(alloc)?,
-            options: self.options.twin(alloc)?,
+            options: self.options.try_clone(alloc)?,
         })
     }
 }
 
-impl Twin for Net {
-    fn twin(&self, alloc: Global) -> Result<Self, AllocError> {
+impl TryClone for Net {
+    fn try_clone(&self, alloc: Global) -> Result<Self, AllocError> {
         Ok(Net {
             address: self.address.copy(alloc)?,
             allowed: self.allowed.copy(alloc)?,
@@ -130,17 +108,17 @@ impl Twin for Net {
     }
 }
 
-impl Twin for Rctl {
-    fn twin(&self, alloc: Global) -> Result<Self, AllocError> {
+impl TryClone for Rctl {
+    fn try_clone(&self, alloc: Global) -> Result<Self, AllocError> {
         Ok(Rctl {
             name: self.name.copy(alloc)?,
-            values: self.values.twin(alloc)?,
+            values: self.values.try_clone(alloc)?,
         })
     }
 }
 
-impl Twin for Attr {
-    fn twin(&self, alloc: Global) -> Result<Self, AllocError> {
+impl TryClone for Attr {
+    fn try_clone(&self, alloc: Global) -> Result<Self, AllocError> {
         Ok(Attr {
             name: self.name.copy(alloc)?,
             form: self.form.copy(alloc)?,
@@ -149,14 +127,14 @@ impl Twin for Attr {
     }
 }
 
-impl Twin for Resource {
-    fn twin(&self, alloc: Global) -> Result<Self, AllocError> {
+impl TryClone for Resource {
+    fn try_clone(&self, alloc: Global) -> Result<Self, AllocError> {
         match self {
-            Resource::Fs(fs) => Ok(Resource::Fs(fs.twin(alloc)?)),
-            Resource::Net(net) => Ok(Resource::Net(net.twin(alloc)?)),
+            Resource::Fs(fs) => Ok(Resource::Fs(fs.try_clone(alloc)?)),
+            Resource::Net(net) => Ok(Resource::Net(net.try_clone(alloc)?)),
             Resource::Device(device) => Ok(Resource::Device(device.copy(alloc)?)),
-            Resource::Rctl(rctl) => Ok(Resource::Rctl(rctl.twin(alloc)?)),
-            Resource::Attr(attr) => Ok(Resource::Attr(attr.twin(alloc)?)),
+            Resource::Rctl(rctl) => Ok(Resource::Rctl(rctl.try_clone(alloc)?)),
+            Resource::Attr(attr) => Ok(Resource::Attr(attr.try_clone(alloc)?)),
             Resource::Dataset(dataset) => Ok(Resource::Dataset(dataset.copy(alloc)?)),
         }
     }

@@ -56,17 +56,6 @@ fn value_length(value: &[u8]) -> usize
     }
 }
 
-/// Puts pieces of text behind `out`, one after another. After want of memory `out` has what it had, and perhaps
-/// a front of the text.
-pub fn push_pieces(out: &mut Vec<u8>, pieces: &[&[u8]]) -> Result<(), AllocError>
-    ensures { OnOk result (out.new.items ≡ out.old.items ++ flat_map (λ p. p.now) pieces.now) }
-{
-    for piece in pieces {
-        out.extend_from_slice(piece)?;
-    }
-    Ok(())
-}
-
 /// Puts the line `set NAME=VALUE` behind `out`, where the value is not empty: an empty one is a property
 /// that is not set. A value prints bare where each of its bytes may stand so, and else in double quotes. After
 /// want of memory `out` has what it had, and perhaps a front of the text.

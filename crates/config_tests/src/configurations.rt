@@ -1,11 +1,10 @@
 //! Properties, aliases and resources of configurations, by tables.
 use crate::values::{list, pairs, simple};
-use config_terms::{ConfigFault, Kind, Limit, Listing, Rctl, Resource};
+use config_terms::{ConfigFault, Kind, Limit, Rctl, Resource};
 use std::alloc::Global;
 use std::test::Fail;
-use zn_base::Text;
+use zn_base::{Listing, Pair, Text, Value};
 use zone_config::{ZoneConfig, blank, export};
-use zonecfg_lex::{Pair, Value};
 
 // What is done to configurations goes through helpers without contracts, so that no test's proof follows
 // what a configuration holds.
@@ -248,9 +247,9 @@ fn searches(alloc: Global, config: &ZoneConfig) -> Result<bool, ConfigFault> {
     let typed = pairs(alloc, &[(b"type", b"lofs")])?;
     let opt = pairs(alloc, &[(b"dir", b"/opt")])?;
     Ok(
-        finds(config, Kind::Fs, &typed) == Err(ConfigFault::SeveralMatch(2))
-            && finds(config, Kind::Net, &typed) == Err(ConfigFault::NoMatch)
-            && finds(config, Kind::Fs, &opt) == Ok(1),
+        finds(config, Kind::Fs, typed.as_slice()) == Err(ConfigFault::SeveralMatch(2))
+            && finds(config, Kind::Net, typed.as_slice()) == Err(ConfigFault::NoMatch)
+            && finds(config, Kind::Fs, opt.as_slice()) == Ok(1),
     )
 }
 
@@ -272,9 +271,9 @@ fn remove(config: &mut ZoneConfig, wanted: &[Pair]) -> Result<(), ConfigFault> {
 
 fn replace_and_remove(alloc: Global, config: &mut ZoneConfig) -> Result<(), ConfigFault> {
     let opt = pairs(alloc, &[(b"dir", b"/opt")])?;
-    replace(config, &opt, mount(alloc, &[(b"dir", b"/mnt")])?)?;
+    replace(config, opt.as_slice(), mount(alloc, &[(b"dir", b"/mnt")])?)?;
     let usr = pairs(alloc, &[(b"dir", b"/usr")])?;
-    remove(config, &usr)
+    remove(config, usr.as_slice())
 }
 
 const MOUNTED: &[u8] = b"create -b

@@ -4,11 +4,11 @@ use config_terms::{ConfigFault, Kind};
 use std::alloc::Global;
 use std::process::Abort;
 use std::test::Fail;
-use zn_base::ZoneName;
+use zn_base::{Bytes, ZoneName};
 use zone_config::{ZoneConfig, blank, export};
 use zonecfg_lex::LexFault;
 use zonecfg_scopes::{
-    Base, Command, EditFault, EditReply, Editor, Line, ListProperty, Scope, Topic, read_command,
+    Base, Command, EditFault, EditReply, Editor, ListProperty, Scope, Topic, read_command,
 };
 
 fn read(alloc: Global, line: &[u8]) -> Result<Command, EditFault> {
@@ -415,10 +415,10 @@ const SHOWN: &[(&[u8], &[u8])] = &[
 ];
 
 // The lines of an answer behind one another, each with a newline.
-fn joined_lines(alloc: Global, lines: &[Line]) -> Result<Vec<u8>, Fail> {
+fn joined_lines(alloc: Global, lines: &[Bytes]) -> Result<Vec<u8>, Fail> {
     let mut text = Vec::new(alloc);
     for line in lines {
-        text.extend_from_slice(line.bytes())?;
+        text.extend_from_slice(line.as_slice())?;
         text.push(b'\n')?;
     }
     Ok(text)

@@ -3,10 +3,11 @@ ghost use Rattle.std.specs.Prelude.{◌≤◌, length};
 
 use std::alloc::{AllocError, Global};
 use std::test::Fail;
+use zn_base::{Pair, Value};
 use zonecfg_lex::TokenKind::{
     self, Close, Comma, Equals, ListClose, ListOpen, Open, Quoted, Semi, Word,
 };
-use zonecfg_lex::{LexFault, Pair, Span, Token, Value, part_tokens, parts, tokens, value};
+use zonecfg_lex::{LexFault, Span, Token, part_tokens, parts, tokens, value};
 
 type Tokens = &'static [(TokenKind, u32, u32)];
 

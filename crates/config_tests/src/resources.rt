@@ -1,13 +1,11 @@
 //! Rules of values and resources, by tables.
 use crate::values::{limit, list, pairs, simple, text};
 use config_terms::{
-    ConfigFault, Kind, Listing, Resource, Rule, Twin, entry_length, find_entry, is_taken,
-    is_taken_but, push_entry,
+    ConfigFault, Kind, Resource, Rule, entry_length, find_entry, is_taken, is_taken_but, push_entry,
 };
 use std::alloc::Global;
 use std::test::Fail;
-use zn_base::Text;
-use zonecfg_lex::Value;
+use zn_base::{Listing, Text, TryClone, Value};
 
 // A rule, a value that it allows, and one that it doesn't.
 const RULES: &[(Rule, &[u8], &[u8])] = &[
@@ -73,7 +71,7 @@ fn shows(alloc: Global, resource: &Resource, wanted: &[u8]) -> Result<bool, Conf
 }
 
 fn copy_shows(alloc: Global, resource: &Resource, wanted: &[u8]) -> Result<bool, ConfigFault> {
-    let copy = resource.twin(alloc)?;
+    let copy = resource.try_clone(alloc)?;
     shows(alloc, &copy, wanted)
 }
 
@@ -303,7 +301,7 @@ fn finds(
     wanted: Result<usize, ConfigFault>,
 ) -> Result<bool, ConfigFault> {
     let pairs = pairs(alloc, &[(name, value)])?;
-    Ok(find_entry(Kind::Device, devices, &pairs) == wanted)
+    Ok(find_entry(Kind::Device, devices, pairs.as_slice()) == wanted)
 }
 
 #[test]

@@ -1,8 +1,7 @@
 //! The values that tests give.
 use config_terms::ConfigFault;
 use std::alloc::{AllocError, Global};
-use zn_base::Text;
-use zonecfg_lex::{Pair, Pairs, Texts, Value};
+use zn_base::{Listing, Pair, Text, Value};
 
 pub fn text(alloc: Global, bytes: &[u8]) -> Result<Text, ConfigFault> {
     match Text::read(alloc, bytes) {
@@ -16,11 +15,11 @@ pub fn simple(alloc: Global, bytes: &[u8]) -> Result<Value, ConfigFault> {
 }
 
 pub fn list(alloc: Global, items: &[&[u8]]) -> Result<Value, ConfigFault> {
-    let mut texts = Vec::new(alloc);
+    let mut texts = Listing::new(alloc);
     for item in items {
         texts.push(text(alloc, item)?)?;
     }
-    Ok(Value::List(Texts::new(texts)))
+    Ok(Value::List(texts))
 }
 
 fn pair(alloc: Global, name: &[u8], value: &[u8]) -> Result<Pair, ConfigFault> {
@@ -30,8 +29,8 @@ fn pair(alloc: Global, name: &[u8], value: &[u8]) -> Result<Pair, ConfigFault> {
 }
 
 /// A name and a value each.
-pub fn pairs(alloc: Global, items: &[(&[u8], &[u8])]) -> Result<Vec<Pair>, ConfigFault> {
-    let mut all = Vec::new(alloc);
+pub fn pairs(alloc: Global, items: &[(&[u8], &[u8])]) -> Result<Listing<Pair>, ConfigFault> {
+    let mut all = Listing::new(alloc);
     for (name, value) in items {
         all.push(pair(alloc, name, value)?)?;
     }
@@ -45,7 +44,7 @@ pub fn limit(alloc: Global, number: &[u8], action: &[u8]) -> Result<Value, Confi
         (b"limit", number),
         (b"action", action),
     ];
-    Ok(Value::Complex(Pairs::new(pairs(alloc, &items)?)))
+    Ok(Value::Complex(pairs(alloc, &items)?))
 }
 
 /// Texts behind one another.

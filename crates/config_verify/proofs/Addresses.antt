@@ -9,7 +9,8 @@ use Rattle.std.proofs.lemmas.List.Quantifiers.{position-Some}
 use Rattle.std.proofs.lemmas.Slice.Eq.{bytes_eq-Decides}
 use Rattle.zn_base.specs.Path.{is_slash}
 use Rattle.zn_base.proofs.Splits.{split_none, split_some}
-use Rattle.config_terms.specs.Numbers.{has_no_leading_zero, number_of}
+use Rattle.config_terms.specs.Numbers.{number_of}
+use Rattle.zn_base.specs.Decimals.{decimal_of, has_no_leading_zero}
 use Rattle.config_verify.specs.Values.{are_four_octets, is_address, is_dot, is_plain_address, is_up_to}
 
 pub no_dot : (text : List ℕ) → position is_dot text ≡ None → is_plain_address text ≡ false
@@ -80,7 +81,7 @@ and_false true = refl
 and_false false = refl
 
 slash_in_number : (most : ℕ) (text : List ℕ) (i : ℕ) → position is_slash text ≡ Some i → is_up_to most text ≡ false
-unfolding is_up_to number_of
+unfolding is_up_to decimal_of
 slash_in_number most text i found = rw (not_zero text i found, slash_in_digits text i found, and_false (has_no_leading_zero text)) refl
 
 slash : (text : List ℕ) (place : ℕ) → position is_slash text ≡ Some place → is_address text ≡ (is_plain_address (take place text) && is_up_to 32 (drop (place + 1) text))

@@ -5,7 +5,7 @@ ghost use Rattle.std.specs.List.{list_all};
 ghost use Rattle.zn_base.specs.Path.{is_slash};
 ghost use Rattle.config_verify.specs.Values.{is_address, is_dot, is_of_form, is_plain_address, is_unsigned, is_up_to, without_prefix, without_sign};
 
-use config_terms::number_of;
+use zn_base::read_decimal;
 
 #[tactic(auto, unfolding(crate::specs::Values::is_up_to))]
 fn is_up_to(most: u64, text: &[u8]) -> bool
@@ -14,7 +14,7 @@ fn is_up_to(most: u64, text: &[u8]) -> bool
     if text == b"0".as_slice() {
         return true;
     }
-    match number_of(text) {
+    match read_decimal(text, u64::MAX) {
         Some(number) => number <= most,
         None => false,
     }

@@ -10,7 +10,8 @@ use Rattle.std.specs.Char.{is_ascii_digit}
 use Rattle.std.proofs.lemmas.Bool.Decides.{nat_tests}
 use Rattle.std.proofs.lemmas.List.{take_at}
 use Rattle.zn_base.specs.Text.{is_text}
-use Rattle.config_terms.specs.Numbers.{digits_value, has_no_leading_zero, is_limit, number_of}
+use Rattle.config_terms.specs.Numbers.{is_limit, number_of}
+use Rattle.zn_base.specs.Decimals.{decimal_of, digits_value, has_no_leading_zero}
 use Rattle.config_terms.specs.Texts.{is_bare_byte, value_text, limit_text, options_text, action}
 use Rattle.config_terms.specs.declared.terms.Kind.{Kind}
 use Rattle.config_terms.specs.declared.terms.Kind.TheVariants as kind
@@ -123,7 +124,7 @@ no_zero_first [] h = absurd (omega (arith, h))
 no_zero_first (b ∷ bytes) h = grind (arith, nat_tests)
 
 number_again : (n : ℕ) → is_limit n ≡ true → number_of (decimal n) ≡ Some n
-unfolding number_of
+unfolding decimal_of
 number_again n h =
     let from : 0 < n = grind (arith, nat_tests) in
     let to : n < 2 ^ 64 = grind (arith, nat_tests) in

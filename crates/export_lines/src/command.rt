@@ -1,6 +1,6 @@
 //! What a line of an export text says.
-use config_terms::{Kind, Limit, Listing};
-use zn_base::Text;
+use config_terms::{Kind, Limit};
+use zn_base::{Listing, Text};
 
 /// A line of an export text (zonecfg(8), export).
 #[derive(Drop)]

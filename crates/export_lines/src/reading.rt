@@ -5,9 +5,9 @@ ghost use Rattle.zn_base.specs.Text.{is_text};
 ghost use Rattle.export_lines.specs.Reading.{behind, command_of, is_comma, limit_of, opening_of, options_of, set_of, setting_of, texts_among, unquoted, without_last};
 
 use crate::Command;
-use config_terms::{Kind, Limit, Listing, number_of};
+use config_terms::{Kind, Limit};
 use std::alloc::{AllocError, Global};
-use zn_base::{Text, TextFault};
+use zn_base::{Listing, Text, TextFault, read_decimal};
 
 fn behind<'a>(line: &'a [u8], front: &[u8]) -> Option<&'a [u8]>
     ensures { option_copied result ≡ behind front.now line.now }
@@ -116,7 +116,7 @@ fn limit_of(bytes: &[u8]) -> Option<Command>
     ensures { result ≡ limit_of bytes.now }
 {
     let (number, action) = cut(bytes, b',');
-    let limit = number_of(number)?;
+    let limit = read_decimal(number, u64::MAX)?;
     let deny = action == b"action=deny)".as_slice();
     Some(Command::Value(Limit { limit, deny }))
 }

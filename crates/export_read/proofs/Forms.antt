@@ -8,7 +8,7 @@ use Rattle.std.proofs.lemmas.Bool.{and_parts, not-true}
 use Rattle.std.proofs.lemmas.List.{map-append}
 use Rattle.std.proofs.lemmas.List.Concat.{flat_map-append}
 use Rattle.std.proofs.lemmas.List.Folds.{list_all-append}
-use Rattle.zonecfg_lex.specs.declared.values.Value.TheVariants.{Simple}
+use Rattle.zn_base.specs.declared.values.Value.TheVariants.{Simple}
 use Rattle.config_terms.specs.Allowed.{are_distinct, entry_allowed, fields_fit, has_key, is_allowed_limit, is_taken, is_taken_by}
 use Rattle.config_terms.specs.Edits.{with_property as with_own}
 use Rattle.config_terms.specs.Fields.{field_name, field_named, field_rule, fields_of, key_field}

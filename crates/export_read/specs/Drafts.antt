@@ -3,7 +3,7 @@ use Rattle.std.specs.Prelude.{ℕ, List, [], ◌∷◌, ◌++◌, Bool, true, fa
 use Rattle.std.specs.List.{starts_with}
 use Rattle.std.specs.Result.{result_ok}
 use Rattle.std.specs.Str.{bytes_eq}
-use Rattle.zonecfg_lex.specs.declared.values.Value.TheVariants.{Simple}
+use Rattle.zn_base.specs.declared.values.Value.TheVariants.{Simple}
 use Rattle.config_terms.specs.Edits.{empty, with_property as with_own}
 use Rattle.config_terms.specs.Fields.{field_name, field_rule, key_field, kind_of}
 use Rattle.config_terms.specs.declared.fields.Field.{Field}

@@ -1,7 +1,7 @@
 //! A configuration that is being read, line by line.
 ghost use Rattle.std.specs.Prelude.{◌≡◌, None, Some, option_and_then, option_map};
 ghost use Rattle.std.specs.Result.{result_ok};
-ghost use Rattle.zonecfg_lex.specs.declared.values.Value.TheVariants.{Simple};
+ghost use Rattle.zn_base.specs.declared.values.Value.TheVariants.{Simple};
 ghost use Rattle.config_terms.specs.Edits.{with_property as with_own};
 ghost use Rattle.zone_config.specs.Edits.{with_property};
 ghost use Rattle.zone_config.specs.Resources.{with_resource};
@@ -9,12 +9,11 @@ ghost use Rattle.export_read.specs.Drafts.{closed, ended_in, opened, put, set_in
 ghost use Rattle.export_read.specs.Halts.{Puts};
 
 use crate::halt::Halt;
-use config_terms::{Limit, Listing, Resource};
+use config_terms::{Limit, Resource};
 use export_lines::Command;
 use std::alloc::Global;
-use zn_base::Text;
+use zn_base::{Listing, Text, Value};
 use zone_config::ZoneConfig;
-use zonecfg_lex::Value;
 
 /// What the lines so far make: a configuration, and the resource that is open.
 #[derive(Drop)]

@@ -12,7 +12,8 @@ use Rattle.config_terms.specs.declared.terms.Rctl.{Rctl}
 use Rattle.config_terms.specs.declared.terms.Resource.TheVariants as resource
 use Rattle.config_terms.specs.Allowed.{are_distinct, entry_allowed, fields_fit, has_key, is_allowed}
 use Rattle.config_terms.specs.Fields.{rctl_shown}
-use Rattle.config_terms.specs.Numbers.{digits_value, has_no_leading_zero, is_limit, is_number, number_of}
+use Rattle.config_terms.specs.Numbers.{is_limit, number_of}
+use Rattle.zn_base.specs.Decimals.{decimal_of, digits_value, has_no_leading_zero, is_decimal}
 use Rattle.config_terms.specs.Rules.{fits, obeys}
 use Rattle.zone_config.specs.declared.terms.Alias.{Alias}
 use Rattle.zone_config.specs.declared.terms.Alias.TheVariants.{CpuShares, MaxLwps, MaxProcesses}
@@ -124,9 +125,9 @@ regrouped true b d h = h
 regrouped false b d h = h
 
 limit_if_number : (text : List ℕ) (n : ℕ) → number_of text ≡ Some n → is_limit n ≡ true
-unfolding number_of
+unfolding decimal_of
 limit_if_number text n h =
-    elim (is_number text) as (λ b. is_number text ≡ b → cond {A = Option ℕ} b (Some (digits_value 0 text)) None ≡ Some n → is_limit n ≡ true) [
+    elim (is_decimal 18446744073709551615 text) as (λ b. is_decimal 18446744073709551615 text ≡ b → cond {A = Option ℕ} b (Some (digits_value 0 text)) None ≡ Some n → is_limit n ≡ true) [
       | true ↦ λ e g.
           let same : digits_value 0 text ≡ n = cc in
           ap is_limit (sym same) ∙ rest_true (list_all is_ascii_digit text) (is_limit (digits_value 0 text)) (rest_true (has_no_leading_zero text) (list_all is_ascii_digit text && is_limit (digits_value 0 text)) (regrouped (has_no_leading_zero text) (list_all is_ascii_digit text) (is_limit (digits_value 0 text)) e))

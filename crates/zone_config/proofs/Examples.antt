@@ -1,10 +1,11 @@
 -- What the definitions say of some configurations.
 use Rattle.std.proofs.Common.{◌≡◌, ℕ, [], ◌∷◌, length, replicate, true, Some, None, Ok, Err, codes, refl}
-use Rattle.zonecfg_lex.specs.declared.values.Value.TheVariants.{Simple, List as Items}
+use Rattle.zn_base.specs.declared.values.Value.TheVariants.{Simple, List as Items}
 use Rattle.config_terms.specs.declared.fault.ConfigFault.TheVariants.{UnknownProperty, BadValue, AliasHeld, TooLarge}
 use Rattle.config_terms.specs.declared.terms.Fs as fs
 use Rattle.config_terms.specs.declared.terms.Resource.TheVariants.{Fs, Dataset}
 use Rattle.config_terms.specs.Numbers.{number_of}
+use Rattle.zn_base.specs.Decimals.{decimal_of}
 use Rattle.config_terms.specs.Rules.{obeys}
 use Rattle.config_terms.specs.Texts.{setting}
 use Rattle.zone_config.specs.declared.terms.Contents.{Contents}
@@ -34,7 +35,7 @@ shares = record blank { rctl = record { name = codes "zone.cpu-shares"; values =
 
 -- the action of cpu-shares is none
 held : with_property (codes "cpu-shares") (Simple (codes "10")) shares ≡ Err AliasHeld
-unfolding with_property setting_named alias_set number_of
+unfolding with_property setting_named alias_set decimal_of
 held = refl
 
 held_before_cleared : without_property (codes "cpu-shares") shares ≡ Err AliasHeld
@@ -42,7 +43,7 @@ unfolding without_property setting_named alias_cleared
 held_before_cleared = refl
 
 zero : with_property (codes "max-lwps") (Simple (codes "0")) blank ≡ Err BadValue
-unfolding with_property setting_named alias_set number_of
+unfolding with_property setting_named alias_set decimal_of
 zero = refl
 
 listed : with_property (codes "pool") (Items []) blank ≡ Err BadValue

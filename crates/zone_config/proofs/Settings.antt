@@ -4,8 +4,8 @@ use Rattle.std.specs.Prelude.{filter, is_some, map, nat_le, nat_lt, slice_set}
 use Rattle.std.specs.List.{list_any}
 use Rattle.std.proofs.lemmas.Bool.Decides.{nat_tests}
 use Rattle.std.proofs.lemmas.List.Elements.{filter-append}
-use Rattle.zonecfg_lex.specs.declared.values.Value.{Value}
-use Rattle.zonecfg_lex.specs.declared.values.Value.TheVariants.{Simple, Complex, List as Items}
+use Rattle.zn_base.specs.declared.values.Value.{Value}
+use Rattle.zn_base.specs.declared.values.Value.TheVariants.{Simple, Complex, List as Items}
 use Rattle.config_terms.specs.declared.fault.ConfigFault.{ConfigFault}
 use Rattle.config_terms.specs.declared.fault.ConfigFault.TheVariants as fault
 use Rattle.config_terms.specs.declared.terms.Rctl.{Rctl}

@@ -1,6 +1,6 @@
 -- What adding, replacing, removing and finding a resource make of a configuration, or why they are refused.
 use Rattle.std.specs.Prelude.{◌≡◌, ℕ, List, [], ◌∷◌, ◌++◌, length, Bool, not, nat_le, Option, Some, None, Result, Err, remove, slice_get, slice_set, option_map, if◌then◌else◌}
-use Rattle.zonecfg_lex.specs.declared.values.Pair.{Pair}
+use Rattle.zn_base.specs.declared.values.Pair.{Pair}
 use Rattle.config_terms.specs.declared.fault.ConfigFault.{ConfigFault}
 use Rattle.config_terms.specs.declared.fault.ConfigFault.TheVariants.{BadValue, Duplicate, TooMany}
 use Rattle.config_terms.specs.declared.terms.Kind.{Kind}

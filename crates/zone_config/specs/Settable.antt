@@ -1,7 +1,7 @@
 -- What a user of `set_property` and `clear_property` relies on.
 use Rattle.std.specs.Prelude.{◌≡◌, ◌≢◌, ℕ, List, [], ◌∷◌, ◌++◌, Bool, false, not, filter, is_some, map, Option, Some, None, Result, IfErr, OnOk, IsTrue, ◌<◌, ◌≤◌}
-use Rattle.zonecfg_lex.specs.declared.values.Value.{Value}
-use Rattle.zonecfg_lex.specs.declared.values.Value.TheVariants.{Simple}
+use Rattle.zn_base.specs.declared.values.Value.{Value}
+use Rattle.zn_base.specs.declared.values.Value.TheVariants.{Simple}
 use Rattle.config_terms.specs.declared.fault.ConfigFault.{ConfigFault}
 use Rattle.config_terms.specs.declared.fault.ConfigFault.TheVariants.{Memory, UnknownProperty, AliasHeld, TooMany, TooLarge}
 use Rattle.config_terms.specs.declared.terms.Resource.{Resource}

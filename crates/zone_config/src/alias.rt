@@ -4,9 +4,9 @@ ghost use Rattle.zone_config.specs.Property.{rctl_name};
 ghost use Rattle.zone_config.specs.Edits.{alias_rctl, holds, is_held, is_named_for, is_single, place_of};
 
 use crate::Alias;
-use config_terms::{Limit, Listing, Rctl};
+use config_terms::{Limit, Rctl};
 use std::alloc::{AllocError, Global};
-use zn_base::Text;
+use zn_base::{Listing, Text};
 
 fn is_single(deny: bool, values: &[Limit]) -> bool
     ensures { result ≡ is_single deny values.now }

@@ -12,12 +12,11 @@ ghost use Rattle.zone_config.specs.Sound.{IsSound};
 
 use crate::sizes::{size_added, size_replaced, size_with};
 use crate::{Alias, Contents, Property, Setting};
-use config_terms::{ConfigFault, Entry, Kind, Resource, Twin, entry_length, number_of};
+use config_terms::{ConfigFault, Entry, Kind, Resource, entry_length};
 use std::alloc::Global;
 use std::marker::Model;
 use std::ops::Deref;
-use zn_base::Text;
-use zonecfg_lex::{Pair, Value};
+use zn_base::{Pair, Text, TryClone, Value, read_decimal};
 
 // The greatest length of an export text, in bytes.
 const TEXT_MAX: usize = 32_768;
@@ -87,7 +86,7 @@ impl ZoneConfig {
         ensures memory { OnErr result (result ≡ Err ConfigFault.Memory) }
     {
         Ok(ZoneConfig {
-            contents: self.contents.twin(alloc)?,
+            contents: self.contents.try_clone(alloc)?,
             size: self.size,
         })
     }
@@ -251,7 +250,7 @@ impl ZoneConfig {
     fn set_alias(&mut self, alloc: Global, alias: Alias, value: &Text) -> Result<(), ConfigFault>
         ensures { Changes self.old self.new result (alias_set alias value.now self.old) }
     {
-        let Some(limit) = number_of(value.bytes()) else {
+        let Some(limit) = read_decimal(value.bytes(), u64::MAX) else {
             return Err(ConfigFault::BadValue);
         };
         if alias.is_held(self.contents.rctl.as_slice()) {

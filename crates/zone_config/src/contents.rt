@@ -4,9 +4,9 @@ ghost use Rattle.config_terms.specs.Rules.{obeys};
 ghost use Rattle.zone_config.specs.Property.{blank, bool_text, ip_text, ip_type, property_rule, shown, with_value, without_value};
 
 use crate::{Contents, Property};
-use config_terms::{IpType, Listing, Twin, path_kept, path_text};
+use config_terms::{IpType, path_kept, path_text};
 use std::alloc::{AllocError, Global};
-use zn_base::Text;
+use zn_base::{Listing, Text, TryClone};
 
 fn bool_text(value: bool) -> &'static [u8]
     ensures { result.now ≡ bool_text value }
@@ -122,10 +122,10 @@ impl Contents {
     }
 }
 
-impl Twin for Contents {
-    fn twin(&self, alloc: Global) -> Result<Self, AllocError> {
+impl TryClone for Contents {
+    fn try_clone(&self, alloc: Global) -> Result<Self, AllocError> {
         Ok(Contents {
-            zonepath: self.zonepath.twin(alloc)?,
+            zonepath: self.zonepath.try_clone(alloc)?,
             brand: self.brand.copy(alloc)?,
             autoboot: self.autoboot,
             bootargs: self.bootargs.copy(alloc)?,
@@ -135,12 +135,12 @@ impl Twin for Contents {
             ip: self.ip,
             hostid: self.hostid.copy(alloc)?,
             fs_allowed: self.fs_allowed.copy(alloc)?,
-            fs: self.fs.twin(alloc)?,
-            net: self.net.twin(alloc)?,
-            device: self.device.twin(alloc)?,
-            rctl: self.rctl.twin(alloc)?,
-            attr: self.attr.twin(alloc)?,
-            dataset: self.dataset.twin(alloc)?,
+            fs: self.fs.try_clone(alloc)?,
+            net: self.net.try_clone(alloc)?,
+            device: self.device.try_clone(alloc)?,
+            rctl: self.rctl.try_clone(alloc)?,
+            attr: self.attr.try_clone(alloc)?,
+            dataset: self.dataset.try_clone(alloc)?,
         })
     }
 }

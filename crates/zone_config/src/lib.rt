@@ -14,7 +14,7 @@ mod sizes;
 mod terms;
 
 pub use config::{ZoneConfig, blank};
-pub use config_terms::{Attr, ConfigFault, Fs, IpType, Kind, Limit, Listing, Net, Rctl, Resource};
+pub use config_terms::{Attr, ConfigFault, Fs, IpType, Kind, Limit, Net, Rctl, Resource};
 pub use laws::{clears_where_named, sets_where_allowed};
 pub use printing::export;
 pub use property::PROPERTIES;

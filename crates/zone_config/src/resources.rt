@@ -7,7 +7,7 @@ ghost use Rattle.zone_config.specs.Sound.{count};
 use crate::Contents;
 use config_terms::{ConfigFault, Kind, Resource, entry_length, find_entry, is_taken, is_taken_but};
 use std::alloc::AllocError;
-use zonecfg_lex::Pair;
+use zn_base::Pair;
 
 // The greatest number of resources of a configuration.
 const RESOURCES_MAX: usize = 256;

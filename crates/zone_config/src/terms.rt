@@ -1,6 +1,6 @@
 //! What can be set, and what a configuration consists of.
-use config_terms::{Attr, Fs, IpType, Listing, Net, Rctl};
-use zn_base::{AbsPath, Text};
+use config_terms::{Attr, Fs, IpType, Net, Rctl};
+use zn_base::{AbsPath, Listing, Text};
 
 /// A property of the global scope that is kept as it stands (zonecfg(8), PROPERTIES), in the order in
 /// which they are printed.

@@ -2,8 +2,8 @@
 use Rattle.std.proofs.Common.{◌≡◌, inl, inr, ℕ, ◌+◌, ◌≤◌, List, [], ◌∷◌, ◌++◌, length, get_or, drop, sym, ◌∙◌, ap, subst, arith}
 use Rattle.std.specs.Prelude.{◌↔◌, ◌<◌, Bool, IsTrue, Result, Ok, true, false}
 use Rattle.std.proofs.lemmas.Bool.{cases_lt, false≢true}
-use Rattle.zn_base.specs.Disk.{View, IsSound, Leaves, PutsDurably, Torn, patched}
-use Rattle.zn_base.proofs.Moments.{weaker, joined}
+use Rattle.zn_io.specs.Disk.{View, IsSound, Leaves, PutsDurably, Torn, patched}
+use Rattle.zn_io.proofs.Moments.{weaker, joined}
 use Rattle.zone_disk.specs.Image.{blocks, front, BANK, used_by, IsFormatted, Stands}
 use Rattle.zone_disk.specs.Image.Stands.{formatted}
 use Rattle.zone_disk.specs.Bank.{framed, IsSettled, IsKept, IsBeforeOrAfter}

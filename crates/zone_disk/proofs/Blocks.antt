@@ -4,7 +4,7 @@ use Rattle.std.proofs.lemmas.List.{append-nil, take_at, get_or_at, get_or_past, 
 use Rattle.std.proofs.lemmas.Bool.{cases_eq, cases_lt}
 use Rattle.zone_disk.specs.Image.{four, blocks, header, front, BANK, used_by, IsFormatted, Stands}
 use Rattle.zone_disk.specs.Bank.{IsBeforeOrAfter}
-use Rattle.zn_base.specs.Disk.{patched, Torn}
+use Rattle.zn_io.specs.Disk.{patched, Torn}
 use Rattle.zone_disk.specs.Image.Stands.{formatted}
 use Rattle.zone_disk.proofs.Torn.{behind, patched_behind, at_byte, patched_byte}
 

@@ -1,6 +1,6 @@
 -- What a bank keeps on its disk, and what a crash leaves of it.
 use Rattle.std.specs.Prelude.{◌≡◌, ◌⊎◌, ℕ, ◌-◌, ◌≤◌, List, [], ◌∷◌, ◌++◌, length, take, drop, Bool, true, Result, Ok, Err}
-use Rattle.zn_base.specs.Disk.{View, IsDurable}
+use Rattle.zn_io.specs.Disk.{View, IsDurable}
 use Rattle.zone_disk.specs.declared.fault.BankFault.{BankFault}
 use Rattle.zone_disk.specs.declared.fault.BankFault.TheVariants.{DiskFault, Memory}
 use Rattle.zone_disk.specs.Image.{four, header, BANK, used_by, Stands, Opens, IsFormatted, IsUnformatted, IsSame}

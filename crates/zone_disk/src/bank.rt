@@ -1,7 +1,7 @@
 //! A list of bodies on a disk, each behind a gate byte that is opened once the body is on the disk.
 ghost use Rattle.std.specs.Prelude.{◌≡◌, ◌≢◌, ◌⊎◌, ◌*◌, ◌+◌, ◌<◌, ◌≤◌, ◌-◌, ◌^◌, ◌++◌, ◌↔◌, [], ◌∷◌, List, ℕ, length, IfOk, IfErr, OnOk, OnErr, IsErrOf, IsTrue, Bool, true, false, Result, vec_capacity};
-ghost use Rattle.zn_base.specs.Disk.{View, Leaves, IsDurable};
-ghost use Rattle.zn_base.specs.Streams.{Rose};
+ghost use Rattle.zn_io.specs.Disk.{View, Leaves, IsDurable};
+ghost use Rattle.zn_io.specs.Streams.{Rose};
 ghost use Rattle.zone_disk.specs.Image.{BANK, used_by, IsUnformatted, Stands};
 ghost use Rattle.zone_disk.specs.Bank.{IsSettled, IsBeforeOrAfter, KeepsMeaning, Formats, Says, outcome_by};
 
@@ -10,7 +10,7 @@ use crate::read::{Records, read_all};
 use crate::{BankFault, Body};
 use std::alloc::Global;
 use std::marker::Model;
-use zn_base::{Disk, put_durably};
+use zn_io::{Disk, put_durably};
 
 /// How many bytes of a store a bank has behind the header: gates, lengths and bodies.
 pub const BANK_BYTES: usize = 33_554_432;

@@ -1,14 +1,14 @@
 //! Reading what stands on a disk, in large pieces, of which the one with the closed gate is the last.
 ghost use Rattle.std.specs.Prelude.{◌≡◌, ◌≢◌, ◌⊎◌, ◌↔◌, ◌+◌, ◌-◌, ◌≤◌, ◌<◌, ◌^◌, ◌++◌, [], ◌∷◌, List, ℕ, length, min, take, drop, get_or, true, false, IfOk, IfErr, OnOk, OnErr, IsErrOf, IsTrue, MatchOption};
-ghost use Rattle.zn_base.specs.Disk.{View, OnlyLooks};
-ghost use Rattle.zn_base.specs.Streams.{Rose};
+ghost use Rattle.zn_io.specs.Disk.{View, OnlyLooks};
+ghost use Rattle.zn_io.specs.Streams.{Rose};
 ghost use Rattle.zone_disk.specs.Image.{four, blocks, BANK, used_by, is_right, IsFormatted, IsCut};
 ghost use Rattle.zone_disk.specs.Read.{IsFrontOf, HasHeaderOf, HasRecords, IsCutAt, Explains};
 
 use crate::header::first_wrong;
 use crate::{BankFault, Body};
 use std::alloc::{AllocError, Global};
-use zn_base::{Disk, Failed};
+use zn_io::{Disk, Failed};
 
 // The header and the bank.
 const END: usize = 33_554_448;

@@ -1,8 +1,8 @@
 -- What the tables tell of the states that they stand for.
 use Rattle.std.proofs.Common.{◌≡◌, ◌⊎◌, inl, inr, List, [], Option, ap, sym, ◌∙◌}
 use Rattle.zn_base.specs.Names.{Name}
-use Rattle.zn_base.specs.declared.grant.Grant.{Grant}
-use Rattle.zn_base.specs.declared.grant.Grant.TheVariants.{Nothing}
+use Rattle.zone_pools.specs.declared.grant.Grant.{Grant}
+use Rattle.zone_pools.specs.declared.grant.Grant.TheVariants.{Nothing}
 use Rattle.zn_base.specs.declared.state.ZoneState.{ZoneState}
 use Rattle.zone_machine.proofs.Standing.{decide-stands, pools-stand, subject-stands}
 use Rattle.zone_machine.specs.Decisions.{Asked, asked_of}

@@ -8,7 +8,6 @@ pub mod Words
 pub mod Root_texts
 pub mod Passing
 pub mod Results
-pub mod Places
 pub mod Sessions_laws
 pub mod Doing_laws
 pub mod Seeing

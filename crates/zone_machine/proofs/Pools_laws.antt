@@ -3,8 +3,8 @@ use Rattle.std.proofs.Common.{◌≡◌, ◌∷◌, [], ℕ, List, map, refl, ap
 use Rattle.std.specs.Prelude.{nat_eq}
 use Rattle.std.specs.List.{list_any}
 use Rattle.zn_base.specs.Names.{Name}
-use Rattle.zn_base.specs.declared.grant.Grant.{Grant}
-use Rattle.zn_base.specs.declared.grant.Grant.TheVariants.{Nothing, Number, Yes, Denied}
+use Rattle.zone_pools.specs.declared.grant.Grant.{Grant}
+use Rattle.zone_pools.specs.declared.grant.Grant.TheVariants.{Nothing, Number, Yes, Denied}
 use Rattle.zone_machine.specs.Decisions.{Asked}
 use Rattle.zone_machine.specs.Numbers_seen.{is_among}
 use Rattle.zone_machine.specs.Pools.{Pools, said_by, said_by_all}

@@ -10,9 +10,9 @@ use Rattle.zone_machine.specs.Lines.{Line, line_of}
 use Rattle.std.specs.Prelude.{◌≡◌, ◌≢◌, ℕ, ◌+◌, List, Option, Some, None, length}
 use Rattle.std.specs.List.{list_any}
 use Rattle.zn_base.specs.Names.{Name}
-use Rattle.zn_base.specs.Owned_lists.{mine}
-use Rattle.zn_base.specs.Firsts.{first_of}
-use Rattle.zn_base.specs.declared.owned.Owned.{Owned}
+use Rattle.zone_pools.specs.Owned_lists.{mine}
+use Rattle.zone_pools.specs.Firsts.{first_of}
+use Rattle.zone_pools.specs.declared.owned.Owned.{Owned}
 use Rattle.zone_machine.specs.Decisions.{Act, acts_world, Decision}
 use Rattle.zone_machine.specs.Desks_seen.{desk_seen}
 use Rattle.zone_machine.specs.Edits.{Arrival, New_id, New_process, New_record}

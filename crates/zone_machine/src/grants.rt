@@ -10,7 +10,8 @@ use crate::events::{Event, Subject};
 use crate::needs::Need;
 use crate::tables::Tables;
 use std::alloc::{AllocError, Global};
-use zn_base::{Grant, Pool, ZoneName};
+use zn_base::ZoneName;
+use zone_pools::{Grant, Pool};
 
 /// The number that a grant gives, else the pool that denies it.
 pub(crate) fn number_in(grant: Grant) -> Result<u32, Pool>

@@ -14,7 +14,8 @@ use crate::objects::{Id, Process};
 use crate::records::Record;
 use crate::tables::Tables;
 use std::alloc::{AllocError, Global};
-use zn_base::{AbsPath, Grant, Owned, Pool, ZoneName};
+use zn_base::{AbsPath, ZoneName};
+use zone_pools::{Grant, Owned, Pool};
 
 // The least number of a zone's process. The system's first process has 1.
 const PID_MIN: u32 = 2;

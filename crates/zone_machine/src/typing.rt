@@ -5,7 +5,7 @@ ghost use Rattle.zone_machine.specs.Desks_seen.{desk_seen};
 ghost use Rattle.zone_machine.specs.Lines as lines;
 ghost use Rattle.zone_machine.specs.Lines_seen.{command_seen, line_seen};
 ghost use Rattle.zone_machine.specs.Acts_seen.{Puts, PutsRequest};
-ghost use Rattle.zone_machine.specs.Lists_seen.{StandsAt, StandsNowhere};
+ghost use Rattle.zone_pools.specs.Places.{StandsAt, StandsNowhere};
 ghost use Rattle.zone_machine.specs.Tables.{Acts, Does, came_rest, kept_rest, world_of};
 ghost use Rattle.zone_machine.specs.Typed.{idle_line, is_full, make, make_at, put_request, typed, usable_path};
 ghost use Rattle.zone_machine.specs.Sessions_seen.{IsOwnSession, session_at};
@@ -18,13 +18,13 @@ use crate::daemon::RequestKind;
 use crate::desks::Desk;
 use crate::grants::number_in;
 use crate::lines::{Command, Line};
-use crate::lists::{add, place_of};
 use crate::records::{Config, Record};
 use crate::replies::{Head, Refusal};
 use crate::sessions::{Session, awaited, wait};
 use crate::tables::Tables;
 use std::alloc::{AllocError, Global};
-use zn_base::{AbsPath, Grant, Owned, PathFault, ZoneName, ZoneState};
+use zn_base::{AbsPath, PathFault, ZoneName, ZoneState};
+use zone_pools::{Grant, Owned, add, place_of};
 
 fn is_root(path: &AbsPath) -> bool
     ensures { result ≡ bytes_eq path.now (codes "/") }

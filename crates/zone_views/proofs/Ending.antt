@@ -4,14 +4,14 @@ use Rattle.std.proofs.Common.{◌≡◌, ◌+◌, ◌*◌, ◌<◌, ◌∷◌, [
 use Rattle.std.specs.Prelude.{◌≢◌, bytes_eq, codes, max, unwrap_or, if◌then◌else◌}
 use Rattle.std.proofs.Math.Nat.{le-max_left, le-max_right}
 use Rattle.std.proofs.lemmas.Bool.{and_from, and_parts, false≢true}
-use Rattle.zn_base.proofs.Owned_laws.{same_self}
-use Rattle.zn_base.specs.Firsts.{is_nil}
+use Rattle.zone_pools.proofs.Owned_laws.{same_self}
+use Rattle.zone_pools.specs.Firsts.{is_nil}
 use Rattle.zn_base.specs.Names.{Name}
 use Rattle.zn_base.specs.Path.{path_of}
-use Rattle.zn_base.specs.declared.grant.Grant.{Grant}
-use Rattle.zn_base.specs.declared.grant.Grant.TheVariants.{Nothing, Number, Yes, Denied}
-use Rattle.zn_base.specs.declared.grant.Pool.{Pool}
-use Rattle.zn_base.specs.declared.grant.Pool.TheVariants.{Store}
+use Rattle.zone_pools.specs.declared.grant.Grant.{Grant}
+use Rattle.zone_pools.specs.declared.grant.Grant.TheVariants.{Nothing, Number, Yes, Denied}
+use Rattle.zone_pools.specs.declared.grant.Pool.{Pool}
+use Rattle.zone_pools.specs.declared.grant.Pool.TheVariants.{Store}
 use Rattle.zn_base.specs.declared.state.ZoneState.{ZoneState}
 use Rattle.zn_base.specs.declared.state.ZoneState.TheVariants.{Configured, Installed, Ready, Running}
 use Rattle.zone_machine.proofs.Own_worlds.{view-world, world-one}

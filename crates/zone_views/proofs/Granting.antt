@@ -4,9 +4,9 @@ use Rattle.std.specs.Prelude.{nat_le, not, if◌then◌else◌}
 use Rattle.std.proofs.lemmas.Bool.{and_from, false≢true, le-leb, not_from_false}
 use Rattle.zn_base.specs.Names.{Name}
 use Rattle.zn_base.specs.Path.{path_of}
-use Rattle.zn_base.specs.declared.grant.Grant.{Grant}
-use Rattle.zn_base.specs.declared.grant.Grant.TheVariants.{Nothing, Number, Yes, Denied}
-use Rattle.zn_base.specs.declared.grant.Pool.TheVariants.{Pids, Zids, Zones, Paths, Store}
+use Rattle.zone_pools.specs.declared.grant.Grant.{Grant}
+use Rattle.zone_pools.specs.declared.grant.Grant.TheVariants.{Nothing, Number, Yes, Denied}
+use Rattle.zone_pools.specs.declared.grant.Pool.TheVariants.{Pids, Zids, Zones, Paths, Store}
 use Rattle.zone_machine.proofs.Pools_laws.{said_one}
 use Rattle.zone_machine.specs.Decisions.{A_path, A_pid, A_serial, A_zid, A_zone, Ask, Asked, Decision, Just, asked_of}
 use Rattle.zone_machine.specs.Edits.{A_process, A_record, An_id, Comes}

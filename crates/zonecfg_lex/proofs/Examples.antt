@@ -2,7 +2,7 @@
 use Rattle.std.proofs.Common.{◌≡◌, [], ◌∷◌, Ok, Err, codes, refl}
 use Rattle.zonecfg_lex.specs.declared.fault.LexFault.TheVariants.{OpenQuote, StrayByte, OpenBracket, NoValue}
 use Rattle.zonecfg_lex.specs.declared.token.TokenKind.TheVariants.{Word, Quoted, Equals, Comma, Open, Close, ListOpen, ListClose, Semi}
-use Rattle.zonecfg_lex.specs.declared.values.Value.TheVariants.{Simple, Complex, List as Items}
+use Rattle.zn_base.specs.declared.values.Value.TheVariants.{Simple, Complex, List as Items}
 use Rattle.zonecfg_lex.specs.Tokens.{part_tokens_of, role_of, token, tokens_of}
 use Rattle.zonecfg_lex.specs.Parts.{parts_of, span}
 use Rattle.zonecfg_lex.specs.Value.{value_of}

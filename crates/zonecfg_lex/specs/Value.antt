@@ -8,9 +8,9 @@ use Rattle.zonecfg_lex.specs.declared.grammar.Stage.TheVariants.{Start, Name, Si
 use Rattle.zonecfg_lex.specs.declared.token.Token.{Token}
 use Rattle.zonecfg_lex.specs.declared.token.TokenKind.{TokenKind}
 use Rattle.zonecfg_lex.specs.declared.token.TokenKind.TheVariants.{Word, Quoted, Equals, Comma, Open, Close, ListOpen, ListClose}
-use Rattle.zonecfg_lex.specs.declared.values.Pair.{Pair}
-use Rattle.zonecfg_lex.specs.declared.values.Value.{Value}
-use Rattle.zonecfg_lex.specs.declared.values.Value.TheVariants.{Simple, Complex, List as Items}
+use Rattle.zn_base.specs.declared.values.Pair.{Pair}
+use Rattle.zn_base.specs.declared.values.Value.{Value}
+use Rattle.zn_base.specs.declared.values.Value.TheVariants.{Simple, Complex, List as Items}
 
 -- what may follow a token in a value, and how it goes on then
 abbrev pub stage_behind : Stage → TokenKind → Option Stage

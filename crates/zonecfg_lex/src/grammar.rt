@@ -5,9 +5,9 @@ ghost use Rattle.zonecfg_lex.specs.declared.grammar.Stage.TheVariants.{Start};
 ghost use Rattle.zonecfg_lex.specs.Tokens.{result_map};
 ghost use Rattle.zonecfg_lex.specs.Value.{first_misfit, gives_text, given_text, given_texts, made_value, paired, stage_behind, text_start, value_of, IsReadable};
 
-use crate::{LexFault, Pair, Pairs, Texts, Token, TokenKind, Value};
+use crate::{LexFault, Token, TokenKind};
 use std::alloc::Global;
-use zn_base::Text;
+use zn_base::{Listing, Pair, Text, Value};
 
 /// What may stand next in a value: its beginning, the parts of a pair and what is behind it, the first
 /// item of a list or its end, an item and what is behind it, or nothing.
@@ -90,11 +90,11 @@ pub fn given_text(alloc: Global, line: &[u8], token: Token) -> Result<Text, LexF
     Ok(Text::of(alloc, &line[start as usize..token.end as usize])?)
 }
 
-fn texts(alloc: Global, line: &[u8], tokens: &[Token]) -> Result<Vec<Text>, LexFault>
+fn texts(alloc: Global, line: &[u8], tokens: &[Token]) -> Result<Listing<Text>, LexFault>
     requires { All (IsReadable line.now) tokens.now }
-    ensures { AnswersUnless LexFault.Memory (Ok (given_texts line.now tokens.now)) (result_map (λ ts. ts.items) result) }
+    ensures { AnswersUnless LexFault.Memory (Ok (given_texts line.now tokens.now)) result }
 {
-    let mut texts = Vec::new(alloc);
+    let mut texts = Listing::new(alloc);
     for token in tokens {
         if gives_text(*token) {
             texts.push(given_text(alloc, line, *token)?)?;
@@ -104,11 +104,11 @@ fn texts(alloc: Global, line: &[u8], tokens: &[Token]) -> Result<Vec<Text>, LexF
 }
 
 /// The pairs that the words and quoted tokens of a line give, each name with the text behind it.
-pub fn pairs(alloc: Global, line: &[u8], tokens: &[Token]) -> Result<Vec<Pair>, LexFault>
+pub fn pairs(alloc: Global, line: &[u8], tokens: &[Token]) -> Result<Listing<Pair>, LexFault>
     requires { All (IsReadable line.now) tokens.now }
-    ensures { AnswersUnless LexFault.Memory (Ok (paired (given_texts line.now tokens.now))) (result_map (λ ps. ps.items) result) }
+    ensures { AnswersUnless LexFault.Memory (Ok (paired (given_texts line.now tokens.now))) result }
 {
-    let mut pairs = Vec::new(alloc);
+    let mut pairs = Listing::new(alloc);
     let mut waiting = None;
     for token in tokens {
         if gives_text(*token) {
@@ -129,8 +129,8 @@ fn made_value(alloc: Global, line: &[u8], first: Token, rest: &[Token]) -> Resul
     ensures { AnswersUnless LexFault.Memory (Ok (made_value line.now (first ∷ rest.now))) result }
 {
     match first.kind {
-        TokenKind::Open => Ok(Value::Complex(Pairs::new(pairs(alloc, line, rest)?))),
-        TokenKind::ListOpen => Ok(Value::List(Texts::new(texts(alloc, line, rest)?))),
+        TokenKind::Open => Ok(Value::Complex(pairs(alloc, line, rest)?)),
+        TokenKind::ListOpen => Ok(Value::List(texts(alloc, line, rest)?)),
         _ => Ok(Value::Simple(given_text(alloc, line, first)?)),
     }
 }

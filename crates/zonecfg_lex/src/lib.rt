@@ -11,7 +11,6 @@ mod lexer;
 mod scope;
 mod spans;
 mod token;
-mod values;
 
 pub use fault::LexFault;
 pub use grammar::{given_text, pairs, value};
@@ -19,4 +18,3 @@ pub use laws::values_fit;
 pub use lexer::{part_tokens, tokens};
 pub use spans::parts;
 pub use token::{Span, Token, TokenKind};
-pub use values::{Pair, Pairs, Texts, Value};

@@ -1,6 +1,6 @@
 -- The configuration that `create` makes without `-b`.
 use Rattle.std.proofs.Common.{◌≡◌, false, Ok, codes, refl}
-use Rattle.zonecfg_lex.specs.declared.values.Value.TheVariants.{Simple}
+use Rattle.zn_base.specs.declared.values.Value.TheVariants.{Simple}
 use Rattle.config_terms.specs.Rules.{obeys}
 use Rattle.config_terms.specs.Texts.{setting}
 use Rattle.zone_config.specs.Edits.{with_property}

@@ -2,7 +2,7 @@
 use Rattle.std.proofs.Common.{◌≡◌, ℕ, List, [], ◌∷◌, true, false, None, Some, Ok, Err, codes, refl}
 use Rattle.std.specs.Fmt.{digits}
 use Rattle.zonecfg_lex.specs.declared.fault.LexFault.TheVariants.{NoValue, OpenQuote}
-use Rattle.zonecfg_lex.specs.declared.values.Value.TheVariants.{Simple, List as Items}
+use Rattle.zn_base.specs.declared.values.Value.TheVariants.{Simple, List as Items}
 use Rattle.zonecfg_lex.specs.Tokens.{part_tokens_of, role_of}
 use Rattle.zonecfg_lex.specs.Value.{value_of}
 use Rattle.zonecfg_scopes.specs.declared.command.Command.TheVariants.{Blank, Add, Append, Create, Info, Remove, RemoveItem, Revert, Select, Set}

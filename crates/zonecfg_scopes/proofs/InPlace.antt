@@ -13,7 +13,7 @@ use Rattle.config_terms.specs.Edits as edits
 use Rattle.config_terms.specs.Edits.{empty}
 use Rattle.config_terms.specs.Fields.{kind_of}
 use Rattle.config_terms.specs.Matches.{only_place, place_or}
-use Rattle.zonecfg_lex.specs.declared.values.Pair.{Pair}
+use Rattle.zn_base.specs.declared.values.Pair.{Pair}
 use Rattle.zone_config.specs.declared.terms.Contents.{Contents}
 use Rattle.zone_config.specs.Edits.{with_property, without_property}
 use Rattle.zone_config.specs.Resources.{count_of, found}

@@ -8,7 +8,7 @@ use Rattle.config_terms.specs.declared.terms.Resource.TheVariants as resource
 use Rattle.config_terms.specs.Edits.{empty}
 use Rattle.config_terms.specs.Fields.{resource_shown}
 use Rattle.config_terms.specs.Matches.{has_all}
-use Rattle.zonecfg_lex.specs.declared.values.Pair.{Pair}
+use Rattle.zn_base.specs.declared.values.Pair.{Pair}
 use Rattle.zone_config.specs.declared.terms.Contents.{Contents}
 use Rattle.zone_config.specs.Resources.{count_of}
 use Rattle.zonecfg_scopes.specs.Removal.{without_match_at}

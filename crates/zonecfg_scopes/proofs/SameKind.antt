@@ -1,7 +1,7 @@
 -- An edit of a resource keeps its kind.
 use Rattle.std.proofs.Common.{◌≡◌, ℕ, true, false, cond, List, [], Option, Some, None, Result, Ok, Err, refl}
-use Rattle.zonecfg_lex.specs.declared.values.Value.{Value}
-use Rattle.zonecfg_lex.specs.declared.values.Value.TheVariants.{Simple, Complex, List as Items}
+use Rattle.zn_base.specs.declared.values.Value.{Value}
+use Rattle.zn_base.specs.declared.values.Value.TheVariants.{Simple, Complex, List as Items}
 use Rattle.config_terms.specs.declared.fault.ConfigFault.{ConfigFault}
 use Rattle.config_terms.specs.declared.fault.ConfigFault.TheVariants.{BadValue}
 use Rattle.config_terms.specs.declared.fields.Field.{Field}

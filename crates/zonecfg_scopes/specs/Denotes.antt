@@ -4,7 +4,7 @@ use Rattle.config_terms.specs.declared.terms.Kind.{Kind}
 use Rattle.config_terms.specs.declared.terms.Resource.{Resource}
 use Rattle.config_terms.specs.Edits.{empty}
 use Rattle.config_terms.specs.Edits as edits
-use Rattle.zonecfg_lex.specs.declared.values.Value.{Value}
+use Rattle.zn_base.specs.declared.values.Value.{Value}
 use Rattle.zone_config.specs.declared.terms.Contents.{Contents}
 use Rattle.zone_config.specs.Edits.{with_property, without_property}
 use Rattle.zone_config.specs.Resources.{found}

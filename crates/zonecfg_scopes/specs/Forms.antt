@@ -6,8 +6,8 @@ use Rattle.config_terms.specs.Fields.{kind_named}
 use Rattle.zonecfg_lex.specs.declared.fault.LexFault.{LexFault}
 use Rattle.zonecfg_lex.specs.declared.fault.LexFault.TheVariants.{NoValue}
 use Rattle.zonecfg_lex.specs.declared.token.Token.{Token}
-use Rattle.zonecfg_lex.specs.declared.values.Pair.{Pair}
-use Rattle.zonecfg_lex.specs.declared.values.Value.{Value}
+use Rattle.zn_base.specs.declared.values.Pair.{Pair}
+use Rattle.zn_base.specs.declared.values.Value.{Value}
 use Rattle.zonecfg_lex.specs.Tokens.{is_word, part_tokens_of, text_of}
 use Rattle.zonecfg_lex.specs.Value.{given_texts, paired, value_of}
 use Rattle.zonecfg_scopes.specs.declared.command.Command.{Command}

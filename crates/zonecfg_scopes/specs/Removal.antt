@@ -3,7 +3,7 @@ use Rattle.std.specs.Prelude.{ℕ, List, Bool, if◌then◌else◌}
 use Rattle.config_terms.specs.declared.terms.Kind.{Kind}
 use Rattle.config_terms.specs.Fields.{resource_shown}
 use Rattle.config_terms.specs.Matches.{has_all}
-use Rattle.zonecfg_lex.specs.declared.values.Pair.{Pair}
+use Rattle.zn_base.specs.declared.values.Pair.{Pair}
 use Rattle.zone_config.specs.declared.terms.Contents.{Contents}
 use Rattle.zonecfg_scopes.specs.Scopes.{resource_at, without_place}
 

@@ -11,7 +11,7 @@ use Rattle.config_terms.specs.Edits.{empty}
 use Rattle.config_terms.specs.Edits as edits
 use Rattle.config_terms.specs.Fields.{attr_shown, fs_shown, kind_of, net_shown, rctl_shown, text_shown}
 use Rattle.config_terms.specs.Matches.{has_all}
-use Rattle.zonecfg_lex.specs.declared.values.Pair.{Pair}
+use Rattle.zn_base.specs.declared.values.Pair.{Pair}
 use Rattle.zone_config.specs.declared.terms.Contents.{Contents}
 use Rattle.zone_config.specs.Edits.{with_property, without_property}
 use Rattle.zone_config.specs.Property.{blank}

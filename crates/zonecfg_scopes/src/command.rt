@@ -2,11 +2,9 @@
 ghost use Rattle.std.specs.Prelude.{◌≡◌};
 ghost use Rattle.zonecfg_scopes.specs.Commands.{list_name, list_named, topic_named};
 
-use crate::line::Line;
-use config_terms::{Kind, Listing};
-use zn_base::Text;
+use config_terms::Kind;
+use zn_base::{Bytes, Listing, Pair, Text, Value};
 use zone_config::Setting;
-use zonecfg_lex::{Pairs, Value};
 
 /// The properties of resources that hold a list: the options of an fs, the values of an rctl.
 #[derive(Clone, Copy, Debug, PartialEq, Eq)]
@@ -19,7 +17,7 @@ pub enum ListProperty {
 #[derive(Drop)]
 pub struct Matching {
     pub kind: Kind,
-    pub pairs: Pairs,
+    pub pairs: Listing<Pair>,
 }
 
 /// What `info` shows.
@@ -62,7 +60,7 @@ pub enum Command {
 #[derive(Drop)]
 pub enum EditReply {
     Done,
-    Lines(Listing<Line>),
+    Lines(Listing<Bytes>),
     WantVerify,
     WantCommit,
     WantRevert,

@@ -11,13 +11,11 @@ use crate::command::{Command, EditReply, Topic};
 use crate::fault::EditFault;
 use crate::forms::read_command;
 use crate::info::help;
-use crate::line::Line;
 use crate::opened::Opened;
 use crate::same::same_contents;
-use config_terms::Listing;
 use std::alloc::{AllocError, Global};
 use std::marker::Model;
-use zn_base::ZoneName;
+use zn_base::{Bytes, Listing, ZoneName};
 use zone_config::ZoneConfig;
 
 /// The editor of a zone's configuration (zonecfg(8)): its base, and what is open after the subcommands since.
@@ -99,7 +97,7 @@ impl Editor {
         }
     }
 
-    fn info(&self, alloc: Global, topic: Topic) -> Result<Listing<Line>, AllocError>
+    fn info(&self, alloc: Global, topic: Topic) -> Result<Listing<Bytes>, AllocError>
         ensures { IfOk result (λ lines. lines ≡ info_lines topic self.now.name self.now.opened) }
     {
         self.opened.info(alloc, self.name.bytes(), topic)

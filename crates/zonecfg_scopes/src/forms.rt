@@ -13,7 +13,8 @@ use crate::words::{
 };
 use config_terms::Kind;
 use std::alloc::Global;
-use zonecfg_lex::{LexFault, Pair, Pairs, Token, given_text, pairs, part_tokens, value};
+use zn_base::Pair;
+use zonecfg_lex::{LexFault, Token, given_text, pairs, part_tokens, value};
 
 fn alone<T: Drop>(tokens: &[Token], it: T) -> Result<T, EditFault>
     ensures { result ≡ alone tokens.now it }
@@ -137,13 +138,10 @@ fn matching_by(
         return Err(EditFault::Usage);
     }
     let pairs = pairs(alloc, line, rest)?;
-    if name_a_list(&pairs) {
+    if name_a_list(pairs.as_slice()) {
         return Err(EditFault::Usage);
     }
-    Ok(Matching {
-        kind,
-        pairs: Pairs::new(pairs),
-    })
+    Ok(Matching { kind, pairs })
 }
 
 // `KIND` and pairs `NAME=VALUE`, of which none names a list.

@@ -8,24 +8,24 @@ ghost use Rattle.zone_config.specs.Property.{properties};
 ghost use Rattle.zonecfg_scopes.specs.Info.{alias_lines, all_lines, entry_lines, field_lines, help_line, kind_lines, limit_line, named_line, options_line, property_line, resource_lines, set_line, topic_lines};
 
 use crate::command::Topic;
-use crate::line::{Line, push_line};
-use config_terms::{Entry, KINDS, Kind, Limit, Listing, Rctl, Resource, push_limit, push_options};
+use crate::line::push_line;
+use config_terms::{Entry, KINDS, Kind, Limit, Rctl, Resource, push_limit, push_options};
 use std::alloc::{AllocError, Global};
-use zn_base::Text;
+use zn_base::{Bytes, Listing, Text};
 use zone_config::{Alias, Contents, PROPERTIES, Property, Setting};
 
 const HELP: &[u8] =
     b"add cancel clear commit create delete end exit export help info remove revert select set verify";
 
 #[tactic(auto, using(crate::proofs::Shown::helped))]
-fn help_line(alloc: Global) -> Result<Line, AllocError>
+fn help_line(alloc: Global) -> Result<Bytes, AllocError>
     ensures { IfOk result (λ line. line ≡ help_line) }
 {
-    Line::from_slice(alloc, HELP)
+    Bytes::from_slice(alloc, HELP)
 }
 
 /// The line of `help`.
-pub fn help(alloc: Global) -> Result<Listing<Line>, AllocError>
+pub fn help(alloc: Global) -> Result<Listing<Bytes>, AllocError>
     ensures { IfOk result (λ lines. lines ≡ help_line ∷ []) }
 {
     let mut lines = Listing::new(alloc);
@@ -35,7 +35,7 @@ pub fn help(alloc: Global) -> Result<Listing<Line>, AllocError>
 
 fn push_named(
     alloc: Global,
-    out: &mut Listing<Line>,
+    out: &mut Listing<Bytes>,
     name: &[u8],
     value: &[u8],
 ) -> Result<(), AllocError>
@@ -47,7 +47,7 @@ fn push_named(
 #[tactic(auto, unfolding(crate::specs::Info::set_line))]
 fn push_set(
     alloc: Global,
-    out: &mut Listing<Line>,
+    out: &mut Listing<Bytes>,
     name: &[u8],
     value: &[u8],
 ) -> Result<(), AllocError>
@@ -60,19 +60,19 @@ fn push_set(
 }
 
 // The line of options in their brackets.
-fn options_in_line(alloc: Global, options: &[Text]) -> Result<Line, AllocError>
+fn options_in_line(alloc: Global, options: &[Text]) -> Result<Bytes, AllocError>
     ensures { IfOk result (λ line. line ≡ codes "    options: " ++ options_text options.now) }
 {
     let mut bytes = Vec::new(alloc);
     bytes.extend_from_slice(b"    options: ")?;
     push_options(&mut bytes, options)?;
-    Ok(Line::from_vec(bytes))
+    Ok(Bytes::from_vec(bytes))
 }
 
 #[tactic(auto, unfolding(crate::specs::Info::options_line))]
 fn push_options_line(
     alloc: Global,
-    out: &mut Listing<Line>,
+    out: &mut Listing<Bytes>,
     options: &[Text],
 ) -> Result<(), AllocError>
     ensures { OnOk result (out.new ≡ out.old ++ options_line options.now) }
@@ -85,18 +85,18 @@ fn push_options_line(
 }
 
 #[tactic(auto, unfolding(crate::specs::Info::limit_line))]
-fn limit_line(alloc: Global, value: Limit) -> Result<Line, AllocError>
+fn limit_line(alloc: Global, value: Limit) -> Result<Bytes, AllocError>
     ensures { IfOk result (λ line. line ≡ limit_line value) }
 {
     let mut bytes = Vec::new(alloc);
     bytes.extend_from_slice(b"    value: ")?;
     push_limit(&mut bytes, value)?;
-    Ok(Line::from_vec(bytes))
+    Ok(Bytes::from_vec(bytes))
 }
 
 fn push_limit_lines(
     alloc: Global,
-    out: &mut Listing<Line>,
+    out: &mut Listing<Bytes>,
     values: &[Limit],
 ) -> Result<(), AllocError>
     ensures { OnOk result (out.new ≡ out.old ++ map limit_line values.now) }
@@ -110,7 +110,7 @@ fn push_limit_lines(
 #[tactic(auto, unfolding(crate::specs::Info::field_lines))]
 fn push_fields<T: Entry>(
     alloc: Global,
-    out: &mut Listing<Line>,
+    out: &mut Listing<Bytes>,
     kind: Kind,
     entry: &T,
 ) -> Result<(), AllocError>
@@ -125,7 +125,7 @@ fn push_fields<T: Entry>(
 #[tactic(auto, unfolding(crate::specs::Info::entry_lines))]
 fn push_entry<T: Entry>(
     alloc: Global,
-    out: &mut Listing<Line>,
+    out: &mut Listing<Bytes>,
     kind: Kind,
     entry: &T,
 ) -> Result<(), AllocError>
@@ -139,7 +139,7 @@ fn push_entry<T: Entry>(
 
 fn push_entries<T: Entry>(
     alloc: Global,
-    out: &mut Listing<Line>,
+    out: &mut Listing<Bytes>,
     kind: Kind,
     entries: &[T],
 ) -> Result<(), AllocError>
@@ -154,7 +154,7 @@ fn push_entries<T: Entry>(
 #[tactic(auto, unfolding(crate::specs::Info::kind_lines))]
 fn push_kind(
     alloc: Global,
-    out: &mut Listing<Line>,
+    out: &mut Listing<Bytes>,
     contents: &Contents,
     kind: Kind,
 ) -> Result<(), AllocError>
@@ -172,7 +172,7 @@ fn push_kind(
 
 fn push_kind_lines(
     alloc: Global,
-    out: &mut Listing<Line>,
+    out: &mut Listing<Bytes>,
     contents: &Contents,
     kinds: &[Kind],
 ) -> Result<(), AllocError>
@@ -186,7 +186,7 @@ fn push_kind_lines(
 
 fn push_property(
     alloc: Global,
-    out: &mut Listing<Line>,
+    out: &mut Listing<Bytes>,
     contents: &Contents,
     property: Property,
 ) -> Result<(), AllocError>
@@ -197,7 +197,7 @@ fn push_property(
 
 fn push_property_lines(
     alloc: Global,
-    out: &mut Listing<Line>,
+    out: &mut Listing<Bytes>,
     contents: &Contents,
     properties: &[Property],
 ) -> Result<(), AllocError>
@@ -211,7 +211,7 @@ fn push_property_lines(
 
 fn push_properties(
     alloc: Global,
-    out: &mut Listing<Line>,
+    out: &mut Listing<Bytes>,
     contents: &Contents,
 ) -> Result<(), AllocError>
     ensures { OnOk result (out.new ≡ out.old ++ map (property_line contents.now) properties) }
@@ -221,7 +221,7 @@ fn push_properties(
 
 fn push_resources(
     alloc: Global,
-    out: &mut Listing<Line>,
+    out: &mut Listing<Bytes>,
     contents: &Contents,
 ) -> Result<(), AllocError>
     ensures { OnOk result (out.new ≡ out.old ++ flat_map (kind_lines contents.now) kinds) }
@@ -231,7 +231,7 @@ fn push_resources(
 
 fn push_all(
     alloc: Global,
-    out: &mut Listing<Line>,
+    out: &mut Listing<Bytes>,
     name: &[u8],
     contents: &Contents,
 ) -> Result<(), AllocError>
@@ -258,7 +258,7 @@ fn rctl_for(alias: Alias, rctls: &[Rctl]) -> Option<&Rctl>
 #[tactic(auto, unfolding(crate::specs::Info::alias_lines))]
 fn push_alias(
     alloc: Global,
-    out: &mut Listing<Line>,
+    out: &mut Listing<Bytes>,
     contents: &Contents,
     alias: Alias,
 ) -> Result<(), AllocError>
@@ -273,7 +273,7 @@ fn push_alias(
 #[tactic(auto, unfolding(crate::specs::Info::topic_lines))]
 fn push_topic(
     alloc: Global,
-    out: &mut Listing<Line>,
+    out: &mut Listing<Bytes>,
     topic: Topic,
     name: &[u8],
     contents: &Contents,
@@ -294,7 +294,7 @@ pub fn topic_lines(
     topic: Topic,
     name: &[u8],
     contents: &Contents,
-) -> Result<Listing<Line>, AllocError>
+) -> Result<Listing<Bytes>, AllocError>
     ensures { IfOk result (λ lines. lines ≡ topic_lines topic name.now contents.now) }
 {
     let mut lines = Listing::new(alloc);
@@ -303,7 +303,7 @@ pub fn topic_lines(
 }
 
 /// The lines of a resource.
-pub fn resource_lines(alloc: Global, resource: &Resource) -> Result<Listing<Line>, AllocError>
+pub fn resource_lines(alloc: Global, resource: &Resource) -> Result<Listing<Bytes>, AllocError>
     ensures { IfOk result (λ lines. lines ≡ resource_lines resource.now) }
 {
     let mut lines = Listing::new(alloc);

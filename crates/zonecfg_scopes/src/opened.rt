@@ -12,15 +12,14 @@ ghost use Rattle.zonecfg_scopes.specs.Scopes.{created, put_back, resource_at, se
 
 use crate::command::{Command, ListProperty, Matching, Topic};
 use crate::info::{resource_lines, topic_lines};
-use crate::line::{Line, export_lines};
+use crate::line::export_lines;
 use crate::removal::remove_matching;
 use crate::{EditFault, Scope};
-use config_terms::{ConfigFault, Kind, Listing, Resource, Twin};
+use config_terms::{ConfigFault, Kind, Resource};
 use std::alloc::{AllocError, Global};
 use std::marker::Model;
-use zn_base::Text;
+use zn_base::{Bytes, Listing, Text, TryClone, Value};
 use zone_config::{Contents, ZoneConfig, blank};
-use zonecfg_lex::Value;
 
 /// The resource of an open scope. It is new, or was selected at its place among those of its kind.
 #[derive(Drop)]
@@ -92,12 +91,12 @@ fn copy_at(
     ensures { IfOk result (λ r. r ≡ resource_at kind place contents.now) }
 {
     match kind {
-        Kind::Fs => Ok(Resource::Fs(contents.fs.at(place).twin(alloc)?)),
-        Kind::Net => Ok(Resource::Net(contents.net.at(place).twin(alloc)?)),
-        Kind::Device => Ok(Resource::Device(contents.device.at(place).twin(alloc)?)),
-        Kind::Rctl => Ok(Resource::Rctl(contents.rctl.at(place).twin(alloc)?)),
-        Kind::Attr => Ok(Resource::Attr(contents.attr.at(place).twin(alloc)?)),
-        Kind::Dataset => Ok(Resource::Dataset(contents.dataset.at(place).twin(alloc)?)),
+        Kind::Fs => Ok(Resource::Fs(contents.fs.at(place).try_clone(alloc)?)),
+        Kind::Net => Ok(Resource::Net(contents.net.at(place).try_clone(alloc)?)),
+        Kind::Device => Ok(Resource::Device(contents.device.at(place).try_clone(alloc)?)),
+        Kind::Rctl => Ok(Resource::Rctl(contents.rctl.at(place).try_clone(alloc)?)),
+        Kind::Attr => Ok(Resource::Attr(contents.attr.at(place).try_clone(alloc)?)),
+        Kind::Dataset => Ok(Resource::Dataset(contents.dataset.at(place).try_clone(alloc)?)),
     }
 }
 
@@ -126,7 +125,7 @@ fn put_back(
     requires { IsTrue (is_placed scope.now.place scope.now.resource config.old) }
     ensures { Changes config.old config.new result (put_back scope.now.place scope.now.resource config.old) }
 {
-    let resource = scope.resource.twin(alloc)?;
+    let resource = scope.resource.try_clone(alloc)?;
     match scope.place {
         None => config.add_resource(resource),
         Some(place) => config.replace_resource(place, resource),
@@ -168,7 +167,7 @@ impl Opened {
         alloc: Global,
         name: &[u8],
         topic: Topic,
-    ) -> Result<Listing<Line>, AllocError>
+    ) -> Result<Listing<Bytes>, AllocError>
         ensures { IfOk result (λ lines. lines ≡ info_lines topic name.now self.now) }
     {
         match (&self.config, &self.scope) {
@@ -180,7 +179,7 @@ impl Opened {
 
     /// The lines of `export`.
     #[tactic(auto, unfolding(crate::specs::Info::export_lines))]
-    pub fn export(&self, alloc: Global) -> Result<Listing<Line>, AllocError>
+    pub fn export(&self, alloc: Global) -> Result<Listing<Bytes>, AllocError>
         ensures { IfOk result (λ lines. lines ≡ export_lines self.now) }
     {
         match (&self.config, &self.scope) {
@@ -201,7 +200,7 @@ impl Opened {
         let scope = match &self.scope {
             None => None,
             Some(scope) => Some(ResourceScope {
-                resource: scope.resource.twin(alloc)?,
+                resource: scope.resource.try_clone(alloc)?,
                 place: scope.place,
             }),
         };

@@ -7,8 +7,8 @@ ghost use Rattle.zonecfg_scopes.specs.Scopes.{given, without_matches, without_ma
 
 use crate::command::Matching;
 use config_terms::{ConfigFault, Kind, has_all};
+use zn_base::Pair;
 use zone_config::{Contents, ZoneConfig};
-use zonecfg_lex::Pair;
 
 fn count_of(contents: &Contents, kind: Kind) -> usize
     ensures count { result ≡ count_of kind contents.now }

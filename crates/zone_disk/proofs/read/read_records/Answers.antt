@@ -1,7 +1,7 @@
 use Rattle.std.proofs.Common.{◌≡◌, ◌≤◌, ◌∙◌, ◌+◌, inl, inr, ℕ, List, length, take, ap, arith, subst, sym}
 use Rattle.std.specs.Prelude.{min}
 use Rattle.std.proofs.lemmas.Bool.{cases_lt, false≢true}
-use Rattle.zn_base.proofs.Moments.{looks_self, looks_again}
+use Rattle.zn_io.proofs.Moments.{looks_self, looks_again}
 use Rattle.zone_disk.specs.Read.{HasRecords, IsCutAt, IsFrontOf}
 use Rattle.zone_disk.proofs.Reading.{header_right, in_more, front_more, closed_front, all_read, cut_front}
 use Rattle.zone_disk.proofs.read.read_records.Goals as goal

@@ -1,5 +1,5 @@
 use Rattle.std.proofs.Common.{◌≤◌, ◌-◌, length}
-use Rattle.zn_base.specs.Disk.{OnlyLooks}
+use Rattle.zn_io.specs.Disk.{OnlyLooks}
 use Rattle.zone_disk.specs.Read.{HasRecords, IsFrontOf}
 use Rattle.zone_disk.proofs.read.read_records.Given as goal
 

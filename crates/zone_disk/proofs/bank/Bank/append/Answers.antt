@@ -1,6 +1,6 @@
 use Rattle.std.proofs.Common.{◌≡◌, ◌≤◌, ◌+◌, [], ◌∷◌, ◌++◌, ◌∙◌, ap, subst, ℕ, List, length, rules}
 use Rattle.std.specs.Prelude.{true}
-use Rattle.zn_base.specs.Disk.{Leaves}
+use Rattle.zn_io.specs.Disk.{Leaves}
 use Rattle.zone_disk.specs.Image.{BANK, Stands}
 use Rattle.zone_disk.specs.Bank.{framed, Account, IsBeforeOrAfter}
 use Rattle.zone_disk.proofs.Append.{not_full, at_end, first, both, settled, kept_more, settled_stands}
