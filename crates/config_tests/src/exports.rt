@@ -137,7 +137,9 @@ fn each_line_of_a_whole_text_is_told(rt: HostRuntime) -> Result<(), Fail> {
 const FAULTS: &[(&[u8], usize)] = &[
     (b"", 1),
     (b"\n", 1),
+    (b"create\n", 1),
     (b"create -b\r\n", 1),
+    (b"create -b\nset pool=\xff\n", 2),
     (b"create -b\nset brand=ip", 3),
     (b"create -b\nset hostid=ffffffff\n", 2),
     (
@@ -164,6 +166,7 @@ fn a_fault_has_its_line(rt: HostRuntime) -> Result<(), Fail> {
 // What is to be told of these lines behind those of the two properties that every text has; 0 where all is read.
 const BEHIND: &[(&[u8], usize)] = &[
     (b"end\n", 4),
+    (b"add zone\n", 4),
     (b"\n", 4),
     (b"set cpu-shares=1\n", 4),
     (b"add fs\nend\nadd fs\nend\n", 0),

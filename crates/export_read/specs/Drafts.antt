@@ -11,9 +11,9 @@ use Rattle.config_terms.specs.declared.terms.Limit.{Limit}
 use Rattle.config_terms.specs.declared.terms.Resource.{Resource}
 use Rattle.config_terms.specs.declared.terms.Resource.TheVariants.{Fs, Rctl}
 use Rattle.zn_base.specs.Lines.{lines_of}
-use Rattle.export_lines.specs.Reading.{command_of}
-use Rattle.export_lines.specs.declared.command.Command.{Command}
-use Rattle.export_lines.specs.declared.command.Command.TheVariants.{Create, Set, Open, Options, Value, End}
+use Rattle.export_read.specs.Reading.{command_of}
+use Rattle.export_read.specs.declared.command.Command.{Command}
+use Rattle.export_read.specs.declared.command.Command.TheVariants.{Create, Set, Open, Options, Value, End}
 use Rattle.zone_config.specs.Edits.{with_property}
 use Rattle.zone_config.specs.Export.{export_text}
 use Rattle.zone_config.specs.Property.{blank}

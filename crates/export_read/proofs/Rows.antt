@@ -14,17 +14,17 @@ use Rattle.config_terms.specs.Texts.{action, is_bare_byte, limit_text, options_t
 use Rattle.config_terms.specs.declared.terms.Kind.{Kind}
 use Rattle.config_terms.specs.declared.terms.Kind.TheVariants as kind
 use Rattle.config_terms.specs.declared.terms.Limit.{Limit}
-use Rattle.export_lines.proofs.Again.{IsPlain, command_again, none_of, own}
-use Rattle.export_lines.proofs.Cuts.{AreLines, IsOneLine, lines_of-ended}
-use Rattle.export_lines.proofs.Printable.{ArePlain, plain-script}
-use Rattle.export_lines.proofs.Texts.{text-script, text_of}
-use Rattle.export_lines.specs.Commands.{line_of, script}
+use Rattle.export_read.proofs.Again.{IsPlain, command_again, none_of, own}
+use Rattle.export_read.proofs.Cuts.{AreLines, IsOneLine, lines_of-ended}
+use Rattle.export_read.proofs.Printable.{ArePlain, plain-script}
+use Rattle.export_read.proofs.Texts.{text-script, text_of}
+use Rattle.export_read.specs.Commands.{line_of, script}
 use Rattle.zn_base.specs.Lines.{is_newline, lines_of}
-use Rattle.export_lines.specs.Lines.{ended}
-use Rattle.export_lines.specs.Reading.{command_of}
-use Rattle.export_lines.specs.Saying.{LinesSayTheirCommands}
-use Rattle.export_lines.specs.declared.command.Command.{Command}
-use Rattle.export_lines.specs.declared.command.Command.TheVariants.{Create, Set, Open, Options, Value, End}
+use Rattle.export_read.specs.Lines.{ended}
+use Rattle.export_read.specs.Reading.{command_of}
+use Rattle.export_read.specs.Saying.{LinesSayTheirCommands}
+use Rattle.export_read.specs.declared.command.Command.{Command}
+use Rattle.export_read.specs.declared.command.Command.TheVariants.{Create, Set, Open, Options, Value, End}
 use Rattle.zone_config.specs.Export.{export_text}
 use Rattle.zone_config.specs.Sound.{IsSound}
 use Rattle.zone_config.specs.declared.terms.Contents.{Contents}

@@ -2,9 +2,9 @@ use Rattle.std.proofs.Common.{length, rules, sym, tests, ◌∙◌}
 use Rattle.std.specs.List.{slice_split}
 use Rattle.std.proofs.lemmas.Iterator.Consumers.{YieldsList-end, YieldsList-turn}
 use Rattle.std.proofs.lemmas.Iterator.Splits.{YieldsList-from_slice_split}
-use Rattle.export_lines.specs.Reading.{is_comma}
-use Rattle.export_lines.proofs.Pieces.{all_taken, refused_piece}
-use Rattle.export_lines.proofs.reading.texts_of.Goals as goal
+use Rattle.export_read.specs.Reading.{is_comma}
+use Rattle.export_read.proofs.Pieces.{all_taken, refused_piece}
+use Rattle.export_read.proofs.reading.texts_of.Goals as goal
 
 pub returns-in_default : goal.returns-in_default
 returns-in_default c =

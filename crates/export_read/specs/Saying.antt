@@ -1,8 +1,8 @@
 -- What a user of the lines of export texts relies on.
 use Rattle.std.specs.Prelude.{◌≡◌, map, Some}
-use Rattle.export_lines.specs.Commands.{line_of, script}
+use Rattle.export_read.specs.Commands.{line_of, script}
 use Rattle.zn_base.specs.Lines.{lines_of}
-use Rattle.export_lines.specs.Reading.{command_of}
+use Rattle.export_read.specs.Reading.{command_of}
 use Rattle.zone_config.specs.Export.{export_text}
 use Rattle.zone_config.specs.Sound.{IsSound}
 use Rattle.zone_config.specs.declared.terms.Contents.{Contents}

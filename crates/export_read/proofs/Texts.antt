@@ -8,9 +8,9 @@ use Rattle.config_terms.specs.Texts.{attr_text, dataset_text, device_text, entry
 use Rattle.config_terms.specs.declared.fields.Field.{Field}
 use Rattle.config_terms.specs.declared.terms.Kind.{Kind}
 use Rattle.config_terms.specs.declared.terms.Limit.{Limit}
-use Rattle.export_lines.specs.Commands.{attr_commands, dataset_commands, device_commands, entry_commands, fs_commands, line_of, net_commands, property_commands, rctl_commands, script, where_any, where_set}
-use Rattle.export_lines.specs.declared.command.Command.{Command}
-use Rattle.export_lines.specs.declared.command.Command.TheVariants.{Value, End}
+use Rattle.export_read.specs.Commands.{attr_commands, dataset_commands, device_commands, entry_commands, fs_commands, line_of, net_commands, property_commands, rctl_commands, script, where_any, where_set}
+use Rattle.export_read.specs.declared.command.Command.{Command}
+use Rattle.export_read.specs.declared.command.Command.TheVariants.{Value, End}
 use Rattle.zone_config.specs.Export.{export_text, property_line}
 use Rattle.zone_config.specs.Property.{properties}
 use Rattle.zone_config.specs.declared.terms.Contents.{Contents}

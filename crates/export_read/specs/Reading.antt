@@ -7,8 +7,8 @@ use Rattle.std.specs.Str.{bytes_eq}
 use Rattle.zn_base.specs.Text.{is_text}
 use Rattle.config_terms.specs.Fields.{kind_named}
 use Rattle.config_terms.specs.Numbers.{number_of}
-use Rattle.export_lines.specs.declared.command.Command.{Command}
-use Rattle.export_lines.specs.declared.command.Command.TheVariants.{Create, Set, Open, Options, Value, End}
+use Rattle.export_read.specs.declared.command.Command.{Command}
+use Rattle.export_read.specs.declared.command.Command.TheVariants.{Create, Set, Open, Options, Value, End}
 
 abbrev pub is_equals : ℕ → Bool
 is_equals b = b == 61

@@ -16,10 +16,10 @@ use Rattle.config_terms.specs.Texts.{is_bare_byte, value_text, limit_text, optio
 use Rattle.config_terms.specs.declared.terms.Kind.{Kind}
 use Rattle.config_terms.specs.declared.terms.Kind.TheVariants as kind
 use Rattle.config_terms.specs.declared.terms.Limit.{Limit}
-use Rattle.export_lines.specs.Commands.{line_of}
-use Rattle.export_lines.specs.Reading.{is_equals, is_comma, without_last, unquoted, setting_of, limit_of, command_of}
-use Rattle.export_lines.specs.declared.command.Command.{Command}
-use Rattle.export_lines.specs.declared.command.Command.TheVariants.{Create, Set, Open, Options, Value, End}
+use Rattle.export_read.specs.Commands.{line_of}
+use Rattle.export_read.specs.Reading.{is_equals, is_comma, without_last, unquoted, setting_of, limit_of, command_of}
+use Rattle.export_read.specs.declared.command.Command.{Command}
+use Rattle.export_read.specs.declared.command.Command.TheVariants.{Create, Set, Open, Options, Value, End}
 
 -- where a byte of a class first stands
 first_at : (class : ℕ → Bool) (front rest : List ℕ) (b : ℕ) → list_any class front ≡ false → class b ≡ true → position_or_len class (front ++ b ∷ rest) ≡ length front

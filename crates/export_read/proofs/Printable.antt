@@ -18,11 +18,11 @@ use Rattle.config_terms.specs.declared.fields.Field.TheVariants.{FsDir, FsSpecia
 use Rattle.config_terms.specs.declared.terms.Kind.{Kind}
 use Rattle.config_terms.specs.declared.terms.Kind.TheVariants as kind
 use Rattle.config_terms.specs.declared.terms.Limit.{Limit}
-use Rattle.export_lines.proofs.Again.{IsPlain, none_of}
-use Rattle.export_lines.specs.Commands.{attr_commands, dataset_commands, device_commands, entry_commands, fs_commands, net_commands, property_commands, rctl_commands, script, where_any, where_set}
-use Rattle.export_lines.specs.Reading.{is_comma, is_equals}
-use Rattle.export_lines.specs.declared.command.Command.{Command}
-use Rattle.export_lines.specs.declared.command.Command.TheVariants.{End, Value}
+use Rattle.export_read.proofs.Again.{IsPlain, none_of}
+use Rattle.export_read.specs.Commands.{attr_commands, dataset_commands, device_commands, entry_commands, fs_commands, net_commands, property_commands, rctl_commands, script, where_any, where_set}
+use Rattle.export_read.specs.Reading.{is_comma, is_equals}
+use Rattle.export_read.specs.declared.command.Command.{Command}
+use Rattle.export_read.specs.declared.command.Command.TheVariants.{End, Value}
 use Rattle.zone_config.specs.Property.{properties, property_name, property_rule, shown}
 use Rattle.zone_config.specs.Sound.{IsSound}
 use Rattle.zone_config.specs.declared.terms.Contents.{Contents}

@@ -3,7 +3,7 @@ use Rattle.std.proofs.Common.{◌≡◌, ℕ, true, false, cond, List, [], ◌�
 use Rattle.std.specs.List.{list_any}
 use Rattle.std.proofs.lemmas.Bool.{or_parts}
 use Rattle.zn_base.specs.Lines.{is_newline, with_first, lines_of}
-use Rattle.export_lines.specs.Lines.{ended}
+use Rattle.export_read.specs.Lines.{ended}
 
 -- a line has no newline
 abbrev pub IsOneLine : List ℕ → Type 0

@@ -2,9 +2,9 @@
 ghost use Rattle.std.specs.Prelude.{◌≡◌, ◌==◌, [], position, IfOk, None, Some, if◌then◌else◌, option_copied};
 ghost use Rattle.std.specs.List.{after_first, before_first, list_all, slice_split};
 ghost use Rattle.zn_base.specs.Text.{is_text};
-ghost use Rattle.export_lines.specs.Reading.{behind, command_of, is_comma, limit_of, opening_of, options_of, set_of, setting_of, texts_among, unquoted, without_last};
+ghost use Rattle.export_read.specs.Reading.{behind, command_of, is_comma, limit_of, opening_of, options_of, set_of, setting_of, texts_among, unquoted, without_last};
 
-use crate::Command;
+use crate::command::Command;
 use config_terms::{Kind, Limit};
 use std::alloc::{AllocError, Global};
 use zn_base::{Listing, Text, TextFault, read_decimal};

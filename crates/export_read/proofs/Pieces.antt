@@ -3,7 +3,7 @@ use Rattle.std.proofs.Common.{◌≡◌, ◌<◌, ℕ, true, false, cond, List, 
 use Rattle.std.specs.List.{list_all}
 use Rattle.std.proofs.lemmas.List.Folds.{list_all_at}
 use Rattle.zn_base.specs.Text.{is_text}
-use Rattle.export_lines.specs.Reading.{texts_among}
+use Rattle.export_read.specs.Reading.{texts_among}
 
 no_text : (bytes : List ℕ) → cond (is_text bytes) (Some bytes) None ≡ None → is_text bytes ≡ false
 no_text bytes h = elim (is_text bytes) as (λ v. cond v (Some bytes) None ≡ None → v ≡ false) [ true ↦ λ e. absurd (cc) | false ↦ λ e. refl ] h
