@@ -86,6 +86,17 @@ impl<'a, R: Files<File = File>> FileDisk<'a, R> {
     }
 }
 
+fn folder_of(name: &str) -> Path<'_> {
+    match Path::new(name).parent() {
+        Some(folder) if !folder.as_str().is_empty() => folder,
+        _ => Path::new("."),
+    }
+}
+
+fn sync_folder_of<R: Files<File = File>>(files: &R, name: &str) -> io::Result<()> {
+    File::open(files, folder_of(name))?.sync_all()
+}
+
 // Opens a file for reading and writing, and makes it where it is missing: then its name is in its folder
 // for good once this answers.
 fn open_file<R: Files<File = File>>(files: &R, name: &str) -> io::Result<File> {
@@ -94,11 +105,7 @@ fn open_file<R: Files<File = File>>(files: &R, name: &str) -> io::Result<File> {
         .write(true)
         .create(true)
         .open(files, name)?;
-    let folder = match Path::new(name).parent() {
-        Some(folder) if !folder.as_str().is_empty() => folder,
-        _ => Path::new("."),
-    };
-    File::open(files, folder)?.sync_all()?;
+    sync_folder_of(files, name)?;
     Ok(file)
 }
 

@@ -43,6 +43,28 @@ impl Model for MemDisk {
         × IsRoomy m.room (vec_capacity m.bytes) (vec_capacity m.kept) (vec_capacity m.ranges) (vec_capacity m.entries) (vec_capacity m.written) };
 }
 
+// Some bytes twice, with capacity for more.
+fn two_roomy(alloc: Global, bytes: &[u8], most: usize) -> Result<(Vec<u8>, Vec<u8>), AllocError>
+    requires { length bytes.now ≤ most }
+    ensures items { IfOk result (λ r. (r.0.items ≡ bytes.now) × (r.1.items ≡ bytes.now)) }
+    ensures capacity { IfOk result (λ r. (most ≤ vec_capacity r.0) × (most ≤ vec_capacity r.1)) }
+{
+    let first = roomy(alloc, bytes, most)?;
+    let second = roomy(alloc, bytes, most)?;
+    Ok((first, second))
+}
+
+// What is kept of calls, of none so far, with capacity for all that the room allows.
+fn records_of(alloc: Global, room: Room) -> Result<(Vec<Extent>, Vec<Entry>, Vec<u8>), AllocError>
+    ensures none { IfOk result (λ r. (r.0.items ≡ []) × (r.1.items ≡ []) × (r.2.items ≡ [])) }
+    ensures capacity { IfOk result (λ r. (room.calls ≤ vec_capacity r.0) × (room.calls ≤ vec_capacity r.1) × (room.written ≤ vec_capacity r.2)) }
+{
+    let ranges = Vec::with_capacity(alloc, room.calls as usize)?;
+    let entries = Vec::with_capacity(alloc, room.calls as usize)?;
+    let written = Vec::with_capacity(alloc, room.written as usize)?;
+    Ok((ranges, entries, written))
+}
+
 // A further change, which ends at a place and has this many bytes, stays within the room.
 fn fits(room: Room, changes: usize, end: usize, written: usize, size: usize) -> bool
     requires { written ≤ room.written }
@@ -67,13 +89,15 @@ impl MemDisk {
         requires { length bytes.items ≤ room.length }
         ensures { IfOk result (λ disk. disk ≡ record { opening = bytes.items; changes = []; room = room; failing = failing.items; stop = stop; calls = 0; faults = 0 }) }
     {
+        let (reads, kept) = two_roomy(alloc, &bytes, room.length as usize)?;
+        let (ranges, entries, written) = records_of(alloc, room)?;
         Ok(MemDisk {
-            bytes: roomy(alloc, &bytes, room.length as usize)?,
-            kept: roomy(alloc, &bytes, room.length as usize)?,
             opening: bytes,
-            ranges: Vec::with_capacity(alloc, room.calls as usize)?,
-            entries: Vec::with_capacity(alloc, room.calls as usize)?,
-            written: Vec::with_capacity(alloc, room.written as usize)?,
+            bytes: reads,
+            kept,
+            ranges,
+            entries,
+            written,
             room,
             failing,
             stop,

@@ -7,7 +7,7 @@ use Rattle.std.proofs.lemmas.Bool.Decides.{nat_tests}
 use Rattle.std.proofs.lemmas.List.Sums.{AllPass-from_list_all}
 use Rattle.uuid.specs.Text.{by_index, byte_of_digits, close_brace, digits_of, has_hyphens, has_urn_prefix, is_hex_digit, open_brace, parsed, parsed_braced, parsed_hyphenated, parsed_simple, parsed_urn, value_of}
 use Rattle.uuid.proofs.TextLemmas.{by_index_at, by_index_length}
-use Rattle.index_file.specs.Index.{IsUuid}
+use Rattle.uuid_text.specs.Text.{IsUuid}
 
 value_small : (c : ℕ) → is_hex_digit c ≡ true → value_of c < 16
 value_small c hex = grind (arith, nat_tests)
