@@ -16,6 +16,3 @@ mod reading;
 
 pub use laws::{export_texts_differ, lines_say_their_commands};
 pub use reader::read_export;
-
-#[cfg(test)]
-mod tests;

@@ -9,7 +9,8 @@ use Rattle.zone_pools.specs.declared.grant.Grant.{Grant}
 use Rattle.zone_pools.specs.declared.owned.Owned.{Owned}
 use Rattle.zone_machine.proofs.Doing_laws.{does_desk, does_same, does_then}
 use Rattle.zone_machine.specs.Acts_seen.{RestsDesk, TurnsDesk, desk_in}
-use Rattle.zone_machine.specs.Decisions.{Just, act_of, acts_world, after_came_world, turned}
+use Rattle.zone_machine.specs.Decisions.{act_of, acts_world, after_came_world, turned}
+use Rattle.zone_pools.specs.Decisions.{Just}
 use Rattle.zone_machine.specs.Desks_seen.{desk_seen}
 use Rattle.zone_machine.specs.Edits.{Set_desk, edits_world}
 use Rattle.zone_machine.specs.State as state

@@ -25,8 +25,6 @@ mod sessions;
 mod sights;
 mod steps;
 mod tables;
-#[cfg(test)]
-mod tests;
 mod turns;
 mod typing;
 mod work;

@@ -3,7 +3,7 @@ ghost use Rattle.std.specs.Prelude.{◌≡◌, IfOk, drop, is_some};
 ghost use Rattle.std.specs.Option.{option_map};
 ghost use Rattle.zone_pools.specs.Owned_lists.{mine};
 ghost use Rattle.zone_pools.specs.Firsts.{first_of};
-ghost use Rattle.zone_machine.specs.Decisions.{asked_of};
+ghost use Rattle.zone_pools.specs.Decisions.{asked_of};
 ghost use Rattle.zone_machine.specs.Desks_seen.{desk_seen, job_seen};
 ghost use Rattle.zone_machine.specs.Lines_seen.{line_seen};
 ghost use Rattle.zone_machine.specs.Needs_seen.{asked_by, plan_asks, step_asks};

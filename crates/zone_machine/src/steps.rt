@@ -2,7 +2,8 @@
 ghost use Rattle.std.specs.Prelude.{◌≡◌, IfOk, None, OnOk, Some};
 ghost use Rattle.std.specs.Option.{option_map};
 ghost use Rattle.zn_base.specs.Names.{name_of};
-ghost use Rattle.zone_machine.specs.Decisions.{act_of, asked_of, says};
+ghost use Rattle.zone_machine.specs.Decisions.{act_of, says};
+ghost use Rattle.zone_pools.specs.Decisions.{asked_of};
 ghost use Rattle.zone_machine.specs.Lines.{line_of};
 ghost use Rattle.zone_machine.specs.Lines_seen.{line_seen, word_seen};
 ghost use Rattle.zone_machine.specs.Machine.{named_subject, session_number};

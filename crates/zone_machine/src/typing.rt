@@ -16,7 +16,6 @@ ghost use Rattle.zone_machine.specs.declared.records.Record as record_types;
 
 use crate::daemon::RequestKind;
 use crate::desks::Desk;
-use crate::grants::number_in;
 use crate::lines::{Command, Line};
 use crate::records::{Config, Record};
 use crate::replies::{Head, Refusal};
@@ -24,7 +23,7 @@ use crate::sessions::{Session, awaited, wait};
 use crate::tables::Tables;
 use std::alloc::{AllocError, Global};
 use zn_base::{AbsPath, PathFault, ZoneName, ZoneState};
-use zone_pools::{Grant, Owned, add, place_of};
+use zone_pools::{Grant, Owned, add, number_in, place_of};
 
 fn is_root(path: &AbsPath) -> bool
     ensures { result ≡ bytes_eq path.now (codes "/") }

@@ -3,3 +3,6 @@ pub mod Firsts_laws
 pub mod Places
 pub mod Same_laws
 pub mod Holding
+pub mod Free_numbers
+pub mod Pools_laws
+mod Pools_examples

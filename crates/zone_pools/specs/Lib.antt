@@ -3,3 +3,6 @@ pub mod Firsts
 pub mod Places
 pub mod Same
 pub mod Owners
+pub mod Asked
+pub mod Decisions
+pub mod Pools

@@ -1,4 +1,7 @@
 //! What zones share, and what an event is given of it.
+ghost use Rattle.std.specs.Prelude.{◌≡◌};
+ghost use Rattle.zone_pools.specs.Decisions.{number_in};
+ghost use Rattle.zone_pools.specs.Pools.{numbered};
 
 /// A pool that all zones share.
 #[derive(Clone, Copy, Debug, PartialEq, Eq)]
@@ -27,4 +30,26 @@ pub enum Grant {
     Number(u32),
     Yes,
     Denied(Pool),
+}
+
+/// The number that a grant gives, else the pool that denies it.
+pub fn number_in(grant: Grant) -> Result<u32, Pool>
+    ensures { result ≡ number_in grant }
+{
+    match grant {
+        Grant::Number(number) => Ok(number),
+        Grant::Yes => Ok(0),
+        Grant::Denied(pool) => Err(pool),
+        Grant::Nothing => Err(Pool::Store),
+    }
+}
+
+/// The grant of a number that a pool has, or its denial where it has none.
+pub fn numbered(pool: Pool, number: Option<u32>) -> Grant
+    ensures { result ≡ numbered pool number }
+{
+    match number {
+        Some(number) => Grant::Number(number),
+        None => Grant::Denied(pool),
+    }
 }

@@ -15,7 +15,8 @@ use Rattle.zone_pools.specs.declared.grant.Pool.TheVariants.{Store}
 use Rattle.zn_base.specs.declared.state.ZoneState.{ZoneState}
 use Rattle.zn_base.specs.declared.state.ZoneState.TheVariants.{Configured, Installed, Ready, Running}
 use Rattle.zone_machine.proofs.Own_worlds.{view-world, world-one}
-use Rattle.zone_machine.specs.Decisions.{Ask, Decision, Effect, Just, act_of, acts_world, says}
+use Rattle.zone_machine.specs.Decisions.{Decision, Effect, act_of, acts_world, says}
+use Rattle.zone_pools.specs.Decisions.{Ask, Just}
 use Rattle.zone_machine.specs.Edits.{arrived, comes_world, edits_world}
 use Rattle.zone_machine.specs.Histories.{after, after_entry, world_by}
 use Rattle.zone_machine.specs.Lines.{Blank, Command, Line, Make, Request, Unknown, line_of}

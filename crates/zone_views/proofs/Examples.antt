@@ -9,7 +9,8 @@ use Rattle.zone_machine.specs.Edits.{comes, edit}
 use Rattle.zone_machine.specs.Histories.{after, any_grant, asked, history, is_history, is_legal, only, replies, run}
 use Rattle.zone_machine.specs.Lines.{line_of}
 use Rattle.zone_machine.specs.Machine.{decide, one, opening, subject}
-use Rattle.zone_machine.specs.Pools.{allowed, first_free, fits}
+use Rattle.zone_machine.specs.Pools.{allowed, fits}
+use Rattle.zone_pools.specs.Pools.{first_free}
 use Rattle.zone_machine.specs.Same.{same_reply, same_subject}
 use Rattle.zone_machine.specs.State.{State, zone_state}
 use Rattle.zone_machine.specs.Turns.{turn}

@@ -17,7 +17,8 @@ use Rattle.zn_base.specs.declared.state.ZoneState.{ZoneState}
 use Rattle.zn_base.specs.declared.state.ZoneState.TheVariants.{Configured, Installed, Ready, Running, ShuttingDown, Down}
 use Rattle.zone_pools.proofs.Owned_laws.{same_true}
 use Rattle.zone_machine.proofs.Own_worlds.{world-one}
-use Rattle.zone_machine.specs.Decisions.{Ask, Decision, Just, act_of, acts_world}
+use Rattle.zone_machine.specs.Decisions.{Decision, act_of, acts_world}
+use Rattle.zone_pools.specs.Decisions.{Ask, Just}
 use Rattle.zone_machine.specs.Edits.{comes_world, edits_world, arrived}
 use Rattle.zone_machine.specs.Histories.{after, after_entry, world_by}
 use Rattle.zone_machine.specs.Lines.{Blank, Command, Line, Make, Request, Unknown, line_of}

@@ -18,6 +18,3 @@ pub use laws::values_fit;
 pub use lexer::{part_tokens, tokens};
 pub use spans::parts;
 pub use token::{Span, Token, TokenKind};
-
-#[cfg(test)]
-mod tests;

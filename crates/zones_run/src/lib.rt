@@ -12,8 +12,6 @@ mod outcome;
 mod refusal;
 mod run;
 mod status;
-#[cfg(test)]
-mod tests;
 mod trace;
 mod words;
 

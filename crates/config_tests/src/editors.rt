@@ -1,12 +1,15 @@
 //! Subcommands that are read and obeyed, by tables.
-use super::*;
+use crate::values::simple;
 use config_terms::{ConfigFault, Kind};
 use std::alloc::Global;
 use std::process::Abort;
 use std::test::Fail;
-use zn_base::{Text, Value, ZoneName};
+use zn_base::{Bytes, ZoneName};
 use zone_config::{ZoneConfig, blank, export};
 use zonecfg_lex::LexFault;
+use zonecfg_scopes::{
+    Base, Command, EditFault, EditReply, Editor, ListProperty, Scope, Topic, read_command,
+};
 
 fn read(alloc: Global, line: &[u8]) -> Result<Command, EditFault> {
     if line.len() > 4200 {
@@ -15,55 +18,51 @@ fn read(alloc: Global, line: &[u8]) -> Result<Command, EditFault> {
     read_command(alloc, line)
 }
 
-fn shown(command: &Command) -> &'static [u8] {
+fn shown(command: &Command) -> &'static str {
     match command {
-        Command::Blank => b"nothing",
-        Command::Add(Kind::Attr) => b"add attr",
-        Command::Append(ListProperty::Options, _) => b"append to options",
+        Command::Blank => "nothing",
+        Command::Add(Kind::Attr) => "add attr",
+        Command::Append(ListProperty::Options, _) => "append to options",
         Command::Create {
             force: true,
             bare: true,
-        } => b"create -F -b",
-        Command::Remove { force: true, .. } => b"remove all",
-        Command::Info(Topic::Resources(Kind::Fs)) => b"info of each fs",
-        _ => b"something else",
+        } => "create -F -b",
+        Command::Remove { force: true, .. } => "remove all",
+        Command::Info(Topic::Resources(Kind::Fs)) => "info of each fs",
+        _ => "something else",
     }
 }
 
-fn form(alloc: Global, line: &[u8]) -> Result<&'static [u8], Fail> {
-    match read(alloc, line) {
-        Ok(command) => Ok(shown(&command)),
-        Err(fault) => Err(fault.into()),
-    }
+fn is_form(alloc: Global, line: &[u8], wanted: &str) -> Result<bool, EditFault> {
+    let command = read(alloc, line)?;
+    Ok(shown(&command) == wanted)
 }
 
-const FORMS: [(&[u8], &[u8]); 6] = [
-    (b"create -F -b", b"create -F -b"),
-    (b" add attr", b"add attr"),
-    (b"add options [ro,nodevices]", b"append to options"),
-    (b"remove -F net", b"remove all"),
-    (b"info fs", b"info of each fs"),
-    (b"\t", b"nothing"),
+const FORMS: &[(&[u8], &str)] = &[
+    (b"create -F -b", "create -F -b"),
+    (b" add attr", "add attr"),
+    (b"add options [ro,nodevices]", "append to options"),
+    (b"remove -F net", "remove all"),
+    (b"info fs", "info of each fs"),
+    (b"\t", "nothing"),
 ];
 
 #[test]
 fn forms_are_read(rt: HostRuntime) -> Result<(), Fail> {
     for (line, wanted) in FORMS {
-        assert_eq!(rt; form(rt.alloc(), line)?, wanted);
+        assert!(rt; is_form(rt.alloc(), line, wanted)?, "{line:?}");
     }
     Ok(())
 }
 
-// Why a line spells no subcommand, unless memory ran out.
-fn fault(alloc: Global, line: &[u8]) -> Result<Option<EditFault>, Fail> {
+fn is_fault(alloc: Global, line: &[u8], wanted: EditFault) -> bool {
     match read(alloc, line) {
-        Ok(_) => Ok(None),
-        Err(EditFault::Memory) => Err(EditFault::Memory.into()),
-        Err(fault) => Ok(Some(fault)),
+        Ok(_) => false,
+        Err(fault) => fault == wanted,
     }
 }
 
-const FAULTS: [(&[u8], EditFault); 12] = [
+const FAULTS: &[(&[u8], EditFault)] = &[
     (b"set pool=\"a", EditFault::Lex(LexFault::OpenQuote(9))),
     (
         b"remove options [a",
@@ -82,11 +81,10 @@ const FAULTS: [(&[u8], EditFault); 12] = [
 ];
 
 #[test]
-fn faults_have_their_places(rt: HostRuntime) -> Result<(), Fail> {
+fn faults_have_their_places(rt: HostRuntime) {
     for (line, wanted) in FAULTS {
-        assert_eq!(rt; fault(rt.alloc(), line)?, Some(wanted));
+        assert!(rt; is_fault(rt.alloc(), line, *wanted), "{line:?}");
     }
-    Ok(())
 }
 
 // A reply without its lines.
@@ -115,85 +113,79 @@ fn replied(reply: &EditReply) -> Reply {
 
 type Row = (&'static [u8], Result<Reply, EditFault>);
 
-// What a line is answered, unless memory ran out.
-fn answer(
-    alloc: Global,
-    editor: &mut Editor,
-    line: &[u8],
-) -> Result<Result<Reply, EditFault>, Fail> {
+// What a line is answered. Editors go through helpers without contracts, so that no test's proof follows what
+// they hold.
+fn answer(alloc: Global, editor: &mut Editor, line: &[u8]) -> Result<Reply, EditFault> {
     if line.len() > 4200 {
-        return Ok(Err(EditFault::Usage));
+        return Err(EditFault::Usage);
     }
     match editor.command(alloc, line) {
-        Ok(reply) => Ok(Ok(replied(&reply))),
-        Err(EditFault::Memory) => Err(EditFault::Memory.into()),
-        Err(fault) => Ok(Err(fault)),
+        Ok(reply) => Ok(replied(&reply)),
+        Err(fault) => Err(fault),
     }
 }
 
-fn answers(rt: &impl Abort, alloc: Global, editor: &mut Editor, rows: &[Row]) -> Result<(), Fail> {
+fn are_answered(rt: &impl Abort, alloc: Global, editor: &mut Editor, rows: &[Row]) {
     for (line, wanted) in rows {
-        assert_eq!(rt; answer(alloc, editor, line)?, *wanted);
+        assert!(rt; answer(alloc, editor, line) == *wanted, "{line:?}");
     }
-    Ok(())
 }
 
 // Lines of which none is refused, and none asks for something.
-fn done(rt: &impl Abort, alloc: Global, editor: &mut Editor, lines: &[&[u8]]) -> Result<(), Fail> {
+fn done(rt: &impl Abort, alloc: Global, editor: &mut Editor, lines: &[&[u8]]) {
     for line in lines {
-        assert_eq!(rt; answer(alloc, editor, line)?, Ok(Reply::Done));
+        assert!(rt; answer(alloc, editor, line) == DONE, "{line:?}");
     }
-    Ok(())
 }
 
-fn text(alloc: Global, editor: &Editor) -> Result<Vec<u8>, Fail> {
+fn is_text(alloc: Global, editor: &Editor, wanted: &[u8]) -> Result<bool, ConfigFault> {
     match editor.config() {
-        None => Ok(Vec::new(alloc)),
-        Some(config) => Ok(export(alloc, config)?),
+        None => Ok(wanted.is_empty()),
+        Some(config) => Ok(export(alloc, config)?.as_slice() == wanted),
     }
 }
 
 fn begun(alloc: Global, base: Option<Base>) -> Result<Editor, Fail> {
-    match ZoneName::read(alloc, b"web") {
-        Ok(name) => Ok(Editor::open(alloc, name, base)?),
-        Err(fault) => Err(fault.into()),
-    }
+    let name = ZoneName::read(alloc, b"web")?;
+    Ok(Editor::open(alloc, name, base)?)
 }
 
-fn set(alloc: Global, config: &mut ZoneConfig, name: &[u8], value: &[u8]) -> Result<(), Fail> {
-    let value = Value::Simple(Text::read(alloc, value)?);
-    Ok(config.set_property(alloc, name, &value)?)
+fn set(
+    alloc: Global,
+    config: &mut ZoneConfig,
+    name: &[u8],
+    text: &[u8],
+) -> Result<(), ConfigFault> {
+    let value = simple(alloc, text)?;
+    config.set_property(alloc, name, &value)
 }
 
-fn made(alloc: Global) -> Result<Base, Fail> {
+fn set_web(alloc: Global, config: &mut ZoneConfig) -> Result<(), ConfigFault> {
+    set(alloc, config, b"zonepath", b"/zones/web")?;
+    set(alloc, config, b"brand", b"ipkg")
+}
+
+fn made(alloc: Global) -> Result<Base, ConfigFault> {
     let mut config = blank(alloc);
-    set(alloc, &mut config, b"zonepath", b"/zones/web")?;
-    set(alloc, &mut config, b"brand", b"ipkg")?;
+    set_web(alloc, &mut config)?;
     Ok(Base {
         config,
         revision: 1,
     })
 }
 
-fn told(
-    rt: &impl Abort,
-    alloc: Global,
-    editor: &mut Editor,
-    rows: &[Row],
-) -> Result<Vec<u8>, Fail> {
-    answers(rt, alloc, editor, rows)?;
-    text(alloc, editor)
-}
-
 // The export text after lines that are answered so.
-fn text_after(
+fn comes_to(
     rt: &impl Abort,
     alloc: Global,
     base: Option<Base>,
     rows: &[Row],
-) -> Result<Vec<u8>, Fail> {
+    wanted: &[u8],
+) -> Result<(), Fail> {
     let mut editor = begun(alloc, base)?;
-    told(rt, alloc, &mut editor, rows)
+    are_answered(rt, alloc, &mut editor, rows);
+    assert!(rt; is_text(alloc, &editor, wanted)?);
+    Ok(())
 }
 
 const DONE: Result<Reply, EditFault> = Ok(Reply::Done);
@@ -202,7 +194,7 @@ const IN_NO_SCOPE: Result<Reply, EditFault> = Err(EditFault::WrongScope(Scope::G
 
 const IN_FS: Result<Reply, EditFault> = Err(EditFault::WrongScope(Scope::Resource(Kind::Fs)));
 
-const ANSWERS: [Row; 22] = [
+const ANSWERS: &[Row] = &[
     (b"set autoboot=true", Err(EditFault::NothingOpen)),
     (b"help", Ok(Reply::Lines)),
     (b"create", DONE),
@@ -245,12 +237,10 @@ set ip-type=shared
 
 #[test]
 fn an_editor_answers_and_refuses(rt: HostRuntime) -> Result<(), Fail> {
-    let text = text_after(&rt, rt.alloc(), None, &ANSWERS)?;
-    assert_eq!(rt; text.as_slice(), WEB);
-    Ok(())
+    comes_to(&rt, rt.alloc(), None, ANSWERS, WEB)
 }
 
-const REFUSALS: [Row; 5] = [
+const REFUSALS: &[Row] = &[
     (b"end", IN_NO_SCOPE),
     (b"delete", Err(EditFault::NeedForce)),
     (b"add fs", DONE),
@@ -260,12 +250,10 @@ const REFUSALS: [Row; 5] = [
 
 #[test]
 fn a_made_zone_is_edited_with_refusals(rt: HostRuntime) -> Result<(), Fail> {
-    let text = text_after(&rt, rt.alloc(), Some(made(rt.alloc())?), &REFUSALS)?;
-    assert_eq!(rt; text.as_slice(), WEB);
-    Ok(())
+    comes_to(&rt, rt.alloc(), Some(made(rt.alloc())?), REFUSALS, WEB)
 }
 
-const STAYS_OPEN: [Row; 6] = [
+const STAYS_OPEN: &[Row] = &[
     (b"create -b", DONE),
     (b"add fs", DONE),
     (b"set dir=/a", DONE),
@@ -277,22 +265,20 @@ const STAYS_OPEN: [Row; 6] = [
     ),
 ];
 
-#[test]
-fn a_scope_stays_open(rt: HostRuntime) -> Result<(), Fail> {
-    let text = text_after(&rt, rt.alloc(), None, &STAYS_OPEN)?;
-    let before = b"create -b
+const BEFORE: &[u8] = b"create -b
 set autoboot=false
 set ip-type=shared
 add fs
 set dir=/a
 end
-"
-        .as_slice();
-    assert_eq!(rt; text.as_slice(), before);
-    Ok(())
+";
+
+#[test]
+fn a_scope_stays_open(rt: HostRuntime) -> Result<(), Fail> {
+    comes_to(&rt, rt.alloc(), None, STAYS_OPEN, BEFORE)
 }
 
-const BUILT: [Row; 25] = [
+const BUILT: &[Row] = &[
     (b"create -b", DONE),
     (b"set zonepath=/zones/web", DONE),
     (b"set brand=ipkg", DONE),
@@ -343,99 +329,75 @@ end
 
 #[test]
 fn resources_are_built_in_their_scopes(rt: HostRuntime) -> Result<(), Fail> {
-    let text = text_after(&rt, rt.alloc(), None, &BUILT)?;
-    assert_eq!(rt; text.as_slice(), BUILT_TEXT);
-    Ok(())
+    comes_to(&rt, rt.alloc(), None, BUILT, BUILT_TEXT)
 }
 
-fn is_as(editor: &Editor, changed: bool, revision: u32) -> bool {
-    editor.changed() == changed && editor.seen() == revision
-}
-
-fn opened(alloc: Global, editor: &Editor) -> Result<ZoneConfig, Fail> {
-    match editor.config() {
-        None => Ok(blank(alloc)),
-        Some(config) => Ok(config.copy(alloc)?),
-    }
-}
-
-// What is open becomes the base.
+// What is open becomes the base, where something is.
 fn rebase(alloc: Global, editor: &mut Editor, revision: u32) -> Result<(), Fail> {
-    let config = opened(alloc, editor)?;
+    let config = match editor.config() {
+        None => blank(alloc),
+        Some(config) => config.copy(alloc)?,
+    };
     Ok(editor.rebase(alloc, Base { config, revision })?)
 }
 
-const MAKE: [&[u8]; 3] = [b"create -b", b"set zonepath=/zones/web", b"set brand=ipkg"];
+fn is_as(rt: &impl Abort, editor: &Editor, changed: bool, revision: u32) {
+    assert!(rt; editor.changed() == changed && editor.seen() == revision);
+}
 
-const ADD: [&[u8]; 4] = [b"add fs", b"set dir=/usr", b"add options ro", b"end"];
+const MAKE: &[&[u8]] = &[b"create -b", b"set zonepath=/zones/web", b"set brand=ipkg"];
 
-const REMOVE: [&[u8]; 1] = [b"remove fs dir=/usr"];
+const ADD: &[&[u8]] = &[b"add fs", b"set dir=/usr", b"add options ro", b"end"];
 
-const BEGIN: [&[u8]; 1] = [b"add rctl"];
+const REMOVE: &[&[u8]] = &[b"remove fs dir=/usr"];
 
-fn changes(rt: &impl Abort, alloc: Global, editor: &mut Editor) -> Result<(), Fail> {
-    assert!(rt; is_as(editor, false, 0));
-    done(rt, alloc, editor, &MAKE)?;
-    assert!(rt; is_as(editor, true, 0));
-    rebase(alloc, editor, 7)?;
-    assert!(rt; is_as(editor, false, 7));
-    done(rt, alloc, editor, &ADD)?;
-    assert!(rt; is_as(editor, true, 7));
-    rebase(alloc, editor, 8)?;
-    done(rt, alloc, editor, &REMOVE)?;
-    assert!(rt; is_as(editor, true, 8));
-    done(rt, alloc, editor, &ADD)?;
-    assert!(rt; is_as(editor, false, 8));
-    done(rt, alloc, editor, &BEGIN)?;
-    assert!(rt; is_as(editor, false, 8));
+const BEGIN: &[&[u8]] = &[b"add rctl"];
+
+fn changes_before_its_base(rt: &impl Abort, alloc: Global, editor: &mut Editor) {
+    is_as(rt, editor, false, 0);
+    done(rt, alloc, editor, MAKE);
+    is_as(rt, editor, true, 0);
+}
+
+fn changes_after_its_base(rt: &impl Abort, alloc: Global, editor: &mut Editor) {
+    is_as(rt, editor, false, 7);
+    done(rt, alloc, editor, ADD);
+    is_as(rt, editor, true, 7);
+}
+
+fn comes_back_to_its_base(rt: &impl Abort, alloc: Global, editor: &mut Editor) {
+    done(rt, alloc, editor, REMOVE);
+    is_as(rt, editor, true, 8);
+    done(rt, alloc, editor, ADD);
+    is_as(rt, editor, false, 8);
+    done(rt, alloc, editor, BEGIN);
+    is_as(rt, editor, false, 8);
+}
+
+// A copy of an editor has its scope.
+fn is_copied(rt: &impl Abort, alloc: Global, editor: &Editor) -> Result<(), Fail> {
+    let mut copy = editor.copy(alloc)?;
+    done(rt, alloc, &mut copy, &[b"end"]);
+    is_as(rt, &copy, true, 8);
     Ok(())
 }
 
-const END: [&[u8]; 1] = [b"end"];
-
-// A copy of an editor has its scope.
-fn copied(rt: &impl Abort, alloc: Global, editor: &Editor) -> Result<bool, Fail> {
-    let mut twin = editor.copy(alloc)?;
-    goes_on(rt, alloc, &mut twin)
-}
-
-fn goes_on(rt: &impl Abort, alloc: Global, editor: &mut Editor) -> Result<bool, Fail> {
-    done(rt, alloc, editor, &END)?;
-    Ok(is_as(editor, true, 8))
-}
-
-fn edited(rt: &impl Abort, alloc: Global, editor: &mut Editor) -> Result<bool, Fail> {
-    changes(rt, alloc, editor)?;
-    copied(rt, alloc, editor)
-}
-
-fn run(rt: &impl Abort, alloc: Global) -> Result<bool, Fail> {
-    let mut editor = begun(alloc, None)?;
-    edited(rt, alloc, &mut editor)
+fn changes(rt: &impl Abort, alloc: Global, editor: &mut Editor) -> Result<(), Fail> {
+    changes_before_its_base(rt, alloc, editor);
+    rebase(alloc, editor, 7)?;
+    changes_after_its_base(rt, alloc, editor);
+    rebase(alloc, editor, 8)?;
+    comes_back_to_its_base(rt, alloc, editor);
+    is_copied(rt, alloc, editor)
 }
 
 #[test]
 fn changes_are_told_from_the_base(rt: HostRuntime) -> Result<(), Fail> {
-    assert!(rt; run(&rt, rt.alloc())?);
-    Ok(())
+    let mut editor = begun(rt.alloc(), None)?;
+    changes(&rt, rt.alloc(), &mut editor)
 }
 
-// The lines that a line is answered, each with a newline.
-fn lines(alloc: Global, editor: &mut Editor, line: &[u8]) -> Result<Vec<u8>, Fail> {
-    let mut text = Vec::new(alloc);
-    if line.len() > 4200 {
-        return Ok(text);
-    }
-    if let EditReply::Lines(lines) = editor.command(alloc, line)? {
-        for line in lines.as_slice() {
-            text.extend_from_slice(line.bytes())?;
-            text.push(b'\n')?;
-        }
-    }
-    Ok(text)
-}
-
-const SHOWN: [(&[u8], &[u8]); 5] = [
+const SHOWN: &[(&[u8], &[u8])] = &[
     (
         b"help",
         b"add cancel clear commit create delete end exit export help info remove revert select set verify\n",
@@ -452,12 +414,34 @@ const SHOWN: [(&[u8], &[u8]); 5] = [
     ),
 ];
 
-fn show(rt: &impl Abort, alloc: Global, editor: &mut Editor) -> Result<(), Fail> {
-    done(rt, alloc, editor, &MAKE)?;
-    done(rt, alloc, editor, &ADD)?;
+// The lines of an answer behind one another, each with a newline.
+fn joined_lines(alloc: Global, lines: &[Bytes]) -> Result<Vec<u8>, Fail> {
+    let mut text = Vec::new(alloc);
+    for line in lines {
+        text.extend_from_slice(line.as_slice())?;
+        text.push(b'\n')?;
+    }
+    Ok(text)
+}
+
+fn shows(alloc: Global, reply: &EditReply, wanted: &[u8]) -> Result<bool, Fail> {
+    match reply {
+        EditReply::Lines(lines) => Ok(joined_lines(alloc, lines.as_slice())?.as_slice() == wanted),
+        _ => Ok(false),
+    }
+}
+
+fn is_shown(alloc: Global, editor: &mut Editor, line: &[u8], wanted: &[u8]) -> Result<bool, Fail> {
+    if line.len() > 4200 {
+        return Ok(false);
+    }
+    let reply = editor.command(alloc, line)?;
+    shows(alloc, &reply, wanted)
+}
+
+fn are_shown(rt: &impl Abort, alloc: Global, editor: &mut Editor) -> Result<(), Fail> {
     for (line, wanted) in SHOWN {
-        let text = lines(alloc, editor, line)?;
-        assert_eq!(rt; text.as_slice(), wanted);
+        assert!(rt; is_shown(alloc, editor, line, wanted)?, "{line:?}");
     }
     Ok(())
 }
@@ -465,5 +449,7 @@ fn show(rt: &impl Abort, alloc: Global, editor: &mut Editor) -> Result<(), Fail>
 #[test]
 fn lines_are_shown(rt: HostRuntime) -> Result<(), Fail> {
     let mut editor = begun(rt.alloc(), None)?;
-    show(&rt, rt.alloc(), &mut editor)
+    done(&rt, rt.alloc(), &mut editor, MAKE);
+    done(&rt, rt.alloc(), &mut editor, ADD);
+    are_shown(&rt, rt.alloc(), &mut editor)
 }

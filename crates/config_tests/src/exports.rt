@@ -1,7 +1,7 @@
-//! Texts that are read, and lines that stop being the beginning of one.
-use crate::read_export;
-use std::alloc::{AllocError, Global};
-use std::process::Abort;
+//! Export texts that are read, and lines that stop being the beginning of one.
+use crate::values::joined;
+use export_read::read_export;
+use std::alloc::Global;
 use std::test::Fail;
 use zone_config::{ConfigFault, ZoneConfig, export};
 
@@ -55,29 +55,28 @@ end
 // How many of its first lines are a whole text.
 const WHOLE: &[usize] = &[9, 10, 11, 18, 21, 23, 26, 30, 34, 37];
 
-fn all() -> &'static [u8] {
-    ALL
-}
-
-// Configurations go through helpers without contracts, so that no test's proof follows what they hold.
-fn read(alloc: Global, text: &[u8]) -> Result<ZoneConfig, ConfigFault> {
-    read_export(alloc, text)
-}
-
-fn is_of_brand(config: &ZoneConfig, brand: &[u8]) -> bool {
-    config.brand.bytes() == brand
-}
-
-fn text_of_copy(alloc: Global, config: &ZoneConfig) -> Result<Vec<u8>, ConfigFault> {
+// Whether a copy of what was read has a brand, and exports a text. What is read goes through helpers without
+// contracts, so that no test's proof follows what a configuration holds.
+fn is_of(
+    alloc: Global,
+    config: &ZoneConfig,
+    brand: &[u8],
+    text: &[u8],
+) -> Result<bool, ConfigFault> {
     let copy = config.copy(alloc)?;
-    export(alloc, &copy)
+    Ok(copy.brand.bytes() == brand && export(alloc, &copy)?.as_slice() == text)
 }
 
-// The text is read, and the copy of what it says exports the same.
-fn is_read(rt: &impl Abort, alloc: Global, text: &[u8], brand: &[u8]) -> Result<(), Fail> {
-    let config = read(alloc, text)?;
-    assert!(rt; is_of_brand(&config, brand));
-    assert_eq!(rt; text_of_copy(alloc, &config)?.as_slice(), text);
+fn is_read(alloc: Global, text: &[u8], brand: &[u8]) -> Result<bool, ConfigFault> {
+    let config = read_export(alloc, text)?;
+    is_of(alloc, &config, brand, text)
+}
+
+#[test]
+fn a_text_is_read_and_its_copy_exports_the_same(rt: HostRuntime) -> Result<(), Fail> {
+    for text in [WEB, ALL] {
+        assert!(rt; is_read(rt.alloc(), text, b"ipkg")?);
+    }
     Ok(())
 }
 
@@ -113,13 +112,6 @@ fn fronts_are_told(alloc: Global, text: &[u8]) -> Result<bool, ConfigFault> {
     Ok(told)
 }
 
-fn with_blank(alloc: Global, front: &[u8], rest: &[u8]) -> Result<Vec<u8>, AllocError> {
-    let mut text = Vec::from_slice(alloc, front)?;
-    text.push(b' ')?;
-    text.extend_from_slice(rest)?;
-    Ok(text)
-}
-
 // Whether a blank at the end of a line, whichever it is, is told.
 fn blanks_are_told(alloc: Global, text: &[u8]) -> Result<bool, ConfigFault> {
     let mut told = true;
@@ -127,7 +119,7 @@ fn blanks_are_told(alloc: Global, text: &[u8]) -> Result<bool, ConfigFault> {
     for (place, byte) in text.iter().enumerate() {
         if *byte == b'\n' {
             lines = lines.wrapping_add(1);
-            let changed = with_blank(alloc, &text[..place], &text[place..])?;
+            let changed = joined(alloc, &[&text[..place], b" ", &text[place..]])?;
             told = told && line_of_fault(alloc, &changed)? == lines;
         }
     }
@@ -135,47 +127,46 @@ fn blanks_are_told(alloc: Global, text: &[u8]) -> Result<bool, ConfigFault> {
 }
 
 #[test]
-fn a_text_is_read_and_its_copy_exports_the_same(rt: HostRuntime) -> Result<(), Fail> {
-    is_read(&rt, rt.alloc(), WEB, b"ipkg")?;
-    is_read(&rt, rt.alloc(), all(), b"ipkg")
-}
-
-#[test]
-fn a_fault_has_its_line(rt: HostRuntime) -> Result<(), Fail> {
-    let rows: [(&[u8], usize); 10] = [
-        (b"", 1),
-        (b"\n", 1),
-        (b"create -b\r\n", 1),
-        (b"create -b\nset brand=ip", 3),
-        (b"create -b\nset hostid=ffffffff\n", 2),
-        (
-            b"create -b\nset brand=ipkg\nset zonepath=/zones/web\nset autoboot=false\nset ip-type=shared\n",
-            3,
-        ),
-        (
-            b"create -b\nset zonepath=/zones/web\nset brand=ipkg\nset autoboot=false\n",
-            5,
-        ),
-        (b"create -b\nset autoboot=false\nset ip-type=shared", 4),
-        (b"create -b\nset brand=\"ipkg\"\nset autoboot=false\n", 2),
-        (b"create -b\nset auto", 2),
-    ];
-    for (text, line) in rows {
-        assert_eq!(rt; line_of_fault(rt.alloc(), text)?, line);
-    }
+fn each_line_of_a_whole_text_is_told(rt: HostRuntime) -> Result<(), Fail> {
+    assert!(rt; fronts_are_told(rt.alloc(), ALL)?);
+    assert!(rt; blanks_are_told(rt.alloc(), ALL)?);
     Ok(())
 }
 
+// Texts, and the lines of their faults.
+const FAULTS: &[(&[u8], usize)] = &[
+    (b"", 1),
+    (b"\n", 1),
+    (b"create\n", 1),
+    (b"create -b\r\n", 1),
+    (b"create -b\nset pool=\xff\n", 2),
+    (b"create -b\nset brand=ip", 3),
+    (b"create -b\nset hostid=ffffffff\n", 2),
+    (
+        b"create -b\nset brand=ipkg\nset zonepath=/zones/web\nset autoboot=false\nset ip-type=shared\n",
+        3,
+    ),
+    (
+        b"create -b\nset zonepath=/zones/web\nset brand=ipkg\nset autoboot=false\n",
+        5,
+    ),
+    (b"create -b\nset autoboot=false\nset ip-type=shared", 4),
+    (b"create -b\nset brand=\"ipkg\"\nset autoboot=false\n", 2),
+    (b"create -b\nset auto", 2),
+];
+
 #[test]
-fn each_line_of_a_whole_text_is_told(rt: HostRuntime) -> Result<(), Fail> {
-    assert!(rt; fronts_are_told(rt.alloc(), all())?);
-    assert!(rt; blanks_are_told(rt.alloc(), all())?);
+fn a_fault_has_its_line(rt: HostRuntime) -> Result<(), Fail> {
+    for (text, line) in FAULTS {
+        assert!(rt; line_of_fault(rt.alloc(), text)? == *line, "{text:?}");
+    }
     Ok(())
 }
 
 // What is to be told of these lines behind those of the two properties that every text has; 0 where all is read.
 const BEHIND: &[(&[u8], usize)] = &[
     (b"end\n", 4),
+    (b"add zone\n", 4),
     (b"\n", 4),
     (b"set cpu-shares=1\n", 4),
     (b"add fs\nend\nadd fs\nend\n", 0),
@@ -203,25 +194,21 @@ end
 ",
         0,
     ),
+    (b"add attr\nset name=a\nend\nadd attr\nset name=a\nend\n", 8),
+    (b"add attr\nend\nadd attr\nend\n", 7),
 ];
+
+const PROPERTIES: &[u8] = b"create -b\nset autoboot=true\nset ip-type=shared\n";
+
+fn line_behind(alloc: Global, lines: &[u8]) -> Result<usize, ConfigFault> {
+    let text = joined(alloc, &[PROPERTIES, lines])?;
+    line_of_fault(alloc, &text)
+}
 
 #[test]
 fn resources_stand_behind_the_properties(rt: HostRuntime) -> Result<(), Fail> {
     for (lines, line) in BEHIND {
-        let mut text = b"create -b\nset autoboot=true\nset ip-type=shared\n".to_vec(rt.alloc())?;
-        text.extend_from_slice(lines)?;
-        assert_eq!(rt; line_of_fault(rt.alloc(), &text)?, *line);
+        assert!(rt; line_behind(rt.alloc(), lines)? == *line, "{lines:?}");
     }
-    Ok(())
-}
-
-#[test]
-fn a_duplicate_is_told_at_its_name(rt: HostRuntime) -> Result<(), Fail> {
-    let named =
-        b"create -b\nset autoboot=true\nset ip-type=shared\nadd attr\nset name=a\nend\nadd attr\nset name=a\nend\n";
-    assert_eq!(rt; line_of_fault(rt.alloc(), named)?, 8);
-    let unnamed =
-        b"create -b\nset autoboot=true\nset ip-type=shared\nadd attr\nend\nadd attr\nend\n";
-    assert_eq!(rt; line_of_fault(rt.alloc(), unnamed)?, 7);
     Ok(())
 }
