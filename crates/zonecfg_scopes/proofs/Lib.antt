@@ -11,3 +11,4 @@ pub mod Changed
 pub mod Ran
 pub mod Lines
 pub mod Shown
+pub mod Causes

@@ -7,6 +7,7 @@ pub mod OpenOf
 pub mod Scopes
 pub mod Removal
 pub mod Denotes
+pub mod Causes
 pub mod Same
 pub mod Info
 pub mod Edited
