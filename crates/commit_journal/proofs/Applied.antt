@@ -5,11 +5,11 @@ use Rattle.std.specs.Option.{is_none}
 use Rattle.std.proofs.Common.{true≢false}
 use Rattle.std.proofs.Math.Bool.{or-false}
 use Rattle.std.proofs.lemmas.List.Folds.{list_any-append}
-use Rattle.zn_base.specs.Firsts.{placed}
+use Rattle.zone_pools.specs.Firsts.{placed}
 use Rattle.zn_base.specs.Names.{Name}
-use Rattle.zn_base.specs.Owned_lists.{tag}
-use Rattle.zn_base.specs.declared.owned.Owned.{Owned}
-use Rattle.zn_base.proofs.Owned_laws.{same_self, same_true}
+use Rattle.zone_pools.specs.Owned_lists.{tag}
+use Rattle.zone_pools.specs.declared.owned.Owned.{Owned}
+use Rattle.zone_pools.proofs.Owned_laws.{same_self, same_true}
 use Rattle.commit_journal.specs.declared.records.Commit.{Commit}
 use Rattle.commit_journal.specs.declared.records.Record.{Record}
 use Rattle.commit_journal.specs.Stored.{from_first, is_removed, last_record, stored, with_commit, with_stored, without, Rows}

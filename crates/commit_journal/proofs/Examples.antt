@@ -3,7 +3,7 @@ use Rattle.std.proofs.Common.{◌≡◌, ℕ, List, [], ◌∷◌, ◌++◌, len
 use Rattle.std.specs.Prelude.{replicate}
 use Rattle.uuid.specs.Text.{by_index}
 use Rattle.zn_base.specs.declared.state.ZoneState.TheVariants.{Configured}
-use Rattle.zn_base.specs.Owned_lists.{tag}
+use Rattle.zone_pools.specs.Owned_lists.{tag}
 use Rattle.zone_disk.specs.Image.{blocks, header}
 use Rattle.config_terms.specs.Texts.{setting}
 use Rattle.zone_config.specs.Export.{export_text}

@@ -3,13 +3,14 @@ use Rattle.std.proofs.Common.{◌≡◌, inl, inr, ◌*◌, ◌≤◌, ◌<◌, 
 use Rattle.std.specs.Prelude.{IfSome, OnErr, Result, Ok, Err, bytes_eq, filter, option_map}
 use Rattle.std.specs.Option.{ForSome}
 use Rattle.std.proofs.lemmas.Bool.Decides.{nat_tests}
-use Rattle.zn_base.specs.Disk.{Leaves, View}
-use Rattle.zn_base.specs.Firsts.{placed}
+use Rattle.zn_io.specs.Disk.{Leaves, View}
+use Rattle.zone_pools.specs.Firsts.{placed}
 use Rattle.zn_base.specs.Names.{Name}
-use Rattle.zn_base.specs.declared.owned.Owned.{Owned}
-use Rattle.zn_base.proofs.Moments.{weaker}
+use Rattle.zone_pools.specs.declared.owned.Owned.{Owned}
+use Rattle.zn_io.proofs.Moments.{weaker}
+use Rattle.zone_disk.specs.declared.bank.TheConstants.{BANK_BYTES}
 use Rattle.zone_disk.specs.Bank.{IsBeforeOrAfter as IsOneMore}
-use Rattle.zone_disk.specs.Image.{blocks, four, used_by, BANK, Stands}
+use Rattle.zone_disk.specs.Image.{blocks, four, used_by, Stands}
 use Rattle.commit_journal.specs.declared.records.Commit.{Commit}
 use Rattle.commit_journal.specs.declared.records.Record.{Record}
 use Rattle.commit_journal.specs.Bodies.{body_text, IsCommit}
@@ -24,7 +25,7 @@ blocks_long : (bodies : List (List ℕ)) → 5 * length bodies ≤ length (block
 blocks_long [] = omega arith
 blocks_long (body ∷ bodies) = let more = blocks_long bodies in omega (arith, more, length-append (four (length body)) (body ++ blocks bodies), length-append body (blocks bodies))
 
-pub few_records : (bodies : List (List ℕ)) (used : ℕ) → used ≡ used_by bodies → used ≤ BANK → length bodies < 8388608
+pub few_records : (bodies : List (List ℕ)) (used : ℕ) → used ≡ used_by bodies → used ≤ BANK_BYTES → length bodies < 8388608
 few_records bodies used counted within = let long = blocks_long bodies in omega (arith, long, counted, within)
 
 -- how many zones there are behind one record more

@@ -4,10 +4,10 @@ use Rattle.std.specs.Prelude.{bytes_eq}
 use Rattle.std.specs.Map.{lookup, remove_entry}
 use Rattle.std.specs.Option.{is_some}
 use Rattle.indexmap.specs.IndexMap.{insert_entry}
-use Rattle.zn_base.specs.Firsts.{placed}
+use Rattle.zone_pools.specs.Firsts.{placed}
 use Rattle.zn_base.specs.Names.{Name}
-use Rattle.zn_base.proofs.Owned_laws.{same_true}
-use Rattle.zn_base.specs.Owned_lists.{tag}
+use Rattle.zone_pools.proofs.Owned_laws.{same_true}
+use Rattle.zone_pools.specs.Owned_lists.{tag}
 use Rattle.commit_journal.specs.declared.records.Record.{Record}
 use Rattle.commit_journal.specs.Store.{row_of}
 use Rattle.commit_journal.specs.Stored.{holds, without, Rows}

@@ -1,6 +1,7 @@
 -- What the bodies of a store say, and the first that is out of form or that may not follow those before it.
 use Rattle.std.specs.Prelude.{◌≡◌, ℕ, ◌+◌, ◌-◌, ◌≤◌, List, ◌∷◌, ◌++◌, length, take, map, All, Bool, nat_le, IsTrue}
-use Rattle.zone_disk.specs.Image.{BANK}
+use Rattle.zone_disk.specs.declared.bank.TheConstants.{BANK_BYTES}
+use 
 use Rattle.commit_journal.specs.declared.records.Commit.{Commit}
 use Rattle.commit_journal.specs.Bodies.{body_text, IsCommit}
 use Rattle.commit_journal.specs.Stored.{may_follow, stored, Rows}
@@ -27,4 +28,4 @@ pub record IsFirstBad (bodies : List (List ℕ)) (serial : ℕ) : Type 0 where
 
 -- a body and the next gate fit into the bank behind the bytes in use
 abbrev pub has_room : ℕ → List ℕ → Bool
-has_room used body = nat_le (used + 5 + length body) BANK
+has_room used body = nat_le (used + 5 + length body) BANK_BYTES

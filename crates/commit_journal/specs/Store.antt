@@ -1,9 +1,9 @@
 -- What a store is to its callers, what opening a disk comes to, and what a crash leaves of a change.
 use Rattle.std.specs.Prelude.{◌≡◌, ◌⊎◌, ℕ, ◌≤◌, List, [], ◌∷◌, ◌++◌, length, Bool, true, Option, Result, Ok, Err}
-use Rattle.zn_base.specs.Disk.{View}
-use Rattle.zn_base.specs.Firsts.{first_of}
+use Rattle.zn_io.specs.Disk.{View}
+use Rattle.zone_pools.specs.Firsts.{first_of}
 use Rattle.zn_base.specs.Names.{Name}
-use Rattle.zn_base.specs.Owned_lists.{mine}
+use Rattle.zone_pools.specs.Owned_lists.{mine}
 use Rattle.zone_disk.specs.Bank.{Account}
 use Rattle.zone_disk.specs.Image.{Opens, Stands}
 use Rattle.zone_disk.specs.declared.fault.BankFault.TheVariants as bank

@@ -1,7 +1,7 @@
 -- The zones of a map by their names, in its order, as stored zones.
 use Rattle.std.specs.Prelude.{List, map}
 use Rattle.zn_base.specs.Names.{Name}
-use Rattle.zn_base.specs.Owned_lists.{tag}
+use Rattle.zone_pools.specs.Owned_lists.{tag}
 use Rattle.commit_journal.specs.declared.records.Record.{Record}
 use Rattle.commit_journal.specs.Stored.{Rows}
 

@@ -1,7 +1,7 @@
 //! The stored zones, in the order of their creation.
 ghost use Rattle.std.specs.Prelude.{◌≡◌, ◌<◌, ◌↔◌, IsSome, IsTrue, option_map};
 ghost use Rattle.indexmap.specs.IndexMap.{spare};
-ghost use Rattle.zn_base.specs.Firsts.{placed};
+ghost use Rattle.zone_pools.specs.Firsts.{placed};
 ghost use Rattle.commit_journal.specs.Store.{row_of};
 ghost use Rattle.commit_journal.specs.Stored.{holds, may_stand, with_stored, without};
 ghost use Rattle.commit_journal.specs.Zones.{rows_of};

@@ -2,8 +2,8 @@
 ghost use Rattle.std.specs.Prelude.{◌≡◌, ◌≢◌, ◌⊎◌, ◌*◌, ◌+◌, ◌<◌, ◌≤◌, ◌++◌, ◌↔◌, [], ◌∷◌, List, ℕ, length, option_map, slice_get, Some, true, false, IfOk, IfErr, OnOk, OnErr, IfSome, IsErrOf, IsSome, IsTrue};
 ghost use Rattle.std.specs.Option.{ForSome};
 ghost use Rattle.indexmap.specs.IndexMap.{spare};
-ghost use Rattle.zn_base.specs.Disk.{View, Leaves};
-ghost use Rattle.zn_base.specs.Streams.{Rose};
+ghost use Rattle.zn_io.specs.Disk.{View, Leaves};
+ghost use Rattle.zn_io.specs.Streams.{Rose};
 ghost use Rattle.zone_disk.specs.Bank.{Formats, KeepsMeaning, IsBeforeOrAfter as IsOneMore};
 ghost use Rattle.zone_disk.specs.Image.{IsUnformatted, Stands};
 ghost use Rattle.commit_journal.specs.Bodies.{IsCommit, IsStorable};
@@ -19,7 +19,8 @@ use crate::sizes::body_length;
 use crate::{Record, StoreFault};
 use std::alloc::{AllocError, Global};
 use std::marker::Model;
-use zn_base::{Disk, ZoneName};
+use zn_base::ZoneName;
+use zn_io::Disk;
 use zone_disk::{BANK_BYTES, Bank, BankFault};
 
 /// The stored zones in the order of their creation, and the disk with the records that leave them. Contracts

@@ -5,7 +5,8 @@ use std::alloc::{AllocError, Global};
 use std::process::Abort;
 use std::test::Fail;
 use uuid::Uuid;
-use zn_base::{Fill, MemDisk, Room, ZoneName, ZoneState};
+use zn_base::{ZoneName, ZoneState};
+use zn_io::{Fill, MemDisk, Room};
 
 const WEB: &[u8] = b"create -b
 set zonepath=/zones/web

@@ -29,6 +29,3 @@ pub use printing::{entry_length, push_entries, push_entry};
 pub use rules::Rule;
 pub use terms::{Attr, Fs, IpType, Kind, Limit, Net, Rctl, Resource};
 pub use texts::{push_setting, setting_length};
-
-#[cfg(test)]
-mod tests;

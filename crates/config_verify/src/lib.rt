@@ -9,6 +9,3 @@ mod values;
 
 pub use config::{matches, verify};
 pub use flaw::Flaw;
-
-#[cfg(test)]
-mod tests;

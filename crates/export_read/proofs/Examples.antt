@@ -6,7 +6,7 @@ use Rattle.config_terms.specs.Edits.{with_property as with_own}
 use Rattle.config_terms.specs.Rules.{fits, obeys}
 use Rattle.config_terms.specs.Texts.{entry_text, limit_lines, options_line, setting, settings}
 use Rattle.zn_base.specs.Lines.{lines_of}
-use Rattle.export_lines.specs.Reading.{command_of}
+use Rattle.export_read.specs.Reading.{command_of}
 use Rattle.zone_config.specs.Edits.{with_property}
 use Rattle.zone_config.specs.Export.{export_text}
 use Rattle.zone_config.specs.Property.{setting_named}

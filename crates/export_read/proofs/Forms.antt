@@ -20,11 +20,11 @@ use Rattle.config_terms.specs.declared.rules.Rule.TheVariants.{OptionWord}
 use Rattle.config_terms.specs.declared.terms.Kind.{Kind}
 use Rattle.config_terms.specs.declared.terms.Limit.{Limit}
 use Rattle.config_terms.specs.declared.terms.Resource.{Resource}
-use Rattle.export_lines.proofs.Printable.{fits-set}
-use Rattle.export_lines.proofs.Texts.{text-append, text-where_set, text_of}
-use Rattle.export_lines.specs.Commands.{entry_commands, where_any, where_set}
-use Rattle.export_lines.specs.declared.command.Command.{Command}
-use Rattle.export_lines.specs.declared.command.Command.TheVariants.{Open, Options, Value, End}
+use Rattle.export_read.proofs.Printable.{fits-set}
+use Rattle.export_read.proofs.Texts.{text-append, text-where_set, text_of}
+use Rattle.export_read.specs.Commands.{entry_commands, where_any, where_set}
+use Rattle.export_read.specs.declared.command.Command.{Command}
+use Rattle.export_read.specs.declared.command.Command.TheVariants.{Open, Options, Value, End}
 use Rattle.zone_config.specs.Export.{export_text}
 use Rattle.zone_config.specs.Resources.{with_resource}
 use Rattle.zone_config.specs.declared.terms.Contents.{Contents}

@@ -19,10 +19,10 @@ use Rattle.zone_config.specs.declared.terms.Property.{Property}
 use Rattle.zone_config.specs.declared.terms.Property.TheVariants.{Zonepath, Brand, Autoboot, Bootargs, Pool, Limitpriv, SchedulingClass, IpType, Hostid, FsAllowed}
 use Rattle.zone_config.specs.declared.terms.Setting.TheVariants.{Kept}
 use Rattle.zone_config.proofs.PropertyEdits.{Lists, lists, lists-with, shown_obeyed, shown-with}
-use Rattle.export_lines.proofs.Printable.{fits-set}
-use Rattle.export_lines.proofs.Texts.{text-each, text-where_set, text_of}
-use Rattle.export_lines.specs.Commands.{property_commands}
-use Rattle.export_lines.specs.declared.command.Command.TheVariants.{Create, Set}
+use Rattle.export_read.proofs.Printable.{fits-set}
+use Rattle.export_read.proofs.Texts.{text-each, text-where_set, text_of}
+use Rattle.export_read.specs.Commands.{property_commands}
+use Rattle.export_read.specs.declared.command.Command.TheVariants.{Create, Set}
 use Rattle.export_read.specs.Drafts.{closed, completed, least, put}
 use Rattle.export_read.proofs.Tables.{IsBetween, IsStep, IsTable, Reaches, between_lines, between_short, one_more, walk_rows}
 use Rattle.export_read.proofs.Walks.{Begins}

@@ -9,8 +9,8 @@ use Rattle.config_terms.specs.declared.fields.Field.{Field}
 use Rattle.config_terms.specs.declared.terms.Kind.{Kind}
 use Rattle.config_terms.specs.declared.terms.Limit.{Limit}
 use Rattle.config_terms.specs.declared.terms.Resource.{Resource}
-use Rattle.export_lines.proofs.Texts.{text_of}
-use Rattle.export_lines.specs.declared.command.Command.{Command}
+use Rattle.export_read.proofs.Texts.{text_of}
+use Rattle.export_read.specs.declared.command.Command.{Command}
 use Rattle.zone_config.specs.Export.{export_text}
 use Rattle.zone_config.specs.Resources.{added, has_taken, limit_passed}
 use Rattle.zone_config.specs.declared.terms.Contents.{Contents}

@@ -1,3 +1,9 @@
+pub mod Cuts
+pub mod Again
+pub mod Pieces
+pub mod Texts
+pub mod Printable
+pub mod Rows
 mod Examples
 pub mod Fresh
 pub mod Walks

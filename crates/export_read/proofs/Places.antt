@@ -19,10 +19,10 @@ use Rattle.config_terms.specs.declared.terms.Rctl as rctl
 use Rattle.config_terms.specs.declared.terms.Resource.{Resource}
 use Rattle.config_terms.specs.declared.terms.Resource.TheVariants.{Fs, Net, Device, Rctl, Attr, Dataset}
 use Rattle.config_terms.specs.Edits.{attr_with, dataset_with, device_with, fs_with, net_with, rctl_with}
-use Rattle.export_lines.proofs.Texts.{text-script, text_of}
-use Rattle.export_lines.specs.Commands.{attr_commands, dataset_commands, device_commands, entry_commands, fs_commands, net_commands, property_commands, rctl_commands, script}
-use Rattle.export_lines.specs.declared.command.Command.{Command}
-use Rattle.export_lines.specs.declared.command.Command.TheVariants.{Create}
+use Rattle.export_read.proofs.Texts.{text-script, text_of}
+use Rattle.export_read.specs.Commands.{attr_commands, dataset_commands, device_commands, entry_commands, fs_commands, net_commands, property_commands, rctl_commands, script}
+use Rattle.export_read.specs.declared.command.Command.{Command}
+use Rattle.export_read.specs.declared.command.Command.TheVariants.{Create}
 use Rattle.zone_config.specs.Export.{export_text}
 use Rattle.zone_config.specs.Property.{properties}
 use Rattle.zone_config.specs.Sound.{IsSound, are_distinct_in, are_told_apart, count}

@@ -6,7 +6,7 @@ use Rattle.zn_base.specs.Text.{is_text}
 use Rattle.config_terms.specs.Fields.{field_rule}
 use Rattle.config_terms.specs.Rules.{fits}
 use Rattle.config_terms.specs.declared.fields.Field.{Field}
-use Rattle.export_lines.proofs.Printable.{fits-set, obeys-text, field_of_text}
+use Rattle.export_read.proofs.Printable.{fits-set, obeys-text, field_of_text}
 use Rattle.export_read.specs.Names.{bare_bytes, is_free}
 
 -- what is found passes the test

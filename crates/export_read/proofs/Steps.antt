@@ -3,8 +3,8 @@ use Rattle.std.proofs.Common.{◌≡◌, ◌≤◌, ◌<◌, ◌+◌, ◌-◌, z
 use Rattle.std.specs.Prelude.{not, option_and_then}
 use Rattle.std.specs.List.{after_first, before_first, position_or_len}
 use Rattle.zn_base.specs.Lines.{is_newline, lines_of, with_first}
-use Rattle.export_lines.specs.Lines.{ended}
-use Rattle.export_lines.specs.Reading.{command_of}
+use Rattle.export_read.specs.Lines.{ended}
+use Rattle.export_read.specs.Reading.{command_of}
 use Rattle.export_read.specs.Drafts.{drafted, put}
 use Rattle.export_read.specs.Halts.{Puts}
 use Rattle.export_read.specs.declared.draft.Draft.{Draft}

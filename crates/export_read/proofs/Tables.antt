@@ -10,9 +10,9 @@ use Rattle.std.proofs.lemmas.List.Folds.{list_any-append}
 use Rattle.std.proofs.lemmas.Slice.Eq.{bytes_eq-Decides}
 use Rattle.config_terms.specs.Allowed.{are_distinct, has_key}
 use Rattle.config_terms.specs.Texts.{setting}
-use Rattle.export_lines.specs.Commands.{where_set}
-use Rattle.export_lines.specs.declared.command.Command.{Command}
-use Rattle.export_lines.specs.declared.command.Command.TheVariants.{Set}
+use Rattle.export_read.specs.Commands.{where_set}
+use Rattle.export_read.specs.declared.command.Command.{Command}
+use Rattle.export_read.specs.declared.command.Command.TheVariants.{Set}
 use Rattle.export_read.specs.Drafts.{put}
 use Rattle.export_read.specs.declared.draft.Draft.{Draft}
 use Rattle.export_read.proofs.Walks.{Begins, Walks}

@@ -2,8 +2,8 @@
 use Rattle.std.proofs.Common.{◌≡◌, ℕ, List, [], ◌∷◌, ◌++◌, Some, refl, ap, sym, subst, ◌∙◌, append_assoc, append-nil}
 use Rattle.std.specs.List.{flat_map}
 use Rattle.std.proofs.lemmas.List.Concat.{flat_map-append}
-use Rattle.export_lines.proofs.Texts.{text_of}
-use Rattle.export_lines.specs.declared.command.Command.{Command}
+use Rattle.export_read.proofs.Texts.{text_of}
+use Rattle.export_read.specs.declared.command.Command.{Command}
 use Rattle.zone_config.specs.Export.{export_text}
 use Rattle.zone_config.specs.declared.terms.Contents.{Contents}
 use Rattle.export_read.specs.Drafts.{completed, put}

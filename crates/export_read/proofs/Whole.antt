@@ -6,16 +6,16 @@ use Rattle.std.specs.Str.{bytes_eq}
 use Rattle.std.proofs.lemmas.List.{take-append-drop, take-take, take_at}
 use Rattle.std.proofs.lemmas.Slice.Eq.{bytes_eq-Decides}
 use Rattle.config_terms.specs.declared.terms.Resource.{Resource}
-use Rattle.export_lines.proofs.Again.{command_again}
-use Rattle.export_lines.proofs.Cuts.{AreLines, lines_are, lines_of-ended}
-use Rattle.export_lines.proofs.Printable.{ArePlain, plain-script}
-use Rattle.export_lines.proofs.Rows.{ended-map, lines-script, plain_lines}
-use Rattle.export_lines.proofs.Texts.{text_of}
-use Rattle.export_lines.specs.Commands.{attr_commands, dataset_commands, device_commands, fs_commands, line_of, net_commands, property_commands, rctl_commands, script}
+use Rattle.export_read.proofs.Again.{command_again}
+use Rattle.export_read.proofs.Cuts.{AreLines, lines_are, lines_of-ended}
+use Rattle.export_read.proofs.Printable.{ArePlain, plain-script}
+use Rattle.export_read.proofs.Rows.{ended-map, lines-script, plain_lines}
+use Rattle.export_read.proofs.Texts.{text_of}
+use Rattle.export_read.specs.Commands.{attr_commands, dataset_commands, device_commands, fs_commands, line_of, net_commands, property_commands, rctl_commands, script}
 use Rattle.zn_base.specs.Lines.{lines_of}
-use Rattle.export_lines.specs.Lines.{ended}
-use Rattle.export_lines.specs.declared.command.Command.{Command}
-use Rattle.export_lines.specs.declared.command.Command.TheVariants.{Create}
+use Rattle.export_read.specs.Lines.{ended}
+use Rattle.export_read.specs.declared.command.Command.{Command}
+use Rattle.export_read.specs.declared.command.Command.TheVariants.{Create}
 use Rattle.zone_config.specs.Export.{export_text, property_line}
 use Rattle.zone_config.specs.Property.{properties}
 use Rattle.zone_config.specs.Sound.{IsSound}

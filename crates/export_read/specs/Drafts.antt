@@ -11,9 +11,9 @@ use Rattle.config_terms.specs.declared.terms.Limit.{Limit}
 use Rattle.config_terms.specs.declared.terms.Resource.{Resource}
 use Rattle.config_terms.specs.declared.terms.Resource.TheVariants.{Fs, Rctl}
 use Rattle.zn_base.specs.Lines.{lines_of}
-use Rattle.export_lines.specs.Reading.{command_of}
-use Rattle.export_lines.specs.declared.command.Command.{Command}
-use Rattle.export_lines.specs.declared.command.Command.TheVariants.{Create, Set, Open, Options, Value, End}
+use Rattle.export_read.specs.Reading.{command_of}
+use Rattle.export_read.specs.declared.command.Command.{Command}
+use Rattle.export_read.specs.declared.command.Command.TheVariants.{Create, Set, Open, Options, Value, End}
 use Rattle.zone_config.specs.Edits.{with_property}
 use Rattle.zone_config.specs.Export.{export_text}
 use Rattle.zone_config.specs.Property.{blank}
@@ -89,9 +89,13 @@ begun_by bytes (Some c) = starts_with nat_eq (export_text c) bytes
 unfoldable pub is_begun : List ℕ → Bool
 is_begun bytes = begun_by bytes (option_and_then completed (drafted (lines_of bytes) start))
 
+-- whether a configuration's text is this one, and no resource is open
+abbrev pub is_printed : List ℕ → Option Resource → Contents → Bool
+is_printed bytes None c = bytes_eq (export_text c) bytes
+is_printed bytes (Some r) c = false
+
 abbrev pub if_printed : List ℕ → Option Resource → Contents → Option Contents
-if_printed bytes None c = if bytes_eq (export_text c) bytes then Some c else None
-if_printed bytes (Some r) c = None
+if_printed bytes r c = if is_printed bytes r c then Some c else None
 
 abbrev pub config_in : List ℕ → Option Draft → Option Contents
 config_in bytes None = None

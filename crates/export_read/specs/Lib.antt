@@ -1,3 +1,7 @@
+pub mod Lines
+pub mod Commands
+pub mod Reading
+pub mod Saying
 pub mod Names
 pub mod Drafts
 pub mod Begun

@@ -8,9 +8,9 @@ ghost use Rattle.zone_config.specs.Resources.{with_resource};
 ghost use Rattle.export_read.specs.Drafts.{closed, ended_in, opened, put, set_in, with_limit, with_options};
 ghost use Rattle.export_read.specs.Halts.{Puts};
 
+use crate::command::Command;
 use crate::halt::Halt;
 use config_terms::{Limit, Resource};
-use export_lines::Command;
 use std::alloc::Global;
 use zn_base::{Listing, Text, Value};
 use zone_config::ZoneConfig;

@@ -2,7 +2,7 @@
 ghost use Rattle.std.specs.Prelude.{◌≡◌, ◌≤◌, ◌<◌, ◌+◌, ◌++◌, ◌∷◌, [], length, position, take, IfOk, OnOk};
 ghost use Rattle.std.specs.List.{after_first, before_first};
 ghost use Rattle.zn_base.specs.Lines.{is_newline, lines_of};
-ghost use Rattle.export_lines.specs.Lines.{ended};
+ghost use Rattle.export_read.specs.Lines.{ended};
 
 use std::alloc::{AllocError, Global};
 

@@ -1,26 +1,26 @@
 //! The reader.
-ghost use Rattle.std.specs.Prelude.{◌≡◌, ◌≤◌, ◌<◌, ◌+◌, IfErr, IfOk, None, OnErr, Some, Ok, length, nat_eq, option_and_then, option_map, take, true};
+ghost use Rattle.std.specs.Prelude.{◌≡◌, ◌≤◌, ◌<◌, ◌+◌, IfErr, IfOk, None, OnErr, Some, Ok, length, nat_eq, option_and_then, option_map, take, true, if◌then◌else◌};
 ghost use Rattle.std.specs.Bool.{Decides};
 ghost use Rattle.std.specs.List.{starts_with};
 ghost use Rattle.std.specs.Str.{bytes_eq};
 ghost use Rattle.zn_base.specs.Answers.{AnswersUnless};
 ghost use Rattle.config_terms.specs.declared.fault.ConfigFault.TheVariants.{Memory};
 ghost use Rattle.zn_base.specs.Lines.{lines_of};
-ghost use Rattle.export_lines.specs.Lines.{ended};
-ghost use Rattle.export_lines.specs.Reading.{command_of};
+ghost use Rattle.export_read.specs.Lines.{ended};
+ghost use Rattle.export_read.specs.Reading.{command_of};
 ghost use Rattle.zone_config.specs.Export.{export_text};
 ghost use Rattle.zone_config.specs.Sound.{IsSound};
 ghost use Rattle.zone_config.specs.declared.terms.Contents.{Contents};
 ghost use Rattle.export_read.specs.Begun.{BeginsSome, IsAstray, IsFaultOf, IsFront};
-ghost use Rattle.export_read.specs.Drafts.{completed, config_of, drafted, if_printed, is_begun, put, start};
+ghost use Rattle.export_read.specs.Drafts.{completed, config_of, drafted, if_printed, is_begun, is_printed, put, start};
 ghost use Rattle.export_read.specs.Halts.{Puts};
 
 use crate::complete::completed;
 use crate::draft::{Draft, with_property};
 use crate::halt::Halt;
 use crate::lines::{behind_line, count, first_line, front};
+use crate::reading::command_of;
 use config_terms::ConfigFault;
-use export_lines::command_of;
 use std::alloc::{AllocError, Global};
 use zn_base::Text;
 use zone_config::{ZoneConfig, blank, export};
@@ -131,19 +131,28 @@ fn is_text(alloc: Global, config: &ZoneConfig, text: &[u8]) -> Result<bool, Allo
     }
 }
 
-// The configuration, if its text is this one and no resource is open.
+// Whether a configuration's text is this one, and no resource is open.
+fn is_printed(alloc: Global, draft: &Draft, text: &[u8]) -> Result<bool, AllocError>
+    ensures { IfOk result (λ is. is ≡ is_printed text.now draft.now.resource draft.now.config) }
+{
+    match draft.resource {
+        None => is_text(alloc, &draft.config, text),
+        Some(_) => Ok(false),
+    }
+}
+
+// The configuration of a draft, where it is wanted.
+fn config_if(wanted: bool, draft: Draft) -> Option<ZoneConfig>
+    ensures { result ≡ (if wanted then Some draft.config else None) }
+{
+    if wanted { Some(draft.config) } else { None }
+}
+
 fn if_printed(alloc: Global, draft: Draft, text: &[u8]) -> Result<Option<ZoneConfig>, AllocError>
     ensures { IfOk result (λ config. config ≡ if_printed text.now draft.resource draft.config) }
 {
-    let Draft { config, resource } = draft;
-    if resource.is_some() {
-        return Ok(None);
-    }
-    if is_text(alloc, &config, text)? {
-        Ok(Some(config))
-    } else {
-        Ok(None)
-    }
+    let printed = is_printed(alloc, &draft, text)?;
+    Ok(config_if(printed, draft))
 }
 
 // The configuration whose text this is, if there is one.

@@ -9,6 +9,3 @@ mod table;
 pub use limit::{PrivFault, limit_of};
 pub use set::PrivSet;
 pub use table::number_of;
-
-#[cfg(test)]
-mod tests;

@@ -2,12 +2,8 @@
 use Rattle.std.proofs.Common.{◌≡◌, ◌==◌, ℕ, Bool, true, refl, ap}
 use Rattle.std.specs.Bool.{Decides}
 use Rattle.std.proofs.lemmas.Bool.{eq-eqb, eqb-true, false≢true}
-use Rattle.zn_base.specs.Same.{same_grant, same_name_fault, same_pool, same_state}
-use Rattle.zn_base.specs.contracts.grant.Pool.{the_type as pool_type}
+use Rattle.zn_base.specs.Same.{same_name_fault, same_state}
 use Rattle.zn_base.specs.contracts.state.ZoneState.{the_type as state_type}
-use Rattle.zn_base.specs.declared.grant.Grant.{Grant}
-use Rattle.zn_base.specs.declared.grant.Grant.TheVariants.{Nothing, Number, Yes, Denied}
-use Rattle.zn_base.specs.declared.grant.Pool.{Pool}
 use Rattle.zn_base.specs.declared.name.NameFault.{NameFault}
 use Rattle.zn_base.specs.declared.name.NameFault.TheVariants.{Memory, Empty, TooLong, BadByte, Reserved}
 use Rattle.zn_base.specs.declared.state.ZoneState.{ZoneState}
@@ -20,27 +16,8 @@ number-Decides m n = (eqb-true m n, eq-eqb m n)
 pub decides : {A : Type 0} (same : A → A → Bool) → ((a b : A) → same a b ≡ true → a ≡ b) → ((a : A) → same a a ≡ true) → (a b : A) → Decides (same a b) (a ≡ b)
 decides same one self a b = (one a b, λ e. rw (← e) (self a))
 
-pub pool-Decides : (a b : Pool) → Decides (same_pool a b) (a ≡ b)
-pool-Decides a b = (same_true pool_type tt a b, true_same pool_type a b)
-
 pub state-Decides : (a b : ZoneState) → Decides (same_state a b) (a ≡ b)
 state-Decides a b = (same_true state_type tt a b, true_same state_type a b)
-
-grant-true : (a b : Grant) → same_grant a b ≡ true → a ≡ b
-grant-true Nothing Nothing h = refl
-grant-true (Number m) (Number n) h = ap Number (eqb-true m n h)
-grant-true Yes Yes h = refl
-grant-true (Denied p) (Denied q) h = ap Denied ((pool-Decides p q).0 h)
-grant-true _ _ h = absurd (false≢true h)
-
-grant-self : (a : Grant) → same_grant a a ≡ true
-grant-self Nothing = refl
-grant-self (Number n) = eq-eqb n n refl
-grant-self Yes = refl
-grant-self (Denied p) = (pool-Decides p p).1 refl
-
-pub grant-Decides : (a b : Grant) → Decides (same_grant a b) (a ≡ b)
-grant-Decides = decides same_grant grant-true grant-self
 
 name_fault-true : (a b : NameFault) → same_name_fault a b ≡ true → a ≡ b
 name_fault-true Memory Memory h = refl

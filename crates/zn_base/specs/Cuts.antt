@@ -1,5 +1,10 @@
 -- Bytes that are cut at the first byte of a value.
-use Rattle.std.specs.Prelude.{ℕ, List, take, drop, ◌+◌, ◌==◌, position, Option, Some, None}
+use Rattle.std.specs.Prelude.{ℕ, List, take, drop, ◌+◌, ◌==◌, Bool, not, position, Option, Some, None}
+use Rattle.std.specs.List.{list_all}
+
+-- no byte of a value is among some bytes
+abbrev pub lacks : ℕ → List ℕ → Bool
+lacks byte bytes = list_all (λ b. not (b == byte)) bytes
 
 -- the bytes up to a place, or all of them where there is none
 abbrev pub cut_to : Option ℕ → List ℕ → List ℕ

@@ -1,6 +1,4 @@
 pub mod Answers
-pub mod Streams
-pub mod Memory
 pub mod Text
 pub mod Lines
 pub mod Cuts
@@ -8,13 +6,7 @@ pub mod Decimals
 pub mod Path
 pub mod Names
 pub mod Moves
-pub mod Owned_lists
-pub mod Firsts
 pub mod Same
-pub mod Disk
-pub mod MemoryDisk
-pub mod MemoryDiskIsSound
-pub mod FileDisk
 pub mod Glob
 pub mod Runs
 pub mod States

@@ -1,8 +1,11 @@
 -- A text is cut at its newlines. The last newline may be missing.
 use Rattle.std.specs.Prelude.{ℕ, List, [], ◌∷◌, ◌==◌, Bool, if◌then◌else◌}
 
+abbrev pub newline : ℕ
+newline = 10
+
 abbrev pub is_newline : ℕ → Bool
-is_newline b = b == 10
+is_newline b = b == newline
 
 -- a byte that is no newline stands at the front of the line that follows it
 abbrev pub with_first : ℕ → List (List ℕ) → List (List ℕ)

@@ -1,28 +1,14 @@
 -- Whether two values are one, as a test that computes.
 use Rattle.std.specs.Prelude.{Bool, true, false, ◌==◌}
-use Rattle.zn_base.specs.contracts.grant.Pool.{the_type as pool_type}
 use Rattle.zn_base.specs.contracts.state.ZoneState.{the_type as state_type}
-use Rattle.zn_base.specs.declared.grant.Grant.{Grant}
-use Rattle.zn_base.specs.declared.grant.Grant.TheVariants.{Nothing, Number, Yes, Denied}
-use Rattle.zn_base.specs.declared.grant.Pool.{Pool}
 use Rattle.zn_base.specs.declared.name.NameFault.{NameFault}
 use Rattle.zn_base.specs.declared.name.NameFault.TheVariants.{Memory, Empty, TooLong, BadByte, Reserved}
 use Rattle.zn_base.specs.declared.state.ZoneState.{ZoneState}
 use denote.Enum.Bare.{sameb}
 
 -- by their tags, where no variant has a field
-abbrev pub same_pool : Pool → Pool → Bool
-same_pool a b = sameb pool_type a b
-
 abbrev pub same_state : ZoneState → ZoneState → Bool
 same_state a b = sameb state_type a b
-
-abbrev pub same_grant : Grant → Grant → Bool
-same_grant Nothing Nothing = true
-same_grant (Number m) (Number n) = m == n
-same_grant Yes Yes = true
-same_grant (Denied p) (Denied q) = same_pool p q
-same_grant _ _ = false
 
 abbrev pub same_name_fault : NameFault → NameFault → Bool
 same_name_fault Memory Memory = true

@@ -165,38 +165,3 @@ impl Hash for ZoneName {
         self.bytes().hash(state);
     }
 }
-
-#[cfg(test)]
-mod tests {
-    use super::*;
-    use std::test::Fail;
-
-    #[test]
-    fn names_are_read_copied_and_compared(rt: HostRuntime) -> Result<(), Fail> {
-        let web = ZoneName::read(rt.alloc(), b"web")?;
-        for name in [b"0-a_b.C".as_slice(), b"globals", b"sunwA", &[b'z'; 63]] {
-            let read = ZoneName::read(rt.alloc(), name)?;
-            assert_eq!(rt; read.bytes(), name);
-            assert!(rt; read == read.copy(rt.alloc())? && read != web);
-        }
-        Ok(())
-    }
-
-    #[test]
-    fn faults_come_in_their_order(rt: HostRuntime) {
-        let faults = [
-            (b"".as_slice(), NameFault::Empty),
-            (&[b'-'; 64], NameFault::TooLong),
-            (b"-a", NameFault::BadByte(0)),
-            (b"SUNW/", NameFault::BadByte(4)),
-            (b"global", NameFault::Reserved),
-            (b"SUNW", NameFault::Reserved),
-        ];
-        for (bytes, fault) in faults {
-            match ZoneName::read(rt.alloc(), bytes) {
-                Ok(_) => panic!(rt; "a name"),
-                Err(found) => assert_eq!(rt; found, fault),
-            }
-        }
-    }
-}

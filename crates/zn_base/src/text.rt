@@ -125,28 +125,3 @@ impl PartialEq for Text {
 impl Eq for Text {
     ghost laws = { nat_list_eq_equiv };
 }
-
-#[cfg(test)]
-mod tests {
-    use super::*;
-    use std::test::Fail;
-
-    #[test]
-    fn texts_are_read_copied_and_compared(rt: HostRuntime) -> Result<(), Fail> {
-        let text = Text::read(rt.alloc(), b"web team ~")?;
-        assert_eq!(rt; text.bytes(), b"web team ~".as_slice());
-        assert_eq!(rt; Text::of(rt.alloc(), b"ipkg")?.bytes(), b"ipkg".as_slice());
-        assert_eq!(rt; text.copy(rt.alloc())?.bytes(), b"web team ~".as_slice());
-        assert!(rt; text == text.copy(rt.alloc())? && text != Text::empty(rt.alloc()));
-        assert_eq!(rt; Text::empty(rt.alloc()).bytes(), b"".as_slice());
-        assert!(rt; matches!(Text::read(rt.alloc(), b"a\tb"), Err(TextFault::BadText(1))));
-        assert_eq!(rt; Text::read(rt.alloc(), &[b'~'; 4200])?.bytes().len(), 4200);
-        assert!(rt;
-            matches!(
-                Text::read(rt.alloc(), &[b'~'; 4201]),
-                Err(TextFault::TextLong)
-            )
-        );
-        Ok(())
-    }
-}

@@ -19,6 +19,3 @@ pub use laws::{clears_where_named, sets_where_allowed};
 pub use printing::export;
 pub use property::PROPERTIES;
 pub use terms::{Alias, Contents, Property, Setting};
-
-#[cfg(test)]
-mod tests;

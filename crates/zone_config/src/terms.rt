@@ -36,7 +36,6 @@ pub enum Setting {
 
 /// The properties of a configuration, and its resources by their kind. An empty text is a property that is
 /// not set.
-#[derive(Drop)]
 pub struct Contents {
     pub zonepath: Option<AbsPath>,
     pub brand: Text,
@@ -54,4 +53,28 @@ pub struct Contents {
     pub rctl: Listing<Rctl>,
     pub attr: Listing<Attr>,
     pub dataset: Listing<Text>,
+}
+
+// In one step, so that a function that holds a configuration has one for it at each of its exits.
+impl Drop for Contents {
+    fn drop(self) {
+        let Contents {
+            zonepath: _,
+            brand: _,
+            autoboot: _,
+            bootargs: _,
+            pool: _,
+            limitpriv: _,
+            class: _,
+            ip: _,
+            hostid: _,
+            fs_allowed: _,
+            fs: _,
+            net: _,
+            device: _,
+            rctl: _,
+            attr: _,
+            dataset: _,
+        } = self;
+    }
 }

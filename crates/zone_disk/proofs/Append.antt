@@ -1,16 +1,17 @@
 -- The two durable writes of an append, over what the disk means.
 use Rattle.std.proofs.Common.{◌≡◌, inl, inr, ℕ, ◌+◌, ◌≤◌, List, [], ◌∷◌, ◌++◌, length, get_or, drop, sym, ◌∙◌, ap, subst, arith}
-use Rattle.std.specs.Prelude.{◌↔◌, ◌<◌, Bool, IsTrue, Result, Ok, true, false}
+use Rattle.std.specs.Prelude.{◌↔◌, ◌<◌, Bool, IsTrue, OnOk, Result, Ok, Err, true, false}
 use Rattle.std.proofs.lemmas.Bool.{cases_lt, false≢true}
-use Rattle.zn_base.specs.Disk.{View, IsSound, Leaves, PutsDurably, Torn, patched}
-use Rattle.zn_base.proofs.Moments.{weaker, joined}
-use Rattle.zone_disk.specs.Image.{blocks, front, BANK, used_by, IsFormatted, Stands}
+use Rattle.zn_io.specs.Disk.{View, IsSound, Leaves, PutsDurably, Torn, patched}
+use Rattle.zn_io.proofs.Moments.{weaker, joined}
+use Rattle.zone_disk.specs.declared.bank.TheConstants.{BANK_BYTES}
+use Rattle.zone_disk.specs.Image.{blocks, front, used_by, IsFormatted, Stands}
 use Rattle.zone_disk.specs.Image.Stands.{formatted}
 use Rattle.zone_disk.specs.Bank.{framed, IsSettled, IsKept, IsBeforeOrAfter}
 use Rattle.zone_disk.proofs.Blocks.{length-front, length-push, laid_out, torn_behind, staged, stage, torn_gate, open_gate}
 
-pub not_full : (full : Bool) (used n : ℕ) → (IsTrue full ↔ (BANK < used + 5 + n)) → full ≡ false → used + 5 + n ≤ BANK
-not_full full used n test is = elim (cases_lt BANK (used + 5 + n)) [
+pub not_full : (full : Bool) (used n : ℕ) → (IsTrue full ↔ (BANK_BYTES < used + 5 + n)) → full ≡ false → used + 5 + n ≤ BANK_BYTES
+not_full full used n test is = elim (cases_lt BANK_BYTES (used + 5 + n)) [
   | inl past ↦ absurd (false≢true (sym is ∙ test.1 past))
   | inr fits ↦ fits
 ]
@@ -38,8 +39,8 @@ module _ (old : View) (bodies : List (List ℕ)) (used : ℕ) (s : IsSettled old
   pub first : {T E : Type 0} (mid : View) (r : Result T E) (bytes : List ℕ) → PutsDurably (15 + used + 1) bytes old mid r → Leaves old mid (IsBeforeOrAfter bodies body)
   first mid r bytes puts = weaker old mid _ _ (λ image torn. inl (torn_behind old.reads bodies selector gate rest (laid_out old.reads bodies s.image) (15 + used) at (length bytes) image torn)) (puts.any_moment s.durable)
 
-  module _ {T E : Type 0} (fits : used + 5 + length body ≤ BANK) (keeps : old.Keeps) (mid : View) (bytes : List ℕ) (are : bytes ≡ framed body) (done : T) (puts : PutsDurably {T = T} {E = E} (15 + used + 1) bytes old mid (Ok done)) where
-    room : length (blocks bodies) + 6 + length body ≤ BANK
+  module _ {T E : Type 0} (fits : used + 5 + length body ≤ BANK_BYTES) (keeps : old.Keeps) (mid : View) (bytes : List ℕ) (are : bytes ≡ framed body) (done : T) (puts : PutsDurably {T = T} {E = E} (15 + used + 1) bytes old mid (Ok done)) where
+    room : length (blocks bodies) + 6 + length body ≤ BANK_BYTES
     room = omega (arith, counted)
 
     is_staged : mid.reads ≡ staged old.reads bodies selector gate rest (laid_out old.reads bodies s.image) (15 + used) at body
@@ -56,8 +57,12 @@ module _ (old : View) (bodies : List (List ℕ)) (used : ℕ) (s : IsSettled old
       durable = opens.durable;
     }
 
+    pub settled_if : {T E : Type 0} (new : View) (r : Result T E) → PutsDurably (15 + used) (1 ∷ []) mid new r → OnOk r (IsSettled new (bodies ++ body ∷ []))
+    settled_if new (Ok ok) opens = settled new ok opens
+    settled_if new (Err e) opens = tt
+
 -- the bank after both writes
-pub kept_more : (new : View) (bodies items : List (List ℕ)) (used : ℕ) (body : List ℕ) → used ≡ used_by bodies → used + 5 + length body ≤ BANK → items ≡ bodies ++ body ∷ [] → (new.Keeps → IsSettled new (bodies ++ body ∷ [])) → IsKept new items (used + (5 + length body)) true
+pub kept_more : (new : View) (bodies items : List (List ℕ)) (used : ℕ) (body : List ℕ) → used ≡ used_by bodies → used + 5 + length body ≤ BANK_BYTES → items ≡ bodies ++ body ∷ [] → (new.Keeps → IsSettled new (bodies ++ body ∷ [])) → IsKept new items (used + (5 + length body)) true
 kept_more new bodies items used body counted fits is s = subst (λ (l : List (List ℕ)). IsKept new l (used + (5 + length body)) true) (sym is) (record {
   counted = omega (arith, counted, length-push bodies body);
   within = omega (arith, fits);

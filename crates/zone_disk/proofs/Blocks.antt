@@ -2,9 +2,10 @@
 use Rattle.std.proofs.Common.{◌≡◌, ◌≢◌, inl, inr, ℕ, ◌+◌, ◌<◌, ◌≤◌, List, [], ◌∷◌, ◌++◌, length, drop, get_or, subst, sym, ◌∙◌, ap, arith, append_assoc, length-append, take-append-drop}
 use Rattle.std.proofs.lemmas.List.{append-nil, take_at, get_or_at, get_or_past, drop_more}
 use Rattle.std.proofs.lemmas.Bool.{cases_eq, cases_lt}
-use Rattle.zone_disk.specs.Image.{four, blocks, header, front, BANK, used_by, IsFormatted, Stands}
+use Rattle.zone_disk.specs.declared.bank.TheConstants.{BANK_BYTES}
+use Rattle.zone_disk.specs.Image.{four, blocks, header, front, used_by, IsFormatted, Stands}
 use Rattle.zone_disk.specs.Bank.{IsBeforeOrAfter}
-use Rattle.zn_base.specs.Disk.{patched, Torn}
+use Rattle.zn_io.specs.Disk.{patched, Torn}
 use Rattle.zone_disk.specs.Image.Stands.{formatted}
 use Rattle.zone_disk.proofs.Torn.{behind, patched_behind, at_byte, patched_byte}
 
@@ -27,7 +28,7 @@ pub record IsLaidOut (image : List ℕ) (bodies : List (List ℕ)) (selector gat
   pub is : image ≡ front selector bodies ++ gate ∷ rest
   pub bank : selector ≢ 66
   pub closed : gate ≢ 1
-  pub inside : used_by bodies ≤ BANK
+  pub inside : used_by bodies ≤ BANK_BYTES
 
 pub is_formatted : (image : List ℕ) (bodies : List (List ℕ)) (selector gate : ℕ) (rest : List ℕ) → IsLaidOut image bodies selector gate rest → IsFormatted image bodies
 is_formatted image bodies selector gate rest laid =
@@ -70,7 +71,7 @@ module _ (image : List ℕ) (bodies : List (List ℕ)) (selector gate : ℕ) (re
       ∙ ap (λ (l : List ℕ). front selector bodies ++ gate ∷ (four (length body) ++ l)) (append_assoc body (0 ∷ []) (drop (length body + 5) rest))
 
   -- behind an open gate they are one body more
-  opened : (body : List ℕ) → length (blocks bodies) + 6 + length body ≤ BANK → IsLaidOut (front selector bodies ++ 1 ∷ (four (length body) ++ (body ++ 0 ∷ drop (length body + 5) rest))) (bodies ++ body ∷ []) selector 0 (drop (length body + 5) rest)
+  opened : (body : List ℕ) → length (blocks bodies) + 6 + length body ≤ BANK_BYTES → IsLaidOut (front selector bodies ++ 1 ∷ (four (length body) ++ (body ++ 0 ∷ drop (length body + 5) rest))) (bodies ++ body ∷ []) selector 0 (drop (length body + 5) rest)
   opened body fits = record {
     is = sym (front-push selector bodies body (0 ∷ drop (length body + 5) rest));
     bank = laid.bank;
@@ -79,7 +80,7 @@ module _ (image : List ℕ) (bodies : List (List ℕ)) (selector gate : ℕ) (re
   }
 
   -- a torn write of the gate leaves either
-  pub torn_gate : (body : List ℕ) → length (blocks bodies) + 6 + length body ≤ BANK → (c : List ℕ) → Torn p 1 (staged body) c → IsBeforeOrAfter bodies body c
+  pub torn_gate : (body : List ℕ) → length (blocks bodies) + 6 + length body ≤ BANK_BYTES → (c : List ℕ) → Torn p 1 (staged body) c → IsBeforeOrAfter bodies body c
   torn_gate body fits c torn =
       let is = at_byte (front selector bodies) gate (four (length body) ++ (body ++ 0 ∷ drop (length body + 5) rest)) p at c torn in
       elim (cases_eq (get_or c p 1) 1) [
@@ -87,5 +88,5 @@ module _ (image : List ℕ) (bodies : List (List ℕ)) (selector gate : ℕ) (re
         | inr shut ↦ inl (formatted (is_formatted c bodies selector (get_or c p 1) (four (length body) ++ (body ++ 0 ∷ drop (length body + 5) rest)) (record { is = is; bank = laid.bank; closed = shut; inside = laid.inside })))
       ]
 
-  pub open_gate : (body : List ℕ) → length (blocks bodies) + 6 + length body ≤ BANK → IsFormatted (patched (staged body) p (1 ∷ [])) (bodies ++ body ∷ [])
+  pub open_gate : (body : List ℕ) → length (blocks bodies) + 6 + length body ≤ BANK_BYTES → IsFormatted (patched (staged body) p (1 ∷ [])) (bodies ++ body ∷ [])
   open_gate body fits = subst (λ (l : List ℕ). IsFormatted l (bodies ++ body ∷ [])) (sym (patched_byte (front selector bodies) gate (four (length body) ++ (body ++ 0 ∷ drop (length body + 5) rest)) p at 1)) (is_formatted _ _ _ _ _ (opened body fits))

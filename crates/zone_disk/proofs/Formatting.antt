@@ -3,12 +3,12 @@ use Rattle.std.proofs.Common.{◌≡◌, ◌≢◌, inl, inr, ⊎_elim, ℕ, suc
 use Rattle.std.proofs.lemmas.List.{drop_all}
 use Rattle.std.proofs.lemmas.Bool.{cases_eq}
 use Rattle.std.specs.Prelude.{Result, Ok, Err, OnOk}
-use Rattle.zn_base.specs.Disk.{View, IsSound, IsDurable, GoesOn, NoMore, Leaves, OnlyLooks, Torn, patched}
+use Rattle.zn_io.specs.Disk.{View, IsSound, IsDurable, GoesOn, NoMore, Leaves, OnlyLooks, Torn, patched}
 use Rattle.zone_disk.specs.Image.{IsFormatted, IsUnformatted, IsSame, Stands}
 use Rattle.zone_disk.specs.Bank.{KeepsMeaning, Formats, new_store}
 use Rattle.zone_disk.specs.Format.{IsHeadless}
 use Rattle.zone_disk.specs.Image.Stands.{formatted, unformatted}
-use Rattle.zn_base.proofs.Moments.{weaker, joined}
+use Rattle.zn_io.proofs.Moments.{weaker, joined}
 use Rattle.zone_disk.proofs.Unique.{stands_unique, not_both}
 use Rattle.zone_disk.proofs.Torn.{behind, patched_behind, at_byte, patched_byte}
 

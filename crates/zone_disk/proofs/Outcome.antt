@@ -3,9 +3,10 @@ use Rattle.std.proofs.Common.{◌≡◌, ◌⊎◌, inl, inr, ℕ, zero, suc, �
 use Rattle.std.specs.Prelude.{true, Result, Ok, Err, IfOk, IfErr}
 use Rattle.std.proofs.lemmas.Bool.{cases_lt, false≢true}
 use Rattle.std.proofs.lemmas.List.{append_cancel_left}
+use Rattle.zone_disk.specs.declared.bank.TheConstants.{BANK_BYTES}
 use Rattle.zone_disk.specs.declared.fault.BankFault.{BankFault}
 use Rattle.zone_disk.specs.declared.fault.BankFault.TheVariants.{NotAStore, BadRecord, DiskFault, BankFull, Memory}
-use Rattle.zone_disk.specs.Image.{four, blocks, header, front, BANK, is_right, IsCut, IsFormatted, IsUnformatted, IsFirstWrong, IsBadRecord, Stands, Opens}
+use Rattle.zone_disk.specs.Image.{four, blocks, header, front, is_right, IsCut, IsFormatted, IsUnformatted, IsFirstWrong, IsBadRecord, Stands, Opens}
 use Rattle.zone_disk.specs.Image.Stands.{formatted, unformatted}
 use Rattle.zone_disk.specs.Bank.{Says, outcome_by}
 use Rattle.zone_disk.specs.Read.{Explains}
@@ -16,9 +17,9 @@ cut_stops : (rest : List ℕ) → IsCut rest → IsStop (1 ∷ rest)
 cut_stops rest cut body gate more e = let same : rest ≡ four (length body) ++ (body ++ gate ∷ more) = cc in cut body gate more same
 
 -- a bad record's image: the bank's end cuts off what is behind
-bad_is : (image : List ℕ) (place : ℕ) (b : IsBadRecord image place) → image ≡ front b.selector b.bodies ++ 1 ∷ (b.rest ++ drop (16 + BANK) image)
+bad_is : (image : List ℕ) (place : ℕ) (b : IsBadRecord image place) → image ≡ front b.selector b.bodies ++ 1 ∷ (b.rest ++ drop (16 + BANK_BYTES) image)
 bad_is image place b =
-    sym (take-append-drop (16 + BANK) image) ∙ ap (λ (l : List ℕ). l ++ drop (16 + BANK) image) b.is ∙ append_assoc (front b.selector b.bodies) (1 ∷ b.rest) (drop (16 + BANK) image)
+    sym (take-append-drop (16 + BANK_BYTES) image) ∙ ap (λ (l : List ℕ). l ++ drop (16 + BANK_BYTES) image) b.is ∙ append_assoc (front b.selector b.bodies) (1 ∷ b.rest) (drop (16 + BANK_BYTES) image)
 
 formatted_right : (image : List ℕ) (bodies : List (List ℕ)) → IsFormatted image bodies → (k : ℕ) → k < 17 → is_right image k ≡ true
 formatted_right image bodies f = let p = laid_out image bodies f in front_right image _ _ bodies _ p.is p.bank
@@ -43,13 +44,13 @@ take_past (x ∷ F) rest zero le = absurd (omega arith)
 take_past (x ∷ F) rest (suc n) le = ap (λ (l : List ℕ). x ∷ l) (take_past F rest n (omega arith) ∙ ap (λ (k : ℕ). F ++ take k rest) (omega arith))
 
 -- the closed gate is within the bank
-within_bank : (image : List ℕ) (bodies : List (List ℕ)) (s g : ℕ) (rest : List ℕ) → image ≡ front s bodies ++ g ∷ rest → length (blocks bodies) + 1 ≤ BANK → (more : List ℕ) × (take (16 + BANK) image ≡ front s bodies ++ g ∷ more)
+within_bank : (image : List ℕ) (bodies : List (List ℕ)) (s g : ℕ) (rest : List ℕ) → image ≡ front s bodies ++ g ∷ rest → length (blocks bodies) + 1 ≤ BANK_BYTES → (more : List ℕ) × (take (16 + BANK_BYTES) image ≡ front s bodies ++ g ∷ more)
 within_bank image bodies s g rest is inside =
     let F = front s bodies ++ g ∷ [] in
-    let size : length F ≤ 16 + BANK = omega (arith, length-append (front s bodies) (g ∷ []), length-front s bodies) in
-    let n = 16 + BANK - length F in
+    let size : length F ≤ 16 + BANK_BYTES = omega (arith, length-append (front s bodies) (g ∷ []), length-front s bodies) in
+    let n = 16 + BANK_BYTES - length F in
     let all : image ≡ F ++ rest = is ∙ sym (append_assoc (front s bodies) (g ∷ []) rest) in
-    (take n rest, ap (λ (l : List ℕ). take (16 + BANK) l) all ∙ take_past F rest (16 + BANK) size ∙ append_assoc (front s bodies) (g ∷ []) (take n rest))
+    (take n rest, ap (λ (l : List ℕ). take (16 + BANK_BYTES) l) all ∙ take_past F rest (16 + BANK_BYTES) size ∙ append_assoc (front s bodies) (g ∷ []) (take n rest))
 
 formatted_not_bad : (image : List ℕ) (bodies : List (List ℕ)) (place : ℕ) → IsFormatted image bodies → IsBadRecord image place → ⊥
 formatted_not_bad image bodies place f b =

@@ -5,7 +5,8 @@ use Rattle.std.proofs.lemmas.Bool.{cases_eq, cases_lt}
 use Rattle.std.proofs.lemmas.Bool.Decides.{nat_tests}
 use Rattle.std.proofs.Math.Seq.{take-add}
 use Rattle.std.proofs.lemmas.List.{take_min, take_all, take-take, take_rest, drop_more, drop-drop, drop-append-le, drop_at, get_or_append_left}
-use Rattle.zone_disk.specs.Image.{four, blocks, header, front, BANK, is_right, may_stand, IsFormatted, IsFirstWrong, IsBadRecord}
+use Rattle.zone_disk.specs.declared.bank.TheConstants.{BANK_BYTES}
+use Rattle.zone_disk.specs.Image.{four, blocks, header, front, is_right, may_stand, IsFormatted, IsFirstWrong, IsBadRecord}
 use Rattle.zone_disk.specs.Read.{HasHeaderOf, HasRecords, IsCutAt, IsFrontOf, Explains}
 use Rattle.zone_disk.specs.declared.fault.BankFault.{BankFault}
 use Rattle.zone_disk.specs.declared.fault.BankFault.TheVariants.{DiskFault, Memory}
@@ -90,7 +91,7 @@ front_more image new most is = is ∙ sym (take_min most image) ∙ ap (λ (k : 
 at_gate : (bytes : List ℕ) (bodies : List (List ℕ)) (place : ℕ) → HasRecords bytes bodies place → bytes ≡ front (get_or bytes 9 0) bodies ++ get_or bytes place 1 ∷ drop (place + 1) bytes
 at_gate bytes bodies place h = h.is ∙ ap (λ (l : List ℕ). front (get_or bytes 9 0) bodies ++ l) (drop_more bytes place 1 h.inside)
 
-pub closed_front : (image bytes : List ℕ) (bodies : List (List ℕ)) (place : ℕ) → IsFrontOf image bytes → length bytes ≤ 16 + BANK → HasRecords bytes bodies place → get_or bytes place 1 ≢ 1 → IsFormatted image bodies
+pub closed_front : (image bytes : List ℕ) (bodies : List (List ℕ)) (place : ℕ) → IsFrontOf image bytes → length bytes ≤ 16 + BANK_BYTES → HasRecords bytes bodies place → get_or bytes place 1 ≢ 1 → IsFormatted image bodies
 closed_front image bytes bodies place fore short h closed =
     let s = get_or bytes 9 0 in
     let tail = drop (length bytes) image in
@@ -99,11 +100,11 @@ closed_front image bytes bodies place fore short h closed =
     is_formatted image bodies s (get_or bytes place 1) _ (record { is = all; bank = h.bank; closed = closed; inside = omega (arith, place_is bytes bodies place h, h.inside) })
 
 -- nothing more came
-pub all_read : (image bytes new : List ℕ) (piece : ℕ) → IsFrontOf image bytes → length bytes ≤ 16 + BANK → 0 < piece → new ≡ take (min (16 + BANK) (length bytes + piece)) image → length new ≤ length bytes → bytes ≡ take (16 + BANK) image
+pub all_read : (image bytes new : List ℕ) (piece : ℕ) → IsFrontOf image bytes → length bytes ≤ 16 + BANK_BYTES → 0 < piece → new ≡ take (min (16 + BANK_BYTES) (length bytes + piece)) image → length new ≤ length bytes → bytes ≡ take (16 + BANK_BYTES) image
 all_read image bytes new piece fore short some is none =
-    fore ∙ ap (λ (k : ℕ). take k image) (omega (arith, ap length is, length-take (min (16 + BANK) (length bytes + piece)) image, ap length fore, length-take (length bytes) image)) ∙ take_min (16 + BANK) image
+    fore ∙ ap (λ (k : ℕ). take k image) (omega (arith, ap length is, length-take (min (16 + BANK_BYTES) (length bytes + piece)) image, ap length fore, length-take (length bytes) image)) ∙ take_min (16 + BANK_BYTES) image
 
-pub cut_front : (image bytes : List ℕ) (bodies : List (List ℕ)) (place : ℕ) → bytes ≡ take (16 + BANK) image → HasRecords bytes bodies place → IsCutAt bytes place → IsBadRecord image place
+pub cut_front : (image bytes : List ℕ) (bodies : List (List ℕ)) (place : ℕ) → bytes ≡ take (16 + BANK_BYTES) image → HasRecords bytes bodies place → IsCutAt bytes place → IsBadRecord image place
 cut_front image bytes bodies place all h cut = record {
   selector = get_or bytes 9 0;
   bodies = bodies;
@@ -115,12 +116,12 @@ cut_front image bytes bodies place all h cut = record {
 }
 
 -- the first piece
-pub first_piece : (image bytes : List ℕ) (piece : ℕ) → 17 ≤ piece → bytes ≡ take (min (16 + BANK) (0 + piece)) image → HasHeaderOf image bytes
+pub first_piece : (image bytes : List ℕ) (piece : ℕ) → 17 ≤ piece → bytes ≡ take (min (16 + BANK_BYTES) (0 + piece)) image → HasHeaderOf image bytes
 first_piece image bytes piece long is = record {
   front = front_more image bytes _ is;
   long = elim (cases_lt (length image) 17) [
-    | inl short ↦ inr (is ∙ take_all (min (16 + BANK) (0 + piece)) image (omega arith))
-    | inr whole ↦ inl (omega (arith, ap length is, length-take (min (16 + BANK) (0 + piece)) image))
+    | inl short ↦ inr (is ∙ take_all (min (16 + BANK_BYTES) (0 + piece)) image (omega arith))
+    | inr whole ↦ inl (omega (arith, ap length is, length-take (min (16 + BANK_BYTES) (0 + piece)) image))
   ];
 }
 

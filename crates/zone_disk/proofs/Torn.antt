@@ -1,7 +1,7 @@
 -- What a torn write may leave around one byte.
 use Rattle.std.proofs.Common.{◌≡◌, ℕ, ◌+◌, ◌-◌, List, [], ◌∷◌, ◌++◌, length, get_or, take, drop, sym, ◌∙◌, ap, arith, append_assoc, length-append, take-append-drop}
 use Rattle.std.proofs.lemmas.List.{append-nil, take_at, drop_at, drop_more, drop-drop}
-use Rattle.zn_base.specs.Disk.{patched, Torn}
+use Rattle.zn_io.specs.Disk.{patched, Torn}
 
 -- the byte g at the place p, between a front and a rest
 module _ (F : List ℕ) (g : ℕ) (rest : List ℕ) (p : ℕ) (at : p ≡ length F) where

@@ -1,9 +1,10 @@
 -- What a bank keeps on its disk, and what a crash leaves of it.
 use Rattle.std.specs.Prelude.{◌≡◌, ◌⊎◌, ℕ, ◌-◌, ◌≤◌, List, [], ◌∷◌, ◌++◌, length, take, drop, Bool, true, Result, Ok, Err}
-use Rattle.zn_base.specs.Disk.{View, IsDurable}
+use Rattle.zn_io.specs.Disk.{View, IsDurable}
+use Rattle.zone_disk.specs.declared.bank.TheConstants.{BANK_BYTES}
 use Rattle.zone_disk.specs.declared.fault.BankFault.{BankFault}
 use Rattle.zone_disk.specs.declared.fault.BankFault.TheVariants.{DiskFault, Memory}
-use Rattle.zone_disk.specs.Image.{four, header, BANK, used_by, Stands, Opens, IsFormatted, IsUnformatted, IsSame}
+use Rattle.zone_disk.specs.Image.{four, header, used_by, Stands, Opens, IsFormatted, IsUnformatted, IsSame}
 
 -- a body as it is written: its length, its bytes and a closed gate
 abbrev pub framed : List ℕ → List ℕ
@@ -28,7 +29,7 @@ pub record IsSettled (v : View) (bodies : List (List ℕ)) : Type 0 where
 -- the numbers of a bank fit its bodies, and while it is sound a disk that keeps to its model has them all
 pub record IsKept (v : View) (bodies : List (List ℕ)) (used : ℕ) (sound : Bool) : Type 0 where
   pub counted : used ≡ used_by bodies
-  pub within : used ≤ BANK
+  pub within : used ≤ BANK_BYTES
   pub settled : sound ≡ true → v.Keeps → IsSettled v bodies
 
 -- the bodies from before, with the new one or without

@@ -1,5 +1,6 @@
 -- What an image of a disk stands for, and why it stands for nothing.
-use Rattle.std.specs.Prelude.{◌≡◌, ◌≢◌, ◌↔◌, ℕ, ◌+◌, ◌/◌, ◌%◌, ◌<◌, ◌≤◌, List, [], ◌∷◌, ◌++◌, length, take, get_or, Bool, true, false, nat_lt, nat_le, not, ◌&&◌, ◌==◌, if◌then◌else◌, Result, Ok, Err}
+use Rattle.std.specs.Prelude.{◌≡◌, ◌≢◌, ◌↔◌, ℕ, ◌+◌, ◌/◌, ◌%◌, ◌<◌, ◌≤◌, List, [], ◌∷◌, ◌++◌, length, take, get_or, Bool, true, false, nat_lt, nat_le, not, ◌&&◌, ◌==◌, if◌then◌else◌, Result, Ok, Err, codes}
+use Rattle.zone_disk.specs.declared.bank.TheConstants.{BANK_BYTES}
 use Rattle.zone_disk.specs.declared.fault.BankFault.{BankFault}
 use Rattle.zone_disk.specs.declared.fault.BankFault.TheVariants.{NotAStore, BadRecord, DiskFault, BankFull, Memory}
 
@@ -14,14 +15,10 @@ blocks (body ∷ bodies) = 1 ∷ (four (length body) ++ (body ++ blocks bodies))
 
 -- the header: an open head gate, the form's name, the selector of a bank, six zeros
 abbrev pub header : ℕ → List ℕ
-header selector = 1 ∷ 90 ∷ 78 ∷ 83 ∷ 84 ∷ 79 ∷ 82 ∷ 69 ∷ 49 ∷ selector ∷ 0 ∷ 0 ∷ 0 ∷ 0 ∷ 0 ∷ 0 ∷ []
+header selector = 1 ∷ codes "ZNSTORE1" ++ selector ∷ 0 ∷ 0 ∷ 0 ∷ 0 ∷ 0 ∷ 0 ∷ []
 
 abbrev pub front : ℕ → List (List ℕ) → List ℕ
 front selector bodies = header selector ++ blocks bodies
-
--- how many bytes the bank has
-abbrev pub BANK : ℕ
-BANK = 33554432
 
 -- how many of them are in use: the bodies and the closed gate
 abbrev pub used_by : List (List ℕ) → ℕ
@@ -34,7 +31,7 @@ pub record IsFormatted (image : List ℕ) (bodies : List (List ℕ)) : Type 0 wh
   pub bank : get_or image 9 0 ≢ 66
   -- past the disk's end there is no closed gate
   pub closed : get_or image (16 + length (blocks bodies)) 1 ≢ 1
-  pub inside : used_by bodies ≤ BANK
+  pub inside : used_by bodies ≤ BANK_BYTES
 
 -- at most one byte, or a closed head gate and at most 17 bytes
 abbrev pub IsUnformatted : List ℕ → Type 0
@@ -75,7 +72,7 @@ pub record IsBadRecord (image : List ℕ) (place : ℕ) : Type 0 where
   pub selector : ℕ
   pub bodies : List (List ℕ)
   pub rest : List ℕ
-  pub is : take (16 + BANK) image ≡ front selector bodies ++ 1 ∷ rest
+  pub is : take (16 + BANK_BYTES) image ≡ front selector bodies ++ 1 ∷ rest
   pub bank : selector ≢ 66
   pub cut : IsCut rest
   pub there : place ≡ 16 + length (blocks bodies)

@@ -1,16 +1,16 @@
 //! A list of bodies on a disk, each behind a gate byte that is opened once the body is on the disk.
 ghost use Rattle.std.specs.Prelude.{◌≡◌, ◌≢◌, ◌⊎◌, ◌*◌, ◌+◌, ◌<◌, ◌≤◌, ◌-◌, ◌^◌, ◌++◌, ◌↔◌, [], ◌∷◌, List, ℕ, length, IfOk, IfErr, OnOk, OnErr, IsErrOf, IsTrue, Bool, true, false, Result, vec_capacity};
-ghost use Rattle.zn_base.specs.Disk.{View, Leaves, IsDurable};
-ghost use Rattle.zn_base.specs.Streams.{Rose};
-ghost use Rattle.zone_disk.specs.Image.{BANK, used_by, IsUnformatted, Stands};
+ghost use Rattle.zn_io.specs.Disk.{View, Leaves, IsDurable};
+ghost use Rattle.zn_io.specs.Streams.{HasCause, Rose};
+ghost use Rattle.zone_disk.specs.Image.{used_by, IsUnformatted, Stands};
 ghost use Rattle.zone_disk.specs.Bank.{IsSettled, IsBeforeOrAfter, KeepsMeaning, Formats, Says, outcome_by};
 
 use crate::format::prepare;
 use crate::read::{Records, read_all};
 use crate::{BankFault, Body};
-use std::alloc::Global;
+use std::alloc::{AllocError, Global};
 use std::marker::Model;
-use zn_base::{Disk, put_durably};
+use zn_io::{Disk, Failed, put_durably};
 
 /// How many bytes of a store a bank has behind the header: gates, lengths and bodies.
 pub const BANK_BYTES: usize = 33_554_432;
@@ -46,7 +46,7 @@ fn ready<D: Disk>(alloc: Global, disk: &mut D) -> Result<Records, BankFault>
     ensures refused_same { (D.view disk.old).Keeps → IfErr result (λ e. e ≢ BankFault.DiskFault → (D.view disk.new).reads ≡ (D.view disk.old).reads) }
     ensures unformatted { (D.view disk.old).Keeps → IsUnformatted (D.view disk.old).reads → IfErr result (λ e. e ≡ BankFault.DiskFault) }
     ensures counted { IfOk result (λ r. r.used ≡ used_by r.bodies.items) }
-    ensures within { IfOk result (λ r. r.used ≤ BANK) }
+    ensures within { IfOk result (λ r. r.used ≤ BANK_BYTES) }
     ensures model { (D.view disk.old).Keeps ↔ (D.view disk.new).Keeps }
     ensures faults { (D.view disk.old).faults ≤ (D.view disk.new).faults }
     ensures cause { IsErrOf result BankFault.DiskFault → Rose (D.view disk.old).faults (D.view disk.new).faults }
@@ -69,10 +69,35 @@ fn push(bodies: &mut Vec<Body>, body: Body)
     bodies.push(body).unwrap();
 }
 
+// A copy of a body, with a place among the bodies for one more.
+fn prepared(alloc: Global, bodies: &mut Vec<Body>, body: &[u8]) -> Result<Body, AllocError>
+    requires { length body.now < 2 ^ 32 }
+    ensures same { bodies.new.items ≡ bodies.old.items }
+    ensures room { OnOk result (length bodies.new.items < vec_capacity bodies.new) }
+    ensures body { IfOk result (λ kept. kept ≡ body.now) }
+{
+    let kept = Body::copied(alloc, body)?;
+    bodies.reserve(1)?;
+    Ok(kept)
+}
+
+// Puts a body behind the closed gate, and then opens the gate.
+fn put_body<D: Disk>(disk: &mut D, used: u32, body: &Body) -> Result<(), Failed>
+    requires { used + 5 + length body.now ≤ BANK_BYTES }
+    ensures any_moment { (D.view disk.old).Keeps → (bodies : List (List ℕ)) → IsSettled (D.view disk.old) bodies → used ≡ used_by bodies → Leaves (D.view disk.old) (D.view disk.new) (IsBeforeOrAfter bodies body.now) }
+    ensures settled { (D.view disk.old).Keeps → (bodies : List (List ℕ)) → IsSettled (D.view disk.old) bodies → used ≡ used_by bodies → OnOk result (IsSettled (D.view disk.new) (bodies ++ body.now ∷ [])) }
+    ensures model { (D.view disk.old).Keeps ↔ (D.view disk.new).Keeps }
+    ensures cause { HasCause (D.view disk.old).faults (D.view disk.new).faults result }
+{
+    let gate = 15 + used as u64;
+    put_durably(disk, gate + 1, body.framed())?;
+    put_durably(disk, gate, &[1])
+}
+
 // There is no room behind the closed gate for a length, a body and the next gate.
 fn is_full(used: u32, body: &[u8]) -> bool
-    requires { used ≤ BANK }
-    ensures { IsTrue result ↔ (BANK < used + 5 + length body.now) }
+    requires { used ≤ BANK_BYTES }
+    ensures { IsTrue result ↔ (BANK_BYTES < used + 5 + length body.now) }
 {
     body.len() > BANK_BYTES || used as usize + 5 + body.len() > BANK_BYTES
 }
@@ -130,7 +155,7 @@ impl<D: Disk> Bank<D> {
         ensures lasts { (D.view self.old.disk).Keeps → OnOk result ((image : List ℕ) → (D.view self.new.disk).Now image → Stands image (self.old.records ++ body.now ∷ [])) }
         ensures either { (D.view self.old.disk).Keeps → (image : List ℕ) → (D.view self.new.disk).Now image → IsBeforeOrAfter self.old.records body.now image }
 
-        ensures full { IsErrOf result BankFault.BankFull ↔ (BANK < self.old.used + 5 + length body.now) }
+        ensures full { IsErrOf result BankFault.BankFull ↔ (BANK_BYTES < self.old.used + 5 + length body.now) }
         ensures full_same { IsErrOf result BankFault.BankFull → self.new ≡ self.old }
         ensures memory_same { IsErrOf result BankFault.Memory → self.new ≡ self.old }
         ensures fault { IsErrOf result BankFault.DiskFault → Rose (D.view self.old.disk).faults (D.view self.new.disk).faults }
@@ -144,12 +169,9 @@ impl<D: Disk> Bank<D> {
         if is_full(self.used, body) {
             return Err(BankFault::BankFull);
         }
-        let kept = Body::copied(alloc, body)?;
-        self.records.reserve(1)?;
+        let kept = prepared(alloc, &mut self.records, body)?;
         self.sound = false;
-        let gate = 15 + self.used as u64;
-        put_durably(&mut self.disk, gate + 1, kept.framed())?;
-        put_durably(&mut self.disk, gate, &[1])?;
+        put_body(&mut self.disk, self.used, &kept)?;
         self.used += 5 + body.len() as u32;
         push(&mut self.records, kept);
         self.sound = true;
@@ -167,7 +189,7 @@ impl<D: Disk> Bank<D> {
     pub fn used(&self) -> u32
         ensures used { result ≡ self.now.used }
         ensures counted { result ≡ used_by self.now.records }
-        ensures within { result ≤ BANK }
+        ensures within { result ≤ BANK_BYTES }
     {
         self.used
     }

@@ -1,6 +1,7 @@
 //! Bodies, kept as they stand on the disk.
 ghost use Rattle.std.specs.Prelude.{◌≡◌, ◌<◌, ◌^◌, IfOk, length};
 ghost use Rattle.zone_disk.specs.Bank.{framed};
+ghost use Rattle.zone_disk.specs.Image.{four};
 
 use std::alloc::{AllocError, Global};
 use std::marker::Model;
@@ -22,16 +23,25 @@ impl Model for Body {
     ghost invariant = { λ b. b.bytes.items ≡ framed (body_in b.bytes.items) };
 }
 
+// A length as four bytes, the most significant first.
+fn four(length: usize) -> [u8; 4]
+    requires { length < 2 ^ 32 }
+    ensures { result ≡ four length }
+{
+    [
+        (length / 256 / 256 / 256) as u8,
+        (length / 256 / 256 % 256) as u8,
+        (length / 256 % 256) as u8,
+        (length % 256) as u8,
+    ]
+}
+
 fn frame(alloc: Global, body: &[u8]) -> Result<Vec<u8>, AllocError>
     requires { length body.now < 2 ^ 32 }
     ensures { IfOk result (λ bytes. bytes.items ≡ framed body.now) }
 {
-    let len = body.len();
-    let mut bytes = Vec::with_capacity(alloc, len + 5)?;
-    bytes.push((len / 256 / 256 / 256) as u8)?;
-    bytes.push((len / 256 / 256 % 256) as u8)?;
-    bytes.push((len / 256 % 256) as u8)?;
-    bytes.push((len % 256) as u8)?;
+    let mut bytes = Vec::with_capacity(alloc, body.len() + 5)?;
+    bytes.extend_from_slice(&four(body.len()))?;
     bytes.extend_from_slice(body)?;
     bytes.push(0)?;
     Ok(bytes)

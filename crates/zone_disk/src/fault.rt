@@ -4,7 +4,7 @@ ghost use Rattle.zone_disk.specs.declared.fault.BankFault.TheVariants.{Memory, D
 
 use std::alloc::{AllocError, AllocFailed};
 use thiserror::Error;
-use zn_base::Failed;
+use zn_io::Failed;
 
 /// Why a bank can't be opened or appended to.
 #[derive(Clone, Copy, Debug, PartialEq, Eq, Error)]

@@ -1,13 +1,13 @@
 //! Formatting a disk, so that a crash at any moment leaves one that stands for no body.
 ghost use Rattle.std.specs.Prelude.{◌≡◌, ◌≢◌, ◌⊎◌, ◌↔◌, ◌+◌, ◌≤◌, ◌<◌, ◌^◌, [], List, ℕ, length, IfOk, IsTrue, OnOk, OnErr};
-ghost use Rattle.zn_base.specs.Disk.{View, OnlyLooks, Leaves, IsDurable};
-ghost use Rattle.zn_base.specs.Streams.{HasCause};
+ghost use Rattle.zn_io.specs.Disk.{View, OnlyLooks, Leaves, IsDurable};
+ghost use Rattle.zn_io.specs.Streams.{HasCause};
 ghost use Rattle.zone_disk.specs.Image.{Stands, IsUnformatted, IsSame};
 ghost use Rattle.zone_disk.specs.Bank.{KeepsMeaning, Formats, new_store};
 ghost use Rattle.zone_disk.specs.Format.{IsHeadless, IsKind};
 
 use crate::header::TAIL;
-use zn_base::{Disk, Failed, put_durably};
+use zn_io::{Disk, Failed, put_durably};
 
 /// What the front of a disk says.
 #[derive(Clone, Copy)]

@@ -2,8 +2,8 @@
 ghost use Rattle.std.specs.Prelude.{◌≡◌, ◌<◌, ◌≤◌, IsTrue, IsNone, IfSome, length, get_or, true, false, ℕ};
 ghost use Rattle.zone_disk.specs.Image.{may_stand, is_right, IsFirstWrong};
 
-/// Behind the head gate: the form's name, the selector, six zeros and a closed first gate.
-pub const TAIL: [u8; 16] = [90, 78, 83, 84, 79, 82, 69, 49, 65, 0, 0, 0, 0, 0, 0, 0];
+/// What stands behind the head gate: the form's name, the selector, six zeros and a closed first gate.
+pub const TAIL: [u8; 16] = *b"ZNSTORE1A\0\0\0\0\0\0\0";
 
 fn may_stand(place: usize, byte: u8) -> bool
     ensures { result ≡ may_stand place byte }

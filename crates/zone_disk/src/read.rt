@@ -1,17 +1,17 @@
 //! Reading what stands on a disk, in large pieces, of which the one with the closed gate is the last.
 ghost use Rattle.std.specs.Prelude.{◌≡◌, ◌≢◌, ◌⊎◌, ◌↔◌, ◌+◌, ◌-◌, ◌≤◌, ◌<◌, ◌^◌, ◌++◌, [], ◌∷◌, List, ℕ, length, min, take, drop, get_or, true, false, IfOk, IfErr, OnOk, OnErr, IsErrOf, IsTrue, MatchOption};
-ghost use Rattle.zn_base.specs.Disk.{View, OnlyLooks};
-ghost use Rattle.zn_base.specs.Streams.{Rose};
-ghost use Rattle.zone_disk.specs.Image.{four, blocks, BANK, used_by, is_right, IsFormatted, IsCut};
+ghost use Rattle.zn_io.specs.Disk.{View, OnlyLooks};
+ghost use Rattle.zn_io.specs.Streams.{Rose};
+ghost use Rattle.zone_disk.specs.Image.{four, blocks, used_by, is_right, IsFormatted, IsCut};
 ghost use Rattle.zone_disk.specs.Read.{IsFrontOf, HasHeaderOf, HasRecords, IsCutAt, Explains};
 
 use crate::header::first_wrong;
-use crate::{BankFault, Body};
+use crate::{BANK_BYTES, BankFault, Body};
 use std::alloc::{AllocError, Global};
-use zn_base::{Disk, Failed};
+use zn_io::{Disk, Failed};
 
-// The header and the bank.
-const END: usize = 33_554_448;
+// The sixteen bytes of the header, and the bank.
+const END: usize = 16 + BANK_BYTES;
 
 // How much is read at once.
 const PIECE: usize = 65_536;
@@ -120,7 +120,7 @@ fn read_records<D: Disk>(
     ensures ok { (D.view disk.old).Keeps → IsFrontOf (D.view disk.old).reads bytes.old.items → IfOk result (λ r. IsFormatted (D.view disk.old).reads r.bodies.items) }
     ensures err { (D.view disk.old).Keeps → IsFrontOf (D.view disk.old).reads bytes.old.items → IfErr result (λ e. Explains e (D.view disk.old).reads) }
     ensures counted { IfOk result (λ r. r.used ≡ used_by r.bodies.items) }
-    ensures within { IfOk result (λ r. r.used ≤ BANK) }
+    ensures within { IfOk result (λ r. r.used ≤ BANK_BYTES) }
     ensures looks { OnlyLooks (D.view disk.old) (D.view disk.new) }
     ensures cause { IsErrOf result BankFault.DiskFault → Rose (D.view disk.old).faults (D.view disk.new).faults }
     ensures only { IfErr result (λ e. e ≢ BankFault.BankFull) }
@@ -168,7 +168,7 @@ pub fn read_all<D: Disk>(alloc: Global, disk: &mut D) -> Result<Records, BankFau
     ensures ok { (D.view disk.old).Keeps → IfOk result (λ r. IsFormatted (D.view disk.old).reads r.bodies.items) }
     ensures err { (D.view disk.old).Keeps → IfErr result (λ e. Explains e (D.view disk.old).reads) }
     ensures counted { IfOk result (λ r. r.used ≡ used_by r.bodies.items) }
-    ensures within { IfOk result (λ r. r.used ≤ BANK) }
+    ensures within { IfOk result (λ r. r.used ≤ BANK_BYTES) }
     ensures looks { OnlyLooks (D.view disk.old) (D.view disk.new) }
     ensures cause { IsErrOf result BankFault.DiskFault → Rose (D.view disk.old).faults (D.view disk.new).faults }
     ensures only { IfErr result (λ e. e ≢ BankFault.BankFull) }

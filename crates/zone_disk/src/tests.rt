@@ -5,7 +5,7 @@ use super::*;
 use std::alloc::{AllocError, Global};
 use std::process::Abort;
 use std::test::Fail;
-use zn_base::{Disk, Fill, MemDisk, Room};
+use zn_io::{Disk, Fill, MemDisk, Room};
 
 const BODIES: [&[u8]; 3] = [b"one", b"", b"three"];
 

@@ -4,16 +4,16 @@ use Rattle.zone_machine.specs.declared.daemon.RequestKind.{RequestKind}
 use Rattle.zone_machine.specs.Typed.{is_full, with_request}
 use Rattle.std.proofs.Common.{◌≡◌, ℕ, List, Some, get_or, set, ap, sym, subst, ◌∙◌}
 use Rattle.std.specs.Prelude.{bytes_eq, true, false, ◌+◌, ◌++◌, ◌∷◌, []}
-use Rattle.zn_base.proofs.Owned_laws.{same_true}
+use Rattle.zone_pools.proofs.Owned_laws.{same_true}
 use Rattle.zn_base.specs.Names.{Name}
-use Rattle.zn_base.specs.Owned_lists.{tag}
-use Rattle.zn_base.specs.Firsts.{first_of}
-use Rattle.zn_base.specs.declared.grant.Grant.{Grant}
-use Rattle.zn_base.specs.declared.owned.Owned.{Owned}
+use Rattle.zone_pools.specs.Owned_lists.{tag}
+use Rattle.zone_pools.specs.Firsts.{first_of}
+use Rattle.zone_pools.specs.declared.grant.Grant.{Grant}
+use Rattle.zone_pools.specs.declared.owned.Owned.{Owned}
 use Rattle.zone_machine.specs.Acts_seen.{TurnsDesk, desk_in, Puts}
 use Rattle.zone_machine.specs.Decisions.{act_of}
 use Rattle.zone_machine.specs.Desks_seen.{desk_seen}
-use Rattle.zone_machine.specs.Lists_seen.{StandsAt, StandsNowhere}
+use Rattle.zone_pools.specs.Places.{StandsAt, StandsNowhere}
 use Rattle.zone_machine.specs.State as state
 use Rattle.zone_machine.specs.Tables.{desk_or_empty}
 use Rattle.zone_machine.specs.Turns.{turn_at}

@@ -18,12 +18,12 @@ use Rattle.zone_machine.specs.declared.objects.Id.{Id}
 use Rattle.zone_machine.specs.declared.objects.Mount.{Mount}
 use Rattle.std.proofs.Common.{◌≡◌, ◌∷◌, [], ℕ, Option, Some, None, Bool, true, false, ap, refl, sym, ◌∙◌, ◌+◌, Global}
 use Rattle.std.specs.Prelude.{◌≢◌, Vec, map, nat_eq, if◌then◌else◌}
-use Rattle.zn_base.proofs.Owned_laws.{mine-edit, other-list, same_self, other_tag}
-use Rattle.zn_base.proofs.Firsts_laws.{first-placed, other-placed}
+use Rattle.zone_pools.proofs.Owned_laws.{mine-edit, other-list, same_self, other_tag}
+use Rattle.zone_pools.proofs.Firsts_laws.{first-placed, other-placed}
 use Rattle.zn_base.specs.Names.{Name}
-use Rattle.zn_base.specs.Owned_lists.{Come, List_edit, edit_list, edited, mine, Put}
-use Rattle.zn_base.specs.Firsts.{first_of, placed}
-use Rattle.zn_base.specs.declared.owned.Owned.{Owned}
+use Rattle.zone_pools.specs.Owned_lists.{Come, List_edit, edit_list, edited, mine, Put}
+use Rattle.zone_pools.specs.Firsts.{first_of, placed}
+use Rattle.zone_pools.specs.declared.owned.Owned.{Owned}
 use Rattle.zone_machine.specs.Desks_seen.{desk_seen}
 use Rattle.zone_machine.specs.Tables.{Does, Rest, came_rest, desk_or_empty, kept_rest, rest_of, world_of, Acts}
 use Rattle.zone_machine.specs.Worlds.{World}

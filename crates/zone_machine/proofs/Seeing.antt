@@ -5,10 +5,10 @@ use Rattle.std.specs.Option.{option_map}
 use Rattle.std.proofs.lemmas.List.{take_more, append-nil}
 use Rattle.std.proofs.lemmas.List.Elements.{filter_map-append}
 use Rattle.std.proofs.lemmas.List.Sums.{length-filter}
-use Rattle.zn_base.specs.Firsts.{first_of}
-use Rattle.zn_base.specs.Owned_lists.{mine, own}
-use Rattle.zn_base.specs.declared.owned.Owned.{Owned}
-use Rattle.zone_machine.specs.Lists_seen.{StandsAt, StandsNowhere}
+use Rattle.zone_pools.specs.Firsts.{first_of}
+use Rattle.zone_pools.specs.Owned_lists.{mine, own}
+use Rattle.zone_pools.specs.declared.owned.Owned.{Owned}
+use Rattle.zone_pools.specs.Places.{StandsAt, StandsNowhere}
 use Rattle.zone_machine.specs.Turns.{last_dir, last_of}
 use Rattle.zone_machine.specs.declared.objects.Mount.{Mount}
 

@@ -1,5 +1,5 @@
 -- What each session does, after a change of one or of all.
-use Rattle.zn_base.proofs.Owned_laws.{other_tag}
+use Rattle.zone_pools.proofs.Owned_laws.{other_tag}
 use Rattle.zone_machine.specs.Turns.{ticket_ended}
 use Rattle.zone_machine.specs.Edits.{swept_doing}
 use Rattle.std.proofs.Common.{◌≡◌, ◌<◌, ℕ, Bool, List, Option, Some, None, true, false, length, get_or, set, refl, ap, sym, subst, ◌∙◌}

@@ -3,17 +3,17 @@ use Rattle.std.proofs.Common.{◌≡◌, ◌+◌, ◌∷◌, ◌++◌, [], ℕ, 
 use Rattle.std.specs.Prelude.{◌≢◌, bytes_eq}
 use Rattle.std.specs.List.{list_any}
 use Rattle.std.proofs.lemmas.Bool.{false≢true, true≢false}
-use Rattle.zn_base.proofs.Owned_laws.{same_self, same_true}
+use Rattle.zone_pools.proofs.Owned_laws.{same_self, same_true}
 use Rattle.zn_base.specs.Names.{Name}
-use Rattle.zn_base.specs.Owned_lists.{mine}
-use Rattle.zn_base.specs.declared.owned.Owned.{Owned}
+use Rattle.zone_pools.specs.Owned_lists.{mine}
+use Rattle.zone_pools.specs.declared.owned.Owned.{Owned}
 use Rattle.zone_machine.proofs.Laws.{OwnSession, other-acts, own-acts}
 use Rattle.zone_machine.proofs.Own_worlds.{view-world}
 use Rattle.zone_machine.specs.Decisions.{Act, acts, acts_world, after_came}
 use Rattle.zone_machine.specs.Edits.{Arrival, Edit, New_id, New_process, New_record, Processes_go, comes, edit, edits}
 use Rattle.zone_machine.specs.Lines.{Line, line_of}
 use Rattle.zone_machine.specs.Machine.{decide, session_subject, started, subject}
-use Rattle.zone_machine.specs.Pools.{has_zid, pools_of}
+use Rattle.zone_machine.specs.Pools.{has_zid, path_taken, pools_of}
 use Rattle.zone_machine.specs.Sessions_seen.{doing_at, session_at}
 use Rattle.zone_machine.specs.State as state
 use Rattle.zone_machine.specs.State.{State, rows_from, rows_of, with_stored}
@@ -144,6 +144,7 @@ pools-stand S t s =
       zid_used = λ n. same_any (has_zid n) S.ids t.ids.items (λ z. ap (λ w. w.ids) (s.worlds z)) i;
       last_pid = (r i).last_pid;
       last_zid = (r i).last_zid;
-      rows = (r i).rows;
+      zones = length (r i).rows;
+      path_taken = path_taken (r i).rows;
       serial = (r i).serial;
     }

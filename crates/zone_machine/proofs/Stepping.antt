@@ -1,7 +1,7 @@
 -- A step of the tables is the definitions' step.
 use Rattle.std.proofs.Common.{◌≡◌, ℕ, List, Option, Some, None, Result, Ok as Right, Err, true, refl, ap, sym, subst, ◌∙◌}
 use Rattle.zn_base.specs.Names.{Name, name_of}
-use Rattle.zn_base.specs.declared.grant.Grant.{Grant}
+use Rattle.zone_pools.specs.declared.grant.Grant.{Grant}
 use Rattle.zn_base.specs.declared.name.NameFault.{NameFault}
 use Rattle.zone_machine.proofs.Own_worlds.{own_session}
 use Rattle.zone_machine.proofs.Standing.{Stands-acts, Stands-started, decide-stands, subject-stands}

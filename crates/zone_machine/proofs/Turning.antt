@@ -3,13 +3,14 @@ use Rattle.std.proofs.Common.{◌≡◌, ◌∷◌, ◌++◌, [], ℕ, List, Opt
 use Rattle.std.specs.Prelude.{Vec}
 use Rattle.std.specs.Option.{option_map}
 use Rattle.zn_base.specs.Names.{Name}
-use Rattle.zn_base.specs.Owned_lists.{mine}
-use Rattle.zn_base.specs.Firsts.{first_of}
-use Rattle.zn_base.specs.declared.grant.Grant.{Grant}
-use Rattle.zn_base.specs.declared.owned.Owned.{Owned}
+use Rattle.zone_pools.specs.Owned_lists.{mine}
+use Rattle.zone_pools.specs.Firsts.{first_of}
+use Rattle.zone_pools.specs.declared.grant.Grant.{Grant}
+use Rattle.zone_pools.specs.declared.owned.Owned.{Owned}
 use Rattle.zone_machine.proofs.Doing_laws.{does_desk, does_same, does_then}
 use Rattle.zone_machine.specs.Acts_seen.{RestsDesk, TurnsDesk, desk_in}
-use Rattle.zone_machine.specs.Decisions.{Just, act_of, acts_world, after_came_world, turned}
+use Rattle.zone_machine.specs.Decisions.{act_of, acts_world, after_came_world, turned}
+use Rattle.zone_pools.specs.Decisions.{Just}
 use Rattle.zone_machine.specs.Desks_seen.{desk_seen}
 use Rattle.zone_machine.specs.Edits.{Set_desk, edits_world}
 use Rattle.zone_machine.specs.State as state

@@ -3,10 +3,10 @@ use Rattle.zone_machine.specs.declared.daemon.RequestKind.{RequestKind}
 use Rattle.zone_machine.specs.Typed.{is_full, with_request}
 use Rattle.std.specs.Prelude.{◌≡◌, List, ℕ, Option, Some, None, true, false, ◌+◌}
 use Rattle.zn_base.specs.Names.{Name}
-use Rattle.zn_base.specs.Owned_lists.{mine}
-use Rattle.zn_base.specs.Firsts.{first_of, placed}
-use Rattle.zn_base.specs.declared.grant.Grant.{Grant}
-use Rattle.zn_base.specs.declared.owned.Owned.{Owned}
+use Rattle.zone_pools.specs.Owned_lists.{mine}
+use Rattle.zone_pools.specs.Firsts.{first_of, placed}
+use Rattle.zone_pools.specs.declared.grant.Grant.{Grant}
+use Rattle.zone_pools.specs.declared.owned.Owned.{Owned}
 use Rattle.zone_machine.specs.Desks_seen.{desk_seen}
 use Rattle.zone_machine.specs.State as state
 use Rattle.zone_machine.specs.Tables.{desk_or_empty}

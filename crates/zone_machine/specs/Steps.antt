@@ -1,9 +1,11 @@
 -- A step of the machine, as the definitions have it.
 use Rattle.zone_machine.specs.declared.replies.Head.{Head}
-use Rattle.zone_machine.specs.Decisions.{Asked, asked_of, says}
+use Rattle.zone_machine.specs.Decisions.{says}
+use Rattle.zone_pools.specs.Asked.{Asked}
+use Rattle.zone_pools.specs.Decisions.{asked_of}
 use Rattle.std.specs.Prelude.{◌≡◌, ◌⊎◌, List, [], Option, Bool, true, false, IsErrOf, Result}
 use Rattle.zn_base.specs.Names.{Name}
-use Rattle.zn_base.specs.declared.grant.Grant.{Grant}
+use Rattle.zone_pools.specs.declared.grant.Grant.{Grant}
 use Rattle.zn_base.specs.declared.state.ZoneState.{ZoneState}
 use Rattle.zone_machine.specs.Histories.{entry_at}
 use Rattle.zone_machine.specs.Machine.{one, subject}

@@ -10,13 +10,14 @@ use Rattle.zone_machine.specs.Lines.{Line, line_of}
 use Rattle.std.specs.Prelude.{◌≡◌, ◌≢◌, ℕ, ◌+◌, List, Option, Some, None, length}
 use Rattle.std.specs.List.{list_any}
 use Rattle.zn_base.specs.Names.{Name}
-use Rattle.zn_base.specs.Owned_lists.{mine}
-use Rattle.zn_base.specs.Firsts.{first_of}
-use Rattle.zn_base.specs.declared.owned.Owned.{Owned}
+use Rattle.zone_pools.specs.Owned_lists.{mine}
+use Rattle.zone_pools.specs.Firsts.{first_of}
+use Rattle.zone_pools.specs.declared.owned.Owned.{Owned}
 use Rattle.zone_machine.specs.Decisions.{Act, acts_world, Decision}
 use Rattle.zone_machine.specs.Desks_seen.{desk_seen}
 use Rattle.zone_machine.specs.Edits.{Arrival, New_id, New_process, New_record}
-use Rattle.zone_machine.specs.Pools.{Pools, has_zid}
+use Rattle.zone_machine.specs.Pools.{has_zid, path_taken}
+use Rattle.zone_pools.specs.Pools.{Pools}
 use Rattle.zone_machine.specs.Sessions_seen.{doing_at, session_at}
 use Rattle.zone_machine.specs.State as state
 use Rattle.zone_machine.specs.State.{State, empty_desk, rows_of, with_stored}
@@ -87,7 +88,8 @@ pools_in t = record {
   zid_used = λ n. list_any (λ o. has_zid n o.it) t.ids.items;
   last_pid = t.last_pid;
   last_zid = t.last_zid;
-  rows = t.rows.items;
+  zones = length t.rows.items;
+  path_taken = path_taken t.rows.items;
   serial = t.serial;
 }
 

@@ -2,8 +2,8 @@
 use Rattle.zone_machine.specs.Desks_seen.{job_seen}
 use Rattle.std.specs.Prelude.{◌≡◌, ℕ, ◌+◌, List, [], ◌∷◌, ◌++◌, Option, Some, None, drop, length, ◌<◌, Bool, true, false, IsSome, if◌then◌else◌}
 use Rattle.std.specs.Option.{option_map}
-use Rattle.zn_base.specs.Owned_lists.{Come, Go}
-use Rattle.zn_base.specs.declared.grant.Grant.{Grant}
+use Rattle.zone_pools.specs.Owned_lists.{Come, Go}
+use Rattle.zone_pools.specs.declared.grant.Grant.{Grant}
 use Rattle.zone_machine.specs.Decisions.{Act, Decision, Effect, act_of, says, after_came_world}
 use Rattle.zone_machine.specs.Edits.{Arrival, Edit, Ids_go, New_id, New_process, New_record, Of_mounts, Processes_go, Set_desk, Sweep, edits_world}
 use Rattle.zone_machine.specs.State as state

@@ -2,7 +2,7 @@
 ghost use Rattle.std.specs.Prelude.{◌≡◌, IfOk, MatchOption, None, OnOk, Some};
 ghost use Rattle.std.specs.Option.{option_map};
 ghost use Rattle.zone_machine.specs.Decisions.{act_of, says};
-ghost use Rattle.zone_machine.specs.Lists_seen.{StandsAt};
+ghost use Rattle.zone_pools.specs.Places.{StandsAt};
 ghost use Rattle.zone_machine.specs.Tables.{Acts, Does, came_rest, world_of};
 ghost use Rattle.zone_machine.specs.Turns.{turn};
 ghost use Rattle.zone_machine.specs.Turns_seen.{arrival_of, work_world};
@@ -12,14 +12,14 @@ ghost use Rattle.zone_machine.specs.declared.replies.Head.TheVariants.{Turned};
 
 use crate::daemon::TurnReply;
 use crate::desks::Desk;
-use crate::lists::place_of;
 use crate::records::Record;
 use crate::sights::see;
 use crate::tables::Tables;
 use crate::turns::{has_work, turn};
 use crate::work::{Seen, Work};
 use std::alloc::{AllocError, Global};
-use zn_base::{Grant, Owned, ZoneName};
+use zn_base::ZoneName;
+use zone_pools::{Grant, Owned, place_of};
 
 impl Tables {
     // What a turn does beside its change of the desk.

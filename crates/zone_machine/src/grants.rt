@@ -1,8 +1,8 @@
 //! What the pools give an event, and whether a stated grant fits it.
 ghost use Rattle.std.specs.Prelude.{◌≡◌, IfOk};
-ghost use Rattle.zone_machine.specs.Decisions.{asked_of, number_in};
+ghost use Rattle.zone_pools.specs.Decisions.{asked_of};
 ghost use Rattle.zone_machine.specs.Needs_seen.{asked_by};
-ghost use Rattle.zone_machine.specs.Pools.{said_by_all};
+ghost use Rattle.zone_pools.specs.Pools.{said_by_all};
 ghost use Rattle.zone_machine.specs.Steps.{IsAllowed, IsFit, asked_in};
 ghost use Rattle.zone_machine.specs.Tables.{decide_in, pools_in, subject_in};
 
@@ -10,19 +10,8 @@ use crate::events::{Event, Subject};
 use crate::needs::Need;
 use crate::tables::Tables;
 use std::alloc::{AllocError, Global};
-use zn_base::{Grant, Pool, ZoneName};
-
-/// The number that a grant gives, else the pool that denies it.
-pub(crate) fn number_in(grant: Grant) -> Result<u32, Pool>
-    ensures { result ≡ number_in grant }
-{
-    match grant {
-        Grant::Number(number) => Ok(number),
-        Grant::Yes => Ok(0),
-        Grant::Denied(pool) => Err(pool),
-        Grant::Nothing => Err(Pool::Store),
-    }
-}
+use zn_base::ZoneName;
+use zone_pools::Grant;
 
 impl Tables {
     fn zone_allowed(

@@ -9,7 +9,8 @@ use crate::faults::StepFault;
 use crate::tables::Tables;
 use std::alloc::Global;
 use std::marker::Model;
-use zn_base::{Grant, ZoneName, ZoneState};
+use zn_base::{ZoneName, ZoneState};
+use zone_pools::Grant;
 
 /// The machine of all zones. Contracts see its tables, and say what they stand for.
 #[derive(Drop)]

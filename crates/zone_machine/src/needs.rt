@@ -1,9 +1,9 @@
 //! What an event of a zone asks of the pools.
 ghost use Rattle.std.specs.Prelude.{◌≡◌, IfOk, drop, is_some};
 ghost use Rattle.std.specs.Option.{option_map};
-ghost use Rattle.zn_base.specs.Owned_lists.{mine};
-ghost use Rattle.zn_base.specs.Firsts.{first_of};
-ghost use Rattle.zone_machine.specs.Decisions.{asked_of};
+ghost use Rattle.zone_pools.specs.Owned_lists.{mine};
+ghost use Rattle.zone_pools.specs.Firsts.{first_of};
+ghost use Rattle.zone_pools.specs.Decisions.{asked_of};
 ghost use Rattle.zone_machine.specs.Desks_seen.{desk_seen, job_seen};
 ghost use Rattle.zone_machine.specs.Lines_seen.{line_seen};
 ghost use Rattle.zone_machine.specs.Needs_seen.{asked_by, plan_asks, step_asks};
@@ -18,14 +18,14 @@ ghost use Rattle.zone_machine.specs.declared.records.Record as record_types;
 use crate::daemon::Step;
 use crate::desks::{Desk, Job};
 use crate::lines::{Command, Line};
-use crate::lists::place_of;
 use crate::objects::Mount;
 use crate::plan_steps::skip_unmounts;
 use crate::sessions::awaited;
 use crate::tables::Tables;
 use crate::typing::usable_path;
 use std::alloc::{AllocError, Global};
-use zn_base::{AbsPath, Owned, ZoneName};
+use zn_base::{AbsPath, ZoneName};
+use zone_pools::{Owned, place_of};
 
 /// What an event asks.
 #[derive(Drop)]

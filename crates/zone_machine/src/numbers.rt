@@ -2,7 +2,7 @@
 ghost use Rattle.std.specs.Prelude.{◌≡◌, ◌+◌, ◌-◌, ◌<◌, ◌≤◌, ◌^◌, nat_eq};
 ghost use Rattle.std.specs.List.{list_any};
 ghost use Rattle.zone_machine.specs.Numbers_seen.{is_among};
-ghost use Rattle.zone_machine.specs.Pools.{first_free, next_free};
+ghost use Rattle.zone_pools.specs.Pools.{first_free, next_free};
 
 fn is_used(used: &[u32], number: u32) -> bool
     ensures { result ≡ is_among used.now number }
@@ -23,7 +23,7 @@ fn first_free(used: &[u32], from: u32, count: u32) -> Option<u32>
     None
 }
 
-#[tactic(auto, using(crate::proofs::Free_numbers::none_above))]
+#[tactic(auto, using(zone_pools::proofs::Free_numbers::none_above))]
 fn first_above(used: &[u32], high: u32, last: u32) -> Option<u32>
     requires { high < 2 ^ 31 }
     ensures { result ≡ first_free (is_among used.now) (last + 1) (high - last) }

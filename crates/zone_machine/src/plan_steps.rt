@@ -1,9 +1,10 @@
 //! The steps of a request's plan, each one turn of the zone's daemon.
 ghost use Rattle.std.specs.Prelude.{[], ◌++◌, ◌<◌, ◌∷◌, ◌≡◌, IfOk, IsSome, Some, codes, drop, length, true};
 ghost use Rattle.std.specs.Option.{option_map};
-ghost use Rattle.zn_base.specs.Owned_lists.{Come, Go};
-ghost use Rattle.zn_base.specs.declared.grant.Grant.{Grant as A_grant};
-ghost use Rattle.zone_machine.specs.Decisions.{A_pid, A_serial, A_zid, Decision, act_of};
+ghost use Rattle.zone_pools.specs.Owned_lists.{Come, Go};
+ghost use Rattle.zone_pools.specs.declared.grant.Grant.{Grant as A_grant};
+ghost use Rattle.zone_machine.specs.Decisions.{Decision, act_of};
+ghost use Rattle.zone_pools.specs.Asked.{A_pid, A_serial, A_zid};
 ghost use Rattle.zone_machine.specs.Desks_seen.{job_seen};
 ghost use Rattle.zone_machine.specs.Edits.{A_process, A_record, An_id, Ids_go, Of_mounts, Processes_go};
 ghost use Rattle.zone_machine.specs.State as state;
@@ -14,12 +15,12 @@ ghost use Rattle.zone_machine.specs.declared.records.Record as record_types;
 
 use crate::daemon::{Outcome, Step, TurnReply};
 use crate::desks::Job;
-use crate::grants::number_in;
 use crate::objects::{Id, Mount, Process};
 use crate::records::{Config, Record};
 use crate::work::{Came, ObjectEdit, Seen, Work};
 use std::alloc::{AllocError, Global};
-use zn_base::{AbsPath, Grant, Text, ZoneState};
+use zn_base::{AbsPath, Text, ZoneState};
+use zone_pools::{Grant, number_in};
 
 // A step is done, with what came and what it did to the objects, and the plan goes on behind it.
 fn passed(

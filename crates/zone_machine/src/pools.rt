@@ -1,10 +1,11 @@
 //! What the pools give that all zones share, and which grants may be stated.
 ghost use Rattle.std.specs.Prelude.{◌≡◌, ◌&&◌, ◌∷◌, [], ◌+◌, IfOk, bytes_eq, map, not, if◌then◌else◌};
 ghost use Rattle.std.specs.List.{list_any};
-ghost use Rattle.zone_machine.specs.Decisions.{A_path, A_pid, A_serial, A_zid, A_zone};
+ghost use Rattle.zone_pools.specs.Asked.{A_path, A_pid, A_serial, A_zid, A_zone};
 ghost use Rattle.zone_machine.specs.Needs_seen.{asked_by};
 ghost use Rattle.zone_machine.specs.Numbers_seen.{is_among};
-ghost use Rattle.zone_machine.specs.Pools.{fits_asked, fits_pool, has_place, has_room, has_zid, is_pool, next_free, numbered, said_by_all};
+ghost use Rattle.zone_machine.specs.Pools.{has_zid, path_taken};
+ghost use Rattle.zone_pools.specs.Pools.{fits_asked, fits_pool, has_place, has_room, is_pool, next_free, numbered, said_by_all};
 ghost use Rattle.zone_machine.specs.Tables.{pools_in};
 ghost use Rattle.zone_machine.specs.Worlds.{has_pid};
 
@@ -14,17 +15,10 @@ use crate::objects::{Id, Process};
 use crate::records::Record;
 use crate::tables::Tables;
 use std::alloc::{AllocError, Global};
-use zn_base::{AbsPath, Grant, Owned, Pool, ZoneName};
-
-// The least number of a zone's process. The system's first process has 1.
-const PID_MIN: u32 = 2;
-
-const PID_MAX: u32 = 29_999;
-
-// The least id of a zone. The global zone has 0.
-const ZID_MIN: u32 = 1;
-
-const ZID_MAX: u32 = 9_999;
+use zn_base::{AbsPath, ZoneName};
+use zone_pools::{
+    Grant, Owned, PID_MAX, PID_MIN, Pool, SERIAL_MAX, ZID_MAX, ZID_MIN, ZONES_MAX, numbered,
+};
 
 fn pids(alloc: Global, processes: &[Owned<Process>]) -> Result<Vec<u32>, AllocError>
     ensures { IfOk result (λ v. v.items ≡ map (λ o. o.it.pid) processes.now) }
@@ -38,15 +32,6 @@ fn zids(alloc: Global, ids: &[Owned<Id>]) -> Result<Vec<u32>, AllocError>
     ids.iter().map(|owned| owned.it.zid).collect(alloc)
 }
 
-fn numbered(pool: Pool, number: Option<u32>) -> Grant
-    ensures { result ≡ numbered pool number }
-{
-    match number {
-        Some(number) => Grant::Number(number),
-        None => Grant::Denied(pool),
-    }
-}
-
 fn has_path(zone: &ZoneName, path: &AbsPath, row: &Owned<Record>) -> bool
     ensures { result ≡ (not (bytes_eq zone.now row.now.zone) && bytes_eq path.now row.now.it.config.zonepath) }
 {
@@ -54,7 +39,7 @@ fn has_path(zone: &ZoneName, path: &AbsPath, row: &Owned<Record>) -> bool
 }
 
 fn path_taken(rows: &[Owned<Record>], zone: &ZoneName, path: &AbsPath) -> bool
-    ensures { result ≡ list_any (λ row. not (bytes_eq zone.now row.zone) && bytes_eq path.now row.it.config.zonepath) rows.now }
+    ensures { result ≡ path_taken rows.now zone.now path.now }
 {
     rows.iter().any(|row| has_path(zone, path, row))
 }
@@ -84,14 +69,14 @@ impl Tables {
     fn has_place(&self) -> bool
         ensures { result ≡ has_place (pools_in self.now) }
     {
-        self.rows.len() < 256
+        self.rows.len() < ZONES_MAX
     }
 
     /// Whether one more record can be counted.
     pub(crate) fn has_room(&self) -> bool
         ensures { result ≡ has_room (pools_in self.now) }
     {
-        self.serial < u32::MAX
+        self.serial < SERIAL_MAX
     }
 
     fn next_serial(&self) -> Grant

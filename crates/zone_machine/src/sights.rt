@@ -1,18 +1,18 @@
 //! What a turn looks at in the tables.
 ghost use Rattle.std.specs.Prelude.{◌≡◌, IfOk, Some, bytes_eq, length, if◌then◌else◌};
 ghost use Rattle.std.specs.Option.{option_map};
-ghost use Rattle.zn_base.specs.Owned_lists.{mine};
+ghost use Rattle.zone_pools.specs.Owned_lists.{mine};
 ghost use Rattle.zone_machine.specs.State.{state_of};
 ghost use Rattle.zone_machine.specs.Tables.{world_of};
 ghost use Rattle.zone_machine.specs.Turns.{last_dir, zid_of};
 ghost use Rattle.zone_machine.specs.Turns_seen.{Sees};
 
-use crate::lists::place_of;
 use crate::objects::{Id, Mount};
 use crate::tables::Tables;
 use crate::work::Seen;
 use std::alloc::{AllocError, Global};
-use zn_base::{AbsPath, Owned, ZoneName, ZoneState};
+use zn_base::{AbsPath, ZoneName, ZoneState};
+use zone_pools::{Owned, place_of};
 
 #[tactic(auto, using(crate::proofs::Seeing::count_mine))]
 fn count_of<T>(list: &[Owned<T>], zone: &ZoneName) -> usize

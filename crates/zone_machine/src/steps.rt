@@ -2,12 +2,13 @@
 ghost use Rattle.std.specs.Prelude.{◌≡◌, IfOk, None, OnOk, Some};
 ghost use Rattle.std.specs.Option.{option_map};
 ghost use Rattle.zn_base.specs.Names.{name_of};
-ghost use Rattle.zone_machine.specs.Decisions.{act_of, asked_of, says};
+ghost use Rattle.zone_machine.specs.Decisions.{act_of, says};
+ghost use Rattle.zone_pools.specs.Decisions.{asked_of};
 ghost use Rattle.zone_machine.specs.Lines.{line_of};
 ghost use Rattle.zone_machine.specs.Lines_seen.{line_seen, word_seen};
 ghost use Rattle.zone_machine.specs.Machine.{named_subject, session_number};
 ghost use Rattle.zone_machine.specs.Needs_seen.{asked_by};
-ghost use Rattle.zn_base.specs.declared.grant.Grant.{Grant as A_grant};
+ghost use Rattle.zone_pools.specs.declared.grant.Grant.{Grant as A_grant};
 ghost use Rattle.zone_machine.specs.Steps.{IsHead, IsStep};
 ghost use Rattle.zone_machine.specs.Tables.{Acts, decide_in, subject_in};
 ghost use Rattle.zone_machine.specs.Typed.{badly_named, global_line};
@@ -20,7 +21,8 @@ use crate::replies::{Body, Head, Refusal, Reply};
 use crate::sessions::awaited;
 use crate::tables::Tables;
 use std::alloc::{AllocError, Global};
-use zn_base::{Grant, NameFault, ZoneName};
+use zn_base::{NameFault, ZoneName};
+use zone_pools::Grant;
 
 // The zone that a word names, or the global zone.
 fn named_subject(alloc: Global, word: Option<&[u8]>) -> Result<Subject, AllocError>

@@ -2,13 +2,14 @@
 ghost use Rattle.std.specs.Prelude.{◌≡◌, [], IfOk, None, OnOk, Some};
 
 use crate::desks::Desk;
-use crate::lists::{add, end_all, enter, place, place_of, unmount};
+use crate::lists::{enter, unmount};
 use crate::objects::{Id, Mount, Process};
 use crate::records::Record;
 use crate::sessions::{Session, end_waits};
 use crate::work::{Came, ObjectEdit};
 use std::alloc::{AllocError, Global};
-use zn_base::{Owned, ZoneName};
+use zn_base::ZoneName;
+use zone_pools::{Owned, add, end_all, place, place_of};
 
 /// Everything that zones have.
 #[derive(Drop)]
@@ -31,7 +32,7 @@ pub(crate) struct Tables {
 
 impl Tables {
     ghost use Rattle.std.specs.Option.{option_map};
-    ghost use Rattle.zn_base.specs.Owned_lists.{Come, Go};
+    ghost use Rattle.zone_pools.specs.Owned_lists.{Come, Go};
     ghost use Rattle.zone_machine.specs.Decisions.{Act, after_came_world, says};
     ghost use Rattle.zone_machine.specs.Desks_seen.{desk_seen};
     ghost use Rattle.zone_machine.specs.Edits.{New_id, New_process, New_record, comes_world, edit_world, edits_world};

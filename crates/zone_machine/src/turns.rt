@@ -14,7 +14,7 @@ use crate::plans::{may_begin, plan};
 use crate::records::Record;
 use crate::work::{ObjectEdit, Seen, Work};
 use std::alloc::{AllocError, Global};
-use zn_base::Grant;
+use zone_pools::Grant;
 
 // The request under way ends.
 fn finish(desk: &mut Desk, ticket: u32, outcome: Outcome) -> Work

@@ -5,7 +5,7 @@ ghost use Rattle.zone_machine.specs.Desks_seen.{desk_seen};
 ghost use Rattle.zone_machine.specs.Lines as lines;
 ghost use Rattle.zone_machine.specs.Lines_seen.{command_seen, line_seen};
 ghost use Rattle.zone_machine.specs.Acts_seen.{Puts, PutsRequest};
-ghost use Rattle.zone_machine.specs.Lists_seen.{StandsAt, StandsNowhere};
+ghost use Rattle.zone_pools.specs.Places.{StandsAt, StandsNowhere};
 ghost use Rattle.zone_machine.specs.Tables.{Acts, Does, came_rest, kept_rest, world_of};
 ghost use Rattle.zone_machine.specs.Typed.{idle_line, is_full, make, make_at, put_request, typed, usable_path};
 ghost use Rattle.zone_machine.specs.Sessions_seen.{IsOwnSession, session_at};
@@ -15,16 +15,15 @@ ghost use Rattle.zn_base.specs.Path.{path_of};
 ghost use Rattle.zone_machine.specs.declared.records.Record as record_types;
 
 use crate::daemon::RequestKind;
-use crate::desks::Desk;
-use crate::grants::number_in;
+use crate::desks::{Desk, REQUESTS_MAX, TICKET_MAX};
 use crate::lines::{Command, Line};
-use crate::lists::{add, place_of};
 use crate::records::{Config, Record};
 use crate::replies::{Head, Refusal};
 use crate::sessions::{Session, awaited, wait};
 use crate::tables::Tables;
 use std::alloc::{AllocError, Global};
-use zn_base::{AbsPath, Grant, Owned, PathFault, ZoneName, ZoneState};
+use zn_base::{AbsPath, PathFault, ZoneName, ZoneState};
+use zone_pools::{Grant, Owned, add, number_in, place_of};
 
 fn is_root(path: &AbsPath) -> bool
     ensures { result ≡ bytes_eq path.now (codes "/") }
@@ -52,7 +51,7 @@ pub(crate) fn usable_path(alloc: Global, word: &[u8]) -> Result<Option<AbsPath>,
 fn is_full(desk: &Desk) -> bool
     ensures { result ≡ is_full (desk_seen desk.now) }
 {
-    desk.waiting.len() >= 8 || desk.last == u32::MAX
+    desk.waiting.len() >= REQUESTS_MAX || desk.last == TICKET_MAX
 }
 
 // A request waits on a desk that isn't full.

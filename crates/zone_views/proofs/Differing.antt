@@ -4,8 +4,8 @@ use Rattle.std.specs.Prelude.{bytes_eq, filter, nat_eq, not, if◌then◌else◌
 use Rattle.std.specs.List.{AllByRecursion, IsDistinct, list_any}
 use Rattle.std.proofs.lemmas.Bool.{eqb-false, eqb-true, false_from_ne_true, or_parts}
 use Rattle.zn_base.specs.Names.{Name}
-use Rattle.zn_base.specs.Owned_lists.{put_tagged, tag}
-use Rattle.zn_base.specs.declared.owned.Owned.{Owned}
+use Rattle.zone_pools.specs.Owned_lists.{put_tagged, tag}
+use Rattle.zone_pools.specs.declared.owned.Owned.{Owned}
 use Rattle.zone_views.specs.Numbers.{AllDiffer}
 
 module _ {A : Type 0} (f : A → ℕ) where

@@ -4,18 +4,19 @@ use Rattle.std.proofs.Common.{◌≡◌, ◌+◌, ◌*◌, ◌<◌, ◌∷◌, [
 use Rattle.std.specs.Prelude.{◌≢◌, bytes_eq, codes, max, unwrap_or, if◌then◌else◌}
 use Rattle.std.proofs.Math.Nat.{le-max_left, le-max_right}
 use Rattle.std.proofs.lemmas.Bool.{and_from, and_parts, false≢true}
-use Rattle.zn_base.proofs.Owned_laws.{same_self}
-use Rattle.zn_base.specs.Firsts.{is_nil}
+use Rattle.zone_pools.proofs.Owned_laws.{same_self}
+use Rattle.zone_pools.specs.Firsts.{is_nil}
 use Rattle.zn_base.specs.Names.{Name}
 use Rattle.zn_base.specs.Path.{path_of}
-use Rattle.zn_base.specs.declared.grant.Grant.{Grant}
-use Rattle.zn_base.specs.declared.grant.Grant.TheVariants.{Nothing, Number, Yes, Denied}
-use Rattle.zn_base.specs.declared.grant.Pool.{Pool}
-use Rattle.zn_base.specs.declared.grant.Pool.TheVariants.{Store}
+use Rattle.zone_pools.specs.declared.grant.Grant.{Grant}
+use Rattle.zone_pools.specs.declared.grant.Grant.TheVariants.{Nothing, Number, Yes, Denied}
+use Rattle.zone_pools.specs.declared.grant.Pool.{Pool}
+use Rattle.zone_pools.specs.declared.grant.Pool.TheVariants.{Store}
 use Rattle.zn_base.specs.declared.state.ZoneState.{ZoneState}
 use Rattle.zn_base.specs.declared.state.ZoneState.TheVariants.{Configured, Installed, Ready, Running}
 use Rattle.zone_machine.proofs.Own_worlds.{view-world, world-one}
-use Rattle.zone_machine.specs.Decisions.{Ask, Decision, Effect, Just, act_of, acts_world, says}
+use Rattle.zone_machine.specs.Decisions.{Decision, Effect, act_of, acts_world, says}
+use Rattle.zone_pools.specs.Decisions.{Ask, Just}
 use Rattle.zone_machine.specs.Edits.{arrived, comes_world, edits_world}
 use Rattle.zone_machine.specs.Histories.{after, after_entry, world_by}
 use Rattle.zone_machine.specs.Lines.{Blank, Command, Line, Make, Request, Unknown, line_of}

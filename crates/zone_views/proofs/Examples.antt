@@ -1,15 +1,16 @@
 -- A history of two zones, computed by the definitions.
 use Rattle.std.proofs.Common.{◌≡◌, ◌∷◌, ◌++◌, ◌&&◌, [], ℕ, List, true, false, Some, None, map, refl}
 use Rattle.std.specs.Prelude.{codes, not, replicate}
-use Rattle.zn_base.specs.Same.{same_grant}
-use Rattle.zn_base.specs.declared.grant.Grant.{Grant}
-use Rattle.zn_base.specs.declared.grant.Grant.TheVariants.{Nothing, Number}
+use Rattle.zone_pools.specs.Same.{same_grant}
+use Rattle.zone_pools.specs.declared.grant.Grant.{Grant}
+use Rattle.zone_pools.specs.declared.grant.Grant.TheVariants.{Nothing, Number}
 use Rattle.zn_base.specs.declared.state.ZoneState.TheVariants.{Configured, Installed}
 use Rattle.zone_machine.specs.Edits.{comes, edit}
 use Rattle.zone_machine.specs.Histories.{after, any_grant, asked, history, is_history, is_legal, only, replies, run}
 use Rattle.zone_machine.specs.Lines.{line_of}
 use Rattle.zone_machine.specs.Machine.{decide, one, opening, subject}
-use Rattle.zone_machine.specs.Pools.{allowed, first_free, fits}
+use Rattle.zone_machine.specs.Pools.{allowed, fits}
+use Rattle.zone_pools.specs.Pools.{first_free}
 use Rattle.zone_machine.specs.Same.{same_reply, same_subject}
 use Rattle.zone_machine.specs.State.{State, zone_state}
 use Rattle.zone_machine.specs.Turns.{turn}

@@ -3,15 +3,18 @@ use Rattle.std.proofs.Common.{◌≡◌, ◌∷◌, ◌≤◌, ◌&&◌, [], ℕ
 use Rattle.std.specs.Prelude.{bytes_eq, nat_le, not}
 use Rattle.std.specs.List.{IsDistinct, list_all}
 use Rattle.std.proofs.lemmas.Bool.{and_from, and_parts, false≢true, leb-true, not-true}
-use Rattle.zn_base.proofs.Same_laws.{grant-Decides}
+use Rattle.zone_pools.proofs.Same_laws.{grant-Decides}
 use Rattle.zn_base.specs.Names.{Name}
-use Rattle.zn_base.specs.declared.grant.Grant.{Grant}
-use Rattle.zn_base.specs.declared.grant.Grant.TheVariants.{Nothing, Number, Yes, Denied}
-use Rattle.zone_machine.specs.Decisions.{A_pid, A_zid, Ask, Asked, Decision, Just, act_of, acts, after_came, asked_of}
+use Rattle.zone_pools.specs.declared.grant.Grant.{Grant}
+use Rattle.zone_pools.specs.declared.grant.Grant.TheVariants.{Nothing, Number, Yes, Denied}
+use Rattle.zone_machine.specs.Decisions.{Decision, act_of, acts, after_came}
+use Rattle.zone_pools.specs.Asked.{A_pid, A_zid, Asked}
+use Rattle.zone_pools.specs.Decisions.{Ask, Just, asked_of}
 use Rattle.zone_machine.specs.Edits.{A_process, A_record, An_id, Comes, Edit, Here, Ids_go, Of_mounts, Processes_go, Set_desk, Sweep, arrived, below, comes, edit, edits}
 use Rattle.zone_machine.specs.Histories.{after, after_entry, is_allowed, is_history, is_legal, is_told}
 use Rattle.zone_machine.specs.Machine.{decide, one, one_of, opening, session_number, subject}
-use Rattle.zone_machine.specs.Pools.{allowed, allowed_of, fits, fits_asked, fits_of, fits_pool, pools_of}
+use Rattle.zone_machine.specs.Pools.{allowed, allowed_of, fits, fits_of, pools_of}
+use Rattle.zone_pools.specs.Pools.{fits_asked, fits_pool}
 use Rattle.zone_machine.specs.State.{State}
 use Rattle.zone_machine.specs.Worlds.{view}
 use Rattle.zone_machine.specs.declared.events.Entry.{Entry}

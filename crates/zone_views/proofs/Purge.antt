@@ -3,9 +3,9 @@ use Rattle.std.proofs.Common.{◌≡◌, ◌∷◌, [], ◌&&◌, ℕ, List, Boo
 use Rattle.std.specs.Prelude.{bytes_eq, nat_eq, filter, if◌then◌else◌}
 use Rattle.std.specs.List.{list_all}
 use Rattle.std.proofs.lemmas.Bool.{and_parts, false≢true}
-use Rattle.zn_base.proofs.Owned_laws.{same_self, same_true}
+use Rattle.zone_pools.proofs.Owned_laws.{same_self, same_true}
 use Rattle.zn_base.specs.Names.{Name}
-use Rattle.zn_base.specs.declared.grant.Grant.{Grant}
+use Rattle.zone_pools.specs.declared.grant.Grant.{Grant}
 use Rattle.zone_machine.proofs.Laws.{IsOwn, IsOwn-of, IsOwn-swept}
 use Rattle.zone_machine.proofs.Own_worlds.{leaves, reply-whole, reply-world, world-one, world_by-other}
 use Rattle.zone_machine.proofs.Same_laws.{reply-Decides, subject-Decides}

@@ -1,8 +1,8 @@
 -- What the definitions give is a history.
 use Rattle.std.proofs.Common.{◌≡◌, ◌∷◌, [], List, true, refl}
 use Rattle.std.proofs.lemmas.Bool.{and_from}
-use Rattle.zn_base.proofs.Same_laws.{grant-Decides}
-use Rattle.zn_base.specs.declared.grant.Grant.{Grant}
+use Rattle.zone_pools.proofs.Same_laws.{grant-Decides}
+use Rattle.zone_pools.specs.declared.grant.Grant.{Grant}
 use Rattle.zone_machine.proofs.Same_laws.{reply-Decides, subject-Decides}
 use Rattle.zone_machine.specs.Histories.{any_grant, entry_at, history, is_history, is_legal, is_told, run}
 use Rattle.zone_machine.specs.Machine.{one, subject}

@@ -8,16 +8,17 @@ use Rattle.zn_base.specs.Names.{Name}
 use Rattle.zn_base.specs.Path.{path_of}
 use Rattle.zn_base.specs.Same.{same_state}
 use Rattle.zn_base.proofs.Same_laws.{state-Decides}
-use Rattle.zn_base.specs.declared.grant.Grant.{Grant}
-use Rattle.zn_base.specs.declared.grant.Grant.TheVariants.{Nothing, Number, Yes, Denied}
-use Rattle.zn_base.specs.declared.grant.Pool.{Pool}
-use Rattle.zn_base.specs.declared.grant.Pool.TheVariants.{Store}
+use Rattle.zone_pools.specs.declared.grant.Grant.{Grant}
+use Rattle.zone_pools.specs.declared.grant.Grant.TheVariants.{Nothing, Number, Yes, Denied}
+use Rattle.zone_pools.specs.declared.grant.Pool.{Pool}
+use Rattle.zone_pools.specs.declared.grant.Pool.TheVariants.{Store}
 use Rattle.zn_base.specs.States.{is_stored}
 use Rattle.zn_base.specs.declared.state.ZoneState.{ZoneState}
 use Rattle.zn_base.specs.declared.state.ZoneState.TheVariants.{Configured, Installed, Ready, Running, ShuttingDown, Down}
-use Rattle.zn_base.proofs.Owned_laws.{same_true}
+use Rattle.zone_pools.proofs.Owned_laws.{same_true}
 use Rattle.zone_machine.proofs.Own_worlds.{world-one}
-use Rattle.zone_machine.specs.Decisions.{Ask, Decision, Just, act_of, acts_world}
+use Rattle.zone_machine.specs.Decisions.{Decision, act_of, acts_world}
+use Rattle.zone_pools.specs.Decisions.{Ask, Just}
 use Rattle.zone_machine.specs.Edits.{comes_world, edits_world, arrived}
 use Rattle.zone_machine.specs.Histories.{after, after_entry, world_by}
 use Rattle.zone_machine.specs.Lines.{Blank, Command, Line, Make, Request, Unknown, line_of}

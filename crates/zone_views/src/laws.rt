@@ -3,7 +3,7 @@ ghost use Rattle.std.specs.Prelude.{◌<◌, ◌≡◌, ◌≢◌, ◌⊎◌, Bo
 ghost use Rattle.std.specs.List.{list_all};
 ghost use Rattle.zn_base.specs.Moves.{may_move};
 ghost use Rattle.zn_base.specs.Names.{Name};
-ghost use Rattle.zn_base.specs.declared.grant.Grant.{Grant};
+ghost use Rattle.zone_pools.specs.declared.grant.Grant.{Grant};
 ghost use Rattle.zone_machine.specs.Decisions.{says};
 ghost use Rattle.zone_machine.specs.Histories.{after, any_grant, asked, concerns, history, is_history, is_legal, only, replay, replies, run};
 ghost use Rattle.zone_machine.specs.Machine.{need, one, opening, subject};

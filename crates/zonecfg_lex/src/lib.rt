@@ -20,6 +20,3 @@ pub use lexer::{part_tokens, tokens};
 pub use spans::parts;
 pub use subcommands::{Part, line_tokens};
 pub use token::{Span, Token, TokenKind};
-
-#[cfg(test)]
-mod tests;

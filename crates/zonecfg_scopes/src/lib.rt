@@ -23,6 +23,3 @@ pub use editor::Editor;
 pub use fault::{EditFault, Scope};
 pub use forms::read_command;
 pub use laws::{lines_denote, one_stands};
-
-#[cfg(test)]
-mod tests;

@@ -1,29 +1,12 @@
-//! The program `zones`: zone configurations read, checked and written, and traces run by the zone machine. Its
-//! one contract is that of `run_zones`, over any source and sinks: what a whole input comes to, and what each
-//! exit status means.
+//! The program `zones`: its words and its standard streams, handed to `zones_run`, whose answer is the exit status.
 #![tactic(auto)]
 
-mod edit;
-mod export;
-mod fault;
-mod laws;
-mod lines;
-mod outcome;
-mod refusal;
-mod run;
-mod status;
-#[cfg(test)]
-mod tests;
-mod trace;
-mod words;
-
-use fault::RunFault;
-use run::{fail, run_zones};
 use std::alloc::AllocError;
 use std::env;
 use std::io::ErrorKind;
 use std::process::ExitCode;
-use zn_base::{StdSink, StdSource};
+use zn_io::{StdSink, StdSource};
+use zones_run::{RunFault, fail, run_zones};
 
 // The words after the program's name. Words that can't be read, as those that are no UTF-8, are none.
 fn read_words(rt: &HostRuntime) -> Result<Vec<String>, AllocError> {

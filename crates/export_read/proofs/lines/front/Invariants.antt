@@ -1,6 +1,6 @@
 use Rattle.std.proofs.Common.{◌≡◌, ◌++◌, take}
 use Rattle.zn_base.specs.Lines.{lines_of}
-use Rattle.export_lines.specs.Lines.{ended}
+use Rattle.export_read.specs.Lines.{ended}
 use Rattle.export_read.proofs.lines.front.Given as goal
 
 abbrev pub invariant-loop-left : goal.invariant-loop-left

@@ -1,7 +1,8 @@
 use Rattle.std.proofs.Common.{◌≡◌, ◌≤◌, ◌∙◌, ◌+◌, inl, inr, ℕ, List, length, take, ap, arith, subst, sym}
 use Rattle.std.specs.Prelude.{min}
 use Rattle.std.proofs.lemmas.Bool.{cases_lt, false≢true}
-use Rattle.zn_base.proofs.Moments.{looks_self, looks_again}
+use Rattle.zn_io.proofs.Moments.{looks_self, looks_again}
+use Rattle.zone_disk.specs.declared.bank.TheConstants.{BANK_BYTES}
 use Rattle.zone_disk.specs.Read.{HasRecords, IsCutAt, IsFrontOf}
 use Rattle.zone_disk.proofs.Reading.{header_right, in_more, front_more, closed_front, all_read, cut_front}
 use Rattle.zone_disk.proofs.read.read_records.Goals as goal
@@ -27,8 +28,8 @@ returns-then-not-branch-clause-err g c keeps fore =
     let cut = subst (λ (l : List ℕ). IsCutAt l c.in_ok-next.next) c.deref.ensures.value (c.in_ok-next.ensures.cut c.if-is_closed.false) in
     let image = (g.D.Disk.view c.args.disk.now).reads in
     let same = i.looks.same keeps in
-    let some : c.read_piece.new.bytes.items ≡ take (min 33554448 (length c.pieces.bytes.items + length c.pieces.piece)) image =
-    c.in_ok-read_piece.ensures.bytes (i.looks.model.0 keeps) (subst (λ (l : List ℕ). IsFrontOf l c.pieces.bytes.items) (sym same) (i.front keeps fore)) ∙ ap (λ (l : List ℕ). take (min 33554448 (length c.pieces.bytes.items + length c.pieces.piece)) l) same in
+    let some : c.read_piece.new.bytes.items ≡ take (min (16 + BANK_BYTES) (length c.pieces.bytes.items + length c.pieces.piece)) image =
+    c.in_ok-read_piece.ensures.bytes (i.looks.model.0 keeps) (subst (λ (l : List ℕ). IsFrontOf l c.pieces.bytes.items) (sym same) (i.front keeps fore)) ∙ ap (λ (l : List ℕ). take (min (16 + BANK_BYTES) (length c.pieces.bytes.items + length c.pieces.piece)) l) same in
     let none : length c.read_piece.new.bytes.items ≤ length c.pieces.bytes.items = elim (cases_lt (length c.pieces.bytes.items) (length c.read_piece.new.bytes.items)) [
       | inl more ↦ absurd (false≢true (sym c.if-not-branch.true ∙ c.in_ok-read_piece.ensures.more.1 more))
       | inr le ↦ le
@@ -45,8 +46,8 @@ pieces-preserved g c =
       front = λ keeps fore.
           let image = (g.D.Disk.view c.args.disk.now).reads in
           let same = i.looks.same keeps in
-          let some : c.read_piece.new.bytes.items ≡ take (min 33554448 (length c.pieces.bytes.items + length c.pieces.piece)) image =
-          c.in_ok-read_piece.ensures.bytes (i.looks.model.0 keeps) (subst (λ (l : List ℕ). IsFrontOf l c.pieces.bytes.items) (sym same) (i.front keeps fore)) ∙ ap (λ (l : List ℕ). take (min 33554448 (length c.pieces.bytes.items + length c.pieces.piece)) l) same in
+          let some : c.read_piece.new.bytes.items ≡ take (min (16 + BANK_BYTES) (length c.pieces.bytes.items + length c.pieces.piece)) image =
+          c.in_ok-read_piece.ensures.bytes (i.looks.model.0 keeps) (subst (λ (l : List ℕ). IsFrontOf l c.pieces.bytes.items) (sym same) (i.front keeps fore)) ∙ ap (λ (l : List ℕ). take (min (16 + BANK_BYTES) (length c.pieces.bytes.items + length c.pieces.piece)) l) same in
           front_more image _ _ some;
       looks = looks_again _ _ _ i.looks c.read_piece.ensures.looks;
     }

@@ -1,5 +1,5 @@
 use Rattle.zone_machine.proofs.Desk_turns.{turns_desk}
-use Rattle.zone_machine.specs.Lists_seen.{StandsAt}
+use Rattle.zone_pools.specs.Places.{StandsAt}
 use Rattle.zone_machine.proofs.acts.turn_desk.Goals as goal
 
 pub returns : goal.returns

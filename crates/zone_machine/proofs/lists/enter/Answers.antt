@@ -1,6 +1,6 @@
 use Rattle.std.proofs.Common.{◌≡◌, Some, None, sym, ◌∙◌}
 use Rattle.std.specs.Prelude.{position}
-use Rattle.zone_machine.proofs.Places.{put-at, put-nowhere}
+use Rattle.zone_pools.proofs.Places.{put-at, put-nowhere}
 use Rattle.zone_machine.specs.Edits.{below}
 use Rattle.zone_machine.specs.Lists_seen.{is_above}
 use Rattle.zone_machine.proofs.lists.enter.Goals as goal

@@ -1,6 +1,6 @@
 use Rattle.std.proofs.Common.{sym}
 use Rattle.zone_machine.specs.Numbers_seen.{is_among}
-use Rattle.zone_machine.proofs.Free_numbers.{first_free-at, first_free-end, first_free-on}
+use Rattle.zone_pools.proofs.Free_numbers.{first_free-at, first_free-end, first_free-on}
 use Rattle.zone_machine.proofs.numbers.first_free.Goals as goal
 
 pub returns-then-not-is_used : goal.returns-then-not-is_used

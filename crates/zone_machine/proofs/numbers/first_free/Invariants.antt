@@ -1,6 +1,6 @@
 use Rattle.std.proofs.Common.{◌≡◌, ◌+◌, ◌-◌}
 use Rattle.zone_machine.specs.Numbers_seen.{is_among}
-use Rattle.zone_machine.specs.Pools.{first_free}
+use Rattle.zone_pools.specs.Pools.{first_free}
 use Rattle.zone_machine.proofs.numbers.first_free.Given as goal
 
 abbrev pub invariant-loop-step : goal.invariant-loop-step

@@ -1,6 +1,6 @@
 use Rattle.std.proofs.Common.{◌≡◌, take}
 use Rattle.std.specs.Option.{option_map}
-use Rattle.zn_base.specs.Owned_lists.{mine}
+use Rattle.zone_pools.specs.Owned_lists.{mine}
 use Rattle.zone_machine.specs.Turns.{last_dir}
 use Rattle.zone_machine.proofs.sights.last_dir.Given as goal
 

@@ -3,7 +3,7 @@ use Rattle.zone_machine.proofs.Desk_turns.{puts_new}
 use Rattle.zone_machine.specs.Desks_seen.{desk_seen}
 use Rattle.zone_machine.specs.State.{empty_desk}
 use Rattle.zone_machine.specs.Typed.{with_request}
-use Rattle.zn_base.specs.Owned_lists.{Come, edit_list}
+use Rattle.zone_pools.specs.Owned_lists.{Come, edit_list}
 use Rattle.zone_machine.proofs.typing.put_on_new.Goals as goal
 
 pub returns : goal.returns

@@ -1,10 +1,10 @@
 use Rattle.std.proofs.Common.{◌≡◌, sym, ◌∙◌}
-use Rattle.zone_machine.specs.Decisions.{asked_of}
-use Rattle.zone_machine.specs.Pools.{said_by_all}
+use Rattle.zone_pools.specs.Decisions.{asked_of}
+use Rattle.zone_pools.specs.Pools.{said_by_all}
 use Rattle.zone_machine.specs.Steps.{IsAllowed}
 use Rattle.zone_machine.specs.Tables.{decide_in, pools_in}
 use Rattle.zone_machine.proofs.tables.Tables.allowed.Goals as goal
-use Rattle.zn_base.specs.declared.grant.Grant.TheVariants.{Nothing}
+use Rattle.zone_pools.specs.declared.grant.Grant.TheVariants.{Nothing}
 use Rattle.zone_machine.proofs.Granting.{IsAllowed-other, IsAllowed-zone}
 use Rattle.zone_machine.proofs.Results.{if_ok}
 

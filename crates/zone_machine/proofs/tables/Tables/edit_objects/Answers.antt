@@ -1,4 +1,4 @@
-use Rattle.zn_base.specs.Owned_lists.{Come, Go}
+use Rattle.zone_pools.specs.Owned_lists.{Come, Go}
 use Rattle.zone_machine.proofs.Doing_laws.{does_ids, does_mounts, does_processes}
 use Rattle.zone_machine.specs.Turns.{all_of, is_at}
 use Rattle.zone_machine.proofs.tables.Tables.edit_objects.Goals as goal

@@ -2,7 +2,7 @@ use Rattle.std.proofs.Common.{◌≡◌, ap, ◌∙◌}
 use Rattle.zone_machine.specs.Decisions.{says}
 use Rattle.zone_machine.specs.Lines.{line_of}
 use Rattle.zone_machine.specs.Lines_seen.{line_seen}
-use Rattle.zn_base.specs.declared.grant.Grant.{Grant as A_grant}
+use Rattle.zone_pools.specs.declared.grant.Grant.{Grant as A_grant}
 use Rattle.zone_machine.specs.Steps.{IsHead}
 use Rattle.zone_machine.specs.Typed.{global_line}
 use Rattle.zone_machine.proofs.tables.Tables.global_head.Goals as goal

@@ -1,7 +1,7 @@
 use Rattle.std.proofs.Common.{◌≡◌, ap, map, ◌∙◌}
-use Rattle.zn_base.specs.declared.grant.Pool.TheVariants.{Pids}
+use Rattle.zone_pools.specs.declared.grant.Pool.TheVariants.{Pids}
 use Rattle.zone_machine.proofs.Pools_laws.{used-map}
-use Rattle.zone_machine.specs.Pools.{next_free, numbered}
+use Rattle.zone_pools.specs.Pools.{next_free, numbered}
 use Rattle.zone_machine.proofs.tables.Tables.next_pid.Goals as goal
 
 pub returns : goal.returns

@@ -1,6 +1,6 @@
 use Rattle.std.proofs.Common.{◌≡◌, Some, ap, sym, ◌∙◌}
-use Rattle.zn_base.specs.Owned_lists.{mine}
-use Rattle.zn_base.specs.Firsts.{first_of}
+use Rattle.zone_pools.specs.Owned_lists.{mine}
+use Rattle.zone_pools.specs.Firsts.{first_of}
 use Rattle.zone_machine.proofs.Results.{if_ok, on_ok}
 use Rattle.zone_machine.proofs.Turning.{Acts-rests, Acts-turns, turn-rests, turn-turns}
 use Rattle.zone_machine.specs.Acts_seen.{RestsDesk, TurnsDesk}

@@ -1,5 +1,0 @@
-use Rattle.export_lines.proofs.Rows.{says_script}
-use Rattle.export_lines.proofs.laws.lines_say_their_commands.Goals as goal
-
-pub returns : goal.returns
-returns c = says_script

@@ -1,6 +1,0 @@
-use Rattle.std.proofs.Common.{map}
-use Rattle.export_lines.proofs.Pieces.{AreTexts}
-use Rattle.export_lines.proofs.reading.texts_of.Given as goal
-
-abbrev pub invariant-loop-piece : goal.invariant-loop-piece
-invariant-loop-piece l = AreTexts l.texts (map (λ x. x.now) l.yielded)

@@ -1,4 +1,0 @@
-pub mod Lines
-pub mod Commands
-pub mod Reading
-pub mod Saying

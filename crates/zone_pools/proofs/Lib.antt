@@ -1,0 +1,8 @@
+pub mod Owned_laws
+pub mod Firsts_laws
+pub mod Places
+pub mod Same_laws
+pub mod Holding
+pub mod Free_numbers
+pub mod Pools_laws
+mod Pools_examples

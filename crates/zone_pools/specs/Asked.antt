@@ -1,0 +1,18 @@
+-- The pools that are asked, each with the item that is asked of it.
+use Rattle.std.specs.Prelude.{ℕ, List}
+use Rattle.zone_pools.specs.declared.grant.Pool.{Pool}
+use Rattle.zone_pools.specs.declared.grant.Pool.TheVariants.{Pids, Zids, Zones, Paths, Store}
+
+pub data Asked : Type 0 where
+  A_pid : Asked
+  A_zid : Asked
+  A_zone : Asked
+  A_path : List ℕ → Asked
+  A_serial : Asked
+
+abbrev pub pool_of : Asked → Pool
+pool_of A_pid = Pids
+pool_of A_zid = Zids
+pool_of A_zone = Zones
+pool_of (A_path path) = Paths
+pool_of A_serial = Store

@@ -1,6 +1,0 @@
-use Rattle.zones_cli.proofs.TraceEnds.{ended_front}
-use Rattle.zones_cli.proofs.trace.trace_all.Goals as goal
-
-pub returns-in_err-write_waiting-clause-front : goal.returns-in_err-write_waiting-clause-front
-returns-in_err-write_waiting-clause-front g c = λ _.
-    let ended = c.take_lines-ended.ensures in ended_front _ _ _ _ _ _ ended.told ended.answered ended.front ended.none ended.written c.in_err-write_waiting.ensures.front

@@ -1,0 +1,275 @@
+-- How a trace ends, and what standard output has taken then.
+use Rattle.std.proofs.Common.{◌≡◌, ◌+◌, ◌≤◌, ◌<◌, ◌||◌, ◌++◌, ◌⊎◌, inl, inr, ℕ, true, false, cond, nat_lt, List, [], ◌∷◌, length, take, drop, Option, Some, None, IfSome, Result, Ok, Err, refl, ap, sym, subst, ◌∙◌, arith, append_assoc, zero, suc}
+use Rattle.std.specs.Prelude.{IfOk, IsErrAnd, IsErrOf, nat_le}
+use Rattle.std.specs.Io.KnownBytes.{IsAtEnd}
+use Rattle.std.specs.Option.{option_map}
+use Rattle.std.proofs.lemmas.Bool.Decides.{nat_tests}
+use Rattle.std.proofs.lemmas.Grind.{flat_map-append}
+use Rattle.std.proofs.lemmas.List.{append-nil, append_cancel_left, take-append-drop, take-append-le, take_all}
+use Rattle.std.proofs.Math.Seq.{take-append-add, take-append_seam, take-length}
+use Rattle.zn_io.specs.Streams.{after_known, before_known}
+use Rattle.trace_text.specs.Lines.{event_of}
+use Rattle.trace_text.specs.declared.fault.LineFault.{LineFault}
+use Rattle.zone_machine.specs.Machine.{opening}
+use Rattle.zone_pools.specs.Pools.{or_else}
+use Rattle.zone_machine.specs.State.{State}
+use Rattle.zone_machine.specs.declared.events.Entry.{Entry}
+use Rattle.zone_machine.specs.declared.events.Event.{Event}
+use Rattle.zn_base.specs.Lines.{is_newline, lines_of, with_first}
+use Rattle.zones_run.specs.Lines.{AreWhole}
+use Rattle.zones_run.specs.Reading.{BeginsLine, FirstIsLong}
+use Rattle.zones_run.specs.Run.{HasFront, run_fault_of}
+use Rattle.zones_run.specs.Tracing.{AnswersRead, At_end, At_fault, Ending, HasReplies, HasWritten, Past_limit, Run, Stops, Tells, ends, entry_text, left_to_tell, replies_text, run_of, script_from, told, told_refusal, traced, with_line}
+use Rattle.zones_run.specs.declared.outcome.Complaint.{Complaint}
+use Rattle.zones_run.specs.declared.outcome.Complaint.TheVariants.{Grammar as Bad_line, Limit}
+use Rattle.zones_run.specs.declared.trace.Stop.{Stop}
+use Rattle.zones_run.specs.declared.trace.Stop.TheVariants.{Grammar, Memory as No_room}
+use Rattle.zones_run.specs.declared.fault.RunFault.TheVariants.{Memory, Read, Write}
+use Rattle.zones_run.specs.declared.fault.RunFault.{RunFault}
+use Rattle.zones_run.specs.declared.lines.ReadFault.{ReadFault}
+use Rattle.zones_run.specs.declared.lines.ReadFault.TheVariants.{Failed, Memory as No_memory}
+use Rattle.zones_run.proofs.Fronts.{after_known-append, after_known-nil}
+use Rattle.zones_run.proofs.TraceRuns.{RunsOn, known_run}
+use Rattle.zones_run.proofs.Traces.{from_first_line, or_else-None, run_on, script_line, with_script}
+
+abbrev ended_run : List Entry → Option ℕ → Ending → Run
+ended_run done refused ending = record { entries = done; refused = refused; ending = ending }
+
+-- with no event to come the run is what it has come to
+no_more : (done : List Entry) (refused : Option ℕ) (n : ℕ) (S : State) (lines : List (List ℕ)) (ending : Ending) → script_from n lines ≡ ends ending → run_on done refused n S lines ≡ ended_run done refused ending
+no_more done refused n S lines ending is =
+    ap (with_script done refused S) is ∙ ap (λ entries. ended_run entries (or_else refused None) ending) (append-nil done) ∙ ap (λ first. ended_run done first ending) (or_else-None refused)
+
+-- every ending has the text of its entries
+told-out : (done : List Entry) (refused : Option ℕ) (ending : Ending) → (told (ended_run done refused ending)).out ≡ replies_text done
+told-out done None At_end = refl
+told-out done (Some n) At_end = refl
+told-out done refused (At_fault n fault) = refl
+told-out done refused (Past_limit n) = refl
+
+-- the run has ended so
+pub tells_ending : (stands : State → Type 0) (refused : Option ℕ) (n : ℕ) (held holds bytes input : Option (List ℕ)) (ending : Ending) (complaint : Option Complaint)
+    → RunsOn stands refused n held holds bytes input → IfSome bytes (λ bs. script_from n (lines_of bs) ≡ ends ending) → ((done : List Entry) → left_to_tell complaint ≡ record (told (ended_run done refused ending)) { out = [] })
+    → IfSome input (λ bs. Tells complaint held holds (traced bs))
+tells_ending stands refused n held holds bytes None ending complaint run ended is = tt
+tells_ending stands refused n held holds bytes (Some input) ending complaint run ended is =
+    let known = run.known in
+    let here : script_from n (lines_of known.to_come) ≡ ends ending = subst (λ bytes. IfSome bytes (λ bs. script_from n (lines_of bs) ≡ ends ending)) known.here ended in
+    let whole : run_of input ≡ ended_run run.done refused ending = known_run refused n run.state run.done bytes input known ∙ no_more run.done refused n run.state (lines_of known.to_come) ending here in
+    subst (λ r. Tells complaint held holds (told r)) (sym whole) (record {
+      rest = is run.done;
+      taken = run.text ∙ ap (after_known held) (sym (told-out run.done refused ending));
+    })
+
+-- the four ways in which lines end
+pub at_end : (n : ℕ) (bytes : Option (List ℕ)) → IfSome (option_map lines_of bytes) (λ ls. ls ≡ []) → IfSome bytes (λ bs. script_from n (lines_of bs) ≡ ends At_end)
+at_end n None h = tt
+at_end n (Some bs) h = ap (script_from n) h
+
+past_limit : (n m : ℕ) → 4096 < m → (nat_lt 200000 n || nat_lt 4096 m) ≡ true
+past_limit n m h = grind (arith, nat_tests)
+
+first_long : (n : ℕ) (lines : List (List ℕ)) → FirstIsLong lines → script_from n lines ≡ ends (Past_limit n)
+first_long n [] h = absurd h
+first_long n (line ∷ ls) h = ap (λ v. cond v (ends (Past_limit n)) (with_line n (event_of line) (script_from (n + 1) ls))) (past_limit n (length line) h)
+
+pub at_long : (n : ℕ) (bytes : Option (List ℕ)) → IfSome (option_map lines_of bytes) FirstIsLong → IfSome bytes (λ bs. script_from n (lines_of bs) ≡ ends (Past_limit n))
+at_long n None h = tt
+at_long n (Some bs) h = first_long n (lines_of bs) h
+
+pub at_fault : (n : ℕ) (line : List ℕ) (fault : LineFault) (bytes : Option (List ℕ)) (new : Option (List (List ℕ))) → option_map lines_of bytes ≡ option_map (λ ls. line ∷ ls) new → n ≤ 200000 → length line ≤ 4096 → event_of line ≡ Err fault → IfSome bytes (λ bs. script_from n (lines_of bs) ≡ ends (At_fault n fault))
+at_fault n line fault None new is h k e = tt
+at_fault n line fault (Some bs) None is h k e = absurd (cc)
+at_fault n line fault (Some bs) (Some ls) is h k e =
+    let first : lines_of bs ≡ line ∷ ls = cc in
+    ap (script_from n) first ∙ script_line n line ls h k ∙ ap (λ r. with_line n r (script_from (n + 1) ls)) e
+
+past_last : (b : ℕ) (bytes : List ℕ) → script_from 200001 (lines_of (b ∷ bytes)) ≡ ends (Past_limit 200001)
+past_last b bytes =
+    elim (is_newline b) as (λ v. script_from 200001 (cond v ([] ∷ lines_of bytes) (with_first b (lines_of bytes))) ≡ ends (Past_limit 200001)) [
+      | true ↦ refl
+      | false ↦ elim (lines_of bytes) as (λ lines. script_from 200001 (with_first b lines) ≡ ends (Past_limit 200001)) [
+        | [] ↦ refl
+        | line ∷ lines ↦ refl
+      ]
+    ]
+
+pub at_last : (ahead : List ℕ) (left : Option (List ℕ)) → 0 < length ahead → IfSome (before_known ahead left) (λ bs. script_from 200001 (lines_of bs) ≡ ends (Past_limit 200001))
+at_last [] left some = absurd (omega arith)
+at_last (b ∷ ahead) None some = tt
+at_last (b ∷ ahead) (Some left) some = past_last b (ahead ++ left)
+
+-- before the input has ended, some whole replies were written
+pub has_replies : (stands : State → Type 0) (refused : Option ℕ) (n : ℕ) (held holds bytes input : Option (List ℕ)) → RunsOn stands refused n held holds bytes input → IfSome input (λ bs. HasReplies held holds (run_of bs))
+has_replies stands refused n held holds bytes None run = tt
+has_replies stands refused n held holds bytes (Some input) run =
+    let is = known_run refused n run.state run.done bytes input run.known in
+    subst (HasReplies held holds) (sym is) (record {
+      count = length run.done;
+      taken = run.text ∙ ap (λ entries. after_known held (replies_text entries)) (sym (take-append_seam run.done _));
+    })
+
+-- the source failed at the beginning of a line: the lines taken before were answered
+pub reads_up_to : (stands : State → Type 0) (refused : Option ℕ) (n : ℕ) (held holds bytes left input : Option (List ℕ)) → RunsOn stands refused n held holds bytes input → BeginsLine bytes left → IfSome input (λ _. AnswersRead input left held holds)
+reads_up_to stands refused n held holds bytes left None run begins = tt
+reads_up_to stands refused n held holds bytes left (Some input) run begins =
+    let known = run.known in
+    let entries : (run_of known.past).entries ≡ run.done = ap (λ r. r.entries) (from_first_line known.past) ∙ ap (λ lines. (run_on [] None 1 (opening []) lines).entries) (sym (append-nil (lines_of known.past))) ∙ ap (λ r. r.entries) (known.leads []) ∙ append-nil run.done in
+    record {
+      taken = known.past;
+      begun = begins.begun;
+      clean = begins.clean;
+      ended = ended known.fresh (sym known.here ∙ begins.taken);
+      read = ap Some known.all ∙ ap (before_known known.past) (sym known.here ∙ begins.taken) ∙ sym (before_known-append left known.past begins.begun);
+      text = run.text ∙ ap (λ entries. after_known held (replies_text entries)) (sym entries);
+    }
+  where
+    before_known-append : (known : Option (List ℕ)) (xs ys : List ℕ) → before_known (xs ++ ys) known ≡ before_known xs (before_known ys known)
+    before_known-append None xs ys = refl
+    before_known-append (Some bs) xs ys = ap Some (append_assoc xs ys bs)
+
+    none_behind : (begun : List ℕ) (left : Option (List ℕ)) → Some [] ≡ before_known begun left → (begun ≡ []) × IsAtEnd left
+    none_behind begun None e = absurd (cc)
+    none_behind [] (Some []) e = (refl, refl)
+    none_behind [] (Some (b ∷ bs)) e = absurd (cc)
+    none_behind (b ∷ begun) (Some bs) e = absurd (cc)
+
+    ended : {past to_come : List ℕ} → AreWhole past ⊎ (to_come ≡ []) → Some to_come ≡ before_known begins.begun left → AreWhole past ⊎ ((begins.begun ≡ []) × IsAtEnd left)
+    ended (inl whole) e = inl whole
+    ended (inr none) e = inr (none_behind begins.begun left (ap Some (sym none) ∙ e))
+
+-- a front of a text in the midst of a longer one
+front_within : (held between holds : Option (List ℕ)) (before text more : List ℕ) (count : ℕ) → between ≡ after_known held before → holds ≡ after_known between (take count text) → HasFront held holds (before ++ (text ++ more))
+front_within held between holds before text more count b t =
+    let all : holds ≡ after_known held (before ++ take count text) = t ∙ ap (λ known. after_known known (take count text)) b ∙ after_known-append held before (take count text) in
+    elim (nat_le count (length text)) as (λ v. nat_le count (length text) ≡ v → HasFront held holds (before ++ (text ++ more))) [
+      | true ↦ λ e.
+          let short : count ≤ length text = grind (arith, nat_tests) in
+          record { count = length before + count; taken = all ∙ ap (after_known held) (sym (take-append-add before (text ++ more) count ∙ ap (λ bytes. before ++ bytes) (take-append-le count text more short))) }
+      | false ↦ λ e.
+          let long : length text ≤ count = grind (arith, nat_tests) in
+          record {
+            count = length before + length text;
+            taken = all ∙ ap (λ bytes. after_known held (before ++ bytes)) (take_all count text long)
+                ∙ ap (after_known held) (sym (take-append-add before (text ++ more) (length text) ∙ ap (λ bytes. before ++ bytes) (take-append_seam text more)));
+          }
+    ] refl
+
+-- what waited was not written whole: a front of the whole text was taken
+pub flushed_front : (held holds now input : Option (List ℕ)) (waiting : List ℕ) → HasWritten held holds → IfSome input (λ bs. HasReplies held (after_known holds waiting) (run_of bs)) → HasFront holds now waiting
+    → IfSome input (λ bs. HasFront held now (traced bs).out)
+flushed_front held holds now None waiting written replies front = tt
+flushed_front None holds now (Some bytes) waiting written replies front =
+    record { count = 0; taken = front.taken ∙ ap (λ known. after_known known (take front.count waiting)) written.1 }
+flushed_front (Some begun) holds now (Some bytes) waiting written replies front =
+    let run = run_of bytes in
+    let more = replies_text (drop replies.count run.entries) in
+    let known : Some ((begun ++ written.0) ++ waiting) ≡ Some (begun ++ replies_text (take replies.count run.entries)) = sym (ap (λ known. after_known known waiting) written.1) ∙ replies.taken in
+    let joined : written.0 ++ waiting ≡ replies_text (take replies.count run.entries) = append_cancel_left begun _ _ (sym (append_assoc begun written.0 waiting) ∙ cc) in
+    let whole : (traced bytes).out ≡ written.0 ++ (waiting ++ more) =
+    told-out run.entries run.refused run.ending ∙ ap replies_text (sym (take-append-drop replies.count run.entries))
+    ∙ flat_map-append entry_text (take replies.count run.entries) (drop replies.count run.entries) ∙ ap (λ text. text ++ more) (sym joined) ∙ append_assoc written.0 waiting more in
+    subst (HasFront (Some begun) now) (sym whole) (front_within (Some begun) holds now written.0 waiting more front.count written.1 front.taken)
+
+-- more and more was written
+pub nothing_written : (known : Option (List ℕ)) → HasWritten known known
+nothing_written known = ([], sym (after_known-nil known))
+
+pub written_front : (held holds : Option (List ℕ)) (text : List ℕ) → HasFront held holds text → HasWritten held holds
+written_front held holds text front = (take front.count text, front.taken)
+
+pub written_on : (held between holds : Option (List ℕ)) → HasWritten held between → HasWritten between holds → HasWritten held holds
+written_on held between holds first second = (first.0 ++ second.0, second.1 ∙ ap (λ known. after_known known second.0) first.1 ∙ after_known-append held first.0 second.0)
+
+-- nothing waits
+pub nothing_waits : (known : Option (List ℕ)) (waiting : List ℕ) → waiting ≡ [] → after_known known waiting ≡ known
+nothing_waits known waiting none = rw none (after_known-nil known)
+
+-- a byte ahead, after all the lines that there may be
+pub tells_last : (stands : State → Type 0) (refused : Option ℕ) (n : ℕ) (held holds bytes : Option (List ℕ)) (ahead : List ℕ) (left input : Option (List ℕ))
+    → RunsOn stands refused n held holds bytes input → n ≡ 200001 → bytes ≡ before_known ahead left → 0 < length ahead → IfSome input (λ bs. Tells (Some (Limit 200001)) held holds (traced bs))
+tells_last stands refused n held holds bytes ahead left input run last same some =
+    let here : RunsOn stands refused 200001 held holds bytes input = subst (λ m. RunsOn stands refused m held holds bytes input) last run in
+    tells_ending stands refused 200001 held holds bytes input (Past_limit 200001) (Some (Limit 200001)) here
+    (subst (λ known. IfSome known (λ bs. script_from 200001 (lines_of bs) ≡ ends (Past_limit 200001))) (sym same) (at_last ahead left some)) (λ done. refl)
+
+-- at an ending all replies were written, and the whole text
+pub whole_replies : (complaint : Option Complaint) (held holds : Option (List ℕ)) (input : Option (List ℕ)) → IfSome input (λ bytes. Tells complaint held holds (traced bytes)) → IfSome input (λ bytes. HasReplies held holds (run_of bytes))
+whole_replies complaint held holds None tells = tt
+whole_replies complaint held holds (Some bytes) tells =
+    let run = run_of bytes in
+    record {
+      count = length run.entries;
+      taken = tells.taken ∙ ap (after_known held) (told-out run.entries run.refused run.ending) ∙ ap (λ entries. after_known held (replies_text entries)) (sym (take-length run.entries));
+    }
+
+pub whole_front : (complaint : Option Complaint) (held holds : Option (List ℕ)) (input : Option (List ℕ)) → IfSome input (λ bytes. Tells complaint held holds (traced bytes)) → IfSome input (λ bytes. HasFront held holds (traced bytes).out)
+whole_front complaint held holds None tells = tt
+whole_front complaint held holds (Some bytes) tells =
+    record { count = length (traced bytes).out; taken = tells.taken ∙ ap (after_known held) (sym (take-length (traced bytes).out)) }
+
+refusal_alone : (text : List ℕ) (refused : Option ℕ) → record (told_refusal [] refused) { out = [] } ≡ record (told_refusal text refused) { out = [] }
+refusal_alone text None = refl
+refusal_alone text (Some n) = refl
+
+-- the end of the input
+pub tells_end : (stands : State → Type 0) (refused : Option ℕ) (n : ℕ) (held holds bytes input : Option (List ℕ)) (complaint : Option Complaint)
+    → RunsOn stands refused n held holds bytes input → IfSome (option_map lines_of bytes) (λ ls. ls ≡ []) → left_to_tell complaint ≡ record (told_refusal [] refused) { out = [] } → IfSome input (λ bs. Tells complaint held holds (traced bs))
+tells_end stands refused n held holds bytes input complaint run none is =
+    tells_ending stands refused n held holds bytes input At_end complaint run (at_end n bytes none) (λ done. is ∙ refusal_alone (replies_text done) refused)
+
+nothing_ahead : (ahead : List ℕ) (left : Option (List ℕ)) → ahead ≡ [] → IsAtEnd left → IfSome (option_map lines_of (before_known ahead left)) (λ ls. ls ≡ [])
+nothing_ahead ahead None none end = tt
+nothing_ahead ahead (Some bs) none end = rw (none, end) refl
+
+-- nothing is ahead, after all the lines that there may be
+pub tells_last_end : (stands : State → Type 0) (refused : Option ℕ) (n : ℕ) (held holds bytes : Option (List ℕ)) (ahead : List ℕ) (left input : Option (List ℕ)) (complaint : Option Complaint)
+    → RunsOn stands refused n held holds bytes input → bytes ≡ before_known ahead left → ahead ≡ [] → IsAtEnd left → left_to_tell complaint ≡ record (told_refusal [] refused) { out = [] } → IfSome input (λ bs. Tells complaint held holds (traced bs))
+tells_last_end stands refused n held holds bytes ahead left input complaint run same none end is =
+    tells_end stands refused n held holds bytes input complaint run (subst (λ known. IfSome (option_map lines_of known) (λ ls. ls ≡ [])) (sym same) (nothing_ahead ahead left none end)) is
+
+-- a line that is too long
+pub tells_long : (stands : State → Type 0) (refused : Option ℕ) (n : ℕ) (held holds bytes input : Option (List ℕ)) → RunsOn stands refused n held holds bytes input → IfSome (option_map lines_of bytes) FirstIsLong → IfSome input (λ bs. Tells (Some (Limit n)) held holds (traced bs))
+tells_long stands refused n held holds bytes input run long = tells_ending stands refused n held holds bytes input (Past_limit n) (Some (Limit n)) run (at_long n bytes long) (λ done. refl)
+
+-- a line outside the grammar
+pub tells_fault : (stands : State → Type 0) (refused : Option ℕ) (n : ℕ) (held holds : Option (List ℕ)) (line : List ℕ) (fault : LineFault) (bytes : Option (List ℕ)) (new : Option (List (List ℕ))) (input : Option (List ℕ))
+    → RunsOn stands refused n held holds bytes input → option_map lines_of bytes ≡ option_map (λ ls. line ∷ ls) new → n ≤ 200000 → length line ≤ 4096 → event_of line ≡ Err fault
+    → IfSome input (λ bs. Tells (Some (Bad_line n fault)) held holds (traced bs))
+tells_fault stands refused n held holds line fault bytes new input run is h k says =
+    tells_ending stands refused n held holds bytes input (At_fault n fault) (Some (Bad_line n fault)) run (at_fault n line fault bytes new is h k says) (λ done. refl)
+
+-- a run ended, and what waited then was not written whole
+pub ended_front : (result : Result (Option Complaint) RunFault) (held holds now input : Option (List ℕ)) (waiting : List ℕ)
+    → IfOk result (λ complaint. IfSome input (λ bs. Tells complaint held (after_known holds waiting) (traced bs))) → (IsErrOf result Read ⊎ IsErrOf result Memory → IfSome input (λ bs. HasReplies held (after_known holds waiting) (run_of bs)))
+    → (IsErrOf result Write → IfSome input (λ bs. HasFront held holds (traced bs).out)) → (IsErrOf result Write → waiting ≡ []) → HasWritten held holds → HasFront holds now waiting → IfSome input (λ bs. HasFront held now (traced bs).out)
+ended_front (Ok complaint) held holds now input waiting tells answered front none written stopped = flushed_front held holds now input waiting written (whole_replies complaint held (after_known holds waiting) input tells) stopped
+ended_front (Err Read) held holds now input waiting tells answered front none written stopped = flushed_front held holds now input waiting written (answered (inl refl)) stopped
+ended_front (Err Memory) held holds now input waiting tells answered front none written stopped = flushed_front held holds now input waiting written (answered (inr refl)) stopped
+ended_front (Err Write) held holds now input waiting tells answered front none written stopped =
+    let text : take stopped.count waiting ≡ [] = rw (none refl) (take_nil stopped.count) in
+    let same : now ≡ holds = stopped.taken ∙ ap (after_known holds) text ∙ after_known-nil holds in
+    subst (λ known. IfSome input (λ bs. HasFront held known (traced bs).out)) (sym same) (front refl)
+  where
+    take_nil : (n : ℕ) → take {A = ℕ} n [] ≡ []
+    take_nil zero = refl
+    take_nil (suc n) = refl
+
+-- what a line that ended the trace outside the grammar says
+pub stops_outside : (stop : Stop) (fault : LineFault) (said : Result (Option Event) LineFault) → Stops stop said → stop ≡ Grammar fault → said ≡ Err fault
+stops_outside (Grammar found) fault said stops same = stops ∙ cc
+stops_outside No_room fault said stops same = absurd (cc)
+
+-- the source failed where nothing of a line was begun
+pub begins_nothing : (old new : Option (List ℕ)) → old ≡ new → BeginsLine old new
+begins_nothing old new same = record { begun = []; clean = refl; taken = same ∙ nothing_before new }
+  where
+    nothing_before : (known : Option (List ℕ)) → known ≡ before_known [] known
+    nothing_before None = refl
+    nothing_before (Some bs) = refl
+
+-- a fault of reading that ends a trace as one is the source's
+pub source_failed : {T : Type 0} (r : Result T RunFault) (fault : ReadFault) → IsErrAnd r (λ e. e ≡ run_fault_of fault) → IsErrOf r Read → fault ≡ Failed
+source_failed (Ok x) fault said is = absurd (cc)
+source_failed (Err e) Failed said is = refl
+source_failed (Err e) No_memory said is = let read : e ≡ Read = cc in absurd (cc)

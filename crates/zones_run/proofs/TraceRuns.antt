@@ -1,0 +1,223 @@
+-- What a machine, standard output and the bytes to come amount to, in the midst of a trace.
+use Rattle.std.proofs.Common.{◌≡◌, ◌+◌, ◌≤◌, ◌<◌, ◌++◌, ◌⊎◌, ℕ, Bool, true, false, cond, List, [], ◌∷◌, length, Option, Some, None, IfSome, Result, Ok, Err, refl, ap, sym, subst, inl, inr, ◌∙◌, arith, append_assoc}
+use Rattle.std.specs.Io.KnownBytes.{IsAtEnd}
+use Rattle.std.proofs.lemmas.List.{append-nil}
+use Rattle.zn_io.specs.Streams.{after_known, before_known}
+use Rattle.trace_text.specs.Lines.{event_of}
+use Rattle.trace_text.specs.declared.fault.LineFault.{LineFault}
+use Rattle.zone_machine.specs.Histories.{after_entry, entry_at}
+use Rattle.zone_machine.specs.Machine.{opening}
+use Rattle.zone_machine.specs.Pools.{allowed}
+use Rattle.zone_pools.specs.Pools.{or_else}
+use Rattle.zone_machine.specs.State.{State}
+use Rattle.zone_machine.specs.declared.events.Entry.{Entry}
+use Rattle.zone_machine.specs.declared.events.Event.{Event}
+use Rattle.zn_base.specs.Lines.{is_newline, lines_of, with_first}
+use Rattle.zones_run.specs.Lines.{AreWhole, has_newline}
+use Rattle.zones_run.specs.Reading.{TakesLine}
+use Rattle.zones_run.specs.Tracing.{IsAnswered, TakesEvent, entry_text, is_refusal, replies_text, run_of}
+use Rattle.zones_run.proofs.Cuts.{cut_at, cut_whole}
+use Rattle.zones_run.proofs.Fronts.{after_known-append, after_known-nil}
+use Rattle.zones_run.proofs.Traces.{answers_line, from_first_line, or_else-None, refused_at_line, run_on, skips_line}
+
+-- of a known input: what was taken as lines, and what is to come. Whatever lines follow those taken, the run over them
+-- all is the run that has come so far and goes on with them
+pub record Knows (refused : Option ℕ) (number : ℕ) (state : State) (done : List Entry) (bytes : Option (List ℕ)) (input : List ℕ) : Type 0 where
+  pub past : List ℕ
+  pub to_come : List ℕ
+  pub here : bytes ≡ Some to_come
+  pub all : input ≡ past ++ to_come
+  pub fresh : AreWhole past ⊎ (to_come ≡ [])
+  pub leads : (lines : List (List ℕ)) → run_on [] None 1 (opening []) (lines_of past ++ lines) ≡ run_on done refused number state lines
+
+-- a machine that stands for a state after some entries, whose replies were written, with the bytes to come
+pub record RunsOn (stands : State → Type 0) (refused : Option ℕ) (number : ℕ) (held holds bytes input : Option (List ℕ)) : Type 0 where
+  pub state : State
+  pub stood : stands state
+  pub done : List Entry
+  pub text : holds ≡ after_known held (replies_text done)
+  pub known : IfSome input (Knows refused number state done bytes)
+
+-- at the start
+pub runs_from_start : (stands : State → Type 0) (held input : Option (List ℕ)) → stands (opening []) → RunsOn stands None 1 held held (before_known [] input) input
+runs_from_start stands held input stood = record {
+  state = opening [];
+  stood = stood;
+  done = [];
+  text = sym (after_known-nil held);
+  known = at_input input;
+}
+  where
+    at_input : (input : Option (List ℕ)) → IfSome input (Knows None 1 (opening []) [] (before_known [] input))
+    at_input None = tt
+    at_input (Some bytes) = record { past = []; to_come = bytes; here = refl; all = refl; fresh = inl (inl refl); leads = λ lines. refl }
+
+-- what was told in another way
+pub runs_told : (stands : State → Type 0) (refused : Option ℕ) (n : ℕ) (held holds now_holds bytes input : Option (List ℕ)) → now_holds ≡ holds → RunsOn stands refused n held holds bytes input → RunsOn stands refused n held now_holds bytes input
+runs_told stands refused n held holds now_holds bytes input same run = subst (λ known. RunsOn stands refused n held known bytes input) (sym same) run
+
+-- lines that end in a newline are followed by those of the bytes behind them
+lines_of-onto : (front bytes : List ℕ) → lines_of ((front ++ 10 ∷ []) ++ bytes) ≡ lines_of (front ++ 10 ∷ []) ++ lines_of bytes
+lines_of-onto [] bytes = refl
+lines_of-onto (b ∷ front) bytes =
+    elim (is_newline b) as (λ v. cond v ([] ∷ lines_of ((front ++ 10 ∷ []) ++ bytes)) (with_first b (lines_of ((front ++ 10 ∷ []) ++ bytes))) ≡ cond v ([] ∷ lines_of (front ++ 10 ∷ [])) (with_first b (lines_of (front ++ 10 ∷ []))) ++ lines_of bytes) [
+      | true ↦ ap (λ lines. [] ∷ lines) (lines_of-onto front bytes)
+      | false ↦ ap (with_first b) (lines_of-onto front bytes) ∙ joined (lines_of (front ++ 10 ∷ [])) (some_line front)
+    ]
+  where
+    some_line : (front : List ℕ) → 0 < length (lines_of (front ++ 10 ∷ []))
+    some_line [] = omega arith
+    some_line (c ∷ front) = elim (is_newline c) as (λ v. 0 < length (cond v ([] ∷ lines_of (front ++ 10 ∷ [])) (with_first c (lines_of (front ++ 10 ∷ []))))) [
+      | true ↦ omega arith
+      | false ↦ elim (lines_of (front ++ 10 ∷ [])) as (λ lines. 0 < length (with_first c lines)) [ [] ↦ omega arith | line ∷ lines ↦ omega arith ]
+    ]
+
+    joined : (lines : List (List ℕ)) → 0 < length lines → with_first b (lines ++ lines_of bytes) ≡ with_first b lines ++ lines_of bytes
+    joined [] h = absurd (omega arith)
+    joined (line ∷ lines) h = refl
+
+lines_of-append : (past bytes : List ℕ) → AreWhole past → lines_of (past ++ bytes) ≡ lines_of past ++ lines_of bytes
+lines_of-append past bytes (inl none) = rw none refl
+lines_of-append past bytes (inr whole) = rw whole.1 (lines_of-onto whole.0 bytes)
+
+-- one piece of the bytes to come is taken as a line
+record Taken (past line to_come : List ℕ) (new : Option (List ℕ)) : Type 0 where
+  now_past : List ℕ
+  now_to_come : List ℕ
+  here : new ≡ Some now_to_come
+  all : past ++ to_come ≡ now_past ++ now_to_come
+  fresh : AreWhole now_past ⊎ (now_to_come ≡ [])
+  lines : lines_of now_past ≡ lines_of past ++ line ∷ []
+
+takes_whole : (past line to_come : List ℕ) (new : Option (List ℕ)) → AreWhole past → has_newline line ≡ false → Some to_come ≡ before_known (line ++ 10 ∷ []) new → Taken past line to_come new
+takes_whole past line to_come None whole clean is = absurd (cc)
+takes_whole past line to_come (Some rest) whole clean is =
+    let come : to_come ≡ (line ++ 10 ∷ []) ++ rest = cc in
+    record {
+      now_past = past ++ (line ++ 10 ∷ []);
+      now_to_come = rest;
+      here = refl;
+      all = ap (λ bytes. past ++ bytes) come ∙ sym (append_assoc past (line ++ 10 ∷ []) rest);
+      fresh = inl (inr (past ++ line, sym (append_assoc past line (10 ∷ []))));
+      lines = lines_of-append past (line ++ 10 ∷ []) whole ∙ ap (λ lines. lines_of past ++ lines) (cut_at line [] clean);
+    }
+
+takes_last : (past line to_come : List ℕ) (new : Option (List ℕ)) → AreWhole past → has_newline line ≡ false → Some to_come ≡ before_known line new → 0 < length line → IsAtEnd new → Taken past line to_come new
+takes_last past line to_come None whole clean is some end = absurd (cc)
+takes_last past line to_come (Some rest) whole clean is some end =
+    let come : to_come ≡ line ++ rest = cc in
+    record {
+      now_past = past ++ line;
+      now_to_come = rest;
+      here = refl;
+      all = ap (λ bytes. past ++ bytes) come ∙ sym (append_assoc past line rest);
+      fresh = inr end;
+      lines = lines_of-append past line whole ∙ ap (λ lines. lines_of past ++ lines) (cut_whole line clean some);
+    }
+
+nothing_left : (line rest : List ℕ) → [] ≡ (line ++ 10 ∷ []) ++ rest → ⊥
+nothing_left [] rest e = cc
+nothing_left (b ∷ line) rest e = cc
+
+none_to_take : (past line to_come : List ℕ) (new : Option (List ℕ)) → to_come ≡ [] → Some to_come ≡ before_known (line ++ 10 ∷ []) new → ⊥
+none_to_take past line to_come None none is = cc
+none_to_take past line to_come (Some rest) none is = let e : [] ≡ (line ++ 10 ∷ []) ++ rest = cc in nothing_left line rest e
+
+none_to_end : (line to_come : List ℕ) (new : Option (List ℕ)) → to_come ≡ [] → Some to_come ≡ before_known line new → 0 < length line → ⊥
+none_to_end [] to_come new none is some = omega arith
+none_to_end (b ∷ line) to_come None none is some = cc
+none_to_end (b ∷ line) to_come (Some rest) none is some = cc
+
+takes : (past line to_come : List ℕ) (new : Option (List ℕ)) → AreWhole past ⊎ (to_come ≡ []) → TakesLine line (Some to_come) new → Taken past line to_come new
+takes past line to_come new (inl whole) took = elim took.ended as (λ _. Taken past line to_come new) [
+  | inl newline ↦ takes_whole past line to_come new whole took.clean newline
+  | inr last ↦ takes_last past line to_come new whole took.clean last.0 last.1 last.2
+]
+takes past line to_come new (inr none) took = elim took.ended as (λ _. Taken past line to_come new) [
+  | inl newline ↦ absurd (none_to_take past line to_come new none newline)
+  | inr last ↦ absurd (none_to_end line to_come new none last.0 last.1)
+]
+
+-- a line is taken, and the run goes on behind it
+one_line : (done now_done : List Entry) (refused now : Option ℕ) (n : ℕ) (S T : State) (line : List ℕ) (old new : Option (List ℕ)) (input : List ℕ)
+    → ((lines : List (List ℕ)) → run_on done refused n S (line ∷ lines) ≡ run_on now_done now (n + 1) T lines) → Knows refused n S done old input → TakesLine line old new → Knows now (n + 1) T now_done new input
+one_line done now_done refused now n S T line old new input step known took =
+    let taken = takes known.past line known.to_come new known.fresh (subst (λ bytes. TakesLine line bytes new) known.here took) in
+    record {
+      past = taken.now_past;
+      to_come = taken.now_to_come;
+      here = taken.here;
+      all = known.all ∙ taken.all;
+      fresh = taken.fresh;
+      leads = λ lines. ap (λ front. run_on [] None 1 (opening []) (front ++ lines)) taken.lines
+          ∙ ap (run_on [] None 1 (opening [])) (append_assoc (lines_of known.past) (line ∷ []) lines) ∙ known.leads (line ∷ lines) ∙ step lines;
+    }
+
+for_input : (done now_done : List Entry) (refused now : Option ℕ) (n : ℕ) (S T : State) (line : List ℕ) (old new input : Option (List ℕ))
+    → ((lines : List (List ℕ)) → run_on done refused n S (line ∷ lines) ≡ run_on now_done now (n + 1) T lines) → TakesLine line old new → IfSome input (Knows refused n S done old) → IfSome input (Knows now (n + 1) T now_done new)
+for_input done now_done refused now n S T line old new None step took known = tt
+for_input done now_done refused now n S T line old new (Some input) step took known = one_line done now_done refused now n S T line old new input step known took
+
+-- a line that is no event
+runs_past : (stands : State → Type 0) (refused : Option ℕ) (n : ℕ) (held holds : Option (List ℕ)) (line : List ℕ) (old new input : Option (List ℕ))
+    → RunsOn stands refused n held holds old input → TakesLine line old new → n ≤ 200000 → length line ≤ 4096 → event_of line ≡ Ok None → RunsOn stands refused (n + 1) held holds new input
+runs_past stands refused n held holds line old new input run took h k e = record {
+  state = run.state;
+  stood = run.stood;
+  done = run.done;
+  text = run.text;
+  known = for_input run.done run.done refused refused n run.state run.state line old new input (λ lines. skips_line run.done refused n run.state line lines h k e) took run.known;
+}
+
+replies_text-push : (done : List Entry) (entry : Entry) → replies_text (done ++ entry ∷ []) ≡ replies_text done ++ entry_text entry
+replies_text-push [] entry = append-nil (entry_text entry)
+replies_text-push (d ∷ done) entry = ap (λ text. entry_text d ++ text) (replies_text-push done entry) ∙ sym (append_assoc (entry_text d) (replies_text done) (entry_text entry))
+
+refused_as : (refused : Option ℕ) (n : ℕ) (refusal b : Bool) → refusal ≡ b → or_else refused (cond b (Some n) None) ≡ cond refusal (or_else refused (Some n)) refused
+refused_as refused n refusal true e = rw e refl
+refused_as refused n refusal false e = rw e (or_else-None refused)
+
+-- a line that is an event
+runs_through : (stands now_stands : State → Type 0) (refused now : Option ℕ) (n : ℕ) (held holds now_holds : Option (List ℕ)) (e : Event) (refusal : Bool) (line : List ℕ) (old new input : Option (List ℕ))
+    → RunsOn stands refused n held holds old input → IsAnswered stands now_stands e refusal holds now_holds → TakesLine line old new → n ≤ 200000 → length line ≤ 4096 → event_of line ≡ Ok (Some e)
+    → now ≡ cond refusal (or_else refused (Some n)) refused → RunsOn now_stands now (n + 1) held now_holds new input
+runs_through stands now_stands refused now n held holds now_holds e refusal line old new input run answered took h k says so =
+    let S = run.state in
+    let entry : Entry = entry_at S e (allowed S e) in
+    let told : or_else refused (refused_at_line n entry) ≡ now = refused_as refused n refusal (is_refusal entry.reply.head) (answered.refused S run.stood) ∙ sym so in
+    record {
+      state = after_entry S entry;
+      stood = answered.stood S run.stood;
+      done = run.done ++ entry ∷ [];
+      text = answered.text S run.stood ∙ ap (λ known. after_known known (entry_text entry)) run.text ∙ after_known-append held (replies_text run.done) (entry_text entry)
+          ∙ ap (after_known held) (sym (replies_text-push run.done entry));
+      known = for_input run.done (run.done ++ entry ∷ []) refused now n S (after_entry S entry) line old new input
+          (λ lines. answers_line run.done refused n S e line lines h k says ∙ ap (λ r. run_on (run.done ++ entry ∷ []) r (n + 1) (after_entry S entry) lines) told) took run.known;
+    }
+
+-- a line that was taken, whatever it is
+pub runs_line : (stands now_stands : State → Type 0) (refused now : Option ℕ) (n : ℕ) (held holds now_holds : Option (List ℕ)) (line : List ℕ) (old new input : Option (List ℕ)) (said : Result (Option Event) LineFault)
+    → event_of line ≡ said → RunsOn stands refused n held holds old input → TakesEvent stands now_stands said n refused now holds now_holds → TakesLine line old new → n ≤ 200000 → length line ≤ 4096
+    → RunsOn now_stands now (n + 1) held now_holds new input
+runs_line stands now_stands refused now n held holds now_holds line old new input (Ok None) says run took line_took h k =
+    let past = runs_past stands refused n held holds line old new input run line_took h k says in
+    subst (λ r. RunsOn now_stands r (n + 1) held now_holds new input) (sym took.1)
+    (subst (λ known. RunsOn now_stands refused (n + 1) held known new input) (sym took.2) (record {
+      state = past.state;
+      stood = took.0 past.state past.stood;
+      done = past.done;
+      text = past.text;
+      known = past.known;
+    }))
+runs_line stands now_stands refused now n held holds now_holds line old new input (Ok (Some e)) says run took line_took h k =
+    runs_through stands now_stands refused now n held holds now_holds e took.0 line old new input run took.1 line_took h k says took.2
+runs_line stands now_stands refused now n held holds now_holds line old new input (Err fault) says run took line_took h k = absurd took
+
+-- the run of the input is the run over the bytes to come, from here on
+pub known_run : (refused : Option ℕ) (n : ℕ) (S : State) (done : List Entry) (bytes : Option (List ℕ)) (input : List ℕ) (known : Knows refused n S done bytes input) → run_of input ≡ run_on done refused n S (lines_of known.to_come)
+known_run refused n S done bytes input known =
+    from_first_line input ∙ ap (λ bytes. run_on [] None 1 (opening []) (lines_of bytes)) known.all ∙ ap (run_on [] None 1 (opening [])) (joined known.fresh) ∙ known.leads (lines_of known.to_come)
+  where
+    joined : AreWhole known.past ⊎ (known.to_come ≡ []) → lines_of (known.past ++ known.to_come) ≡ lines_of known.past ++ lines_of known.to_come
+    joined (inl whole) = lines_of-append known.past known.to_come whole
+    joined (inr none) = rw none (ap lines_of (append-nil known.past) ∙ sym (append-nil (lines_of known.past)))

@@ -1,0 +1,33 @@
+-- What the program writes for its words and its whole input, as far as the input is known.
+use Rattle.std.specs.Prelude.{◌≡◌, ℕ, List, [], Option, Some, None, IfSome}
+use Rattle.std.specs.Option.{option_map}
+use Rattle.zones_run.specs.declared.status.TheConstants.{USAGE}
+use Rattle.zones_run.specs.declared.words.Command.{Command}
+use Rattle.zones_run.specs.declared.words.Command.TheVariants.{Export, Trace, Help, Version}
+use Rattle.zones_run.specs.declared.words.TheConstants.{HELP, USAGE_LINE, VERSION}
+use Rattle.zones_run.specs.Exporting.{exported}
+use Rattle.zones_run.specs.Output.{Output, written}
+use Rattle.zones_run.specs.Tracing.{AnswersRead, HasReplies, run_of, traced}
+use Rattle.zones_run.specs.Words.{command_of}
+
+abbrev pub output_for : Option Command → Option (List ℕ) → Option Output
+output_for (Some Export) input = option_map exported input
+output_for (Some Trace) input = option_map traced input
+output_for (Some Help) input = Some (written HELP.now)
+output_for (Some Version) input = Some (written VERSION.now)
+output_for None input = Some (record { status = USAGE; out = []; err = USAGE_LINE.now })
+
+-- the output for some words, as far as the input is known
+abbrev pub output_of : List (List ℕ) → Option (List ℕ) → Option Output
+output_of words input = output_for (command_of words) input
+
+-- where the input was not read to its end, a trace has written whole replies, and every other command nothing
+abbrev pub HasAnswered : Option Command → Option (List ℕ) → (held holds : Option (List ℕ)) → Type 0
+HasAnswered (Some Trace) input held holds = IfSome input (λ bytes. HasReplies held holds (run_of bytes))
+HasAnswered command input held holds = holds ≡ held
+
+-- the same where the source failed: a trace has answered just the lines that were taken whole
+abbrev pub HasAnsweredRead : Option Command → (input left held holds : Option (List ℕ)) → Type 0
+HasAnsweredRead (Some Trace) input left held holds =
+    IfSome input (λ bytes. HasReplies held holds (run_of bytes)) × IfSome input (λ _. AnswersRead input left held holds)
+HasAnsweredRead command input left held holds = holds ≡ held

@@ -1,0 +1,83 @@
+-- Why `export` refuses a line or the end of its input, as standard error tells it: the code, the name, and what it
+-- is about.
+use Rattle.std.specs.Prelude.{ℕ, List, ◌++◌, unwrap_or, codes}
+use Rattle.std.specs.Fmt.{decimal}
+use Rattle.zonecfg_lex.specs.declared.fault.LexFault.{LexFault}
+use Rattle.zonecfg_lex.specs.declared.fault.LexFault.TheVariants as lex
+use Rattle.config_terms.specs.declared.fault.ConfigFault.{ConfigFault}
+use Rattle.config_terms.specs.declared.fault.ConfigFault.TheVariants as config
+use Rattle.config_terms.specs.declared.fields.Named.{Named}
+use Rattle.config_terms.specs.declared.fields.Named.TheVariants.{One, Many}
+use Rattle.config_terms.specs.declared.terms.Kind.{Kind}
+use Rattle.config_terms.specs.Fields.{field_name, kind_name, list_name}
+use Rattle.config_verify.specs.declared.flaw.Flaw.{Flaw}
+use Rattle.config_verify.specs.declared.flaw.Flaw.TheVariants as flaw
+use Rattle.zonecfg_scopes.specs.declared.fault.EditFault.{EditFault}
+use Rattle.zonecfg_scopes.specs.declared.fault.EditFault.TheVariants as edit
+use Rattle.zonecfg_scopes.specs.declared.fault.Scope.{Scope}
+use Rattle.zonecfg_scopes.specs.declared.fault.Scope.TheVariants as scope
+use Rattle.zones_run.specs.declared.refusal.Refusal.{Refusal}
+use Rattle.zones_run.specs.declared.refusal.Refusal.TheVariants.{Memory, Edit, Flawed}
+
+-- a fault, and a flaw, as a refusal
+abbrev pub refused : EditFault → Refusal
+refused edit.Memory = Memory
+refused fault = Edit fault
+
+abbrev pub flawed : Flaw → Refusal
+flawed flaw.Memory = Memory
+flawed found = Flawed found
+
+abbrev pub lex_text : LexFault → List ℕ
+lex_text lex.Memory = codes "no memory"
+lex_text (lex.OpenQuote place) = codes "11 OpenQuote " ++ decimal place
+lex_text (lex.StrayByte place) = codes "12 StrayByte " ++ decimal place
+lex_text (lex.OpenBracket place) = codes "13 OpenBracket " ++ decimal place
+lex_text (lex.NoValue place) = codes "14 NoValue " ++ decimal place
+
+abbrev pub config_text : ConfigFault → List ℕ
+config_text config.Memory = codes "no memory"
+config_text (config.NotExport line) = codes "21 NotExport " ++ decimal line
+config_text config.UnknownProperty = codes "22 UnknownProperty"
+config_text config.BadValue = codes "23 BadValue"
+config_text config.Duplicate = codes "24 Duplicate"
+config_text config.NoMatch = codes "25 NoMatch"
+config_text (config.SeveralMatch count) = codes "26 SeveralMatch " ++ decimal count
+config_text (config.TooMany most) = codes "27 TooMany " ++ decimal most
+config_text config.AliasHeld = codes "28 AliasHeld"
+config_text (config.TooLarge size) = codes "29 TooLarge " ++ decimal size
+
+abbrev pub scope_text : Scope → List ℕ
+scope_text scope.Global = codes "global"
+scope_text (scope.Resource kind) = kind_name kind
+
+abbrev pub edit_text : EditFault → List ℕ
+edit_text edit.Memory = codes "no memory"
+edit_text (edit.Lex fault) = lex_text fault
+edit_text edit.UnknownCommand = codes "31 UnknownCommand"
+edit_text edit.Usage = codes "35 Usage"
+edit_text edit.NotHere = codes "36 NotHere"
+edit_text edit.NothingOpen = codes "33 NothingOpen"
+edit_text (edit.WrongScope scope) = codes "32 WrongScope " ++ scope_text scope
+edit_text edit.NeedForce = codes "34 NeedForce"
+edit_text (edit.Config fault) = config_text fault
+
+-- a property of a kind
+abbrev pub property_text : Kind → Named → List ℕ
+property_text kind (One field) = field_name field
+property_text kind Many = unwrap_or (list_name kind) (codes "value")
+
+abbrev pub flaw_text : Flaw → List ℕ
+flaw_text flaw.Memory = codes "no memory"
+flaw_text flaw.NoZonepath = codes "41 NoZonepath"
+flaw_text (flaw.MissingProperty kind name) = codes "42 MissingProperty " ++ (kind_name kind ++ (codes " " ++ property_text kind name))
+flaw_text (flaw.NetForm place) = codes "43 NetForm " ++ decimal place
+flaw_text (flaw.BadAddress text) = codes "44 BadAddress " ++ text
+flaw_text (flaw.SameDir dir) = codes "45 SameDir " ++ dir
+flaw_text (flaw.UnknownBrand brand) = codes "46 UnknownBrand " ++ brand
+flaw_text (flaw.AttrForm name) = codes "50 AttrForm " ++ name
+
+unfoldable pub refusal_text : Refusal → List ℕ
+refusal_text Memory = codes "no memory"
+refusal_text (Edit fault) = edit_text fault
+refusal_text (Flawed found) = flaw_text found

@@ -1,0 +1,29 @@
+//! What ends a run that the words and the input do not decide.
+ghost use Rattle.std.specs.Prelude.{◌≡◌};
+
+use crate::lines::ReadFault;
+use thiserror::Error;
+
+/// What ends a run before its answer.
+#[derive(Clone, Copy, Debug, PartialEq, Eq, Error)]
+pub enum RunFault {
+    #[error("out of memory")]
+    Memory,
+    #[error("the source has failed")]
+    Read,
+    #[error("standard output or standard error has failed")]
+    Write,
+}
+
+impl From<ReadFault> for RunFault {
+    ghost use Rattle.zones_run.specs.Run.{run_fault_of};
+
+    ghost from_gives = { λ fault e. e ≡ run_fault_of fault };
+
+    fn from(fault: ReadFault) -> Self {
+        match fault {
+            ReadFault::Memory => RunFault::Memory,
+            ReadFault::Failed => RunFault::Read,
+        }
+    }
+}

@@ -1,0 +1,14 @@
+//! What follows from the definition of `export`'s output, whatever the program's body is.
+ghost use Rattle.zones_run.specs.Denoted.{ExportsWhatIsDenoted, RefusesAtWhatIsDenoted};
+
+/// A law: where `export` ends with status 0, it has written the export text of the configuration that the
+/// subcommands of its input denote, with scopes as brackets in their list, and that has no flaw.
+pub fn exports_what_is_denoted()
+    ensures { ExportsWhatIsDenoted }
+{}
+
+/// A law: where `export` ends with status 1, it tells the first line that is refused, and why, at what the
+/// subcommands of the lines before it denote; or why the end is, at what those of all lines denote.
+pub fn refuses_at_what_is_denoted()
+    ensures { RefusesAtWhatIsDenoted }
+{}

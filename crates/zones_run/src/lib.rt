@@ -1,0 +1,20 @@
+//! The commands of `zones`, over any source and sinks: zone configurations read, checked and written, and traces
+//! run by the zone machine. Its one contract is that of `run_zones`: what a whole input comes to, and what each
+//! exit status means.
+#![tactic(auto)]
+
+mod edit;
+mod export;
+mod fault;
+mod laws;
+mod lines;
+mod outcome;
+mod refusal;
+mod run;
+mod status;
+mod trace;
+mod words;
+
+pub use fault::RunFault;
+pub use laws::{exports_what_is_denoted, refuses_at_what_is_denoted};
+pub use run::{fail, run_zones};

@@ -1,0 +1,76 @@
+//! What the whole input comes to: a text on standard output, or a line on standard error.
+ghost use Rattle.std.specs.Prelude.{◌≡◌, ◌++◌, IfOk, OnOk};
+ghost use Rattle.zones_run.specs.Complaints.{complaint_status, complaint_text};
+
+use crate::refusal::{Refusal, push_refusal};
+use crate::status;
+use std::alloc::{AllocError, Global};
+use trace_text::{LineFault, push_numbered};
+
+/// What ends a run with a line on standard error. Lines are numbered from 1.
+#[derive(Drop)]
+pub enum Complaint {
+    /// A line is refused.
+    Line(u64, Refusal),
+    /// The end of the input is refused.
+    End(Refusal),
+    /// A line of a trace is outside its grammar.
+    Grammar(u64, LineFault),
+    /// A trace is done, and this is its first line that was refused.
+    FirstRefused(u64),
+    /// A line is past a limit.
+    Limit(u64),
+}
+
+impl Complaint {
+    /// The exit status.
+    pub fn status(&self) -> u8
+        ensures { result ≡ complaint_status self.now }
+    {
+        match self {
+            Complaint::Line(_, _) | Complaint::End(_) | Complaint::FirstRefused(_) => {
+                status::REFUSED
+            }
+            Complaint::Grammar(_, _) => status::GRAMMAR,
+            Complaint::Limit(_) => status::LIMIT,
+        }
+    }
+
+    /// Its line, with its newline.
+    pub fn line(&self, alloc: Global) -> Result<Vec<u8>, AllocError>
+        ensures { IfOk result (λ line. line.items ≡ complaint_text self.now) }
+    {
+        let mut line = Vec::new(alloc);
+        match self {
+            Complaint::Line(number, refusal) => {
+                push_numbered(&mut line, b"line ", *number)?;
+                line.extend_from_slice(b": ")?;
+                push_refusal(&mut line, refusal)?;
+            }
+            Complaint::End(refusal) => {
+                line.extend_from_slice(b"end: ")?;
+                push_refusal(&mut line, refusal)?;
+            }
+            Complaint::Grammar(number, fault) => {
+                push_numbered(&mut line, b"line ", *number)?;
+                line.extend_from_slice(b": ")?;
+                line.extend_from_slice(fault.to_string(alloc)?.as_bytes())?;
+            }
+            Complaint::FirstRefused(number) => {
+                push_numbered(&mut line, b"first refused line: ", *number)?;
+            }
+            Complaint::Limit(number) => push_numbered(&mut line, b"limit at line ", *number)?,
+        }
+        line.push(b'\n')?;
+        Ok(line)
+    }
+}
+
+/// What the whole input comes to.
+#[derive(Drop)]
+pub enum Outcome {
+    /// A text for standard output.
+    Text(Vec<u8>),
+    /// A line for standard error.
+    Complains(Complaint),
+}

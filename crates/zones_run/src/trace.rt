@@ -1,0 +1,203 @@
+//! The command `trace`: the events of the input go through a zone machine that begins with nothing
+//! stored, one after the other. Their replies are written together, before more is read where no line is
+//! begun, and when many of them wait.
+ghost use Rattle.std.specs.Prelude.{◌≡◌, ◌≢◌, ◌<◌, ◌≤◌, ◌⊎◌, ℕ, List, [], Err, IfErr, length, IfOk, IfSome, IsErrOf, OnErr, OnOk, Option};
+ghost use Rattle.zn_io.specs.Streams.{Rose, after_known};
+ghost use Rattle.zone_machine.specs.Machine.{opening};
+ghost use Rattle.zone_machine.specs.Tables.{Stands};
+ghost use Rattle.trace_text.specs.Lines.{event_of};
+ghost use Rattle.zones_run.specs.Run.{HasFront};
+ghost use Rattle.zones_run.specs.Tracing.{AnswersRead, HasReplies, HasWritten, IsAnswered, Stops, TakesEvent, Tells, is_refusal, is_refused_outcome, is_refused_turn, left_to_tell, run_of, told_refusal, traced};
+
+use crate::fault::RunFault;
+use crate::lines::{Ahead, Got, LINES_MAX, next_line};
+use crate::outcome::Complaint;
+use std::alloc::{AllocError, Global};
+use trace_text::{LineFault, print_reply, read_line};
+use zn_io::{Sink, Source, write_all};
+use zone_machine::{Event, Head, Machine, Outcome, StepFault, TurnReply};
+
+// How many bytes of replies may wait before they are written.
+const WAITING_MAX: usize = 16384;
+
+fn is_refused_turn(turn: &TurnReply) -> bool
+    ensures { result ≡ is_refused_turn turn.now }
+{
+    match turn {
+        TurnReply::Failed(_, _) => true,
+        TurnReply::Finished(_, outcome) => *outcome != Outcome::Done,
+        _ => false,
+    }
+}
+
+fn is_refusal(head: &Head) -> bool
+    ensures { result ≡ is_refusal head.now }
+{
+    match head {
+        Head::Refused(_) => true,
+        Head::Turned(turn) => is_refused_turn(turn),
+        _ => false,
+    }
+}
+
+// What is left to tell at the end of the input.
+fn ended(refused: Option<u64>) -> Option<Complaint>
+    ensures { left_to_tell result ≡ record (told_refusal [] refused) { out = [] } }
+{
+    refused.map(Complaint::FirstRefused)
+}
+
+// One event: its reply waits to be written, and told is whether it is a refusal.
+fn answer(
+    alloc: Global,
+    machine: &mut Machine,
+    event: Event,
+    waiting: &mut Vec<u8>,
+) -> Result<bool, AllocError>
+    ensures answered { IfOk result (λ refusal. (held : Option (List ℕ)) → IsAnswered (λ S. Stands S machine.old) (λ S. Stands S machine.new) event refusal (after_known held waiting.old.items) (after_known held waiting.new.items)) }
+    ensures same { OnErr result (waiting.new.items ≡ waiting.old.items) }
+{
+    let entry = match machine.step(alloc, event) {
+        Ok(entry) => entry,
+        Err(StepFault::Memory) => return Err(AllocError),
+        Err(StepFault::BadGrant) => unreachable!(),
+    };
+    let Ok(text) = print_reply(alloc, &entry.subject, &entry.reply) else {
+        return Err(AllocError);
+    };
+    waiting.extend_from_slice(&text)?;
+    Ok(is_refusal(&entry.reply.head))
+}
+
+// Why a line ends a trace.
+enum Stop {
+    Memory,
+    Grammar(LineFault),
+}
+
+// One line: its event, if it is one, is answered, and the number of the first refused line is told.
+fn take_line(
+    alloc: Global,
+    machine: &mut Machine,
+    line: &[u8],
+    number: u64,
+    refused: Option<u64>,
+    waiting: &mut Vec<u8>,
+) -> Result<Option<u64>, Stop>
+    requires { length line.now ≤ 4096 }
+    ensures taken { IfOk result (λ now. (held : Option (List ℕ)) → TakesEvent (λ S. Stands S machine.old) (λ S. Stands S machine.new) (event_of line.now) number refused now (after_known held waiting.old.items) (after_known held waiting.new.items)) }
+    ensures stopped { IfErr result (λ stop. Stops stop (event_of line.now)) }
+    ensures same { OnErr result (waiting.new.items ≡ waiting.old.items) }
+{
+    match read_line(alloc, line) {
+        Ok(None) => Ok(refused),
+        Ok(Some(event)) => match answer(alloc, machine, event, waiting) {
+            Ok(true) => Ok(refused.or(Some(number))),
+            Ok(false) => Ok(refused),
+            Err(AllocError) => Err(Stop::Memory),
+        },
+        Err(LineFault::Memory) => Err(Stop::Memory),
+        Err(fault) => Err(Stop::Grammar(fault)),
+    }
+}
+
+// Writes the replies that wait. None waits then; where standard output fails, a front of them was taken.
+fn write_waiting<K: Sink>(waiting: &mut Vec<u8>, out: &mut K) -> Result<(), RunFault>
+    ensures all { OnOk result (K.holds out.new ≡ after_known (K.holds out.old) waiting.old.items) }
+    ensures none { waiting.new.items ≡ [] }
+    ensures front { OnErr result (HasFront (K.holds out.old) (K.holds out.new) waiting.old.items) }
+    ensures fault { OnErr result ((result ≡ Err RunFault.Write) × Rose (K.faults out.old) (K.faults out.new)) }
+    ensures later { K.faults out.old ≤ K.faults out.new }
+{
+    let written = write_all(out, waiting);
+    waiting.clear();
+    match written {
+        Ok(()) => Ok(()),
+        Err(_) => Err(RunFault::Write),
+    }
+}
+
+// Writes the replies that wait, where there are many or nothing is ahead.
+fn write_some<K: Sink>(ahead: &Ahead, waiting: &mut Vec<u8>, out: &mut K) -> Result<(), RunFault>
+    ensures same { OnOk result (after_known (K.holds out.new) waiting.new.items ≡ after_known (K.holds out.old) waiting.old.items) }
+    ensures few { OnOk result ((waiting.new.items ≡ []) ⊎ ((length ahead.now ≢ 0) × (length waiting.new.items < WAITING_MAX))) }
+    ensures written { HasWritten (K.holds out.old) (K.holds out.new) }
+    ensures none { OnErr result (waiting.new.items ≡ []) }
+    ensures front { OnErr result (HasFront (K.holds out.old) (K.holds out.new) waiting.old.items) }
+    ensures fault { OnErr result ((result ≡ Err RunFault.Write) × Rose (K.faults out.old) (K.faults out.new)) }
+    ensures later { K.faults out.old ≤ K.faults out.new }
+{
+    if !ahead.is_empty() && waiting.len() < WAITING_MAX {
+        return Ok(());
+    }
+    write_waiting(waiting, out)
+}
+
+// Takes all lines, one at a time, up to the first that is outside the grammar or past a limit. What is
+// left to tell is answered, and the last replies wait to be written. Nothing waits while the first byte of a
+// line is read, so whoever types whole lines gets each reply before the next line is read.
+fn take_lines<S: Source, K: Sink>(
+    alloc: Global,
+    machine: &mut Machine,
+    source: &mut S,
+    waiting: &mut Vec<u8>,
+    out: &mut K,
+) -> Result<Option<Complaint>, RunFault>
+    requires stands { Stands (opening []) machine.old }
+    requires none { waiting.old.items ≡ [] }
+    ensures told { IfOk result (λ complaint. IfSome (S.left source.old) (λ bytes. Tells complaint (K.holds out.old) (after_known (K.holds out.new) waiting.new.items) (traced bytes))) }
+    ensures read { IsErrOf result RunFault.Read → Rose (S.faults source.old) (S.faults source.new) }
+    ensures write { IsErrOf result RunFault.Write → Rose (K.faults out.old) (K.faults out.new) }
+    ensures front { IsErrOf result RunFault.Write → IfSome (S.left source.old) (λ bytes. HasFront (K.holds out.old) (K.holds out.new) (traced bytes).out) }
+    ensures answered { IsErrOf result RunFault.Read ⊎ IsErrOf result RunFault.Memory → IfSome (S.left source.old) (λ bytes. HasReplies (K.holds out.old) (after_known (K.holds out.new) waiting.new.items) (run_of bytes)) }
+    ensures taken { IsErrOf result RunFault.Read → IfSome (S.left source.old) (λ _. AnswersRead (S.left source.old) (S.left source.new) (K.holds out.old) (after_known (K.holds out.new) waiting.new.items)) }
+    ensures written { HasWritten (K.holds out.old) (K.holds out.new) }
+    ensures none { IsErrOf result RunFault.Write → waiting.new.items ≡ [] }
+    ensures read_later { S.faults source.old ≤ S.faults source.new }
+    ensures write_later { K.faults out.old ≤ K.faults out.new }
+{
+    let mut ahead = Ahead::new();
+    let mut line = Vec::new(alloc);
+    let mut refused = None;
+    for before in 0..LINES_MAX {
+        write_some(&ahead, waiting, out)?;
+        match next_line(&mut ahead, source, &mut line)? {
+            Got::End => return Ok(ended(refused)),
+            Got::TooLong => return Ok(Some(Complaint::Limit(before + 1))),
+            Got::Line => {}
+        }
+        match take_line(alloc, machine, &line, before + 1, refused, waiting) {
+            Ok(now) => refused = now,
+            Err(Stop::Memory) => return Err(RunFault::Memory),
+            Err(Stop::Grammar(fault)) => return Ok(Some(Complaint::Grammar(before + 1, fault))),
+        }
+    }
+    write_some(&ahead, waiting, out)?;
+    if ahead.refill(source)? {
+        return Ok(Some(Complaint::Limit(LINES_MAX + 1)));
+    }
+    Ok(ended(refused))
+}
+
+/// Runs all lines, one at a time, up to the first that is outside the grammar or past a limit. What is
+/// left to tell is answered.
+pub fn trace_all<S: Source, K: Sink>(
+    alloc: Global,
+    machine: &mut Machine,
+    source: &mut S,
+    out: &mut K,
+) -> Result<Option<Complaint>, RunFault>
+    requires { Stands (opening []) machine.old }
+    ensures told { IfOk result (λ complaint. IfSome (S.left source.old) (λ bytes. Tells complaint (K.holds out.old) (K.holds out.new) (traced bytes))) }
+    ensures read { IsErrOf result RunFault.Read → Rose (S.faults source.old) (S.faults source.new) }
+    ensures write { IsErrOf result RunFault.Write → Rose (K.faults out.old) (K.faults out.new) }
+    ensures front { IsErrOf result RunFault.Write → IfSome (S.left source.old) (λ bytes. HasFront (K.holds out.old) (K.holds out.new) (traced bytes).out) }
+    ensures answered { IsErrOf result RunFault.Read ⊎ IsErrOf result RunFault.Memory → IfSome (S.left source.old) (λ bytes. HasReplies (K.holds out.old) (K.holds out.new) (run_of bytes)) }
+    ensures taken { IsErrOf result RunFault.Read → IfSome (S.left source.old) (λ _. AnswersRead (S.left source.old) (S.left source.new) (K.holds out.old) (K.holds out.new)) }
+    ensures later { S.faults source.old ≤ S.faults source.new }
+{
+    let mut waiting = Vec::new(alloc);
+    let ended = take_lines(alloc, machine, source, &mut waiting, out);
+    write_waiting(&mut waiting, out)?;
+    ended
+}

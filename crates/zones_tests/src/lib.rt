@@ -1,0 +1,18 @@
+//! Tests of the zone machine, of the text of traces and of whole runs of the program, over public calls, with
+//! sources and sinks in memory. What they expect is worked out from docs/FORMATS.md by hand.
+#![tactic(auto)]
+
+#[cfg(test)]
+mod exports;
+#[cfg(test)]
+mod limits;
+#[cfg(test)]
+mod machine;
+#[cfg(test)]
+mod replies;
+#[cfg(test)]
+mod runs;
+#[cfg(test)]
+mod trace_lines;
+#[cfg(test)]
+mod traces;
