@@ -1,34 +1,28 @@
 -- A text is read in one way.
-use Rattle.std.proofs.Common.{◌≡◌, ◌≢◌, ℕ, ◌+◌, false, List, [], ◌∷◌, ◌++◌, length, length-append, append_assoc, get_or, All, Some, Result, Ok, Err, IsTrue, ◌⊎◌, inl, inr, refl, sym, ap, ◌∙◌, subst, arith}
+use Rattle.std.proofs.Common.{◌≡◌, ◌≢◌, ℕ, ◌+◌, false, List, [], ◌∷◌, ◌++◌, length, length-append, append_assoc, get_or, All, Result, Ok, Err, ◌⊎◌, inl, inr, refl, sym, ap, ◌∙◌, subst, arith}
 use Rattle.std.specs.List.{Any}
 use Rattle.std.proofs.lemmas.List.{append-nil, get_or_append_left, get_or_default}
 use Rattle.std.proofs.Math.Seq.{get_or-append_seam}
 use Rattle.std.proofs.lemmas.List.Elements.{All-head, All-tail}
-use Rattle.uuid.specs.Text.{hyphenated_text, lower, parsed}
-use Rattle.uuid.proofs.RoundTrips.{parses_hyphenated}
-use Rattle.zn_base.specs.States.{is_stored, state_text, stored_state}
+use Rattle.uuid_text.specs.Text.{uuid_text}
+use Rattle.uuid_text.proofs.Texts.{uuid_of_text, uuid_text-length}
+use Rattle.zn_base.specs.Lines.{newline}
+use Rattle.zn_base.specs.States.{state_text}
+use Rattle.zn_base.proofs.First_byte.{cut_alike}
+use Rattle.zn_base.proofs.Read_back.{name_lacks, state_lacks, state_of_text}
 use Rattle.zn_base.specs.declared.state.ZoneState.{ZoneState}
 use Rattle.index_file.specs.declared.fault.IndexFault.{IndexFault}
 use Rattle.index_file.specs.declared.fault.IndexFault.TheVariants.{Memory, IndexLine, SameName}
 use Rattle.index_file.specs.declared.rows.IndexRow.{IndexRow}
-use Rattle.index_file.specs.Index.{colon, escaped, index_text, line_text, newline, IsIndex, IsIndexRow, IsUuid}
+use Rattle.index_file.specs.Index.{colon, escaped, index_text, line_text, IsIndex, IsIndexRow}
 use Rattle.index_file.specs.Reading.{BeginsWithLine, ReadsAs}
 use Rattle.index_file.specs.OneReading.{OneRowALine, OneTextForRows, PrintedReadsBack, ReadsOneWay}
 use Rattle.index_file.proofs.Escapes.{unescaped, unescaped-escaped}
-use Rattle.index_file.proofs.Lines.{behind_name, behind_state, cut_alike, front, last_fields, line_alone, line_ends, line_named, uuid_text_length}
-use Rattle.index_file.proofs.Parts.{front_lacks_newline, name_lacks_colon, state_lacks_colon, stored_state_text}
-
-same_some : {X : Type 0} (a b : X) → Some a ≡ Some b → a ≡ b
-same_some a b e = cc
-
-state_of_text : (a b : ZoneState) → IsTrue (is_stored a) → IsTrue (is_stored b) → state_text a ≡ state_text b → a ≡ b
-state_of_text a b f g same = same_some a b (sym (stored_state_text a f) ∙ ap stored_state same ∙ stored_state_text b g)
+use Rattle.index_file.proofs.Lines.{behind_name, behind_state, front, last_fields, line_alone, line_ends, line_named}
+use Rattle.index_file.proofs.Parts.{front_lacks_newline}
 
 path_of_text : (a b : List ℕ) → escaped a ≡ escaped b → a ≡ b
 path_of_text a b same = sym (unescaped-escaped a) ∙ ap (unescaped false) same ∙ unescaped-escaped b
-
-uuid_of_text : (a b : List ℕ) → IsUuid a → IsUuid b → hyphenated_text lower a ≡ hyphenated_text lower b → a ≡ b
-uuid_of_text a b f g same = same_some a b (parses_hyphenated lower a (inl refl) f.sixteen f.bytes ∙ ap parsed same ∙ sym (parses_hyphenated lower b (inl refl) g.sixteen g.bytes))
 
 -- the fields make the row
 abbrev row_of : List ℕ → ZoneState → List ℕ → List ℕ → IndexRow
@@ -41,11 +35,11 @@ row_is a b name state path uuid =
 
 pub one_row : OneRowALine
 one_row a b f g same =
-    let names = cut_alike colon a.name (behind_name a) b.name (behind_name b) (name_lacks_colon a.name f.name) (name_lacks_colon b.name g.name)
+    let names = cut_alike colon a.name (behind_name a) b.name (behind_name b) (name_lacks colon refl a.name f.name) (name_lacks colon refl b.name g.name)
     (sym (line_named (line_text a) a refl) ∙ line_named (line_text a) b same) in
-    let states = cut_alike colon (state_text a.state) (behind_state a) (state_text b.state) (behind_state b) (state_lacks_colon a.state) (state_lacks_colon b.state) names.1 in
-    let of_a = last_fields (escaped a.path) (hyphenated_text lower a.uuid) (behind_state a) (uuid_text_length a.uuid) refl in
-    let of_b = last_fields (escaped b.path) (hyphenated_text lower b.uuid) (behind_state a) (uuid_text_length b.uuid) states.1 in
+    let states = cut_alike colon (state_text a.state) (behind_state a) (state_text b.state) (behind_state b) (state_lacks colon refl a.state) (state_lacks colon refl b.state) names.1 in
+    let of_a = last_fields (escaped a.path) (uuid_text a.uuid) (behind_state a) (uuid_text-length a.uuid) refl in
+    let of_b = last_fields (escaped b.path) (uuid_text b.uuid) (behind_state a) (uuid_text-length b.uuid) states.1 in
     row_is a b names.0 (state_of_text a.state b.state f.state g.state states.0) (path_of_text a.path b.path (sym of_a.1 ∙ of_b.1))
     (uuid_of_text a.uuid b.uuid f.uuid g.uuid (sym of_a.2 ∙ of_b.2))
 

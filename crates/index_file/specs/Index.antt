@@ -1,7 +1,8 @@
 -- The index text: one line for each stored zone. Its form is this project's own.
-use Rattle.std.specs.Prelude.{◌≡◌, ◌≢◌, ℕ, ◌<◌, List, [], ◌∷◌, ◌++◌, length, Bool, ◌==◌, ◌||◌, IsTrue, All, if◌then◌else◌}
+use Rattle.std.specs.Prelude.{◌≢◌, ℕ, List, [], ◌∷◌, ◌++◌, Bool, ◌==◌, ◌||◌, IsTrue, All, if◌then◌else◌}
 use Rattle.std.specs.List.{flat_map, AllPairs}
-use Rattle.uuid.specs.Text.{hyphenated_text, lower}
+use Rattle.uuid_text.specs.Text.{uuid_text, IsUuid}
+use Rattle.zn_base.specs.Lines.{newline}
 use Rattle.zn_base.specs.Names.{is_name}
 use Rattle.zn_base.specs.Path.{is_path}
 use Rattle.zn_base.specs.States.{is_stored, state_text}
@@ -13,9 +14,6 @@ colon = 58
 
 abbrev pub backslash : ℕ
 backslash = 92
-
-abbrev pub newline : ℕ
-newline = 10
 
 abbrev pub is_escaped_byte : ℕ → Bool
 is_escaped_byte b = b == colon || b == backslash
@@ -29,15 +27,10 @@ escaped path = flat_map escaped_byte path
 -- `NAME:STATE:PATH:UUID` and a newline
 unfoldable pub line_text : IndexRow → List ℕ
 line_text row =
-    row.name ++ colon ∷ state_text row.state ++ colon ∷ escaped row.path ++ colon ∷ hyphenated_text lower row.uuid ++ newline ∷ []
+    row.name ++ colon ∷ state_text row.state ++ colon ∷ escaped row.path ++ colon ∷ uuid_text row.uuid ++ newline ∷ []
 
 abbrev pub index_text : List IndexRow → List ℕ
 index_text rows = flat_map line_text rows
-
--- sixteen bytes
-pub record IsUuid (uuid : List ℕ) : Type 0 where
-  pub sixteen : length uuid ≡ 16
-  pub bytes : All (λ b. b < 256) uuid
 
 -- what stands in an index: a stored zone
 pub record IsIndexRow (row : IndexRow) : Type 0 where

@@ -1,6 +1,6 @@
 -- What a text reads as: the rows whose text it is, or the first line that is wrong.
-use Rattle.std.specs.Prelude.{◌≡◌, ◌≢◌, ℕ, ◌+◌, List, [], ◌++◌, length, Bool, not, ◌==◌, Result, Ok, Err}
-use Rattle.std.specs.List.{Any, list_all}
+use Rattle.std.specs.Prelude.{◌≡◌, ◌≢◌, ℕ, ◌+◌, List, [], ◌++◌, length, Result, Ok, Err}
+use Rattle.std.specs.List.{Any}
 use Rattle.index_file.specs.declared.fault.IndexFault.{IndexFault}
 use Rattle.index_file.specs.declared.fault.IndexFault.TheVariants.{Memory, IndexLine, SameName}
 use Rattle.index_file.specs.declared.rows.IndexRow.{IndexRow}
@@ -44,7 +44,3 @@ ReadsAs text (Ok rows) = StandsFor text rows
 ReadsAs text (Err (IndexLine number)) = IsBadLine text number
 ReadsAs text (Err (SameName number)) = IsRepeat text number
 ReadsAs text (Err Memory) = ⊥
-
--- no such byte is among some bytes
-abbrev pub lacks : ℕ → List ℕ → Bool
-lacks c bytes = list_all (λ b. not (b == c)) bytes

@@ -1,13 +1,12 @@
 //! The index text, printed.
 ghost use Rattle.std.specs.Prelude.{◌≡◌, ◌++◌, ◌∷◌, All, IfErr, IfOk, IsTrue, OnOk};
-ghost use Rattle.uuid.specs.Text.{hyphenated_text, lower};
 ghost use Rattle.zn_base.specs.States.{is_stored};
 ghost use Rattle.index_file.specs.declared.fault.IndexFault.TheVariants.{Memory};
-ghost use Rattle.index_file.specs.Index.{colon, escaped, escaped_byte, index_text, is_escaped_byte, line_text, IsIndex, IsIndexRow, IsUuid, NamesDiffer};
+ghost use Rattle.index_file.specs.Index.{colon, escaped, escaped_byte, index_text, is_escaped_byte, line_text, IsIndex, IsIndexRow, NamesDiffer};
 
 use crate::{IndexFault, IndexRow};
 use std::alloc::{AllocError, Global};
-use uuid::Uuid;
+use uuid_text::push_uuid;
 
 fn is_escaped_byte(byte: u8) -> bool
     ensures { result ≡ is_escaped_byte byte }
@@ -42,15 +41,6 @@ fn push_field(out: &mut Vec<u8>, field: &[u8]) -> Result<(), AllocError>
     out.extend_from_slice(field)
 }
 
-#[tactic(auto, using(crate::proofs::Uuids::parsed_is_uuid))]
-fn push_uuid(out: &mut Vec<u8>, uuid: Uuid) -> Result<(), AllocError>
-    ensures text { OnOk result (out.new.items ≡ out.old.items ++ colon ∷ hyphenated_text lower uuid) }
-    ensures uuid { IsUuid uuid }
-{
-    let mut buffer = Uuid::encode_buffer();
-    push_field(out, uuid.hyphenated().encode_lower(&mut buffer).as_bytes())
-}
-
 /// Appends the line of a row.
 #[tactic(auto, unfolding(crate::specs::Index::line_text))]
 pub(crate) fn push_line(out: &mut Vec<u8>, row: &IndexRow) -> Result<(), AllocError>
@@ -60,6 +50,7 @@ pub(crate) fn push_line(out: &mut Vec<u8>, row: &IndexRow) -> Result<(), AllocEr
     out.extend_from_slice(row.name.bytes())?;
     push_field(out, row.state.text())?;
     push_path(out, row.path.bytes())?;
+    out.push(b':')?;
     push_uuid(out, row.uuid)?;
     out.push(b'\n')?;
     Ok(())

@@ -1,29 +1,22 @@
 //! Index texts, read.
-ghost use Rattle.std.specs.Prelude.{◌≡◌, ◌≢◌, ◌==◌, ◌∷◌, ◌++◌, ◌≤◌, ◌↔◌, ◌⊎◌, ℕ, List, Err, IfErr, IfOk, IfSome, IsTrue, None, Ok, Some, [], length, position, take};
+ghost use Rattle.std.specs.Prelude.{◌≡◌, ◌≢◌, ◌∷◌, ◌++◌, ◌≤◌, ◌↔◌, ◌⊎◌, ℕ, List, Err, IfErr, IfOk, IfSome, IsTrue, None, Ok, Some, [], length, take};
 ghost use Rattle.std.specs.List.{Any};
 ghost use Rattle.std.specs.Option.{IsSomeAnd};
-ghost use Rattle.uuid.specs.Text.{hyphenated_text, lower};
+ghost use Rattle.uuid_text.specs.Text.{uuid_text};
 ghost use Rattle.zn_base.specs.Names.{is_name};
 ghost use Rattle.zn_base.specs.Path.{is_path};
 ghost use Rattle.zn_base.specs.States.{is_stored, state_text};
 ghost use Rattle.index_file.specs.declared.fault.IndexFault.TheVariants.{Memory};
 ghost use Rattle.index_file.specs.declared.rows.IndexRow.{IndexRow};
-ghost use Rattle.index_file.specs.Index.{colon, escaped, line_text, IsIndexRow, IsUuid};
-ghost use Rattle.index_file.specs.Reading.{lacks, ReadsAs, StandsFor};
+ghost use Rattle.index_file.specs.Index.{escaped, line_text, IsIndexRow};
+ghost use Rattle.index_file.specs.Reading.{ReadsAs, StandsFor};
 
 use crate::printing::push_line;
 use crate::{IndexFault, IndexRow};
 use std::alloc::{AllocError, Global};
-use uuid::Uuid;
 use uuid::fmt::Hyphenated;
-use zn_base::{AbsPath, NameFault, PathFault, ZoneName, ZoneState};
-
-// What stands before and behind the first colon.
-#[derive(Clone, Copy)]
-struct Cut<'a> {
-    field: &'a [u8],
-    rest: &'a [u8],
-}
+use uuid_text::read_uuid;
+use zn_base::{AbsPath, NameFault, PathFault, ZoneName, ZoneState, place_of_byte, split_at_byte};
 
 // The fields of a line, as they stand in it.
 #[derive(Clone, Copy)]
@@ -34,38 +27,22 @@ struct Fields<'a> {
     uuid: &'a [u8],
 }
 
-fn first_place(bytes: &[u8], end: u8) -> Option<usize>
-    ensures { result ≡ position (λ b. b == end) bytes.now }
-{
-    bytes.iter().position(|byte| *byte == end)
-}
-
-fn cut_field(bytes: &[u8]) -> Option<Cut<'_>>
-    ensures { (field rest : List ℕ) → IsTrue (lacks colon field) → bytes.now ≡ field ++ colon ∷ rest → IsSomeAnd result (λ cut. (cut.field.now ≡ field) × (cut.rest.now ≡ rest)) }
-{
-    let end = first_place(bytes, b':')?;
-    Some(Cut {
-        field: &bytes[..end],
-        rest: &bytes[end + 1..],
-    })
-}
-
 // A UUID's text is as long as all others, so it is cut off the end of a line, with the newline behind it and
 // the colon before it.
 fn cut_fields(line: &[u8]) -> Option<Fields<'_>>
-    ensures { (row : IndexRow) → IsIndexRow row → line.now ≡ line_text row → IsSomeAnd result (λ fields. (fields.name.now ≡ row.name) × (fields.state.now ≡ state_text row.state) × (fields.path.now ≡ escaped row.path) × (fields.uuid.now ≡ hyphenated_text lower row.uuid)) }
+    ensures { (row : IndexRow) → IsIndexRow row → line.now ≡ line_text row → IsSomeAnd result (λ fields. (fields.name.now ≡ row.name) × (fields.state.now ≡ state_text row.state) × (fields.path.now ≡ escaped row.path) × (fields.uuid.now ≡ uuid_text row.uuid)) }
 {
-    let name = cut_field(line)?;
-    let state = cut_field(name.rest)?;
-    let rest = state.rest;
+    let (name, behind_name) = split_at_byte(line, b':');
+    let (state, behind_state) = split_at_byte(behind_name?, b':');
+    let rest = behind_state?;
     if rest.len() < Hyphenated::LENGTH + 2 {
         return None;
     }
     let end = rest.len() - 1;
     let start = end - Hyphenated::LENGTH;
     Some(Fields {
-        name: name.field,
-        state: state.field,
+        name,
+        state,
         path: &rest[..start - 1],
         uuid: &rest[start..end],
     })
@@ -109,12 +86,6 @@ fn read_path(alloc: Global, bytes: &[u8]) -> Result<Option<AbsPath>, IndexFault>
         Err(PathFault::Memory) => Err(IndexFault::Memory),
         Err(_) => Ok(None),
     }
-}
-
-fn read_uuid(text: &[u8]) -> Option<Uuid>
-    ensures { (uuid : List ℕ) → IsUuid uuid → text.now ≡ hyphenated_text lower uuid → result ≡ Some uuid }
-{
-    Uuid::try_parse_ascii(text).ok()
 }
 
 // The row whose line this is, if there is one.
@@ -170,7 +141,7 @@ fn cut_line(text: &[u8]) -> (&[u8], &[u8])
     ensures some { text.now ≢ [] → result.0.now ≢ [] }
     ensures line { (row : IndexRow) (more : List ℕ) → IsIndexRow row → text.now ≡ line_text row ++ more → result.0.now ≡ line_text row }
 {
-    match first_place(text, b'\n') {
+    match place_of_byte(text, b'\n') {
         None => (text, &[]),
         Some(end) => text.split_at(end + 1),
     }

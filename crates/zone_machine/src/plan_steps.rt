@@ -150,7 +150,7 @@ fn start_init(job: &mut Job, alloc: Global, grant: Grant) -> Result<Work, AllocE
     }
 }
 
-#[tactic(auto, using(crate::proofs::Root_texts::path_with_root))]
+#[tactic(auto, using(zn_base::proofs::Path_texts::path_with_root))]
 fn root_special(alloc: Global, config: &Config) -> Result<Text, AllocError>
     ensures { IfOk result (λ text. text ≡ config.now.zonepath ++ codes "/root") }
 {

@@ -9,3 +9,4 @@ pub mod Changed
 pub mod Ran
 pub mod Lines
 pub mod Shown
+pub mod Causes

@@ -6,6 +6,7 @@ pub mod Open
 pub mod OpenOf
 pub mod Scopes
 pub mod Denotes
+pub mod Causes
 pub mod Info
 pub mod Edited
 pub mod Laws

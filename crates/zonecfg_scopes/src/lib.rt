@@ -20,4 +20,4 @@ pub use command::{Command, EditReply, ListProperty, Matching, Topic};
 pub use editor::Editor;
 pub use fault::{EditFault, Scope};
 pub use forms::read_command;
-pub use laws::{lines_denote, one_stands};
+pub use laws::{lines_denote, one_stands, refusal_is_the_first_cause};

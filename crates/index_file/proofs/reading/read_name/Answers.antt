@@ -1,4 +1,4 @@
-use Rattle.index_file.proofs.Parts.{name_of_name}
+use Rattle.zn_base.proofs.Read_back.{name_of_name}
 use Rattle.index_file.proofs.reading.read_name.Goals as goal
 
 pub returns-in-Ok-clause-name : goal.returns-in-Ok-clause-name
