@@ -15,7 +15,8 @@ use Rattle.zonecfg_scopes.specs.Commands.{list_name}
 use Rattle.zonecfg_scopes.specs.Denotes.{fault_in, refusal}
 use Rattle.zonecfg_scopes.specs.Faults.{passed_on}
 use Rattle.zonecfg_scopes.specs.Open.{Open, Nothing, Whole, Inside}
-use Rattle.zonecfg_scopes.specs.Scopes.{given, leaves, made, put_back, without_matching}
+use Rattle.zone_config.specs.Removal.{given}
+use Rattle.zonecfg_scopes.specs.Scopes.{leaves, made, put_back, without_matching}
 
 change : {A : Type 0} (f : A → Open) (x : Result A ConfigFault) → fault_in (leaves f x) ≡ first_cause (option_map passed_on (refused_by x) ∷ [])
 change f (Ok x) = refl

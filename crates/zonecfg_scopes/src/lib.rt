@@ -12,8 +12,6 @@ mod info;
 mod laws;
 mod line;
 mod opened;
-mod removal;
-mod same;
 mod verb;
 mod words;
 
