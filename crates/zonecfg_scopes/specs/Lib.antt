@@ -10,4 +10,5 @@ pub mod Denotes
 pub mod Same
 pub mod Info
 pub mod Edited
+pub mod Turns
 pub mod Laws

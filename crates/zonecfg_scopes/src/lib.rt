@@ -14,6 +14,7 @@ mod line;
 mod opened;
 mod removal;
 mod same;
+mod turns;
 mod verb;
 mod words;
 
@@ -21,5 +22,6 @@ pub use base::Base;
 pub use command::{Command, EditReply, ListProperty, Matching, Topic};
 pub use editor::Editor;
 pub use fault::{EditFault, Scope};
-pub use forms::read_command;
+pub use forms::{read_command, read_tokens};
+pub use turns::next_command;
 pub use laws::{lines_denote, one_stands};
