@@ -10,3 +10,4 @@ pub mod Ran
 pub mod Lines
 pub mod Shown
 pub mod Causes
+pub mod Turns

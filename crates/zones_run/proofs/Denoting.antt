@@ -3,8 +3,7 @@ use Rattle.std.proofs.Common.{◌≡◌, ℕ, Bool, true, false, cond, List, [],
 use Rattle.std.proofs.lemmas.List.{append-nil}
 use Rattle.std.specs.List.{flat_map}
 use Rattle.zonecfg_lex.specs.declared.fault.LexFault.{LexFault}
-use Rattle.zonecfg_lex.specs.declared.token.Span.{Span}
-use Rattle.zonecfg_lex.specs.Parts.{parts_of, span_text}
+use Rattle.zonecfg_lex.specs.Subcommands.{subcommands_of}
 use Rattle.zone_config.specs.declared.terms.Contents.{Contents}
 use Rattle.zone_config.specs.Export.{export_text}
 use Rattle.config_verify.specs.declared.flaw.Flaw.{Flaw}
@@ -13,20 +12,21 @@ use Rattle.zonecfg_scopes.specs.declared.command.Command.{Command}
 use Rattle.zonecfg_scopes.specs.declared.command.Command.TheVariants.{Verify}
 use Rattle.zonecfg_scopes.specs.declared.fault.EditFault.{EditFault}
 use Rattle.zonecfg_scopes.specs.Denotes.{Stands, based}
-use Rattle.zonecfg_scopes.specs.Edited.{or_stay, with_command}
+use Rattle.zonecfg_scopes.specs.Edited.{commands_of, or_stay, with_command}
 use Rattle.zonecfg_scopes.specs.Forms.{command_of}
 use Rattle.zonecfg_scopes.specs.Open.{Open, Nothing, Whole, Inside}
 use Rattle.zonecfg_scopes.specs.OpenOf.{config_of}
 use Rattle.zonecfg_scopes.specs.Scopes.{made}
+use Rattle.zonecfg_scopes.specs.Turns.{all_in_turn, commands_by, goes_on, in_turn, line_commands, line_in_turn, script_of}
 use Rattle.zonecfg_scopes.proofs.Steps.{stands_stepped}
 use Rattle.zones_run.specs.declared.refusal.Refusal.{Refusal}
 use Rattle.zones_run.specs.declared.status.TheConstants.{DONE}
-use Rattle.zones_run.specs.Denoted.{ExportsDenoted, script_of, subcommands_by, subcommands_in, subcommands_of}
+use Rattle.zones_run.specs.Denoted.{ExportsDenoted}
 use Rattle.zones_run.specs.Exporting.{edited, ended, exported, led_on, written_unless_flawed}
 use Rattle.zn_base.specs.Lines.{lines_of}
 use Rattle.zones_run.specs.Complaints.{limit_at}
 use Rattle.zones_run.specs.Output.{Output, is_past_limit, written}
-use Rattle.zones_run.specs.Subcommands.{all_in_turn, known_brands, edit_of, goes_on, in_turn, is_elsewhere, looked_over, obeyed, obeyed_as, passed, unless_flawed, verified}
+use Rattle.zones_run.specs.Subcommands.{known_brands, edit_of, is_elsewhere, looked_over, obeyed, obeyed_as, passed, unless_flawed, verified}
 
 passes_on : (answer : Result (Unit {0}) Flaw) (o new : Open) → unless_flawed answer o ≡ Ok new → o ≡ new
 passes_on (Ok x) o new e = cc
@@ -66,32 +66,32 @@ module _ (base : Option Contents) where
   with_front (Ok command) cs = refl
   with_front (Err fault) cs = refl
 
-  -- the parts of a line from one on
-  parts_stand : (line : List ℕ) (spans : List Span) (cs : List Command) (o new : Open) → in_turn line spans o ≡ Ok new → Stands base cs o → Stands base (cs ++ subcommands_in line spans) new
-  parts_stand line [] cs o new e s =
+  -- the subcommands of a line from one on
+  texts_stand : (texts : List (List ℕ)) (cs : List Command) (o new : Open) → in_turn obeyed_as texts o ≡ Ok new → Stands base cs o → Stands base (cs ++ commands_of texts) new
+  texts_stand [] cs o new e s =
       let P : Open → Type 0 = λ x. Stands base (cs ++ []) x in
       let Q : List Command → Type 0 = λ xs. Stands base xs o in
       let same : o ≡ new = cc in
       subst P same (subst Q (sym (append-nil cs)) s)
-  parts_stand line (span ∷ spans) cs o new e s =
-      let read = command_of (span_text line span) in
-      elim (obeyed_as read o) as (λ answer. obeyed_as read o ≡ answer → goes_on answer (in_turn line spans) ≡ Ok new → Stands base (cs ++ subcommands_in line (span ∷ spans)) new) [
+  texts_stand (text ∷ texts) cs o new e s =
+      let read = command_of text in
+      elim (obeyed_as read o) as (λ answer. obeyed_as read o ≡ answer → goes_on answer (in_turn obeyed_as texts) ≡ Ok new → Stands base (cs ++ commands_of (text ∷ texts)) new) [
         | Err refusal ↦ λ is f. absurd (cc)
         | Ok next ↦ λ is f.
             let Q : List Command → Type 0 = λ xs. Stands base xs new in
             let first = part_stands cs read o next is s in
-            subst Q (append_assoc cs (with_command read []) (subcommands_in line spans) ∙ ap (λ xs. cs ++ xs) (sym (with_front read (subcommands_in line spans))))
-            (parts_stand line spans (cs ++ with_command read []) next new f first)
+            subst Q (append_assoc cs (with_command read []) (commands_of texts) ∙ ap (λ xs. cs ++ xs) (sym (with_front read (commands_of texts))))
+            (texts_stand texts (cs ++ with_command read []) next new f first)
       ] refl e
 
-  line_by : (line : List ℕ) (spans : Result (List Span) LexFault) (cs : List Command) (o new : Open) → all_in_turn line spans o ≡ Ok new → Stands base cs o → Stands base (cs ++ subcommands_by line spans) new
-  line_by line (Ok spans) cs o new e s = parts_stand line spans cs o new e s
-  line_by line (Err fault) cs o new e s = absurd (cc)
+  line_by : (texts : Result (List (List ℕ)) LexFault) (cs : List Command) (o new : Open) → all_in_turn obeyed_as texts o ≡ Ok new → Stands base cs o → Stands base (cs ++ commands_by texts) new
+  line_by (Ok texts) cs o new e s = texts_stand texts cs o new e s
+  line_by (Err fault) cs o new e s = absurd (cc)
 
   -- one line
-  pub line_stands : (line : List ℕ) (cs : List Command) (o new : Open) → edit_of line o ≡ Ok new → Stands base cs o → Stands base (cs ++ subcommands_of line) new
-  unfolding edit_of subcommands_of
-  line_stands line cs o new e s = line_by line (parts_of line) cs o new e s
+  pub line_stands : (line : List ℕ) (cs : List Command) (o new : Open) → edit_of line o ≡ Ok new → Stands base cs o → Stands base (cs ++ line_commands line) new
+  unfolding edit_of line_in_turn line_commands
+  line_stands line cs o new e s = line_by (subcommands_of line) cs o new e s
 
 -- a run that goes on past a line
 leads : (number : ℕ) (past : Bool) (said : Result Open Refusal) (more : Open → Output) → (cond past (limit_at number) (led_on number said more)).status ≡ DONE
@@ -113,18 +113,18 @@ end_denotes cs (Whole c) s done =
     record { config = c; denoted = s; flawless = none.0; text = none.1 }
 
 -- the lines from one on
-lines_denote : (lines : List (List ℕ)) (number : ℕ) (cs : List Command) (o : Open) → Stands None cs o → (edited number o lines).status ≡ DONE → ExportsDenoted (cs ++ flat_map subcommands_of lines) (edited number o lines)
+lines_denote : (lines : List (List ℕ)) (number : ℕ) (cs : List Command) (o : Open) → Stands None cs o → (edited number o lines).status ≡ DONE → ExportsDenoted (cs ++ flat_map line_commands lines) (edited number o lines)
 lines_denote [] number cs o s done =
     let P : List Command → Type 0 = λ xs. ExportsDenoted xs (ended o) in
     subst P (sym (append-nil cs)) (end_denotes cs o s done)
 lines_denote (line ∷ lines) number cs o s done =
     let led = leads number (is_past_limit number line) (edit_of line o) (λ next. edited (number + 1) next lines) done in
     let P : List Command → Type 0 = λ xs. ExportsDenoted xs (edited (number + 1) led.0 lines) in
-    let Q : Output → Type 0 = λ output. ExportsDenoted (cs ++ flat_map subcommands_of (line ∷ lines)) output in
+    let Q : Output → Type 0 = λ output. ExportsDenoted (cs ++ flat_map line_commands (line ∷ lines)) output in
     let here = line_stands None line cs o led.0 led.1 s in
     subst Q (sym led.2)
-    (subst P (append_assoc cs (subcommands_of line) (flat_map subcommands_of lines))
-    (lines_denote lines (number + 1) (cs ++ subcommands_of line) led.0 here (sym (ap (λ output. output.status) led.2) ∙ done)))
+    (subst P (append_assoc cs (line_commands line) (flat_map line_commands lines))
+    (lines_denote lines (number + 1) (cs ++ line_commands line) led.0 here (sym (ap (λ output. output.status) led.2) ∙ done)))
 
 pub exports_denoted : (bytes : List ℕ) → (exported bytes).status ≡ DONE → ExportsDenoted (script_of bytes) (exported bytes)
 exports_denoted bytes done = lines_denote (lines_of bytes) 1 [] Nothing based done

@@ -8,4 +8,5 @@ pub mod TraceEnds
 pub mod Denoting
 pub mod Refusing
 pub mod Obeying
+pub mod Turning
 pub mod Ending

@@ -7,7 +7,8 @@ use Rattle.zonecfg_scopes.specs.Denotes.{Stands, based}
 use Rattle.zonecfg_scopes.specs.Open.{Open, Nothing}
 use Rattle.zones_run.specs.declared.refusal.Refusal.{Refusal}
 use Rattle.zones_run.specs.declared.status.TheConstants.{REFUSED}
-use Rattle.zones_run.specs.Denoted.{RefusesEnd, RefusesLine, subcommands_of}
+use Rattle.zonecfg_scopes.specs.Turns.{line_commands}
+use Rattle.zones_run.specs.Denoted.{RefusesEnd, RefusesLine}
 use Rattle.zones_run.specs.Exporting.{edited, exported, led_on, refused_at}
 use Rattle.zn_base.specs.Lines.{lines_of}
 use Rattle.zones_run.specs.Complaints.{limit_at}
@@ -25,10 +26,10 @@ meets number false (Err refusal) more is = inl (refusal, refl, refl)
 
 -- the lines from one on, behind some that were obeyed
 lines_refused : (lines : List (List ℕ)) (number : ℕ) (all before : List (List ℕ)) (o : Open)
-    → all ≡ before ++ lines → number ≡ length before + 1 → Stands None (flat_map subcommands_of before) o
+    → all ≡ before ++ lines → number ≡ length before + 1 → Stands None (flat_map line_commands before) o
     → (edited number o lines).status ≡ REFUSED → RefusesLine all (edited number o lines) ⊎ RefusesEnd all (edited number o lines)
 lines_refused [] number all before o cut is s refused =
-    let P : List (List ℕ) → Type 0 = λ xs. Stands None (flat_map subcommands_of xs) o in
+    let P : List (List ℕ) → Type 0 = λ xs. Stands None (flat_map line_commands xs) o in
     inr (record { opened = o; stands = subst P (sym (cut ∙ append-nil before)) s; told = refl })
 lines_refused (line ∷ lines) number all before o cut is s refused =
     let more : Open → Output = λ next. edited (number + 1) next lines in
@@ -49,7 +50,7 @@ lines_refused (line ∷ lines) number all before o cut is s refused =
           let Q : Output → Type 0 = λ output. RefusesLine all output ⊎ RefusesEnd all output in
           let front : List (List ℕ) = before ++ line ∷ [] in
           let longer : number + 1 ≡ length front + 1 = ap (λ n. n + 1) is ∙ ap (λ n. n + 1) (sym (length-append before (line ∷ []))) in
-          let stands : Stands None (flat_map subcommands_of front) on.0 = subst P (flat_map_more subcommands_of [] before line) (line_stands None line (flat_map subcommands_of before) o on.0 on.1 s) in
+          let stands : Stands None (flat_map line_commands front) on.0 = subst P (flat_map_more line_commands [] before line) (line_stands None line (flat_map line_commands before) o on.0 on.1 s) in
           subst Q (sym on.2)
           (lines_refused lines (number + 1) all front on.0 (cut ∙ sym (append_assoc before (line ∷ []) lines)) longer stands
           (sym (ap (λ output. output.status) on.2) ∙ refused))

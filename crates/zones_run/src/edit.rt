@@ -1,17 +1,17 @@
 //! What a line of `export` does to the configuration that is open: its subcommands, from left to right, up to
 //! the first that is refused (zonecfg(8), SUBCOMMANDS).
-ghost use Rattle.std.specs.Prelude.{◌≡◌, ◌≤◌, length, All, IfOk};
-ghost use Rattle.zonecfg_lex.specs.Parts.{IsSpanWithin};
+ghost use Rattle.std.specs.Prelude.{◌≡◌, ◌≤◌, [], IfOk, false, length};
+ghost use Rattle.zonecfg_lex.specs.Subcommands.{texts_from, ReadsInParts};
 ghost use Rattle.zonecfg_scopes.specs.OpenOf.{config_of};
-ghost use Rattle.zones_run.specs.Subcommands.{Edits, edit_of, in_turn, is_elsewhere, known_brands, looked_over, obeyed, obeyed_as, verified};
-ghost use Rattle.zonecfg_scopes.specs.Forms.{command_of};
+ghost use Rattle.zones_run.specs.Subcommands.{Edits, edit_of, is_elsewhere, known_brands, looked_over, obeyed, obeyed_as, verified};
+ghost use Rattle.zonecfg_scopes.specs.Turns.{in_turn};
 
 use crate::refusal::Refusal;
 use config_verify::verify;
 use std::alloc::{AllocError, Global};
 use zn_base::Text;
-use zonecfg_lex::{Span, parts};
-use zonecfg_scopes::{Command, EditFault, Editor, read_command};
+use zonecfg_lex::{Part, Token, line_tokens};
+use zonecfg_scopes::{Command, EditFault, Editor, next_command};
 
 /// The brands that a zone may have.
 pub fn known_brands(alloc: Global) -> Result<Vec<Text>, AllocError>
@@ -81,49 +81,47 @@ pub fn obey(
     look_over(alloc, editor, brands, command)
 }
 
-// Does what a subcommand says, as it reads.
-fn obey_text(
+// Does what the subcommands of a line say, one after another.
+#[tactic(auto, using(crate::proofs::Turning::fault_refused, crate::proofs::Turning::first_obeyed, crate::proofs::Turning::first_refused, crate::proofs::Turning::none_left))]
+fn obey_parts(
     alloc: Global,
     editor: &mut Editor,
     brands: &[Text],
-    text: &[u8],
+    line: Part,
 ) -> Result<(), Refusal>
     requires brands { brands.now ≡ known_brands }
-    requires short { length text.now ≤ 4200 }
-    ensures { Edits editor.new.opened result (obeyed_as (command_of text.now) editor.old.opened) }
+    requires short { length line.entry.text.now ≤ 4200 }
+    requires reads { ReadsInParts line.entry.text.now [] line.entry.tokens.now }
+    ensures { Edits editor.new.opened result (in_turn obeyed_as (texts_from false line.entry.text.now line.entry.tokens.now) editor.old.opened) }
 {
-    let command = read_command(alloc, text)?;
-    obey(alloc, editor, brands, &command)
-}
-
-// Does what the subcommands in some spans of a line say, one after another.
-fn obey_spans(
-    alloc: Global,
-    editor: &mut Editor,
-    brands: &[Text],
-    line: &[u8],
-    spans: &[Span],
-) -> Result<(), Refusal>
-    requires brands { brands.now ≡ known_brands }
-    requires short { length line.now ≤ 4200 }
-    requires within { All (IsSpanWithin (length line.now)) spans.now }
-    ensures { Edits editor.new.opened result (in_turn line.now spans.now editor.old.opened) }
-{
-    for span in spans {
-        obey_text(alloc, editor, brands, span.text(line))?;
+    let mut left = line;
+    while let Some(command) = next_command(alloc, &mut left)? {
+        obey(alloc, editor, brands, &command)?;
     }
     Ok(())
 }
 
-/// Does what a line says.
-#[tactic(auto, unfolding(crate::specs::Subcommands::edit_of))]
-pub fn edit(alloc: Global, editor: &mut Editor, brands: &[Text], line: &[u8]) -> Result<(), Refusal>
+/// Does what a line says. Its tokens take the place of others, and are given back for the next line.
+#[tactic(auto, unfolding(crate::specs::Subcommands::edit_of, zonecfg_scopes::specs::Turns::line_in_turn))]
+pub fn edit(
+    alloc: Global,
+    editor: &mut Editor,
+    brands: &[Text],
+    tokens: Vec<Token>,
+    line: &[u8],
+) -> Result<Vec<Token>, Refusal>
     requires brands { brands.now ≡ known_brands }
     requires short { length line.now ≤ 4200 }
     ensures { Edits editor.new.opened result (edit_of line.now editor.old.opened) }
 {
-    match parts(alloc, line) {
-        Ok(spans) => obey_spans(alloc, editor, brands, line, &spans),
-        Err(fault) => Err(Refusal::from(EditFault::from(fault))),
-    }
+    let tokens = match line_tokens(tokens, line) {
+        Ok(tokens) => tokens,
+        Err(fault) => return Err(Refusal::from(EditFault::from(fault))),
+    };
+    let parts = Part {
+        text: line,
+        tokens: &tokens,
+    };
+    obey_parts(alloc, editor, brands, parts)?;
+    Ok(tokens)
 }

@@ -52,14 +52,15 @@ fn edit_lines<S: Source>(
 {
     let mut ahead = Ahead::new();
     let mut line = Vec::new(alloc);
+    let mut tokens = Vec::new(alloc);
     for before in 0..LINES_MAX {
         match next_line(&mut ahead, source, &mut line)? {
             Got::End => return Ok(None),
             Got::TooLong => return Ok(Some(Complaint::Limit(before + 1))),
             Got::Line => {}
         }
-        match edit(alloc, editor, brands, &line) {
-            Ok(()) => {}
+        match edit(alloc, editor, brands, tokens, &line) {
+            Ok(buffer) => tokens = buffer,
             Err(Refusal::Memory) => return Err(ReadFault::Memory),
             Err(refusal) => return Ok(Some(Complaint::Line(before + 1, refusal))),
         }
