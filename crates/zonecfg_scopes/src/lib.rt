@@ -23,5 +23,5 @@ pub use command::{Command, EditReply, ListProperty, Matching, Topic};
 pub use editor::Editor;
 pub use fault::{EditFault, Scope};
 pub use forms::{read_command, read_tokens};
-pub use turns::next_command;
 pub use laws::{lines_denote, one_stands};
+pub use turns::next_command;
