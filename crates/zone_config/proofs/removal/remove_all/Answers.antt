@@ -1,6 +1,6 @@
 use Rattle.std.proofs.Common.{arith, ◌∙◌}
-use Rattle.zonecfg_scopes.proofs.Removing.{next_tested, next_there, untested, untested_count}
-use Rattle.zonecfg_scopes.proofs.removal.remove_all.Goals as goal
+use Rattle.zone_config.proofs.Removing.{next_tested, next_there, untested, untested_count}
+use Rattle.zone_config.proofs.removal.remove_all.Goals as goal
 
 pub loop-place-init : goal.loop-place-init
 loop-place-init c = record {

@@ -1,7 +1,7 @@
 use Rattle.std.proofs.Common.{◌≡◌, ◌≤◌}
 use Rattle.zone_config.specs.Resources.{count_of}
-use Rattle.zonecfg_scopes.proofs.Removing.{partly}
-use Rattle.zonecfg_scopes.proofs.removal.remove_all.Given as goal
+use Rattle.zone_config.proofs.Removing.{partly}
+use Rattle.zone_config.proofs.removal.remove_all.Given as goal
 
 abbrev pub invariant-loop-place : goal.invariant-loop-place
 invariant-loop-place l = record {

@@ -11,8 +11,7 @@ use Rattle.config_terms.specs.Matches.{has_all}
 use Rattle.zn_base.specs.declared.values.Pair.{Pair}
 use Rattle.zone_config.specs.declared.terms.Contents.{Contents}
 use Rattle.zone_config.specs.Resources.{count_of}
-use Rattle.zonecfg_scopes.specs.Removal.{without_match_at}
-use Rattle.zonecfg_scopes.specs.Scopes.{without_matches}
+use Rattle.zone_config.specs.Removal.{without_match_at, without_matches}
 
 -- a list of which only what stands from a place on was tested
 abbrev pub kept : {A : Type 0} → (A → Bool) → ℕ → List A → List A

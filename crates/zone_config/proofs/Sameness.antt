@@ -16,7 +16,7 @@ use Rattle.config_terms.specs.declared.terms.Net.{Net}
 use Rattle.config_terms.specs.declared.terms.Rctl.{Rctl}
 use Rattle.config_terms.specs.Edits.{same_limit}
 use Rattle.zone_config.specs.declared.terms.Contents.{Contents}
-use Rattle.zonecfg_scopes.specs.Same.{same_attr, same_contents, same_fs, same_ip, same_net, same_rctl, same_resources, same_settings}
+use Rattle.zone_config.specs.Same.{same_attr, same_contents, same_fs, same_ip, same_net, same_rctl, same_resources, same_settings}
 use denote.Enum.Bare.{same_true, true_same}
 
 -- a test of equality
