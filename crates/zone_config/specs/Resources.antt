@@ -1,5 +1,5 @@
 -- What adding, replacing, removing and finding a resource make of a configuration, or why they are refused.
-use Rattle.std.specs.Prelude.{◌≡◌, ℕ, List, [], ◌∷◌, ◌++◌, length, Bool, not, nat_le, Option, Some, None, Result, Err, remove, slice_get, slice_set, option_map, if◌then◌else◌}
+use Rattle.std.specs.Prelude.{◌≡◌, ℕ, List, [], ◌∷◌, ◌++◌, length, Bool, not, nat_le, Option, Some, None, Result, Ok, Err, remove, slice_get, slice_set, option_map, if◌then◌else◌}
 use Rattle.zn_base.specs.declared.values.Pair.{Pair}
 use Rattle.config_terms.specs.declared.fault.ConfigFault.{ConfigFault}
 use Rattle.config_terms.specs.declared.fault.ConfigFault.TheVariants.{BadValue, Duplicate, TooMany}
@@ -9,7 +9,7 @@ use Rattle.config_terms.specs.declared.terms.Resource.TheVariants.{Fs}
 use Rattle.config_terms.specs.Allowed.{is_allowed, is_taken, options_passed}
 use Rattle.config_terms.specs.Matches.{has_all, only_place}
 use Rattle.zone_config.specs.declared.terms.Contents.{Contents}
-use Rattle.zone_config.specs.Export.{sized}
+use Rattle.zone_config.specs.Export.{export_text, sized}
 use Rattle.zone_config.specs.Kinds.{by_kind, by_resource}
 use Rattle.zone_config.specs.Sound.{count}
 
@@ -75,3 +75,8 @@ text_at place k c = by_kind k (λ A row. option_map row.text (slice_get (row.lis
 abbrev pub IsLengthOf : ℕ → Option (List ℕ) → Type 0
 IsLengthOf n None = ⊥
 IsLengthOf n (Some text) = n ≡ length text
+
+-- how long the export text is of what an answer gives
+abbrev pub length_of : Result Contents ConfigFault → Result ℕ ConfigFault
+length_of (Ok c) = Ok (length (export_text c))
+length_of (Err fault) = Err fault
