@@ -22,7 +22,7 @@ pub use entry::{Entry, path_text};
 pub use fault::ConfigFault;
 pub use fields::{Field, KINDS, Named};
 pub use given::path_kept;
-pub use laws::edits_stay_allowed;
+pub use laws::{edits_stay_allowed, resources_are_edited};
 pub use lines::{push_limit, push_options};
 pub use matches::{find_entry, has_all, has_key, is_taken, is_taken_but, keeps_key};
 pub use printing::{entry_length, push_entries, push_entry};

@@ -244,3 +244,12 @@ written_back items now new len all same e =
     let written : new ≡ counted_in_parts 0 items = e ∙ ap (counted_in_parts 0) same in
     let long : length new ≡ length items = ap length written ∙ length-counted 0 items in
     ap (λ xs. take len (new ++ xs)) (drop_all (length new) items (omega (arith, long))) ∙ ap (take len) (append-nil new) ∙ take_all len new (omega (arith, long, all)) ∙ written
+
+pub comment_texts : (line : List ℕ) → is_comment line ≡ true → subcommands_of line ≡ Ok []
+unfolding tokens_of
+comment_texts line h = line_texts line [] [] (ap (λ v. cond v (Ok []) (part_tokens_of line)) h) tt (All-nil (IsWithin (length line))) refl
+
+-- a line that is no comment is read as a part
+pub no_comment : (line : List ℕ) (read : Result (List Token) LexFault) → is_comment line ≡ false → tokens_from None Between 0 line ≡ read → tokens_of line ≡ read
+unfolding tokens_of part_tokens_of
+no_comment line read h e = ap (λ v. cond v (Ok []) (tokens_from None Between 0 line)) h ∙ e

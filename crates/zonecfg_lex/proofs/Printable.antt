@@ -83,6 +83,12 @@ module _ (line : List ℕ) where
   readable_in short [] h = All-nil (IsReadable line)
   readable_in short (t ∷ ts) h = all_readable short (t ∷ ts) (subst (ReadsSoundly line 0) h (reads_soundly line line None Between 0 refl tt))
 
+  -- what the tokens of a line that is read keep to
+  pub sound_tokens : length line ≤ 4200 → (ts : List Token) → tokens_from None Between 0 line ≡ Ok ts → KeepTo line ts
+  sound_tokens short ts h =
+      let s = subst (ReadsSoundly line 0) h (reads_soundly line line None Between 0 refl tt) in
+      record { within = all_within ts s; rising = rise line 0 ts s; printable = all_printable short ts s; readable = all_readable short ts s }
+
   pub keep : length line ≤ 4200 → (r : Result (Vec Token Global) LexFault) → AnswersUnless Memory (tokens_from None Between 0 line) (result_map (λ (v : Vec Token Global). v.items) r) → IfOk r (λ v. KeepTo line v.items)
   keep short r h =
       IfOk-weaker r (λ (v : Vec Token Global). AreSoundFrom line 0 v.items) (λ (v : Vec Token Global). KeepTo line v.items)

@@ -104,14 +104,15 @@ pub fn part_tokens(alloc: Global, part: &[u8]) -> Result<Vec<Token>, LexFault>
     ensures printable { IfOk result (λ ts. All (λ t. IsTrue (is_text (text_of part.now t))) ts.items) }
     ensures readable { IfOk result (λ ts. All (IsReadable part.now) ts.items) }
 {
-    cut(alloc, part)
+    cut(Vec::new(alloc), part)
 }
 
-fn cut(alloc: Global, line: &[u8]) -> Result<Vec<Token>, LexFault>
+// The tokens of a line, in place of those that are there.
+pub(crate) fn cut(mut tokens: Vec<Token>, line: &[u8]) -> Result<Vec<Token>, LexFault>
     requires { length line.now ≤ 4200 }
     ensures { AnswersUnless LexFault.Memory (tokens_from None Between 0 line.now) (result_map (λ ts. ts.items) result) }
 {
-    let mut tokens = Vec::new(alloc);
+    tokens.clear();
     let mut scope = Scope::Between;
     let mut stray = None;
     let mut at = 0;

@@ -5,9 +5,9 @@ ghost use Rattle.zonecfg_lex.specs.Subcommands.{before_semi, counted_in_parts, p
 ghost use Rattle.zonecfg_lex.specs.Tokens.{result_map, AreRising};
 ghost use Rattle.zonecfg_lex.specs.Value.{IsReadable};
 
-use crate::lexer::tokens;
+use crate::bytes::is_comment;
+use crate::lexer::cut;
 use crate::{LexFault, Token};
-use std::alloc::Global;
 
 /// Some text of a line, and its tokens. Each counts from the begin of its part.
 #[derive(Clone, Copy, Debug)]
@@ -45,13 +45,18 @@ fn before_semicolon(tokens: &[Token]) -> usize
     tokens.len()
 }
 
-/// The tokens of a line, as `tokens` gives them, but that each counts from the begin of its part.
-pub fn line_tokens(alloc: Global, line: &[u8]) -> Result<Vec<Token>, LexFault>
+/// The tokens of a line, as `tokens` gives them, but that each counts from the begin of its part. They are
+/// put in place of others.
+pub fn line_tokens(mut tokens: Vec<Token>, line: &[u8]) -> Result<Vec<Token>, LexFault>
     requires { length line.now ≤ 4200 }
     ensures texts { AnswersUnless LexFault.Memory (subcommands_of line.now) (result_map (λ ts. texts_from false line.now ts.items) result) }
     ensures read { IfOk result (λ ts. ReadsInParts line.now [] ts.items) }
 {
-    let mut tokens = tokens(alloc, line)?;
+    if is_comment(line) {
+        tokens.clear();
+        return Ok(tokens);
+    }
+    let mut tokens = cut(tokens, line)?;
     count_in_parts(&mut tokens);
     Ok(tokens)
 }

@@ -9,4 +9,5 @@ pub mod Denotes
 pub mod Causes
 pub mod Info
 pub mod Edited
+pub mod Turns
 pub mod Laws

@@ -1,11 +1,9 @@
 //! Stores on disks in memory: their bytes, their bounds, and what is left after stops and faults.
-ghost use Rattle.std.specs.Prelude.{◌≡◌, ◌≤◌, ◌<◌, ◌^◌, length, IfOk, true};
-
-use super::*;
 use std::alloc::{AllocError, Global};
 use std::process::Abort;
 use std::test::Fail;
-use zn_io::{Disk, Fill, MemDisk, Room};
+use zn_io::{Fill, MemDisk, Room};
+use zone_disk::{Bank, BankFault};
 
 const BODIES: [&[u8]; 3] = [b"one", b"", b"three"];
 

@@ -1,5 +1,5 @@
 //! Stores on disks in memory: their bytes, what is left after stops, and a store that another program wrote.
-use super::*;
+use commit_journal::{Record, Store, StoreFault};
 use export_read::read_export;
 use std::alloc::{AllocError, Global};
 use std::process::Abort;
@@ -403,30 +403,5 @@ fn at_most_256_zones_are_stored_at_once(rt: HostRuntime) -> Result<(), Fail> {
         opened(&rt, rt.alloc(), bytes)?,
         Err(StoreFault::RecordForm(259))
     );
-    Ok(())
-}
-
-// Another implementation of version 5 gives these UUIDs. With the long names, what is hashed ends about the end of a
-// block.
-#[test]
-fn a_uuid_is_that_of_the_name_and_the_number(rt: HostRuntime) -> Result<(), Fail> {
-    let web = ZoneName::read(rt.alloc(), b"web")?;
-    let first = Uuid::try_parse_ascii(b"8a2e61b6-8ea3-5b49-9719-c91d461d9a87")?;
-    assert_eq!(rt; uuid_of(rt.alloc(), &web, 1)?, first);
-    let a = ZoneName::read(rt.alloc(), b"a")?;
-    let last = Uuid::try_parse_ascii(b"4849e5c4-3380-51bf-a8e7-962dd6a02083")?;
-    assert_eq!(rt; uuid_of(rt.alloc(), &a, 4_294_967_295)?, last);
-    let long = [
-        (37, b"2381a684-71e5-5d00-ae8c-e2ca1400bef3".as_slice()),
-        (38, b"1b2919e6-fd63-5379-a4a0-ac74ff6ba2fb"),
-        (46, b"3b3201f4-af57-50ae-8f77-e58894d85122"),
-    ];
-    for (length, uuid) in long {
-        let mut name = Vec::new(rt.alloc());
-        name.resize(length, b'z')?;
-        let name = ZoneName::read(rt.alloc(), &name)?;
-        let want = Uuid::try_parse_ascii(uuid)?;
-        assert_eq!(rt; uuid_of(rt.alloc(), &name, 1)?, want, "{length} bytes");
-    }
     Ok(())
 }

@@ -1,4 +1,5 @@
-use super::*;
+//! Index texts, printed and read.
+use index_file::{IndexFault, IndexRow, print_index, read_index};
 use std::alloc::Global;
 use std::test::Fail;
 use uuid::Uuid;
