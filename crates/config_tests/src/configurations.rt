@@ -29,15 +29,6 @@ fn copy_shows(alloc: Global, config: &ZoneConfig, wanted: &[u8]) -> Result<bool,
     shows(alloc, &copy, wanted)
 }
 
-// What was refused, unless memory ran out.
-fn refusal(answer: Result<(), ConfigFault>) -> Result<Option<ConfigFault>, ConfigFault> {
-    match answer {
-        Ok(()) => Ok(None),
-        Err(ConfigFault::Memory) => Err(ConfigFault::Memory),
-        Err(fault) => Ok(Some(fault)),
-    }
-}
-
 const WEB: &[u8] = b"create -b
 set zonepath=/zones/web
 set brand=ipkg
@@ -115,15 +106,14 @@ end
 // Whether an empty value unsets a property of a copy. Otherwise it is refused.
 fn may_be_empty(alloc: Global, config: &ZoneConfig, name: &[u8]) -> Result<bool, ConfigFault> {
     let mut copy = config.copy(alloc)?;
-    Ok(refusal(set(alloc, &mut copy, name, b""))?.is_none())
+    Ok(set(alloc, &mut copy, name, b"").is_ok())
 }
 
 fn takes_all(alloc: Global, config: &mut ZoneConfig) -> Result<bool, ConfigFault> {
     let mut told = true;
     for (name, good, bad, may_be) in PROPERTIES {
         set(alloc, config, name, good)?;
-        let refused = refusal(set(alloc, config, name, bad))?;
-        told = told && refused == Some(ConfigFault::BadValue);
+        told = told && set(alloc, config, name, bad) == Err(ConfigFault::BadValue);
         told = told && may_be_empty(alloc, config, name)? == *may_be;
     }
     Ok(told)
@@ -157,24 +147,12 @@ fn rctl(alloc: Global, limit: u64, deny: bool) -> Result<Resource, ConfigFault> 
     Ok(Resource::Rctl(Rctl { name, values }))
 }
 
-// Why a value is not set, or a property not cleared where there is none.
-fn refused(
-    alloc: Global,
-    config: &mut ZoneConfig,
-    name: &[u8],
-    value: Option<&Value>,
-) -> Result<Option<ConfigFault>, ConfigFault> {
-    match value {
-        Some(value) => refusal(config.set_property(alloc, name, value)),
-        None => refusal(config.clear_property(alloc, name)),
-    }
-}
-
 fn no_list_is_set(alloc: Global, config: &mut ZoneConfig) -> Result<bool, ConfigFault> {
     let items = list(alloc, &[])?;
-    let unknown = refused(alloc, config, b"dir", Some(&items))?;
-    let listed = refused(alloc, config, b"pool", Some(&items))?;
-    Ok(unknown == Some(ConfigFault::UnknownProperty) && listed == Some(ConfigFault::BadValue))
+    Ok(
+        config.set_property(alloc, b"dir", &items) == Err(ConfigFault::UnknownProperty)
+            && config.set_property(alloc, b"pool", &items) == Err(ConfigFault::BadValue),
+    )
 }
 
 #[test]
@@ -186,16 +164,16 @@ fn an_unknown_property_is_told_first(rt: HostRuntime) -> Result<(), Fail> {
 
 fn alias_is_held(alloc: Global, config: &mut ZoneConfig) -> Result<bool, ConfigFault> {
     config.add_resource(rctl(alloc, 20, true)?)?;
-    let ten = simple(alloc, b"10")?;
-    let held = refused(alloc, config, b"cpu-shares", Some(&ten))?;
-    let again = refused(alloc, config, b"cpu-shares", None)?;
-    Ok(held == Some(ConfigFault::AliasHeld) && again == Some(ConfigFault::AliasHeld))
+    Ok(
+        set(alloc, config, b"cpu-shares", b"10") == Err(ConfigFault::AliasHeld)
+            && config.clear_property(alloc, b"cpu-shares") == Err(ConfigFault::AliasHeld),
+    )
 }
 
 fn name_is_taken(alloc: Global, config: &mut ZoneConfig) -> Result<bool, ConfigFault> {
-    let taken = refusal(config.add_resource(rctl(alloc, 1, false)?))?;
-    let zero = refusal(config.add_resource(rctl(alloc, 0, false)?))?;
-    Ok(taken == Some(ConfigFault::Duplicate) && zero == Some(ConfigFault::BadValue))
+    let taken = config.add_resource(rctl(alloc, 1, false)?);
+    let zero = config.add_resource(rctl(alloc, 0, false)?);
+    Ok(taken == Err(ConfigFault::Duplicate) && zero == Err(ConfigFault::BadValue))
 }
 
 #[test]
@@ -216,16 +194,16 @@ fn put_all(alloc: Global, resource: &mut Resource, settings: Settings) -> Result
     Ok(())
 }
 
+fn fill(alloc: Global, fs: &mut Resource, dir: Settings) -> Result<(), ConfigFault> {
+    put_all(alloc, fs, dir)?;
+    put_all(alloc, fs, &[(b"special", b"/my usr"), (b"type", b"lofs")])?;
+    let options = list(alloc, &[b"ro", b"nodevices"])?;
+    fs.add_value(alloc, b"options", &options)
+}
+
 fn mount(alloc: Global, dir: Settings) -> Result<Resource, ConfigFault> {
     let mut fs = Resource::empty(alloc, Kind::Fs);
-    put_all(alloc, &mut fs, dir)?;
-    put_all(
-        alloc,
-        &mut fs,
-        &[(b"special", b"/my usr"), (b"type", b"lofs")],
-    )?;
-    let options = list(alloc, &[b"ro", b"nodevices"])?;
-    fs.add_value(alloc, b"options", &options)?;
+    fill(alloc, &mut fs, dir)?;
     Ok(fs)
 }
 
@@ -269,9 +247,12 @@ fn remove(config: &mut ZoneConfig, wanted: &[Pair]) -> Result<(), ConfigFault> {
     Ok(())
 }
 
-fn replace_and_remove(alloc: Global, config: &mut ZoneConfig) -> Result<(), ConfigFault> {
+fn replace_opt(alloc: Global, config: &mut ZoneConfig) -> Result<(), ConfigFault> {
     let opt = pairs(alloc, &[(b"dir", b"/opt")])?;
-    replace(config, opt.as_slice(), mount(alloc, &[(b"dir", b"/mnt")])?)?;
+    replace(config, opt.as_slice(), mount(alloc, &[(b"dir", b"/mnt")])?)
+}
+
+fn remove_usr(alloc: Global, config: &mut ZoneConfig) -> Result<(), ConfigFault> {
     let usr = pairs(alloc, &[(b"dir", b"/usr")])?;
     remove(config, usr.as_slice())
 }
@@ -293,7 +274,8 @@ end
 fn come_and_go(alloc: Global, config: &mut ZoneConfig) -> Result<bool, ConfigFault> {
     add_three(alloc, config)?;
     let found = searches(alloc, config)?;
-    replace_and_remove(alloc, config)?;
+    replace_opt(alloc, config)?;
+    remove_usr(alloc, config)?;
     Ok(found && shows(alloc, config, MOUNTED)?)
 }
 

@@ -174,6 +174,18 @@ fn made(alloc: Global) -> Result<Base, ConfigFault> {
     })
 }
 
+fn stands(
+    rt: &impl Abort,
+    alloc: Global,
+    editor: &mut Editor,
+    rows: &[Row],
+    wanted: &[u8],
+) -> Result<(), Fail> {
+    are_answered(rt, alloc, editor, rows);
+    assert!(rt; is_text(alloc, editor, wanted)?);
+    Ok(())
+}
+
 // The export text after lines that are answered so.
 fn comes_to(
     rt: &impl Abort,
@@ -183,9 +195,7 @@ fn comes_to(
     wanted: &[u8],
 ) -> Result<(), Fail> {
     let mut editor = begun(alloc, base)?;
-    are_answered(rt, alloc, &mut editor, rows);
-    assert!(rt; is_text(alloc, &editor, wanted)?);
-    Ok(())
+    stands(rt, alloc, &mut editor, rows, wanted)
 }
 
 const DONE: Result<Reply, EditFault> = Ok(Reply::Done);

@@ -55,21 +55,29 @@ end
 // How many of its first lines are a whole text.
 const WHOLE: &[usize] = &[9, 10, 11, 18, 21, 23, 26, 30, 34, 37];
 
-// Whether a copy of what was read has a brand, and exports a text. What is read goes through helpers without
-// contracts, so that no test's proof follows what a configuration holds.
-fn is_of(
+// What is read goes through helpers without contracts, so that no test's proof follows what a configuration holds.
+fn shows(
+    alloc: Global,
+    config: &ZoneConfig,
+    brand: &[u8],
+    text: &[u8],
+) -> Result<bool, ConfigFault> {
+    Ok(config.brand.bytes() == brand && export(alloc, config)?.as_slice() == text)
+}
+
+fn copy_shows(
     alloc: Global,
     config: &ZoneConfig,
     brand: &[u8],
     text: &[u8],
 ) -> Result<bool, ConfigFault> {
     let copy = config.copy(alloc)?;
-    Ok(copy.brand.bytes() == brand && export(alloc, &copy)?.as_slice() == text)
+    shows(alloc, &copy, brand, text)
 }
 
 fn is_read(alloc: Global, text: &[u8], brand: &[u8]) -> Result<bool, ConfigFault> {
     let config = read_export(alloc, text)?;
-    is_of(alloc, &config, brand, text)
+    copy_shows(alloc, &config, brand, text)
 }
 
 #[test]

@@ -102,9 +102,14 @@ fn brands(alloc: Global) -> Result<[Text; 2], TextFault> {
     Ok([Text::read(alloc, b"ipkg")?, Text::read(alloc, b"lx")?])
 }
 
-fn answers(alloc: Global, config: &ZoneConfig, wanted: &str) -> Result<bool, Fail> {
-    let brands = brands(alloc)?;
-    let found = told(alloc, &verify(alloc, config, &brands))?;
+fn answers(
+    alloc: Global,
+    config: &ZoneConfig,
+    brands: &[Text],
+    wanted: &str,
+) -> Result<bool, AllocError> {
+    let answer = verify(alloc, config, brands);
+    let found = told(alloc, &answer)?;
     Ok(found.as_slice() == wanted.as_bytes())
 }
 
@@ -121,10 +126,16 @@ fn add_all(
     Ok(())
 }
 
-fn finds(alloc: Global, zone: &str, resources: &[&str], wanted: &str) -> Result<bool, Fail> {
+fn finds(
+    alloc: Global,
+    zone: &str,
+    resources: &[&str],
+    brands: &[Text],
+    wanted: &str,
+) -> Result<bool, ConfigFault> {
     let mut config = blank(alloc);
     add_all(alloc, &mut config, zone, resources)?;
-    answers(alloc, &config, wanted)
+    Ok(answers(alloc, &config, brands, wanted)?)
 }
 
 type Row = (&'static str, &'static [&'static str], &'static str);
@@ -254,9 +265,10 @@ const ORDERED: &[Row] = &[
 ];
 
 fn are_found(rt: &impl Abort, alloc: Global, rows: &[Row]) -> Result<(), Fail> {
+    let brands = brands(alloc)?;
     for (zone, resources, wanted) in rows {
         assert!(rt;
-            finds(alloc, zone, resources, wanted)?,
+            finds(alloc, zone, resources, &brands, wanted)?,
             "{zone} {resources:?}"
         );
     }

@@ -193,31 +193,22 @@ fn kinds_are_named(rt: HostRuntime) {
     }
 }
 
-// What an edit was refused for, unless memory ran out.
-fn refusal(answer: Result<(), ConfigFault>) -> Result<Option<ConfigFault>, ConfigFault> {
-    match answer {
-        Ok(()) => Ok(None),
-        Err(ConfigFault::Memory) => Err(ConfigFault::Memory),
-        Err(fault) => Ok(Some(fault)),
-    }
-}
-
 const RO: &[u8] = b"ro";
 
-const OPTIONS: &[(Edit, &[&[u8]], Option<ConfigFault>)] = &[
-    (Edit::Add, &[b"ro", b"nodevices"], None),
-    (Edit::Add, &[b"ro"], None),
-    (Edit::Remove, &[b"ro"], None),
-    (Edit::Remove, &[b"ro", b"ro"], Some(ConfigFault::NoMatch)),
-    (Edit::Put, &[b""], Some(ConfigFault::BadValue)),
-    (Edit::Add, &[RO; 31], Some(ConfigFault::TooMany(32))),
+const OPTIONS: &[(Edit, &[&[u8]], Result<(), ConfigFault>)] = &[
+    (Edit::Add, &[b"ro", b"nodevices"], Ok(())),
+    (Edit::Add, &[b"ro"], Ok(())),
+    (Edit::Remove, &[b"ro"], Ok(())),
+    (Edit::Remove, &[b"ro", b"ro"], Err(ConfigFault::NoMatch)),
+    (Edit::Put, &[b""], Err(ConfigFault::BadValue)),
+    (Edit::Add, &[RO; 31], Err(ConfigFault::TooMany(32))),
 ];
 
 fn edits_options(alloc: Global, usr: &mut Resource) -> Result<bool, ConfigFault> {
     let mut told = true;
     for (way, items, wanted) in OPTIONS {
         let value = list(alloc, items)?;
-        told = told && refusal(make(alloc, usr, *way, b"options", &value))? == *wanted;
+        told = told && make(alloc, usr, *way, b"options", &value) == *wanted;
     }
     Ok(told)
 }
@@ -236,23 +227,23 @@ fn options_are_edited(rt: HostRuntime) -> Result<(), Fail> {
     Ok(())
 }
 
-const LIMITS: &[(Edit, &[u8], &[u8], &[u8], Option<ConfigFault>)] = &[
-    (Edit::Add, b"value", b"20", b"none", None),
-    (Edit::Add, b"value", b"300", b"deny", None),
-    (Edit::Remove, b"value", b"20", b"none", None),
+const LIMITS: &[(Edit, &[u8], &[u8], &[u8], Result<(), ConfigFault>)] = &[
+    (Edit::Add, b"value", b"20", b"none", Ok(())),
+    (Edit::Add, b"value", b"300", b"deny", Ok(())),
+    (Edit::Remove, b"value", b"20", b"none", Ok(())),
     (
         Edit::Add,
         b"value",
         b"0",
         b"deny",
-        Some(ConfigFault::BadValue),
+        Err(ConfigFault::BadValue),
     ),
     (
         Edit::Add,
         b"options",
         b"1",
         b"deny",
-        Some(ConfigFault::UnknownProperty),
+        Err(ConfigFault::UnknownProperty),
     ),
 ];
 
@@ -260,7 +251,7 @@ fn edits_limits(alloc: Global, lwps: &mut Resource) -> Result<bool, ConfigFault>
     let mut told = true;
     for (way, name, number, action, wanted) in LIMITS {
         let value = limit(alloc, number, action)?;
-        told = told && refusal(make(alloc, lwps, *way, name, &value))? == *wanted;
+        told = told && make(alloc, lwps, *way, name, &value) == *wanted;
     }
     Ok(told)
 }

@@ -89,9 +89,13 @@ begun_by bytes (Some c) = starts_with nat_eq (export_text c) bytes
 unfoldable pub is_begun : List ℕ → Bool
 is_begun bytes = begun_by bytes (option_and_then completed (drafted (lines_of bytes) start))
 
+-- whether a configuration's text is this one, and no resource is open
+abbrev pub is_printed : List ℕ → Option Resource → Contents → Bool
+is_printed bytes None c = bytes_eq (export_text c) bytes
+is_printed bytes (Some r) c = false
+
 abbrev pub if_printed : List ℕ → Option Resource → Contents → Option Contents
-if_printed bytes None c = if bytes_eq (export_text c) bytes then Some c else None
-if_printed bytes (Some r) c = None
+if_printed bytes r c = if is_printed bytes r c then Some c else None
 
 abbrev pub config_in : List ℕ → Option Draft → Option Contents
 config_in bytes None = None

@@ -1,5 +1,5 @@
 //! The reader.
-ghost use Rattle.std.specs.Prelude.{◌≡◌, ◌≤◌, ◌<◌, ◌+◌, IfErr, IfOk, None, OnErr, Some, Ok, length, nat_eq, option_and_then, option_map, take, true};
+ghost use Rattle.std.specs.Prelude.{◌≡◌, ◌≤◌, ◌<◌, ◌+◌, IfErr, IfOk, None, OnErr, Some, Ok, length, nat_eq, option_and_then, option_map, take, true, if◌then◌else◌};
 ghost use Rattle.std.specs.Bool.{Decides};
 ghost use Rattle.std.specs.List.{starts_with};
 ghost use Rattle.std.specs.Str.{bytes_eq};
@@ -12,7 +12,7 @@ ghost use Rattle.zone_config.specs.Export.{export_text};
 ghost use Rattle.zone_config.specs.Sound.{IsSound};
 ghost use Rattle.zone_config.specs.declared.terms.Contents.{Contents};
 ghost use Rattle.export_read.specs.Begun.{BeginsSome, IsAstray, IsFaultOf, IsFront};
-ghost use Rattle.export_read.specs.Drafts.{completed, config_of, drafted, if_printed, is_begun, put, start};
+ghost use Rattle.export_read.specs.Drafts.{completed, config_of, drafted, if_printed, is_begun, is_printed, put, start};
 ghost use Rattle.export_read.specs.Halts.{Puts};
 
 use crate::complete::completed;
@@ -131,19 +131,28 @@ fn is_text(alloc: Global, config: &ZoneConfig, text: &[u8]) -> Result<bool, Allo
     }
 }
 
-// The configuration, if its text is this one and no resource is open.
+// Whether a configuration's text is this one, and no resource is open.
+fn is_printed(alloc: Global, draft: &Draft, text: &[u8]) -> Result<bool, AllocError>
+    ensures { IfOk result (λ is. is ≡ is_printed text.now draft.now.resource draft.now.config) }
+{
+    match draft.resource {
+        None => is_text(alloc, &draft.config, text),
+        Some(_) => Ok(false),
+    }
+}
+
+// The configuration of a draft, where it is wanted.
+fn config_if(wanted: bool, draft: Draft) -> Option<ZoneConfig>
+    ensures { result ≡ (if wanted then Some draft.config else None) }
+{
+    if wanted { Some(draft.config) } else { None }
+}
+
 fn if_printed(alloc: Global, draft: Draft, text: &[u8]) -> Result<Option<ZoneConfig>, AllocError>
     ensures { IfOk result (λ config. config ≡ if_printed text.now draft.resource draft.config) }
 {
-    let Draft { config, resource } = draft;
-    if resource.is_some() {
-        return Ok(None);
-    }
-    if is_text(alloc, &config, text)? {
-        Ok(Some(config))
-    } else {
-        Ok(None)
-    }
+    let printed = is_printed(alloc, &draft, text)?;
+    Ok(config_if(printed, draft))
 }
 
 // The configuration whose text this is, if there is one.

@@ -30,7 +30,7 @@ mod typing;
 mod work;
 
 pub use daemon::{Change, ChangeKind, Outcome, RequestKind, Step, TurnReply};
-pub use events::{Entry, Event, Subject};
+pub use events::{Entry, Event, SESSION_MAX, Subject};
 pub use faults::StepFault;
 pub use machine::Machine;
 pub use objects::{Id, Mount, Process};

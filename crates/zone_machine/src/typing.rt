@@ -15,7 +15,7 @@ ghost use Rattle.zn_base.specs.Path.{path_of};
 ghost use Rattle.zone_machine.specs.declared.records.Record as record_types;
 
 use crate::daemon::RequestKind;
-use crate::desks::Desk;
+use crate::desks::{Desk, REQUESTS_MAX, TICKET_MAX};
 use crate::lines::{Command, Line};
 use crate::records::{Config, Record};
 use crate::replies::{Head, Refusal};
@@ -51,7 +51,7 @@ pub(crate) fn usable_path(alloc: Global, word: &[u8]) -> Result<Option<AbsPath>,
 fn is_full(desk: &Desk) -> bool
     ensures { result ≡ is_full (desk_seen desk.now) }
 {
-    desk.waiting.len() >= 8 || desk.last == u32::MAX
+    desk.waiting.len() >= REQUESTS_MAX || desk.last == TICKET_MAX
 }
 
 // A request waits on a desk that isn't full.

@@ -1,5 +1,6 @@
 //! Runs of `export`.
 use crate::runs::{EXPORT, Given, Row, WEB, WEB_TEXT, check, check_all, check_built};
+use std::alloc::{AllocError, Global};
 use std::process::Abort;
 use std::test::Fail;
 use zn_base::push_numbered;
@@ -134,15 +135,14 @@ fn scripts_are_refused(rt: HostRuntime) -> Result<(), Fail> {
 
 // `create -b`, and then resources, one a line: each with a number between two texts, from 10 on, and so many `x`
 // behind them.
-fn check_many<R: Abort + AllocGlobal>(
-    rt: &R,
+fn resources(
+    alloc: Global,
     before: &[u8],
     behind: &[u8],
     letters: usize,
     count: u32,
-    err_text: &[u8],
-) -> Result<(), Fail> {
-    let mut input = b"create -b\n".to_vec(rt.alloc())?;
+) -> Result<Vec<u8>, AllocError> {
+    let mut input = b"create -b\n".to_vec(alloc)?;
     for number in 0..count {
         push_numbered(&mut input, before, number as u64 + 10)?;
         input.extend_from_slice(behind)?;
@@ -151,7 +151,7 @@ fn check_many<R: Abort + AllocGlobal>(
         }
         input.extend_from_slice(b"; end\n")?;
     }
-    check_built(rt, "export", input, 1, err_text)
+    Ok(input)
 }
 
 const LONG: &[u8] = b"; set value=";
@@ -189,7 +189,8 @@ const MANY: &[(&[u8], &[u8], usize, u32, &[u8])] = &[
 #[test]
 fn no_room_is_told(rt: HostRuntime) -> Result<(), Fail> {
     for (before, behind, letters, count, err_text) in MANY {
-        check_many(&rt, before, behind, *letters, *count, err_text)?;
+        let input = resources(rt.alloc(), before, behind, *letters, *count)?;
+        check_built(&rt, EXPORT, &input, 1, err_text)?;
     }
     Ok(())
 }

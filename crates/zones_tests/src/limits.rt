@@ -1,25 +1,20 @@
 //! The limits of lines.
-use crate::runs::check_built;
+use crate::runs::{EXPORT, Given, check_built};
+use crate::traces::TRACED;
+use std::alloc::{AllocError, Global};
 use std::process::Abort;
 use std::test::Fail;
 
-// A command's input is a comment of so many bytes, and so many newlines.
-fn check_limits<R: Abort + AllocGlobal>(
-    rt: &R,
-    word: &str,
-    comment: usize,
-    newlines: usize,
-    status: u8,
-    err_text: &[u8],
-) -> Result<(), Fail> {
-    let mut input = Vec::new(rt.alloc());
+// A comment of so many bytes, and so many newlines.
+fn input(alloc: Global, comment: usize, newlines: usize) -> Result<Vec<u8>, AllocError> {
+    let mut input = Vec::new(alloc);
     for _ in 0..comment {
         input.push(b'#')?;
     }
     for _ in 0..newlines {
         input.push(b'\n')?;
     }
-    check_built(rt, word, input, status, err_text)
+    Ok(input)
 }
 
 // How long the comment is, how many newlines there are, and the limit that is told, if one is.
@@ -32,17 +27,18 @@ const LIMITS: &[(usize, usize, &[u8])] = &[
     (0, 200_001, b"limit at line 200001\n"),
 ];
 
-fn check_command<R: Abort + AllocGlobal>(
+fn check_limits<R: Abort + AllocGlobal>(
     rt: &R,
-    word: &str,
+    given: Given,
     status: u8,
     err_text: &[u8],
 ) -> Result<(), Fail> {
     for (comment, newlines, limit) in LIMITS {
+        let input = input(rt.alloc(), *comment, *newlines)?;
         if limit.is_empty() {
-            check_limits(rt, word, *comment, *newlines, status, err_text)?;
+            check_built(rt, given, &input, status, err_text)?;
         } else {
-            check_limits(rt, word, *comment, *newlines, 8, limit)?;
+            check_built(rt, given, &input, 8, limit)?;
         }
     }
     Ok(())
@@ -50,6 +46,6 @@ fn check_command<R: Abort + AllocGlobal>(
 
 #[test]
 fn lines_have_limits(rt: HostRuntime) -> Result<(), Fail> {
-    check_command(&rt, "export", 1, b"end: 33 NothingOpen\n")?;
-    check_command(&rt, "trace", 0, b"")
+    check_limits(&rt, EXPORT, 1, b"end: 33 NothingOpen\n")?;
+    check_limits(&rt, TRACED, 0, b"")
 }

@@ -1,0 +1,204 @@
+#!/usr/bin/env python3
+"""Writes the tables of docs/MEASURES.md, each between its two markers; the prose around them stays.
+
+    tools/measure.py [--gate LOG] [--program FILE]
+
+- sizes: counted in crates/, always.
+- speed: instructions of the native program by valgrind's callgrind, as the difference of two lengths, over the script
+  that tools/bench_export.py writes and over a trace of a zone that boots and halts over and over.
+- gate: minutes of one processor, from the LOG of timed runs, of the crates from the lowest up and then of all:
+
+      { for name in NAME..; do echo "== $name"; time rt ci $name; done; echo "== all"; time rt ci --anew; } >LOG 2>&1
+
+  What a run passed is kept, so each one counts its own crate alone.
+
+What this run can't measure (no LOG, a crate that it lacks, no program, no valgrind) stays as the file has it, and a
+line on standard output says so. A second run changes nothing.
+"""
+
+import argparse
+import pathlib
+import re
+import subprocess
+import sys
+import tempfile
+
+from arguments import PROGRAM
+
+ROOT = pathlib.Path(__file__).resolve().parent.parent
+PAGE = ROOT / "docs/MEASURES.md"
+LENGTHS = (20000, 40000)
+CLAUSE = re.compile(r"(ensures|requires|ghost)\b")
+
+
+def crates():
+    """The crates of crates.txt in its order, each with the libraries of the repository that it stands on."""
+    lines = [line for line in (ROOT / "crates.txt").read_text().splitlines() if line and not line.startswith("#")]
+    named = {line.split(":")[0].split()[0]: line.split(":")[1].split() for line in lines}
+    return {name: [it for it in below if it in named] for name, below in named.items()}
+
+
+def table(heads, rows):
+    lines = ["| %s |" % " | ".join(heads), "|%s" % ("---|" * len(heads))]
+    return "\n".join(lines + ["| %s |" % " | ".join(row) for row in rows])
+
+
+def rows_of(text):
+    """The rows of a table that was written before, by their first word."""
+    lines = [line.strip("| ").split(" | ") for line in text.splitlines() if line.startswith("| ")]
+    return {line[0]: line[1:] for line in lines[1:]}
+
+
+# Sizes.
+
+def written(folder, ending, comment):
+    """The lines of each file below a folder that are neither blank nor a comment."""
+    for path in sorted(folder.rglob("*" + ending)):
+        lines = [line.strip() for line in path.read_text().splitlines()]
+        yield path.relative_to(folder), [line for line in lines if line and not line.startswith(comment)]
+
+
+def depth(line):
+    return sum(line.count(it) for it in "{([") - sum(line.count(it) for it in "})]")
+
+
+def source_lines(lines):
+    """How many lines are code, clauses and tests: a clause goes on until its brackets close, a test module to the end."""
+    code = clauses = 0
+    is_open, place = 0, 0
+    while place < len(lines) and not (lines[place] == "#[cfg(test)]" and lines[place + 1].endswith("{")):
+        if is_open > 0 or CLAUSE.match(lines[place]):
+            clauses += 1
+            is_open += depth(lines[place])
+        else:
+            code += 1
+        place += 1
+    return code, clauses, len(lines) - place
+
+
+def size(name):
+    folder = ROOT / "crates" / name
+    code = clauses = tests = 0
+    for path, lines in written(folder / "src", ".rt", "//"):
+        if name.endswith("_tests") or path.parts[0] in ("tests", "tests.rt"):
+            tests += len(lines)
+            continue
+        sums = source_lines(lines)
+        code, clauses, tests = code + sums[0], clauses + sums[1], tests + sums[2]
+    formal = [sum(len(lines) for _, lines in written(folder / it, ".antt", "--")) for it in ("specs", "proofs")]
+    edits = [len(list(folder.glob(it + "/*.edit"))) for it in ("must-fail", "more-edits")]
+    return [code, clauses, tests] + formal + edits
+
+
+def sizes(_text, _args):
+    found = {name: size(name) for name in crates()}
+    found["all"] = [sum(column) for column in zip(*found.values())]
+    heads = ["Crate", "Code", "Clauses", "Tests", "Specs", "Proofs", "Edits", "More edits"]
+    return table(heads, [[name] + ["{:,}".format(it) for it in row] for name, row in found.items()])
+
+
+# Speed.
+
+def script(lines):
+    made = subprocess.run([sys.executable, ROOT / "tools/bench_export.py", str(lines)], capture_output=True, check=True)
+    return made.stdout
+
+
+def trace(lines):
+    """A zone is made and installed, and then boots and halts; the last turns find nothing to do."""
+    text = ["S 1 zonecfg -z a create -b; set zonepath=/zones/a; set brand=ipkg", "S 1 zoneadm -z a install"] + ["D a"] * 10
+    cycle = ["S 1 zoneadm -z a boot"] + ["D a"] * 13 + ["S 1 zoneadm -z a halt"] + ["D a"] * 11
+    text += cycle * ((lines - len(text)) // len(cycle))
+    return ("\n".join(text + ["D a"] * (lines - len(text))) + "\n").encode()
+
+
+def instructions(program, word, data):
+    with tempfile.TemporaryFile() as given:
+        given.write(data)
+        given.seek(0)
+        words = ["valgrind", "--tool=callgrind", "--callgrind-out-file=/dev/null", program, word]
+        run = subprocess.run(words, stdin=given, stdout=subprocess.DEVNULL, stderr=subprocess.PIPE, text=True)
+    counted = re.search(r"Collected : (\d+)", run.stderr)
+    if run.returncode or not counted:
+        raise OSError("%s %s under callgrind ended with status %d" % (program, word, run.returncode))
+    return int(counted[1])
+
+
+def speed(text, args):
+    rows = [
+        ("a line of `export`, over a configuration of 256 resources", "export", script),
+        ("a line of `trace`, with its reply, of a zone that boots and halts over and over", "trace", trace),
+    ]
+    made = []
+    try:
+        for what, word, make in rows:
+            if not pathlib.Path(args.program).is_file():
+                raise OSError("no program %s" % args.program)
+            short, long = (instructions(args.program, word, make(lines)) for lines in LENGTHS)
+            made.append([what, "{:,}".format(round((long - short) / (LENGTHS[1] - LENGTHS[0])))])
+    except OSError as why:
+        print("speed: kept as it was (%s)" % why)
+        return text
+    return table(["What", "Instructions"], made)
+
+
+# The gate.
+
+def timed(log):
+    """The minutes of one processor and by the clock of each run in a log."""
+    found = {}
+    for block in re.split(r"^== ", pathlib.Path(log).read_text(errors="replace"), flags=re.M)[1:]:
+        times = {word: 60 * int(m) + float(s) for word, m, s in re.findall(r"^(real|user|sys)\s+(\d+)m([\d.]+)s", block, flags=re.M)}
+        if len(times) == 3 and re.search(r"\b0 failed", block):
+            found[block.split()[0]] = ((times["user"] + times["sys"]) / 60, times["real"] / 60)
+    return found
+
+
+def above(name, all_crates):
+    return [it for it, below in all_crates.items() if it == name or name in below]
+
+
+def gate(text, args):
+    if not args.gate:
+        print("gate: kept as it was (no --gate LOG)")
+        return text
+    found, before, all_crates = timed(args.gate), rows_of(text), crates()
+    minutes = {}
+    for name in all_crates:
+        if name in found:
+            minutes[name] = "%.1f" % found[name][0]
+        elif name in before:
+            minutes[name] = before[name][0]
+            print("gate: %s kept as it was (no run of it in %s)" % (name, args.gate))
+        else:
+            minutes[name] = "?"
+            print("gate: %s was never measured" % name)
+    known = {name: float(it) for name, it in minutes.items() if it != "?"}
+    rows = [[name, minutes[name], "%.0f" % sum(known.get(it, 0) for it in above(name, all_crates))] for name in all_crates]
+    rows.append(["all", "%.0f" % sum(known.values()), ""])
+    whole = re.search(r"^A whole run .*$", text, flags=re.M)
+    said = whole[0] if whole else ""
+    if "all" in found:
+        said = "A whole run from nothing: %.0f minutes of one processor, %.0f by the clock." % found["all"]
+    elif said:
+        print("gate: the whole run kept as it was (no '== all' in %s)" % args.gate)
+    return table(["Crate", "Minutes", "After a change"], rows) + ("\n\n" + said if said else "")
+
+
+def main():
+    parser = argparse.ArgumentParser(description=__doc__, formatter_class=argparse.RawDescriptionHelpFormatter)
+    parser.add_argument("--gate", metavar="LOG", help="the log of timed runs of rt ci")
+    parser.add_argument("--program", metavar="FILE", default=str(PROGRAM), help="the native program")
+    args = parser.parse_args()
+    page = PAGE.read_text()
+    for make in (gate, sizes, speed):
+        marked = re.compile(r"(<!-- %s: .*?-->\n)(.*?)(<!-- end of %s -->)" % (make.__name__, make.__name__), re.S)
+        found = marked.search(page)
+        if not found:
+            sys.exit("no markers of %s in %s" % (make.__name__, PAGE))
+        page = page[:found.start(2)] + make(found[2].rstrip("\n"), args).rstrip("\n") + "\n" + page[found.start(3):]
+    PAGE.write_text(page)
+
+
+if __name__ == "__main__":
+    main()
