@@ -4,6 +4,7 @@ use Rattle.std.specs.Prelude.{IfSome, OnErr, Result, Ok, Err, bytes_eq, filter, 
 use Rattle.std.specs.Option.{ForSome}
 use Rattle.std.proofs.lemmas.Bool.Decides.{nat_tests}
 use Rattle.zn_io.specs.Disk.{Leaves, View}
+use Rattle.zone_pools.specs.declared.limits.TheConstants.{ZONES_MAX}
 use Rattle.zone_pools.specs.Firsts.{placed}
 use Rattle.zn_base.specs.Names.{Name}
 use Rattle.zone_pools.specs.declared.owned.Owned.{Owned}
@@ -17,7 +18,7 @@ use Rattle.commit_journal.specs.Bodies.{body_text, IsCommit}
 use Rattle.commit_journal.specs.Journal.{Leave}
 use Rattle.commit_journal.specs.Replay.{TakesIn}
 use Rattle.commit_journal.specs.Store.{change_text, IsBeforeOrAfter, HasZones, StoresOneMore}
-use Rattle.commit_journal.specs.Stored.{holds, may_stand, with_commit, with_stored, Rows, ZONES}
+use Rattle.commit_journal.specs.Stored.{holds, may_stand, with_commit, with_stored, Rows}
 use Rattle.commit_journal.proofs.Says.{leave_more, say_none}
 
 -- a bank has room for few records
@@ -49,17 +50,17 @@ placed_held z row (o ∷ rows) h = at_head (placed_held z row rows) (bytes_eq z 
     at_head ih true e = simp e
     at_head ih false e = let rest : holds z rows ≡ true = (simp e at h) in simp e (omega (arith, ih rest))
 
-few_placed : (z : Name) (row : Record) (rows : Rows) → length rows ≤ ZONES → IsTrue (may_stand z (Some row) rows) → length (placed z row rows) ≤ ZONES
+few_placed : (z : Name) (row : Record) (rows : Rows) → length rows ≤ ZONES_MAX → IsTrue (may_stand z (Some row) rows) → length (placed z row rows) ≤ ZONES_MAX
 few_placed z row rows few may =
-    elim (holds z rows) as (λ b. holds z rows ≡ b → length (placed z row rows) ≤ ZONES) [
+    elim (holds z rows) as (λ b. holds z rows ≡ b → length (placed z row rows) ≤ ZONES_MAX) [
       | true ↦ λ e. let same = placed_held z row rows e in omega (arith, same)
       | false ↦ λ e.
           let more = placed_more z row rows in
-          let room : length rows < ZONES = (let m = (rw e at may) in grind (arith, nat_tests)) in
+          let room : length rows < ZONES_MAX = (let m = (rw e at may) in grind (arith, nat_tests)) in
           omega (arith, more, room)
     ] refl
 
-few_stored : (z : Name) (said : Option Record) (rows : Rows) → length rows ≤ ZONES → IsTrue (may_stand z said rows) → length (with_stored z said rows) ≤ ZONES
+few_stored : (z : Name) (said : Option Record) (rows : Rows) → length rows ≤ ZONES_MAX → IsTrue (may_stand z said rows) → length (with_stored z said rows) ≤ ZONES_MAX
 few_stored z None rows few may = let fewer = fewer_kept (λ (o : Owned Record). not (bytes_eq z o.zone && true)) rows in omega (arith, fewer)
 few_stored z (Some row) rows few may = few_placed z row rows few may
 
@@ -69,7 +70,7 @@ zones_none = record { leave = record { commits = []; say = say_none; are = refl 
 pub zones_more : (bodies : List (List ℕ)) (rows new : Rows) (body : List ℕ) (c : Commit) → HasZones bodies rows → IsCommit c → body ≡ body_text c → IsTrue (may_stand c.zone c.stored rows) → new ≡ with_commit c rows → HasZones (bodies ++ body ∷ []) new
 zones_more bodies rows new body c kept is text may applied = record {
   leave = leave_more bodies rows new body c kept.leave is text may applied;
-  few = subst (λ (l : Rows). length l ≤ ZONES) (sym applied) (few_stored c.zone c.stored rows kept.few may);
+  few = subst (λ (l : Rows). length l ≤ ZONES_MAX) (sym applied) (few_stored c.zone c.stored rows kept.few may);
 }
 
 pub zones_taken : (bodies more : List (List ℕ)) (rows new : Rows) (body : List ℕ) → HasZones bodies rows → TakesIn body rows new → more ≡ bodies ++ body ∷ [] → HasZones more new

@@ -2,14 +2,15 @@
 use Rattle.std.proofs.Common.{◌≡◌, ◌<◌, ◌≤◌, ◌+◌, ◌/◌, ◌%◌, ℕ, zero, suc, Bool, true, false, nat_lt, List, [], ◌∷◌, ◌++◌, length, Option, Some, None, Result, Err, IsTrue, if◌then◌else◌, refl, ap, arith, length-append, codes}
 use Rattle.std.specs.Prelude.{◌==◌, is_ok, IfSome}
 use Rattle.std.proofs.lemmas.Bool.Decides.{nat_tests}
-use Rattle.uuid.specs.Text.{hyphenated_text, lower}
-use Rattle.index_file.proofs.Lines.{uuid_text_length}
+use Rattle.uuid_text.specs.Text.{uuid_text}
+use Rattle.uuid_text.proofs.Texts.{uuid_text-length}
 use Rattle.zn_base.specs.Names.{first_wrong, is_name, name_unless}
 use Rattle.zn_base.specs.States.{state_text}
 use Rattle.zn_base.specs.declared.name.NameFault.{NameFault}
 use Rattle.zn_base.specs.declared.name.NameFault.TheVariants.{Empty, TooLong}
 use Rattle.zn_base.specs.declared.state.ZoneState.{ZoneState}
 use Rattle.zn_base.specs.declared.state.ZoneState.TheVariants.{Configured, Incomplete, Installed, Ready, Running, ShuttingDown, Down}
+use Rattle.commit_journal.specs.declared.sizes.TheConstants.{BODY_MAX}
 use Rattle.commit_journal.specs.declared.records.Commit.{Commit}
 use Rattle.zone_config.specs.Export.{export_text}
 use Rattle.commit_journal.specs.declared.records.Record.{Record}
@@ -28,8 +29,8 @@ pub record_parts : (row : Record) → length (record_text row) ≡ 7 + length (s
 unfolding record_text
 record_parts row =
     let state = told-length (codes "state") (state_text row.state) in
-    let uuid = told-length (codes "uuid") (hyphenated_text lower row.uuid) in
-    let u = uuid_text_length row.uuid in
+    let uuid = told-length (codes "uuid") (uuid_text row.uuid) in
+    let u = uuid_text-length row.uuid in
     let revision = told-length (codes "revision") (padded 10 row.revision) in
     let p = padded-length 10 row.revision in
     simp length-append (omega (arith, state, uuid, u, revision, p))
@@ -62,8 +63,8 @@ name-short z ok =
     grind (arith, nat_tests)
 
 -- no body is longer than the reader looks at
-pub body-short : (c : Commit) → IsCommit c → length (body_text c) ≤ 34000
+pub body-short : (c : Commit) → IsCommit c → length (body_text c) ≤ BODY_MAX
 body-short c is = omega (arith, body_parts c.zone c.stored, name-short c.zone is.zone, stored-short c.stored is.stored)
 
-pub long_is_none : (body : List ℕ) → 34000 < length body → (c : Commit) → IsCommit c → body ≡ body_text c → ⊥
+pub long_is_none : (body : List ℕ) → BODY_MAX < length body → (c : Commit) → IsCommit c → body ≡ body_text c → ⊥
 long_is_none body long c is same = omega (arith, long, body-short c is, ap length same)

@@ -3,13 +3,13 @@ use Rattle.std.proofs.Common.{◌≡◌, inl, ◌<◌, ◌+◌, ◌/◌, ◌%◌
 use Rattle.std.specs.Prelude.{bytes_eq, IfSome}
 use Rattle.std.proofs.Common.{true≢false}
 use Rattle.std.proofs.lemmas.List.{append-nil}
-use Rattle.uuid.specs.Text.{hyphenated_text, lower, parsed}
-use Rattle.uuid.proofs.RoundTrips.{parses_hyphenated}
-use Rattle.index_file.specs.Index.{newline, IsUuid}
-use Rattle.index_file.specs.Reading.{lacks}
-use Rattle.index_file.proofs.Parts.{stored_state_text}
+use Rattle.uuid_text.specs.Text.{uuid_text}
+use Rattle.uuid_text.proofs.Texts.{uuid_of_text}
+use Rattle.zn_base.specs.Cuts.{lacks}
+use Rattle.zn_base.specs.Lines.{newline}
 use Rattle.zn_base.specs.Names.{Name}
-use Rattle.zn_base.specs.States.{is_stored, state_text, stored_state}
+use Rattle.zn_base.specs.States.{is_stored, state_text}
+use Rattle.zn_base.proofs.Read_back.{name_lacks, state_lacks, state_of_text}
 use Rattle.zn_base.specs.declared.state.ZoneState.{ZoneState}
 use Rattle.zn_base.specs.declared.state.ZoneState.TheVariants.{Configured, Incomplete, Installed, Ready, Running, ShuttingDown, Down}
 use Rattle.zone_config.specs.Export.{export_text}
@@ -19,16 +19,7 @@ use Rattle.commit_journal.specs.declared.records.Commit.{Commit}
 use Rattle.commit_journal.specs.declared.records.Record.{Record}
 use Rattle.commit_journal.specs.Bodies.{body_text, padded, record_text, stored_text, told, HasDigits, IsRecord, OneCommitABody}
 use Rattle.commit_journal.proofs.Lists.{push_same}
-use Rattle.commit_journal.proofs.Lines.{name_lacks, padded_lacks, state_lacks, told_alike, uuid_lacks}
-
-same_some : {X : Type 0} (a b : X) → Some a ≡ Some b → a ≡ b
-same_some a b e = cc
-
-state_of_text : (a b : ZoneState) → IsTrue (is_stored a) → IsTrue (is_stored b) → state_text a ≡ state_text b → a ≡ b
-state_of_text a b f g same = same_some a b (sym (stored_state_text a f) ∙ ap stored_state same ∙ stored_state_text b g)
-
-uuid_of_text : (a b : List ℕ) → IsUuid a → IsUuid b → hyphenated_text lower a ≡ hyphenated_text lower b → a ≡ b
-uuid_of_text a b f g same = same_some a b (parses_hyphenated lower a (inl refl) f.sixteen f.bytes ∙ ap parsed same ∙ sym (parses_hyphenated lower b (inl refl) g.sixteen g.bytes))
+use Rattle.commit_journal.proofs.Lines.{padded_lacks, told_alike, uuid_lacks}
 
 -- numbers that have so few digits are told apart by them
 number_of_text : (k m n : ℕ) → HasDigits k m → HasDigits k n → padded k m ≡ padded k n → m ≡ n
@@ -45,11 +36,11 @@ pub ten_digits : (n : ℕ) → n < 2 ^ 32 → HasDigits 10 n
 ten_digits n small = omega arith
 
 -- a record's lines, one behind the other
-pub record_lines : (row : Record) → record_text row ≡ told (codes "state") (state_text row.state) ++ (told (codes "uuid") (hyphenated_text lower row.uuid) ++ (told (codes "revision") (padded 10 row.revision) ++ export_text row.config))
+pub record_lines : (row : Record) → record_text row ≡ told (codes "state") (state_text row.state) ++ (told (codes "uuid") (uuid_text row.uuid) ++ (told (codes "revision") (padded 10 row.revision) ++ export_text row.config))
 unfolding record_text
 record_lines row =
-    append_assoc (told (codes "state") (state_text row.state) ++ told (codes "uuid") (hyphenated_text lower row.uuid)) (told (codes "revision") (padded 10 row.revision)) (export_text row.config)
-    ∙ append_assoc (told (codes "state") (state_text row.state)) (told (codes "uuid") (hyphenated_text lower row.uuid)) (told (codes "revision") (padded 10 row.revision) ++ export_text row.config)
+    append_assoc (told (codes "state") (state_text row.state) ++ told (codes "uuid") (uuid_text row.uuid)) (told (codes "revision") (padded 10 row.revision)) (export_text row.config)
+    ∙ append_assoc (told (codes "state") (state_text row.state)) (told (codes "uuid") (uuid_text row.uuid)) (told (codes "revision") (padded 10 row.revision) ++ export_text row.config)
 
 pub none_lines : stored_text None ≡ told (codes "state") (codes "none") ++ []
 none_lines = sym (append-nil (told (codes "state") (codes "none")))
@@ -64,8 +55,8 @@ same_record a b state uuid revision config =
 
 one_record : (a b : Record) → IsRecord a → IsRecord b → record_text a ≡ record_text b → a ≡ b
 one_record a b f g same =
-    let states = told_alike (codes "state") (state_text a.state) (state_text b.state) _ _ refl (state_lacks a.state) (state_lacks b.state) (sym (record_lines a) ∙ same ∙ record_lines b) in
-    let uuids = told_alike (codes "uuid") (hyphenated_text lower a.uuid) (hyphenated_text lower b.uuid) _ _ refl (uuid_lacks a.uuid) (uuid_lacks b.uuid) states.1 in
+    let states = told_alike (codes "state") (state_text a.state) (state_text b.state) _ _ refl (state_lacks newline refl a.state) (state_lacks newline refl b.state) (sym (record_lines a) ∙ same ∙ record_lines b) in
+    let uuids = told_alike (codes "uuid") (uuid_text a.uuid) (uuid_text b.uuid) _ _ refl (uuid_lacks a.uuid) (uuid_lacks b.uuid) states.1 in
     let revisions = told_alike (codes "revision") (padded 10 a.revision) (padded 10 b.revision) _ _ refl (padded_lacks 10 a.revision) (padded_lacks 10 b.revision) uuids.1 in
     same_record a b (state_of_text a.state b.state f.state g.state states.0) (uuid_of_text a.uuid b.uuid f.uuid g.uuid uuids.0)
     (number_of_text 10 a.revision b.revision (ten_digits a.revision f.fits) (ten_digits b.revision g.fits) revisions.0)
@@ -83,7 +74,7 @@ none_no_state Down h e = cc
 
 no_record : (row : Record) → IsRecord row → stored_text None ≡ record_text row → ⊥
 no_record row is same =
-    let states = told_alike (codes "state") (codes "none") (state_text row.state) [] _ refl refl (state_lacks row.state) (sym none_lines ∙ same ∙ record_lines row) in
+    let states = told_alike (codes "state") (codes "none") (state_text row.state) [] _ refl refl (state_lacks newline refl row.state) (sym none_lines ∙ same ∙ record_lines row) in
     none_no_state row.state is.state states.0
 
 one_stored : (a b : Option Record) → IfSome a IsRecord → IfSome b IsRecord → stored_text a ≡ stored_text b → a ≡ b
@@ -99,7 +90,7 @@ word_of (Some row) = state_text row.state
 
 abbrev pub behind_state : Option Record → List ℕ
 behind_state None = []
-behind_state (Some row) = told (codes "uuid") (hyphenated_text lower row.uuid) ++ (told (codes "revision") (padded 10 row.revision) ++ export_text row.config)
+behind_state (Some row) = told (codes "uuid") (uuid_text row.uuid) ++ (told (codes "revision") (padded 10 row.revision) ++ export_text row.config)
 
 pub stored_lines : (said : Option Record) → stored_text said ≡ told (codes "state") (word_of said) ++ behind_state said
 stored_lines None = none_lines
@@ -107,7 +98,7 @@ stored_lines (Some row) = record_lines row
 
 pub word_lacks : (said : Option Record) → lacks newline (word_of said) ≡ true
 word_lacks None = refl
-word_lacks (Some row) = state_lacks row.state
+word_lacks (Some row) = state_lacks newline refl row.state
 
 pub none_word : (said : Option Record) → IfSome said IsRecord → codes "none" ≡ word_of said → said ≡ None
 none_word None is e = refl
@@ -137,5 +128,5 @@ body_lines c = refl
 
 pub one_commit : OneCommitABody
 one_commit a b f g same =
-    let zones = told_alike (codes "zone") a.zone b.zone (stored_text a.stored) (stored_text b.stored) refl (name_lacks a.zone f.zone) (name_lacks b.zone g.zone) (sym (body_lines a) ∙ same ∙ body_lines b) in
+    let zones = told_alike (codes "zone") a.zone b.zone (stored_text a.stored) (stored_text b.stored) refl (name_lacks newline refl a.zone f.zone) (name_lacks newline refl b.zone g.zone) (sym (body_lines a) ∙ same ∙ body_lines b) in
     same_commit a b zones.0 (one_stored a.stored b.stored f.stored g.stored zones.1)

@@ -1,14 +1,8 @@
 -- Parts of bodies.
-use Rattle.std.proofs.Common.{◌≡◌, ◌<◌, ◌≤◌, ◌+◌, ◌-◌, ◌/◌, ◌%◌, ℕ, zero, suc, List, [], ◌∷◌, ◌++◌, length, length-append, take, get_or, Some, refl, ap, sym, ◌∙◌, arith}
+use Rattle.std.proofs.Common.{◌≡◌, ◌<◌, ◌≤◌, ◌+◌, ◌-◌, ◌/◌, ◌%◌, ℕ, zero, suc, List, [], ◌∷◌, ◌++◌, length, length-append, take, get_or, refl, ap, sym, ◌∙◌, arith}
 use Rattle.std.proofs.lemmas.List.{take_all, take_more}
-use Rattle.uuid.specs.Text.{parsed}
-use Rattle.index_file.specs.Index.{IsUuid}
-use Rattle.index_file.proofs.Uuids.{parsed_is_uuid}
 use Rattle.commit_journal.specs.Bodies.{padded, HasDigits}
 use Rattle.commit_journal.proofs.Lists.{push_no_nil, push_same}
-
-pub text_is_uuid : (s u : List ℕ) → Some u ≡ parsed s → IsUuid u
-text_is_uuid = parsed_is_uuid
 
 pub padded_none : (n : ℕ) → padded 0 n ≡ []
 unfolding padded

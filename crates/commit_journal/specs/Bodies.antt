@@ -1,7 +1,7 @@
 -- The body of one record of a store, in form 1. The form is this project's own.
 use Rattle.std.specs.Prelude.{◌≡◌, ℕ, zero, suc, ◌+◌, ◌/◌, ◌%◌, ◌^◌, ◌<◌, ◌≤◌, List, [], ◌∷◌, ◌++◌, Option, Some, None, IsSome, IfSome, IsTrue, codes}
-use Rattle.index_file.specs.Index.{IsUuid}
-use Rattle.uuid.specs.Text.{hyphenated_text, lower}
+use Rattle.uuid_text.specs.Text.{uuid_text, IsUuid}
+use Rattle.zn_base.specs.Lines.{newline}
 use Rattle.zn_base.specs.Names.{is_name}
 use Rattle.zn_base.specs.States.{is_stored, state_text}
 use Rattle.zone_config.specs.Export.{export_text}
@@ -11,7 +11,7 @@ use Rattle.commit_journal.specs.declared.records.Record.{Record}
 
 -- a word, a space, what it tells and a newline
 abbrev pub told : List ℕ → List ℕ → List ℕ
-told word value = word ++ 32 ∷ value ++ 10 ∷ []
+told word value = word ++ 32 ∷ value ++ newline ∷ []
 
 -- a number in so many decimal digits, with leading zeros
 unfoldable pub padded : ℕ → ℕ → List ℕ
@@ -25,7 +25,7 @@ HasDigits (suc k) n = HasDigits k (n / 10)
 
 unfoldable pub record_text : Record → List ℕ
 record_text row =
-    told (codes "state") (state_text row.state) ++ told (codes "uuid") (hyphenated_text lower row.uuid) ++ told (codes "revision") (padded 10 row.revision)
+    told (codes "state") (state_text row.state) ++ told (codes "uuid") (uuid_text row.uuid) ++ told (codes "revision") (padded 10 row.revision)
     ++ export_text row.config
 
 -- what is stored of a zone from then on, or that it is removed

@@ -1,7 +1,6 @@
 -- What the bodies of a store say, and the first that is out of form or that may not follow those before it.
 use Rattle.std.specs.Prelude.{◌≡◌, ℕ, ◌+◌, ◌-◌, ◌≤◌, List, ◌∷◌, ◌++◌, length, take, map, All, Bool, nat_le, IsTrue}
 use Rattle.zone_disk.specs.declared.bank.TheConstants.{BANK_BYTES}
-use 
 use Rattle.commit_journal.specs.declared.records.Commit.{Commit}
 use Rattle.commit_journal.specs.Bodies.{body_text, IsCommit}
 use Rattle.commit_journal.specs.Stored.{may_follow, stored, Rows}

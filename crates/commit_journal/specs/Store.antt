@@ -1,6 +1,7 @@
 -- What a store is to its callers, what opening a disk comes to, and what a crash leaves of a change.
 use Rattle.std.specs.Prelude.{◌≡◌, ◌⊎◌, ℕ, ◌≤◌, List, [], ◌∷◌, ◌++◌, length, Bool, true, Option, Result, Ok, Err}
 use Rattle.zn_io.specs.Disk.{View}
+use Rattle.zone_pools.specs.declared.limits.TheConstants.{ZONES_MAX}
 use Rattle.zone_pools.specs.Firsts.{first_of}
 use Rattle.zn_base.specs.Names.{Name}
 use Rattle.zone_pools.specs.Owned_lists.{mine}
@@ -12,7 +13,7 @@ use Rattle.commit_journal.specs.declared.fault.StoreFault.TheVariants.{Memory, N
 use Rattle.commit_journal.specs.declared.records.Record.{Record}
 use Rattle.commit_journal.specs.Bodies.{body_text}
 use Rattle.commit_journal.specs.Journal.{IsFirstBad, Leave}
-use Rattle.commit_journal.specs.Stored.{with_stored, Rows, ZONES}
+use Rattle.commit_journal.specs.Stored.{with_stored, Rows}
 
 -- a store, to contracts: its bank, and the stored zones in the order of their creation
 pub record Ledger (D : Type 0) : Type 0 where
@@ -22,7 +23,7 @@ pub record Ledger (D : Type 0) : Type 0 where
 -- the bodies leave the rows, and these are not too many
 pub record HasZones (bodies : List (List ℕ)) (rows : Rows) : Type 0 where
   pub leave : Leave bodies rows
-  pub few : length rows ≤ ZONES
+  pub few : length rows ≤ ZONES_MAX
 
 -- the bodies leave the rows, and while the bank is sound a disk that keeps to its model has the bodies, whatever a crash leaves
 pub record IsKept (v : View) (bodies : List (List ℕ)) (sound : Bool) (rows : Rows) : Type 0 where

@@ -2,6 +2,7 @@
 use Rattle.std.specs.Prelude.{◌≡◌, ℕ, List, [], ◌∷◌, ◌++◌, length, Bool, true, ◌&&◌, ◌||◌, nat_lt, Option, Some, None, bytes_eq, unwrap_or, if◌then◌else◌}
 use Rattle.std.specs.List.{list_any}
 use Rattle.std.specs.Option.{is_none}
+use Rattle.zone_pools.specs.declared.limits.TheConstants.{ZONES_MAX}
 use Rattle.zone_pools.specs.Firsts.{placed}
 use Rattle.zn_base.specs.Names.{Name}
 use Rattle.zone_pools.specs.Owned_lists.{Go, edit_list, tag}
@@ -46,14 +47,10 @@ with_commit c rows = with_stored c.zone c.stored rows
 abbrev pub holds : Name → Rows → Bool
 holds z rows = list_any (λ o. bytes_eq z o.zone) rows
 
--- how many zones there may be
-abbrev pub ZONES : ℕ
-ZONES = 256
-
 -- only a stored zone is removed, and a new one needs its place
 abbrev pub may_stand : Name → Option Record → Rows → Bool
 may_stand z None rows = holds z rows
-may_stand z (Some row) rows = holds z rows || nat_lt (length rows) ZONES
+may_stand z (Some row) rows = holds z rows || nat_lt (length rows) ZONES_MAX
 
 abbrev pub may_follow : List Commit → Commit → Bool
 may_follow commits c = may_stand c.zone c.stored (stored commits)

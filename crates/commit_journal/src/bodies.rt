@@ -1,7 +1,6 @@
 //! The body of one record of a store, written.
 ghost use Rattle.std.specs.Prelude.{◌≡◌, ◌<◌, ◌^◌, ◌++◌, IfOk, IfSome, OnOk, codes, option_map};
-ghost use Rattle.index_file.specs.Index.{IsUuid};
-ghost use Rattle.uuid.specs.Text.{hyphenated_text, lower};
+ghost use Rattle.uuid_text.specs.Text.{uuid_text, IsUuid};
 ghost use Rattle.zone_config.specs.Export.{export_text};
 ghost use Rattle.zone_config.specs.Sound.{IsSound};
 ghost use Rattle.commit_journal.specs.Bodies.{IsCommit, IsRecord, IsStorable, padded, record_text, stored_text, told};
@@ -10,6 +9,7 @@ ghost use Rattle.commit_journal.specs.Store.{change_text};
 use crate::Record;
 use std::alloc::{AllocError, Global};
 use uuid::Uuid;
+use uuid_text::push_uuid;
 use zn_base::ZoneName;
 use zone_config::{ZoneConfig, export};
 
@@ -23,17 +23,14 @@ fn push_told(out: &mut Vec<u8>, word: &[u8], value: &[u8]) -> Result<(), AllocEr
     Ok(())
 }
 
-#[tactic(auto, using(crate::proofs::Parts::text_is_uuid))]
-fn push_uuid(out: &mut Vec<u8>, uuid: Uuid) -> Result<(), AllocError>
-    ensures text { OnOk result (out.new.items ≡ out.old.items ++ told (codes "uuid") (hyphenated_text lower uuid)) }
-    ensures uuid { IsUuid uuid }
+fn push_uuid_line(out: &mut Vec<u8>, uuid: Uuid) -> Result<(), AllocError>
+    ensures text { OnOk result (out.new.items ≡ out.old.items ++ told (codes "uuid") (uuid_text uuid)) }
+    ensures uuid { OnOk result (IsUuid uuid) }
 {
-    let mut buffer = Uuid::encode_buffer();
-    push_told(
-        out,
-        b"uuid",
-        uuid.hyphenated().encode_lower(&mut buffer).as_bytes(),
-    )
+    out.extend_from_slice(b"uuid ")?;
+    push_uuid(out, uuid)?;
+    out.push(b'\n')?;
+    Ok(())
 }
 
 // A number in so many digits, with leading zeros.
@@ -77,7 +74,7 @@ fn push_record(alloc: Global, out: &mut Vec<u8>, row: &Record) -> Result<(), All
     ensures record { OnOk result (IsStorable row.now → IsRecord row.now) }
 {
     push_told(out, b"state", row.state.text())?;
-    push_uuid(out, row.uuid)?;
+    push_uuid_line(out, row.uuid)?;
     push_revision(out, row.revision)?;
     push_config(alloc, out, &row.config)
 }

@@ -11,8 +11,6 @@ mod replay;
 mod rows;
 mod sizes;
 mod store;
-#[cfg(test)]
-mod tests;
 mod uuids;
 
 pub use fault::StoreFault;

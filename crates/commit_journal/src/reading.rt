@@ -1,9 +1,9 @@
 //! Bodies of records, read.
-ghost use Rattle.std.specs.Prelude.{◌≡◌, ◌≢◌, ◌==◌, ◌+◌, ◌/◌, ◌%◌, ◌<◌, ◌≤◌, ◌^◌, ◌++◌, ◌↔◌, ℕ, List, IfOk, IfSome, IsTrue, None, Ok, Some, codes, length, option_map, position};
+ghost use Rattle.std.specs.Prelude.{◌≡◌, ◌≢◌, ◌+◌, ◌/◌, ◌%◌, ◌<◌, ◌≤◌, ◌^◌, ◌++◌, ◌↔◌, ℕ, List, IfOk, IfSome, IsTrue, None, Ok, Some, codes, length, option_map};
 ghost use Rattle.std.specs.Option.{IsSomeAnd};
-ghost use Rattle.index_file.specs.Index.{IsUuid, newline};
-ghost use Rattle.index_file.specs.Reading.{lacks};
-ghost use Rattle.uuid.specs.Text.{hyphenated_text, lower};
+ghost use Rattle.uuid_text.specs.Text.{uuid_text};
+ghost use Rattle.zn_base.specs.Cuts.{lacks};
+ghost use Rattle.zn_base.specs.Lines.{newline};
 ghost use Rattle.zn_base.specs.Names.{is_name};
 ghost use Rattle.zn_base.specs.States.{state_text};
 ghost use Rattle.zone_config.specs.Export.{export_text};
@@ -15,15 +15,13 @@ ghost use Rattle.commit_journal.specs.Bodies.{body_text, padded, stored_text, to
 ghost use Rattle.commit_journal.specs.Store.{change_text};
 
 use crate::bodies::body_of;
+use crate::sizes::BODY_MAX;
 use crate::{Commit, Record};
 use export_read::read_export;
 use std::alloc::{AllocError, Global};
-use uuid::Uuid;
-use zn_base::{NameFault, ZoneName, ZoneState};
+use uuid_text::read_uuid;
+use zn_base::{NameFault, ZoneName, ZoneState, split_at_byte};
 use zone_config::{ConfigFault, ZoneConfig};
-
-// No body is longer. Its parts are at most some 32,900 bytes together.
-const BODY_MAX: usize = 34_000;
 
 // What a line tells, and what is behind it.
 #[derive(Clone, Copy)]
@@ -32,26 +30,21 @@ struct Line<'a> {
     rest: &'a [u8],
 }
 
-fn first_newline(bytes: &[u8]) -> Option<usize>
-    ensures { result ≡ position (λ b. b == newline) bytes.now }
-{
-    bytes.iter().position(|byte| *byte == b'\n')
-}
-
 // The value behind the word of the first line. Whether the word is there isn't looked at.
 fn cut_line<'a>(bytes: &'a [u8], word: &[u8]) -> Option<Line<'a>>
     requires word { IsTrue (lacks newline word.now) }
     requires short { length word.now ≤ 100 }
     ensures { (value rest : List ℕ) → IsTrue (lacks newline value) → bytes.now ≡ told word.now value ++ rest → IsSomeAnd result (λ line. (line.value.now ≡ value) × (line.rest.now ≡ rest)) }
 {
-    let end = first_newline(bytes)?;
+    let (line, rest) = split_at_byte(bytes, b'\n');
+    let rest = rest?;
     let start = word.len() + 1;
-    if end < start {
+    if line.len() < start {
         return None;
     }
     Some(Line {
-        value: &bytes[start..end],
-        rest: &bytes[end + 1..],
+        value: &line[start..],
+        rest,
     })
 }
 
@@ -63,12 +56,6 @@ fn read_name(alloc: Global, bytes: &[u8]) -> Result<Option<ZoneName>, AllocError
         Err(NameFault::Memory) => Err(AllocError),
         Err(_) => Ok(None),
     }
-}
-
-fn read_uuid(text: &[u8]) -> Option<Uuid>
-    ensures { (uuid : List ℕ) → IsUuid uuid → text.now ≡ hyphenated_text lower uuid → result ≡ Some uuid }
-{
-    Uuid::try_parse_ascii(text).ok()
 }
 
 // The number whose digits but the last are those of another, if it fits.
@@ -118,7 +105,7 @@ fn read_config(alloc: Global, text: &[u8]) -> Result<Option<ZoneConfig>, AllocEr
 
 // What the lines behind a state's tell of a zone, read with some leniency.
 fn guess_record(alloc: Global, state: &[u8], rest: &[u8]) -> Result<Option<Record>, AllocError>
-    ensures { (row : Record) → IsRecord row → state.now ≡ state_text row.state → rest.now ≡ told (codes "uuid") (hyphenated_text lower row.uuid) ++ (told (codes "revision") (padded 10 row.revision) ++ export_text row.config) → IfOk result (λ guess. guess ≡ Some row) }
+    ensures { (row : Record) → IsRecord row → state.now ≡ state_text row.state → rest.now ≡ told (codes "uuid") (uuid_text row.uuid) ++ (told (codes "revision") (padded 10 row.revision) ++ export_text row.config) → IfOk result (λ guess. guess ≡ Some row) }
 {
     let Some(state) = ZoneState::stored(state) else {
         return Ok(None);

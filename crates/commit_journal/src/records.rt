@@ -5,13 +5,24 @@ use zone_config::ZoneConfig;
 
 /// What is stored of a zone. Its state is configured, incomplete or installed, and its configuration has a
 /// zonepath.
-#[derive(Drop)]
 pub struct Record {
     pub state: ZoneState,
     pub uuid: Uuid,
     /// The number of the record that gave the zone its configuration, from 1.
     pub revision: u32,
     pub config: ZoneConfig,
+}
+
+// It goes in one step, so that a function that holds one has one step for it at each of its exits.
+impl Drop for Record {
+    fn drop(self) {
+        let Record {
+            state: _,
+            uuid: _,
+            revision: _,
+            config: _,
+        } = self;
+    }
 }
 
 /// One record of a store: what is stored of a zone from then on, `None` where it is removed.

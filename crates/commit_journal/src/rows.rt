@@ -9,9 +9,7 @@ ghost use Rattle.commit_journal.specs.Zones.{rows_of};
 use crate::Record;
 use indexmap::IndexMap;
 use zn_base::ZoneName;
-
-// How many zones a store has at most.
-const ZONES_MAX: usize = 256;
+use zone_pools::ZONES_MAX;
 
 /// The stored zones by their names, each with its record.
 pub(crate) type Zones = IndexMap<ZoneName, Record>;

@@ -6,6 +6,9 @@ ghost use Rattle.commit_journal.specs.Store.{change_text};
 use crate::Record;
 use zn_base::ZoneName;
 
+/// How many bytes a body has at most: its parts are at most some 32,900 together.
+pub(crate) const BODY_MAX: usize = 34_000;
+
 // The lines of the state, the UUID and the revision, and the export text.
 #[tactic(auto, using(crate::proofs::Lengths::record_parts))]
 fn record_length(row: &Record) -> usize
@@ -29,7 +32,7 @@ fn stored_length(stored: Option<&Record>) -> usize
 #[tactic(auto, using(crate::proofs::Lengths::body_parts))]
 pub(crate) fn body_length(zone: &ZoneName, stored: Option<&Record>) -> usize
     ensures same { result ≡ length (change_text zone.now (option_map (λ row. row.now) stored.entry)) }
-    ensures bound { result ≤ 34000 }
+    ensures bound { result ≤ BODY_MAX }
 {
     6 + zone.bytes().len() + stored_length(stored)
 }

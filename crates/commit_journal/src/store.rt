@@ -9,7 +9,7 @@ ghost use Rattle.zone_disk.specs.Image.{IsUnformatted, Stands};
 ghost use Rattle.commit_journal.specs.Bodies.{IsCommit, IsStorable};
 ghost use Rattle.commit_journal.specs.Journal.{has_room, Leave};
 ghost use Rattle.commit_journal.specs.Store.{change_text, outcome_by, row_of, HasZones, IsBeforeOrAfter, Says, Stores, StoresOneMore};
-ghost use Rattle.commit_journal.specs.Stored.{holds, may_stand, with_stored, ZONES};
+ghost use Rattle.commit_journal.specs.Stored.{holds, may_stand, with_stored};
 ghost use Rattle.commit_journal.specs.Zones.{rows_of};
 
 use crate::bodies::body_of;
@@ -22,6 +22,7 @@ use std::marker::Model;
 use zn_base::ZoneName;
 use zn_io::Disk;
 use zone_disk::{BANK_BYTES, Bank, BankFault};
+use zone_pools::ZONES_MAX;
 
 /// The stored zones in the order of their creation, and the disk with the records that leave them. Contracts
 /// see a `Ledger`: the bank, and the zones with what is stored of each.
@@ -196,7 +197,7 @@ impl<D: Disk> Store<D> {
     /// How many zones are stored. It takes no memory.
     pub fn count(&self) -> u32
         ensures count { result ≡ length self.now.rows }
-        ensures few { result ≤ ZONES }
+        ensures few { result ≤ ZONES_MAX }
         ensures leave { Leave self.now.bank.records self.now.rows }
     {
         self.zones.len() as u32

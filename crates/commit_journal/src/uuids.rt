@@ -4,18 +4,15 @@ ghost use Rattle.commit_journal.specs.declared.fault.StoreFault.TheVariants.{Mem
 ghost use Rattle.commit_journal.specs.Uuids.{uuid_name, uuid_of};
 
 use crate::StoreFault;
-use itoa::Buffer;
 use std::alloc::{AllocError, Global};
 use uuid::Uuid;
-use zn_base::ZoneName;
+use zn_base::{ZoneName, push_numbered};
 
 fn uuid_name(alloc: Global, name: &ZoneName, serial: u32) -> Result<Vec<u8>, AllocError>
     ensures { IfOk result (λ text. text.items ≡ uuid_name name.now serial) }
 {
-    let mut digits = Buffer::new();
     let mut text = Vec::from_slice(alloc, name.bytes())?;
-    text.push(b':')?;
-    text.extend_from_slice(digits.format(serial).as_bytes())?;
+    push_numbered(&mut text, b":", serial as u64)?;
     Ok(text)
 }
 

@@ -1,7 +1,9 @@
--- Where nothing is wanted, each of a list matches.
-use Rattle.std.proofs.Common.{◌≡◌, ◌∙◌, ◌≤◌, ◌<◌, List, [], ◌∷◌, true, Ok, Err, length, refl, arith}
-use Rattle.std.specs.Prelude.{count_by, nat_lt}
+-- The one place in a list where a test holds.
+use Rattle.std.proofs.Common.{◌≡◌, ◌∙◌, ◌≤◌, ◌<◌, ◌+◌, ◌-◌, ℕ, suc, Bool, true, false, not, cond, List, [], ◌∷◌, Option, Some, None, Ok, Err, length, refl, ap, sym, arith}
+use Rattle.std.specs.Prelude.{count_by, drop, nat_lt, position, take}
+use Rattle.std.specs.List.{position_or_len}
 use Rattle.std.proofs.lemmas.Bool.Decides.{nat_tests}
+use Rattle.std.proofs.lemmas.List.{take_rest}
 use Rattle.std.proofs.lemmas.List.Sums.{sum_by-cons}
 use Rattle.config_terms.specs.declared.fault.ConfigFault.TheVariants.{SeveralMatch}
 use Rattle.config_terms.specs.Matches.{only_place}
@@ -23,3 +25,44 @@ several_match (x ∷ xs) many =
     let first : nat_lt 0 (length (x ∷ xs)) ≡ true = grind (arith, nat_tests) in
     let several : nat_lt 1 (length (x ∷ xs)) ≡ true = grind (arith, nat_tests) in
     rw (counts_all (x ∷ xs), first, several) refl
+
+-- none matches before the first that does
+counted_after : {A : Type 0} (p : A → Bool) (xs : List A) → count_by p (drop (position_or_len p xs) xs) ≡ count_by p xs
+counted_after p [] = refl
+counted_after p (x ∷ xs) =
+    elim (p x) as (λ b. p x ≡ b → count_by p (drop (position_or_len p (x ∷ xs)) (x ∷ xs)) ≡ count_by p (x ∷ xs)) [
+      | true ↦ λ e. ap (λ k. count_by p (drop k (x ∷ xs))) (ap (λ b. cond (not b) (1 + position_or_len p xs) 0) e)
+      | false ↦ λ e.
+          let next : suc (position_or_len p xs) ≡ 1 + position_or_len p xs = omega arith in
+          let none : cond {A = ℕ} (p x) 1 0 ≡ 0 = ap (λ b. cond {A = ℕ} b 1 0) e in
+          let more : count_by p xs ≡ count_by p (x ∷ xs) = omega (arith, none, sum_by-cons (λ y. cond (p y) 1 0) x xs) in
+          ap (λ k. count_by p (drop k (x ∷ xs))) (ap (λ b. cond (not b) (1 + position_or_len p xs) 0) e ∙ sym next)
+          ∙ counted_after p xs
+          ∙ more
+    ] refl
+
+placed : {A : Type 0} (p : A → Bool) (xs : List A) (i : ℕ) → position p xs ≡ Some i → position_or_len p xs ≡ i
+placed p xs i h =
+    elim (nat_lt (position_or_len p xs) (length xs)) as (λ b. cond b (Some (position_or_len p xs)) None ≡ Some i → position_or_len p xs ≡ i) [
+      | true ↦ λ e. cc
+      | false ↦ λ e. absurd (cc)
+    ] h
+
+-- from the first that matches on there are as many as in all
+counted_from : {A : Type 0} (p : A → Bool) (xs : List A) (i : ℕ) → position p xs ≡ Some i → count_by p (drop i xs) ≡ count_by p xs
+counted_from p xs i h = ap (λ k. count_by p (drop k xs)) (sym (placed p xs i h)) ∙ counted_after p xs
+
+-- the first match is the one, where none comes after it
+pub one_from_first : {A : Type 0} (p : A → Bool) (xs : List A) (i n : ℕ) → position p xs ≡ Some i → n ≡ count_by p (take (length xs - i) (drop i xs)) → n ≤ 1 → Ok i ≡ only_place p xs
+unfolding only_place
+one_from_first p xs i n h e few =
+    let all : count_by p xs ≡ n = sym (e ∙ ap (count_by p) (take_rest xs i) ∙ counted_from p xs i h) in
+    let one : nat_lt 1 n ≡ false = grind (arith, nat_tests) in
+    rw (h, all, one) refl
+
+pub several_from_first : {A : Type 0} (p : A → Bool) (xs : List A) (i n : ℕ) → position p xs ≡ Some i → n ≡ count_by p (take (length xs - i) (drop i xs)) → 1 < n → Err (SeveralMatch n) ≡ only_place p xs
+unfolding only_place
+several_from_first p xs i n h e many =
+    let all : count_by p xs ≡ n = sym (e ∙ ap (count_by p) (take_rest xs i) ∙ counted_from p xs i h) in
+    let several : nat_lt 1 n ≡ true = grind (arith, nat_tests) in
+    rw (h, all, several) refl

@@ -3,3 +3,6 @@ pub mod Alone
 pub mod Paths
 pub mod Staying
 mod Examples
+pub mod Settables
+pub mod Lists_edited
+pub mod Resources_edited

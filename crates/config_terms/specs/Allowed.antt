@@ -84,3 +84,11 @@ is_taken_by shown (Some f) x xs = has_key (λ y. shown y f) (shown x f) xs
 
 abbrev pub is_taken : {A : Type 0} → (A → Field → List ℕ) → Kind → A → List A → Bool
 is_taken shown k x xs = is_taken_by shown (key_field k) x xs
+
+-- whether a resource of a kind has the key of another, where the kind has a key
+abbrev pub keeps_key_by : {A : Type 0} → (A → Field → List ℕ) → Option Field → A → A → Bool
+keeps_key_by shown None x y = true
+keeps_key_by shown (Some f) x y = bytes_eq (shown x f) (shown y f)
+
+abbrev pub keeps_key : {A : Type 0} → (A → Field → List ℕ) → Kind → A → A → Bool
+keeps_key shown k x y = keeps_key_by shown (key_field k) x y

@@ -6,3 +6,4 @@ pub mod Allowed
 pub mod Matches
 pub mod Edits
 pub mod Staying
+pub mod Settable

@@ -1,5 +1,5 @@
 -- Which resource a match finds.
-use Rattle.std.specs.Prelude.{ℕ, List, Bool, false, nat_lt, Option, Some, None, Result, Ok, Err, count_by, position, if◌then◌else◌}
+use Rattle.std.specs.Prelude.{ℕ, List, Bool, false, nat_lt, Option, Some, None, Result, Ok, Err, count_by, position, ◌&&◌, if◌then◌else◌}
 use Rattle.std.specs.List.{list_all}
 use Rattle.std.specs.Str.{bytes_eq}
 use Rattle.zn_base.specs.declared.values.Pair.{Pair}
@@ -20,6 +20,10 @@ has_pair k shown wanted = is_text shown (field_named k wanted.name) wanted.value
 -- whether each wanted pair is there
 abbrev pub has_all : Kind → List Pair → (Field → List ℕ) → Bool
 has_all k wanted shown = list_all (has_pair k shown) wanted
+
+-- whether a property shows a text, and each other wanted pair is there
+abbrev pub is_wanted : {A : Type 0} → (A → Field → List ℕ) → Kind → Option Field → List ℕ → List Pair → A → Bool
+is_wanted shown k field text rest x = is_text (shown x) field text && has_all k rest (shown x)
 
 abbrev pub place_or : ℕ → Option ℕ → Result ℕ ConfigFault
 place_or n None = Err NoMatch

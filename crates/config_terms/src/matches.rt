@@ -1,18 +1,36 @@
 //! Which resources match, and which are told apart by a name.
+ghost use Rattle.std.specs.Str.{bytes_eq};
 ghost use Rattle.std.specs.Prelude.{◌≡◌, ◌<◌, ◌≤◌, ◌∷◌, length, count_by, position, remove, true, IfOk};
-ghost use Rattle.config_terms.specs.Allowed.{has_key, is_taken};
-ghost use Rattle.config_terms.specs.Matches.{is_text, has_pair, has_all, only_place};
+ghost use Rattle.config_terms.specs.Allowed.{has_key, is_taken, keeps_key};
+ghost use Rattle.config_terms.specs.Matches.{has_all, has_pair, is_text, is_wanted, only_place};
 
 use crate::{ConfigFault, Entry, Field, Kind};
 use zn_base::Pair;
 
+// Whether two texts are one. The names of many resources mostly differ in their length or in their last
+// byte, so these are looked at first.
+#[inline(always)]
+fn is_same(one: &[u8], other: &[u8]) -> bool
+    ensures { result ≡ bytes_eq one.now other.now }
+{
+    let length = one.len();
+    if length != other.len() {
+        return false;
+    }
+    if length > 0 && one[length - 1] != other[length - 1] {
+        return false;
+    }
+    one == other
+}
+
 // Whether a property that a name stands for shows a text.
+#[inline(always)]
 fn is_text<T: Entry>(entry: &T, field: Option<Field>, text: &[u8]) -> bool
     ensures { result ≡ is_text (T.shown entry.now) field text.now }
 {
     match field {
         None => false,
-        Some(field) => entry.shown(field) == text,
+        Some(field) => is_same(entry.shown(field), text),
     }
 }
 
@@ -29,28 +47,61 @@ pub fn has_all<T: Entry>(kind: Kind, entry: &T, wanted: &[Pair]) -> bool
     wanted.iter().all(|pair| has_pair(kind, entry, pair))
 }
 
-// The property of the first pair is looked up once for all resources.
-fn count_matches<T: Entry>(kind: Kind, entries: &[T], first: &Pair, rest: &[Pair]) -> usize
-    ensures { result ≡ count_by (λ e. has_all kind (first.now ∷ rest.now) (T.shown e)) entries.now }
+#[inline(always)]
+fn first_match<T: Entry>(
+    kind: Kind,
+    entries: &[T],
+    field: Option<Field>,
+    text: &[u8],
+    rest: &[Pair],
+) -> Option<usize>
+    ensures { result ≡ position (is_wanted T.shown kind field text.now rest.now) entries.now }
 {
-    let field = kind.field(first.name.bytes());
-    let text = first.value.bytes();
+    entries.iter().position(|entry| is_text(entry, field, text) && has_all(kind, entry, rest))
+}
+
+#[inline(always)]
+fn count_matches<T: Entry>(
+    kind: Kind,
+    entries: &[T],
+    field: Option<Field>,
+    text: &[u8],
+    rest: &[Pair],
+) -> usize
+    ensures { result ≡ count_by (is_wanted T.shown kind field text.now rest.now) entries.now }
+{
     entries
         .iter()
         .filter(|entry| is_text(*entry, field, text) && has_all(kind, *entry, rest))
         .count()
 }
 
-fn first_match<T: Entry>(kind: Kind, entries: &[T], first: &Pair, rest: &[Pair]) -> Option<usize>
-    ensures { result ≡ position (λ e. has_all kind (first.now ∷ rest.now) (T.shown e)) entries.now }
-{
-    let field = kind.field(first.name.bytes());
-    let text = first.value.bytes();
-    entries.iter().position(|entry| is_text(entry, field, text) && has_all(kind, entry, rest))
-}
-
+// Goes over the resources once: up to the first that matches, and from it on.
+#[inline(always)]
 #[tactic(auto, unfolding(crate::specs::Matches::only_place))]
 fn only_match<T: Entry>(
+    kind: Kind,
+    entries: &[T],
+    field: Option<Field>,
+    text: &[u8],
+    rest: &[Pair],
+) -> Result<usize, ConfigFault>
+    ensures answer { result ≡ only_place (is_wanted T.shown kind field text.now rest.now) entries.now }
+    ensures inside { IfOk result (λ place. place < length entries.now) }
+{
+    let Some(place) = first_match(kind, entries, field, text, rest) else {
+        return Err(ConfigFault::NoMatch);
+    };
+    let count = count_matches(kind, &entries[place..], field, text, rest);
+    if count > 1 {
+        return Err(ConfigFault::SeveralMatch(count));
+    }
+    Ok(place)
+}
+
+// The property of the first pair is looked up once for all resources. It is the key of its kind most often: the
+// compiler makes a loop of its own of that case, which reads the key where it lies.
+fn match_pairs<T: Entry>(
     kind: Kind,
     entries: &[T],
     first: &Pair,
@@ -59,14 +110,14 @@ fn only_match<T: Entry>(
     ensures answer { result ≡ only_place (λ e. has_all kind (first.now ∷ rest.now) (T.shown e)) entries.now }
     ensures inside { IfOk result (λ place. place < length entries.now) }
 {
-    let count = count_matches(kind, entries, first, rest);
-    let Some(place) = first_match(kind, entries, first, rest) else {
-        return Err(ConfigFault::NoMatch);
-    };
-    if count > 1 {
-        return Err(ConfigFault::SeveralMatch(count));
+    let field = kind.field(first.name.bytes());
+    let key = kind.key();
+    let text = first.value.bytes();
+    if field == key {
+        only_match(kind, entries, key, text, rest)
+    } else {
+        only_match(kind, entries, field, text, rest)
     }
-    Ok(place)
 }
 
 // Where nothing is wanted, each resource matches.
@@ -94,7 +145,7 @@ pub fn find_entry<T: Entry>(
 {
     match wanted {
         [] => only_entry(entries),
-        [first, rest @ ..] => only_match(kind, entries, first, rest),
+        [first, rest @ ..] => match_pairs(kind, entries, first, rest),
     }
 }
 
@@ -102,7 +153,7 @@ pub fn find_entry<T: Entry>(
 pub fn has_key<T: Entry>(field: Field, key: &[u8], entries: &[T]) -> bool
     ensures { result ≡ has_key (λ e. T.shown e field) key.now entries.now }
 {
-    entries.iter().any(|entry| entry.shown(field) == key)
+    entries.iter().any(|entry| is_same(entry.shown(field), key))
 }
 
 /// Whether some resource of a kind has the name (of a device the match) of this one, where the kind tells
@@ -122,4 +173,15 @@ pub fn is_taken_but<T: Entry>(kind: Kind, place: usize, entry: &T, entries: &[T]
     ensures { result ≡ is_taken T.shown kind entry.now (remove entries.now place) }
 {
     is_taken(kind, entry, &entries[..place]) || is_taken(kind, entry, &entries[place + 1..])
+}
+
+/// Whether a resource has the key of another of its kind, which stays then if it takes its place. It takes no
+/// memory.
+pub fn keeps_key<T: Entry>(kind: Kind, entry: &T, other: &T) -> bool
+    ensures { result ≡ keeps_key T.shown kind entry.now other.now }
+{
+    match kind.key() {
+        None => true,
+        Some(field) => is_same(entry.shown(field), other.shown(field)),
+    }
 }

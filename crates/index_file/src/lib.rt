@@ -8,8 +8,6 @@ mod laws;
 mod printing;
 mod reading;
 mod rows;
-#[cfg(test)]
-mod tests;
 
 pub use fault::IndexFault;
 pub use laws::{one_row_a_line, one_text_for_rows, printed_reads_back, reads_one_way};

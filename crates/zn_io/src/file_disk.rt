@@ -155,30 +155,3 @@ impl<'a, R: Files<File = File>> Disk for FileDisk<'a, R> {
         }
     }
 }
-
-#[cfg(test)]
-mod tests {
-    use super::*;
-    use std::fs;
-    use std::test::Fail;
-
-    const NAME: &str = "file_disk_test.store";
-
-    #[test]
-    fn writes_closes_opens_again_and_reads(rt: HostRuntime) -> Result<(), Fail> {
-        let mut disk = FileDisk::new(&rt, NAME);
-        assert_eq!(rt; disk.length(), Ok(0));
-        disk.write_at(2, b"zones")?;
-        disk.sync()?;
-        drop(disk);
-        let mut again = FileDisk::new(&rt, NAME);
-        let mut bytes = [1; 8];
-        assert_eq!(rt; again.read(1, &mut bytes), Ok(6));
-        assert_eq!(rt; bytes.as_slice(), b"\0zones\x01\x01".as_slice());
-        assert_eq!(rt; again.length(), Ok(7));
-        fs::remove_file(&rt, NAME)?;
-        let mut nowhere = FileDisk::new(&rt, "no such folder/store");
-        assert_eq!(rt; nowhere.sync(), Err(Failed));
-        Ok(())
-    }
-}

@@ -160,33 +160,3 @@ impl Sink for MemSink {
         Ok(count)
     }
 }
-
-#[cfg(test)]
-mod tests {
-    use super::*;
-    use crate::write_all;
-    use std::test::Fail;
-
-    #[test]
-    fn a_source_gives_pieces_and_fails_by_its_list(rt: HostRuntime) -> Result<(), Fail> {
-        let bytes = b"zones".to_vec(rt.alloc())?;
-        let mut source = MemSource::new(bytes, 3, [2].to_vec(rt.alloc())?);
-        let mut piece = [0; 8];
-        assert_eq!(rt; source.read(&mut piece), Ok(3));
-        assert_eq!(rt; source.read(&mut piece), Err(Failed));
-        assert_eq!(rt; source.read(&mut piece), Ok(2));
-        assert_eq!(rt; &piece[..2], b"es".as_slice());
-        assert_eq!(rt; source.read(&mut piece), Ok(0));
-        Ok(())
-    }
-
-    #[test]
-    fn a_sink_fails_by_its_list_and_where_it_is_full(rt: HostRuntime) -> Result<(), Fail> {
-        let mut sink = MemSink::new(rt.alloc(), 4, [1].to_vec(rt.alloc())?)?;
-        assert_eq!(rt; sink.write(b"zo"), Err(Failed));
-        assert_eq!(rt; sink.write(b"zo"), Ok(2));
-        assert_eq!(rt; write_all(&mut sink, b"nes"), Err(Failed));
-        assert_eq!(rt; sink.bytes(), b"zone".as_slice());
-        Ok(())
-    }
-}

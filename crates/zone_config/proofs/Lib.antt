@@ -5,3 +5,5 @@ pub mod ResourceEdits
 pub mod Aliases
 pub mod Settings
 pub mod Clearing
+pub mod Removing
+pub mod Sameness

@@ -8,9 +8,9 @@ use Rattle.std.proofs.lemmas.List.Concat.{flat_map-append}
 use Rattle.std.proofs.lemmas.List.Folds.{list_any-append, list_all-append}
 use Rattle.config_terms.specs.declared.fields.Field.{Field}
 use Rattle.config_terms.specs.declared.terms.Kind.{Kind}
-use Rattle.config_terms.specs.Allowed.{are_distinct, has_key, is_taken, is_taken_by}
+use Rattle.config_terms.specs.Allowed.{are_distinct, has_key, is_taken, is_taken_by, keeps_key, keeps_key_by}
 use Rattle.config_terms.specs.Fields.{key_field}
-use Rattle.zone_config.specs.Sound.{AreSound, are_distinct_in}
+use Rattle.zone_config.specs.Sound.{AreSound, are_distinct_in, are_told_apart}
 
 -- tests joined by `and` and `or`
 pub first_true : (a b : Bool) → (a && b) ≡ true → a ≡ true
@@ -111,6 +111,21 @@ distinct-set key (y ∷ ys) (suc i) x h g =
     (not_if_false _ (has-set key (key y) ys i x (false_if_not _ (first_true _ _ h)) (bytes_eq-swap (key y) (key x) (first_false _ _ g))))
     (distinct-set key ys i x (rest_true (not (has_key key (key y) ys)) _ h) (rest_false (bytes_eq (key y) (key x)) _ g))
 
+key-other : {A : Type 0} (key : A → List ℕ) (k : List ℕ) (xs : List A) (i : ℕ) (x : A) → has_key key k xs ≡ false → slice_get xs i ≡ Some x → bytes_eq (key x) k ≡ false
+key-other key k [] i x h e = absurd (cc)
+key-other key k (y ∷ ys) zero x h e = let same : y ≡ x = cc in ap (λ z. bytes_eq (key z) k) (sym same) ∙ first_false _ _ h
+key-other key k (y ∷ ys) (suc i) x h e = key-other key k ys i x (rest_false (bytes_eq (key y) k) _ h) e
+
+-- no other has the key of one of them
+distinct-others : {A : Type 0} (key : A → List ℕ) (xs : List A) (i : ℕ) (x : A) → are_distinct key xs ≡ true → slice_get xs i ≡ Some x → has_key key (key x) (remove xs i) ≡ false
+distinct-others key [] i x h e = absurd (cc)
+distinct-others key (y ∷ ys) zero x h e =
+    let same : y ≡ x = cc in ap (λ z. has_key key (key z) ys) (sym same) ∙ false_if_not _ (first_true _ _ h)
+distinct-others key (y ∷ ys) (suc i) x h e =
+    both_false _ _
+    (bytes_eq-swap (key x) (key y) (key-other key (key y) ys i x (false_if_not _ (first_true _ _ h)) e))
+    (distinct-others key ys i x (rest_true (not (has_key key (key y) ys)) _ h) e)
+
 -- the same where a kind may have no key
 apart-push : {A : Type 0} (shown : A → Field → List ℕ) (o : Option Field) (xs : List A) (x : A) → are_distinct_in shown o xs ≡ true → is_taken_by shown o x xs ≡ false → are_distinct_in shown o (xs ++ x ∷ []) ≡ true
 apart-push shown None xs x h g = refl
@@ -123,6 +138,14 @@ apart-remove shown (Some f) xs i h = distinct-remove (λ y. shown y f) xs i h
 apart-set : {A : Type 0} (shown : A → Field → List ℕ) (o : Option Field) (xs : List A) (i : ℕ) (x : A) → are_distinct_in shown o xs ≡ true → is_taken_by shown o x (remove xs i) ≡ false → are_distinct_in shown o (slice_set xs i x) ≡ true
 apart-set shown None xs i x h g = refl
 apart-set shown (Some f) xs i x h g = distinct-set (λ y. shown y f) xs i x h g
+
+pub apart-kept : {A : Type 0} (shown : A → Field → List ℕ) (k : Kind) (xs : List A) (i : ℕ) (x y : A) → are_told_apart shown k xs ≡ true → slice_get xs i ≡ Some y → keeps_key shown k x y ≡ true → is_taken shown k x (remove xs i) ≡ false
+apart-kept shown k xs i x y h e s = apart_in (key_field k) h s where
+  apart_in : (o : Option Field) → are_distinct_in shown o xs ≡ true → keeps_key_by shown o x y ≡ true → is_taken_by shown o x (remove xs i) ≡ false
+  apart_in None h s = refl
+  apart_in (Some f) h s =
+      let same : shown x f ≡ shown y f = (bytes_eq-Decides (shown x f) (shown y f)).0 s in
+      ap (λ k. has_key (λ z. shown z f) k (remove xs i)) same ∙ distinct-others (λ z. shown z f) xs i y h e
 
 -- a sound list stays sound
 pub sound-push : {A : Type 0} (shown : A → Field → List ℕ) (k : Kind) (allowed : A → Bool) (xs : List A) (x : A) → AreSound shown k allowed xs → allowed x ≡ true → is_taken shown k x xs ≡ false → AreSound shown k allowed (xs ++ x ∷ [])

@@ -4,3 +4,5 @@ pub mod Sound
 pub mod Edits
 pub mod Resources
 pub mod Settable
+pub mod Removal
+pub mod Same

@@ -6,10 +6,13 @@
 mod alias;
 mod config;
 mod contents;
+mod kinds;
 mod laws;
 mod printing;
 mod property;
+mod removal;
 mod resources;
+mod same;
 mod sizes;
 mod terms;
 
@@ -18,4 +21,5 @@ pub use config_terms::{Attr, ConfigFault, Fs, IpType, Kind, Limit, Net, Rctl, Re
 pub use laws::{clears_where_named, sets_where_allowed};
 pub use printing::export;
 pub use property::PROPERTIES;
+pub use same::same_contents;
 pub use terms::{Alias, Contents, Property, Setting};

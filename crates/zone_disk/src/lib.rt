@@ -9,8 +9,6 @@ mod format;
 mod header;
 mod laws;
 mod read;
-#[cfg(test)]
-mod tests;
 
 pub use bank::{BANK_BYTES, Bank};
 pub use body::Body;

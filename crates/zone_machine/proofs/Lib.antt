@@ -4,7 +4,6 @@ pub mod Same_laws
 pub mod Laws
 pub mod Own_worlds
 pub mod Words
-pub mod Root_texts
 pub mod Passing
 pub mod Results
 pub mod Sessions_laws

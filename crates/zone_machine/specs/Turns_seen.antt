@@ -96,6 +96,10 @@ pub record HasNoWork (d : state.Desk) : Type 0 where
   pub job : d.job ≡ None
   pub waiting : d.waiting ≡ []
 
+-- what comes, is done to the objects and ends changes a world so
+abbrev pub changed_world : Option Came → ObjectEdit → Option ℕ → World → World
+changed_world came objects ended v = edits_world None (sweeps ended) (edits_world None (object_edits objects) (after_came_world (option_map arrival_of came) v))
+
 -- what a turn does to a world beside its change of the desk
 abbrev pub work_world : Work → World → World
-work_world w v = edits_world None (sweeps w.ended) (edits_world None (object_edits w.objects) (after_came_world (option_map arrival_of w.came) v))
+work_world w v = changed_world w.came w.objects w.ended v

@@ -5,7 +5,7 @@ ghost use Rattle.zone_machine.specs.Decisions.{act_of, says};
 ghost use Rattle.zone_pools.specs.Places.{StandsAt};
 ghost use Rattle.zone_machine.specs.Tables.{Acts, Does, came_rest, world_of};
 ghost use Rattle.zone_machine.specs.Turns.{turn};
-ghost use Rattle.zone_machine.specs.Turns_seen.{arrival_of, work_world};
+ghost use Rattle.zone_machine.specs.Turns_seen.{arrival_of, changed_world, work_world};
 ghost use Rattle.zone_machine.specs.Acts_seen.{RestsDesk, TurnsDesk};
 ghost use Rattle.zone_machine.specs.Worlds.{view_of};
 ghost use Rattle.zone_machine.specs.declared.replies.Head.TheVariants.{Turned};
@@ -16,12 +16,29 @@ use crate::records::Record;
 use crate::sights::see;
 use crate::tables::Tables;
 use crate::turns::{has_work, turn};
-use crate::work::{Seen, Work};
+use crate::work::{Came, ObjectEdit, Seen, Work};
 use std::alloc::{AllocError, Global};
 use zn_base::ZoneName;
 use zone_pools::{Grant, Owned, place_of};
 
 impl Tables {
+    // What came is put into its table, the objects are changed, and a ticket ends.
+    fn change(
+        &mut self,
+        alloc: Global,
+        zone: &ZoneName,
+        came: Option<Came>,
+        objects: ObjectEdit,
+        ended: Option<u32>,
+    ) -> Result<(), AllocError>
+        ensures { OnOk result (Does zone.now (changed_world came objects ended) (came_rest zone.now (option_map arrival_of came)) self.old self.new) }
+    {
+        self.take_in(alloc, zone, came)?;
+        self.edit_objects(alloc, zone, objects)?;
+        self.end_ticket(zone, ended);
+        Ok(())
+    }
+
     // What a turn does beside its change of the desk.
     fn do_work(
         &mut self,
@@ -32,10 +49,14 @@ impl Tables {
         ensures reply { IfOk result (λ reply. reply ≡ work.reply) }
         ensures state { OnOk result (Does zone.now (work_world work) (came_rest zone.now (option_map arrival_of work.came)) self.old self.new) }
     {
-        self.take_in(alloc, zone, work.came)?;
-        self.edit_objects(alloc, zone, work.objects)?;
-        self.end_ticket(zone, work.ended);
-        Ok(work.reply)
+        let Work {
+            came,
+            objects,
+            ended,
+            reply,
+        } = work;
+        self.change(alloc, zone, came, objects, ended)?;
+        Ok(reply)
     }
 
     // A turn of the zone's daemon, in a zone that is stored.

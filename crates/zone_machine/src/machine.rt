@@ -1,8 +1,8 @@
 //! The machine.
-ghost use Rattle.std.specs.Prelude.{◌≡◌, [], IfOk, IsErrOf, IsOkUnless};
+ghost use Rattle.std.specs.Prelude.{◌≡◌, ◌⊎◌, [], IfOk, IsErrOf, IsOkUnless, OnErr, OnOk, false, true};
 ghost use Rattle.zone_machine.specs.Machine.{opening};
-ghost use Rattle.zone_machine.specs.Steps.{IsAllowed, IsAllowedStep, IsFittingStep, IsMisfit, IsRefusedIfUnfit, IsStarted, IsSubject, IsZoneState};
-ghost use Rattle.zone_machine.specs.Tables.{Stands};
+ghost use Rattle.zone_machine.specs.Steps.{IsAllowed, IsAllowedStep, IsFit, IsFittingStep, IsMisfit, IsRefusedIfUnfit, IsStarted, IsSubject, IsZoneState};
+ghost use Rattle.zone_machine.specs.Tables.{Stands, subject_in};
 
 use crate::events::{Entry, Event, Subject};
 use crate::faults::StepFault;
@@ -54,14 +54,39 @@ impl Machine {
         Ok(self.tables.allowed(alloc, event, &subject)?)
     }
 
+    // Whose an event is, and the grant that the pools give it.
+    fn granted(&self, alloc: Global, event: &Event) -> Result<(Subject, Grant), StepFault>
+        ensures subject { IfOk result (λ r. r.0 ≡ subject_in self.now event.now) }
+        ensures grant { IfOk result (λ r. IsAllowed self.now event.now r.1) }
+        ensures err { IsOkUnless result StepFault.Memory }
+    {
+        let subject = self.tables.subject(alloc, event)?;
+        let grant = self.tables.allowed(alloc, event, &subject)?;
+        Ok((subject, grant))
+    }
+
+    // Whose an event is, where a stated grant fits it.
+    fn fitting(&self, alloc: Global, event: &Event, grant: Grant) -> Result<Subject, StepFault>
+        ensures subject { IfOk result (λ subject. subject ≡ subject_in self.now event.now) }
+        ensures fits { OnOk result (IsFit self.now event.now grant true) }
+        ensures misfit { IsErrOf result StepFault.BadGrant → IsFit self.now event.now grant false }
+        ensures fault { OnErr result (IsErrOf result StepFault.BadGrant ⊎ IsErrOf result StepFault.Memory) }
+    {
+        let subject = self.tables.subject(alloc, event)?;
+        if self.tables.is_fit(alloc, event, &subject, grant)? {
+            Ok(subject)
+        } else {
+            Err(StepFault::BadGrant)
+        }
+    }
+
     /// An event is answered under the grant that the pools give it. After want of memory nothing is said of
     /// the machine.
     pub fn step(&mut self, alloc: Global, event: Event) -> Result<Entry, StepFault>
         ensures ok { IfOk result (λ entry. IsAllowedStep self.old event entry self.new) }
         ensures err { IsOkUnless result StepFault.Memory }
     {
-        let subject = self.tables.subject(alloc, &event)?;
-        let grant = self.tables.allowed(alloc, &event, &subject)?;
+        let (subject, grant) = self.granted(alloc, &event)?;
         Ok(self.tables.answer(alloc, event, subject, grant)?)
     }
 
@@ -77,10 +102,7 @@ impl Machine {
         ensures misfit { IsErrOf result StepFault.BadGrant → IsMisfit self.old event grant self.new }
         ensures unfit { IsRefusedIfUnfit self.old event grant result }
     {
-        let subject = self.tables.subject(alloc, &event)?;
-        if !self.tables.is_fit(alloc, &event, &subject, grant)? {
-            return Err(StepFault::BadGrant);
-        }
+        let subject = self.fitting(alloc, &event, grant)?;
         Ok(self.tables.answer(alloc, event, subject, grant)?)
     }
 

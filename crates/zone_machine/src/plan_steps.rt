@@ -1,5 +1,5 @@
 //! The steps of a request's plan, each one turn of the zone's daemon.
-ghost use Rattle.std.specs.Prelude.{[], ◌++◌, ◌<◌, ◌∷◌, ◌≡◌, IfOk, IsSome, Some, codes, drop, length, true};
+ghost use Rattle.std.specs.Prelude.{[], ◌++◌, ◌<◌, ◌∷◌, ◌≡◌, IfOk, IsSome, Some, codes, drop, false, length, true};
 ghost use Rattle.std.specs.Option.{option_map};
 ghost use Rattle.zone_pools.specs.Owned_lists.{Come, Go};
 ghost use Rattle.zone_pools.specs.declared.grant.Grant.{Grant as A_grant};
@@ -150,7 +150,7 @@ fn start_init(job: &mut Job, alloc: Global, grant: Grant) -> Result<Work, AllocE
     }
 }
 
-#[tactic(auto, using(crate::proofs::Root_texts::path_with_root))]
+#[tactic(auto, using(zn_base::proofs::Path_texts::path_with_root))]
 fn root_special(alloc: Global, config: &Config) -> Result<Text, AllocError>
     ensures { IfOk result (λ text. text ≡ config.now.zonepath ++ codes "/root") }
 {
@@ -287,17 +287,18 @@ fn unmount_last(job: &mut Job, alloc: Global, seen: Seen) -> Result<Work, AllocE
     }
 }
 
-/// The next step of a request that has one.
-pub(crate) fn step(
+// The next step of a request, where it is no unmount.
+fn keep_mounts(
     job: &mut Job,
     active: &mut Option<ZoneState>,
     alloc: Global,
-    seen: Seen,
+    seen: &Seen,
     row: &Record,
     grant: Grant,
 ) -> Result<Work, AllocError>
-    requires { CanStep job.old seen }
-    ensures { IfOk result (λ w. (v : View) (d : state.Desk) → Sees v.world seen → d.active ≡ active.old
+    requires left { job.old.at < length job.old.steps.items }
+    requires step { has_unmount (job_seen job.old).left ≡ false }
+    ensures { IfOk result (λ w. (v : View) (d : state.Desk) → Sees v.world seen.now → d.active ≡ active.old
         → act_of (step v d (job_seen job.old) row.now (job_seen job.old).left) grant
         ≡ work_act w (record d { job = Some (job_seen job.new); active = active.new })) }
 {
@@ -324,9 +325,37 @@ pub(crate) fn step(
         }
         Step::Init(_) => start_init(job, alloc, grant),
         Step::Kill(_) => kill_all(job, seen.processes),
-        Step::Unmount(_) => unmount_last(job, alloc, seen),
+        Step::Unmount(_) => unreachable!(),
         Step::Clear => advanced(job, ObjectEdit::Nothing, Step::Clear),
         Step::ZidBack(_) => free_zid(job, seen.zid),
+    }
+}
+
+fn unmounts_next(job: &Job) -> bool
+    requires { job.now.at < length job.now.steps.items }
+    ensures { result ≡ has_unmount (job_seen job.now).left }
+{
+    is_unmount(next_step(job))
+}
+
+/// The next step of a request that has one.
+pub(crate) fn step(
+    job: &mut Job,
+    active: &mut Option<ZoneState>,
+    alloc: Global,
+    seen: Seen,
+    row: &Record,
+    grant: Grant,
+) -> Result<Work, AllocError>
+    requires { CanStep job.old seen }
+    ensures { IfOk result (λ w. (v : View) (d : state.Desk) → Sees v.world seen → d.active ≡ active.old
+        → act_of (step v d (job_seen job.old) row.now (job_seen job.old).left) grant
+        ≡ work_act w (record d { job = Some (job_seen job.new); active = active.new })) }
+{
+    if unmounts_next(job) {
+        unmount_last(job, alloc, seen)
+    } else {
+        keep_mounts(job, active, alloc, &seen, row, grant)
     }
 }
 

@@ -4,7 +4,7 @@ ghost use Rattle.zone_pools.specs.Decisions.{number_in};
 ghost use Rattle.zone_pools.specs.Pools.{numbered};
 
 /// A pool that all zones share.
-#[derive(Clone, Copy, Debug, PartialEq, Eq)]
+#[derive(Clone, Copy, PartialEq, Eq)]
 pub enum Pool {
     /// The numbers of processes, 2 to 29999.
     Pids,
@@ -24,7 +24,7 @@ pub enum Pool {
 }
 
 /// What an event is given of the pools that it asks.
-#[derive(Clone, Copy, Debug, PartialEq, Eq)]
+#[derive(Clone, Copy, PartialEq, Eq)]
 pub enum Grant {
     Nothing,
     Number(u32),

@@ -1,8 +1,8 @@
 -- Parts of a line that are texts.
-use Rattle.std.proofs.Common.{◌≡◌, ◌≤◌, ◌<◌, ◌+◌, ◌-◌, ℕ, true, false, cond, not, nat_lt, List, Some, None, Result, Ok, Err, IfOk, IsTrue, All, Vec, Global, get_or, drop, length, length-take, get_or-take, get_or-drop, refl, ap, subst, arith, ◌∙◌}
+use Rattle.std.proofs.Common.{◌≡◌, ◌≤◌, ◌<◌, ◌+◌, ◌-◌, ℕ, true, false, cond, not, nat_lt, List, [], ◌∷◌, Some, None, Result, Ok, Err, IfOk, IsTrue, All, Vec, Global, get_or, drop, length, length-take, get_or-take, get_or-drop, refl, ap, subst, arith, ◌∙◌}
 use Rattle.std.specs.Prelude.{is_ok, position, slice_range}
 use Rattle.std.proofs.lemmas.Bool.Decides.{nat_tests}
-use Rattle.std.proofs.lemmas.List.Elements.{All-weaker}
+use Rattle.std.proofs.lemmas.List.Elements.{All-nil, All-weaker}
 use Rattle.std.proofs.lemmas.List.Quantifiers.{position-Some}
 use Rattle.std.proofs.lemmas.Result.{IfOk-weaker}
 use Rattle.zn_base.specs.Answers.{AnswersUnless}
@@ -12,7 +12,8 @@ use Rattle.zonecfg_lex.specs.declared.fault.LexFault.{LexFault}
 use Rattle.zonecfg_lex.specs.declared.fault.LexFault.TheVariants.{Memory}
 use Rattle.zonecfg_lex.specs.declared.scope.Scope.TheVariants.{Between}
 use Rattle.zonecfg_lex.specs.declared.token.Token.{Token}
-use Rattle.zonecfg_lex.specs.Tokens.{result_map, text_of, tokens_from, AreRising, IsWithin}
+use Rattle.zonecfg_lex.specs.Tokens.{part_tokens_of, result_map, text_of, tokens_from, AreRising, IsWithin}
+use Rattle.zonecfg_lex.specs.Subcommands.{AreRead}
 use Rattle.zonecfg_lex.specs.Value.{is_quoted, IsReadable}
 use Rattle.zonecfg_lex.proofs.Rising.{AreSoundFrom, IsFilledIn, PrintsFrom, ReadsSoundly, each_sound, reads_soundly, rise}
 
@@ -75,6 +76,18 @@ module _ (line : List ℕ) where
 
   all_readable : length line ≤ 4200 → (ts : List Token) → AreSoundFrom line 0 ts → All (IsReadable line) ts
   all_readable short ts h = All-weaker (IsFilledIn line) (IsReadable line) (readable short) ts (each_sound line 0 ts h)
+
+  -- what a line is read as is readable
+  pub readable_in : length line ≤ 4200 → (ts : List Token) → AreRead line ts → All (IsReadable line) ts
+  unfolding part_tokens_of
+  readable_in short [] h = All-nil (IsReadable line)
+  readable_in short (t ∷ ts) h = all_readable short (t ∷ ts) (subst (ReadsSoundly line 0) h (reads_soundly line line None Between 0 refl tt))
+
+  -- what the tokens of a line that is read keep to
+  pub sound_tokens : length line ≤ 4200 → (ts : List Token) → tokens_from None Between 0 line ≡ Ok ts → KeepTo line ts
+  sound_tokens short ts h =
+      let s = subst (ReadsSoundly line 0) h (reads_soundly line line None Between 0 refl tt) in
+      record { within = all_within ts s; rising = rise line 0 ts s; printable = all_printable short ts s; readable = all_readable short ts s }
 
   pub keep : length line ≤ 4200 → (r : Result (Vec Token Global) LexFault) → AnswersUnless Memory (tokens_from None Between 0 line) (result_map (λ (v : Vec Token Global). v.items) r) → IfOk r (λ v. KeepTo line v.items)
   keep short r h =

@@ -92,6 +92,10 @@ abbrev pub is_word : TokenKind → Bool
 is_word Word = true
 is_word kind = false
 
+abbrev pub is_equals : TokenKind → Bool
+is_equals Equals = true
+is_equals kind = false
+
 -- a word byte at a place joins the word that begins right behind it, or is a word of its own
 abbrev pub with_word_byte : ℕ → List Token → List Token
 with_word_byte place [] = word place (place + 1) ∷ []

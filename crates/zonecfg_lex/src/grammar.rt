@@ -3,7 +3,7 @@ ghost use Rattle.std.specs.Prelude.{◌≡◌, ◌<◌, ◌≤◌, ◌∷◌, Al
 ghost use Rattle.zn_base.specs.Answers.{AnswersUnless};
 ghost use Rattle.zonecfg_lex.specs.declared.grammar.Stage.TheVariants.{Start};
 ghost use Rattle.zonecfg_lex.specs.Tokens.{result_map};
-ghost use Rattle.zonecfg_lex.specs.Value.{first_misfit, gives_text, given_text, given_texts, made_value, paired, stage_behind, text_start, value_of, IsReadable};
+ghost use Rattle.zonecfg_lex.specs.Value.{first_misfit, given_text, given_texts, made_value, paired, stage_behind, text_start, value_of, IsReadable};
 
 use crate::{LexFault, Token, TokenKind};
 use std::alloc::Global;
@@ -64,12 +64,6 @@ fn first_misfit(line: &[u8], tokens: &[Token]) -> Option<usize>
     }
 }
 
-fn gives_text(token: Token) -> bool
-    ensures { result ≡ gives_text token }
-{
-    matches!(token.kind, TokenKind::Word | TokenKind::Quoted)
-}
-
 fn text_start(token: Token) -> u32
     requires { token.start < token.end }
     ensures start { result ≡ text_start token }
@@ -96,7 +90,7 @@ fn texts(alloc: Global, line: &[u8], tokens: &[Token]) -> Result<Listing<Text>, 
 {
     let mut texts = Listing::new(alloc);
     for token in tokens {
-        if gives_text(*token) {
+        if token.gives_text() {
             texts.push(given_text(alloc, line, *token)?)?;
         }
     }
@@ -111,7 +105,7 @@ pub fn pairs(alloc: Global, line: &[u8], tokens: &[Token]) -> Result<Listing<Pai
     let mut pairs = Listing::new(alloc);
     let mut waiting = None;
     for token in tokens {
-        if gives_text(*token) {
+        if token.gives_text() {
             let text = given_text(alloc, line, *token)?;
             match waiting.take() {
                 None => waiting = Some(text),

@@ -9,7 +9,7 @@ ghost use Rattle.zonecfg_lex.specs.Value.{IsReadable};
 ghost use Rattle.zonecfg_lex.specs.Tokens.{in_word, nothing_unless, or_stray, part_tokens_of, place_of, result_map, role_of, text_of, token, tokens_from, tokens_of, word, AreRising, IsWithin};
 
 use crate::bytes::is_comment;
-use crate::scope::{Role, Scope};
+use crate::scope::{LETTERS, Role, Scope};
 use crate::{LexFault, Token, TokenKind};
 use std::alloc::Global;
 use zn_base::is_text_byte;
@@ -34,9 +34,9 @@ fn word_end(line: &[u8], scope: Scope, start: usize) -> usize
     ensures within { result ≤ length line.now }
     ensures found { tokens_from None scope start (drop start line.now) ≡ result_map (λ ts. word start result ∷ ts) (tokens_from None scope result (drop result line.now)) }
 {
-    let inside = scope.in_word();
+    let least = scope.in_word().least_letter();
     let mut end = start + 1;
-    while end < line.len() && inside.is_letter(line[end]) {
+    while end < line.len() && LETTERS[line[end] as usize] >= least {
         end += 1;
     }
     end
@@ -104,14 +104,15 @@ pub fn part_tokens(alloc: Global, part: &[u8]) -> Result<Vec<Token>, LexFault>
     ensures printable { IfOk result (λ ts. All (λ t. IsTrue (is_text (text_of part.now t))) ts.items) }
     ensures readable { IfOk result (λ ts. All (IsReadable part.now) ts.items) }
 {
-    cut(alloc, part)
+    cut(Vec::new(alloc), part)
 }
 
-fn cut(alloc: Global, line: &[u8]) -> Result<Vec<Token>, LexFault>
+// The tokens of a line, in place of those that are there.
+pub(crate) fn cut(mut tokens: Vec<Token>, line: &[u8]) -> Result<Vec<Token>, LexFault>
     requires { length line.now ≤ 4200 }
     ensures { AnswersUnless LexFault.Memory (tokens_from None Between 0 line.now) (result_map (λ ts. ts.items) result) }
 {
-    let mut tokens = Vec::new(alloc);
+    tokens.clear();
     let mut scope = Scope::Between;
     let mut stray = None;
     let mut at = 0;

@@ -10,6 +10,7 @@ mod laws;
 mod lexer;
 mod scope;
 mod spans;
+mod subcommands;
 mod token;
 
 pub use fault::LexFault;
@@ -17,4 +18,5 @@ pub use grammar::{given_text, pairs, value};
 pub use laws::values_fit;
 pub use lexer::{part_tokens, tokens};
 pub use spans::parts;
+pub use subcommands::{Part, line_tokens};
 pub use token::{Span, Token, TokenKind};

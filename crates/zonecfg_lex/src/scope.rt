@@ -1,6 +1,7 @@
 //! What a byte is where it stands.
-ghost use Rattle.std.specs.Prelude.{◌≡◌, ◌↔◌, IsTrue};
+ghost use Rattle.std.specs.Prelude.{◌≡◌, ◌<◌, ◌≤◌, ◌↔◌, ℕ, slice_index};
 ghost use Rattle.zonecfg_lex.specs.declared.scope.Role.TheVariants.{Letter};
+ghost use Rattle.zonecfg_lex.specs.declared.scope.TheConstants.{LETTERS};
 ghost use Rattle.zonecfg_lex.specs.Tokens.{behind_sign, in_word, open_at_end, out_of_word, printable_role, role_between, role_in_bracket, role_in_word, role_of};
 
 use crate::bytes::is_mark;
@@ -25,6 +26,18 @@ pub enum Role {
     Quote,
     Stray,
 }
+
+/// For each byte where it is a letter: `3` everywhere outside quotes, `2` outside brackets, `1` inside a word
+/// outside brackets, `0` nowhere.
+pub(crate) static LETTERS: [u8; 256] = *b"\
+    00000000000000000000000000000000\
+    03033333003323333333333333303033\
+    33333333333333333333333333313133\
+    33333333333333333333333333333330\
+    00000000000000000000000000000000\
+    00000000000000000000000000000000\
+    00000000000000000000000000000000\
+    00000000000000000000000000000000";
 
 fn role_in_word(byte: u8) -> Role
     ensures { result ≡ role_in_word byte }
@@ -76,11 +89,15 @@ impl Scope {
         }
     }
 
-    /// Whether a word goes on with a byte that stands here.
-    pub fn is_letter(self, byte: u8) -> bool
-        ensures { IsTrue result ↔ (role_of self byte ≡ Letter) }
+    /// The least entry of `LETTERS` that a letter here has.
+    pub(crate) fn least_letter(self) -> u8
+        ensures { (byte : ℕ) → byte < 256 → (result ≤ slice_index LETTERS byte) ↔ (role_of self byte ≡ Letter) }
     {
-        matches!(self.role(byte), Role::Letter)
+        match self {
+            Scope::InWord => b'1',
+            Scope::Between => b'2',
+            Scope::Round(_) | Scope::Square(_) => b'3',
+        }
     }
 
     fn printable_role(self, byte: u8) -> Role

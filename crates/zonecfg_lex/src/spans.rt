@@ -5,7 +5,7 @@ ghost use Rattle.zonecfg_lex.specs.Parts.{holds_one, parts_of, span, spans_betwe
 ghost use Rattle.zonecfg_lex.specs.Tokens.{result_map, AreRising, IsWithin};
 
 use crate::lexer::tokens;
-use crate::{LexFault, Span, Token, TokenKind};
+use crate::{LexFault, Span, Token};
 use std::alloc::{AllocError, Global};
 
 fn push_if(spans: &mut Vec<Span>, filled: bool, start: u32, end: u32) -> Result<(), AllocError>
@@ -29,7 +29,7 @@ fn filled_spans(alloc: Global, tokens: &[Token], end: u32) -> Result<Vec<Span>, 
     let mut start = 0;
     let mut filled = false;
     for token in tokens {
-        if token.kind == TokenKind::Semi {
+        if token.is_semicolon() {
             push_if(&mut spans, filled, start, token.start)?;
             start = token.end;
             filled = false;

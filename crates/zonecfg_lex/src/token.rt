@@ -1,7 +1,8 @@
 //! Tokens and spans: what a part of a line is, and where it stands.
 ghost use Rattle.std.specs.Prelude.{◌≡◌, ◌≤◌, length};
-ghost use Rattle.zonecfg_lex.specs.Parts.{span_text, IsSpanWithin};
-ghost use Rattle.zonecfg_lex.specs.Tokens.{text_of, IsWithin};
+ghost use Rattle.zonecfg_lex.specs.Parts.{is_semi, span_text, IsSpanWithin};
+ghost use Rattle.zonecfg_lex.specs.Tokens.{is_equals, is_word, text_of, IsWithin};
+ghost use Rattle.zonecfg_lex.specs.Value.{gives_text};
 
 /// What a token is. `Open` and `Close` are round brackets, `ListOpen` and `ListClose` square ones.
 #[derive(Clone, Copy, Debug, PartialEq, Eq)]
@@ -33,6 +34,34 @@ impl Token {
         ensures { result.now ≡ text_of line.now self }
     {
         &line[self.start as usize..self.end as usize]
+    }
+
+    /// Whether it is a bare word.
+    pub fn is_word(self) -> bool
+        ensures { result ≡ is_word self.kind }
+    {
+        self.kind == TokenKind::Word
+    }
+
+    /// Whether it is an equals sign.
+    pub fn is_equals(self) -> bool
+        ensures { result ≡ is_equals self.kind }
+    {
+        self.kind == TokenKind::Equals
+    }
+
+    /// Whether it is a semicolon.
+    pub fn is_semicolon(self) -> bool
+        ensures { result ≡ is_semi self.kind }
+    {
+        self.kind == TokenKind::Semi
+    }
+
+    /// Whether it gives a text: a bare word, or what stands in quotes.
+    pub fn gives_text(self) -> bool
+        ensures { result ≡ gives_text self }
+    {
+        matches!(self.kind, TokenKind::Word | TokenKind::Quoted)
     }
 }
 

@@ -27,7 +27,8 @@ use Rattle.zonecfg_scopes.specs.declared.opened.ResourceScope.{ResourceScope}
 use Rattle.zonecfg_scopes.specs.Commands.{list_name}
 use Rattle.zonecfg_scopes.specs.Denotes.{Follows}
 use Rattle.zonecfg_scopes.specs.Open.{Open, Nothing, Whole, Inside}
-use Rattle.zonecfg_scopes.specs.Scopes.{given, is_in_place, is_placed, leaves, made, made_of_inside, made_of_nothing, made_of_whole, put_back, resource_at, without_matching}
+use Rattle.zone_config.specs.Removal.{given, resource_at}
+use Rattle.zonecfg_scopes.specs.Scopes.{is_in_place, is_placed, leaves, made, made_of_inside, made_of_nothing, made_of_whole, put_back, without_matching}
 use Rattle.zonecfg_scopes.proofs.SameKind.{KeepsKind, with_property-kind, with_value-kind, without_property-kind, without_value-kind}
 
 -- what is left open, if something is, is in its place

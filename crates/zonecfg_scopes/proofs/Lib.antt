@@ -2,12 +2,11 @@ pub mod Reading
 mod Examples
 pub mod Steps
 pub mod Branded
-pub mod Removing
 pub mod SameKind
 pub mod InPlace
 pub mod Followed
-pub mod Sameness
 pub mod Changed
 pub mod Ran
 pub mod Lines
 pub mod Shown
+pub mod Causes

@@ -15,7 +15,8 @@ use Rattle.zonecfg_scopes.specs.Denotes.{Begins, Builds, Denotes, Stands, Stays,
 use Rattle.zonecfg_scopes.specs.Edited.{or_stay, stepped}
 use Rattle.zonecfg_scopes.specs.Laws.{OneStands}
 use Rattle.zonecfg_scopes.specs.Open.{Open, Nothing, Whole, Inside}
-use Rattle.zonecfg_scopes.specs.Scopes.{created, given, leaves, made, made_of_inside, made_of_nothing, made_of_whole, resource_at}
+use Rattle.zone_config.specs.Removal.{given, resource_at}
+use Rattle.zonecfg_scopes.specs.Scopes.{created, leaves, made, made_of_inside, made_of_nothing, made_of_whole}
 use Rattle.zonecfg_scopes.proofs.Steps.{stands_stepped}
 
 -- what is open after subcommands, one after another

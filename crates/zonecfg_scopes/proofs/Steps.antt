@@ -21,7 +21,8 @@ use Rattle.zonecfg_scopes.specs.Commands.{list_name}
 use Rattle.zonecfg_scopes.specs.Denotes.{Begins, Builds, Denotes, EndsInside, Follows, GoesOn, Stands, Stays, adds, built_appended, built_cleared, built_from, built_kept, built_removed, built_set, denotes_cancelled, denotes_cleared, denotes_created, denotes_ended, denotes_kept, denotes_removed, denotes_set, fault_in, refusal, selects}
 use Rattle.zonecfg_scopes.specs.Edited.{or_stay, stepped}
 use Rattle.zonecfg_scopes.specs.Faults.{passed_on}
-use Rattle.zonecfg_scopes.specs.Scopes.{given, leaves, made, put_back, resource_at, without_matching}
+use Rattle.zone_config.specs.Removal.{given, resource_at}
+use Rattle.zonecfg_scopes.specs.Scopes.{leaves, made, put_back, without_matching}
 
 module _ (base : Option Contents) (cs : List Command) where
   -- what is open after one more subcommand stands for the longer list

@@ -16,7 +16,8 @@ use Rattle.zonecfg_scopes.specs.declared.fault.EditFault.{EditFault}
 use Rattle.zonecfg_scopes.specs.declared.fault.EditFault.TheVariants.{Memory}
 use Rattle.zonecfg_scopes.specs.Open.{Open, Nothing, Whole, Inside}
 use Rattle.zonecfg_scopes.specs.Commands.{list_name}
-use Rattle.zonecfg_scopes.specs.Scopes.{created, made, put_back, resource_at, without_matching}
+use Rattle.zone_config.specs.Removal.{resource_at}
+use Rattle.zonecfg_scopes.specs.Scopes.{created, made, put_back, without_matching}
 
 abbrev pub fault_in : Result Open EditFault → Option EditFault
 fault_in (Ok o) = None

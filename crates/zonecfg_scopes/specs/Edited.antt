@@ -14,7 +14,7 @@ use Rattle.zonecfg_scopes.specs.Forms.{command_of}
 use Rattle.zonecfg_scopes.specs.Info.{export_lines, help_line, info_lines}
 use Rattle.zonecfg_scopes.specs.Open.{Open}
 use Rattle.zonecfg_scopes.specs.OpenOf.{config_of}
-use Rattle.zonecfg_scopes.specs.Same.{same_contents}
+use Rattle.zone_config.specs.Same.{same_contents}
 use Rattle.zonecfg_scopes.specs.Scopes.{made}
 
 -- a zone's name, its base, and what is open

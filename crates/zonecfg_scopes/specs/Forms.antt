@@ -8,7 +8,7 @@ use Rattle.zonecfg_lex.specs.declared.fault.LexFault.TheVariants.{NoValue}
 use Rattle.zonecfg_lex.specs.declared.token.Token.{Token}
 use Rattle.zn_base.specs.declared.values.Pair.{Pair}
 use Rattle.zn_base.specs.declared.values.Value.{Value}
-use Rattle.zonecfg_lex.specs.Tokens.{is_word, part_tokens_of, text_of}
+use Rattle.zonecfg_lex.specs.Tokens.{is_equals, is_word, part_tokens_of, text_of}
 use Rattle.zonecfg_lex.specs.Value.{given_texts, paired, value_of}
 use Rattle.zonecfg_scopes.specs.declared.command.Command.{Command}
 use Rattle.zonecfg_scopes.specs.declared.command.Command.TheVariants.{Blank, Add, Append, Cancel, Clear, Commit, Create, Delete, End, Exit, Export, Help, Info, Remove, RemoveItem, Revert, Select, Set, Verify}
@@ -22,7 +22,7 @@ use Rattle.zonecfg_scopes.specs.declared.verb.Verb.{Verb}
 use Rattle.zonecfg_scopes.specs.declared.verb.Verb.TheVariants as verb
 use Rattle.zonecfg_scopes.specs.Commands.{list_named, topic_named, verb_named}
 use Rattle.zonecfg_scopes.specs.Faults.{lexed}
-use Rattle.zonecfg_scopes.specs.Words.{are_pairs, behind_flag, first_value_missed, has_flag, is_equals, said}
+use Rattle.zonecfg_scopes.specs.Words.{are_pairs, behind_flag, first_value_missed, has_flag, said}
 
 -- what stands with nothing behind it
 abbrev pub alone : {A : Type 0} → List Token → A → Result A EditFault

@@ -5,9 +5,9 @@ pub mod Forms
 pub mod Open
 pub mod OpenOf
 pub mod Scopes
-pub mod Removal
 pub mod Denotes
-pub mod Same
+pub mod Causes
 pub mod Info
 pub mod Edited
+pub mod Turns
 pub mod Laws

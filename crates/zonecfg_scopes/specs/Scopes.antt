@@ -1,21 +1,17 @@
 -- What a subcommand makes of what is open, or why it is refused: a row for each subcommand that a scope
 -- has (zonecfg(8), SUBCOMMANDS).
-use Rattle.std.specs.Prelude.{ℕ, List, nat_lt, Bool, true, false, not, Option, Some, None, Result, Ok, Err, filter, option_map, slice_get, unwrap_or, codes}
+use Rattle.std.specs.Prelude.{ℕ, List, nat_lt, Bool, true, false, Option, Some, None, Result, Ok, Err, codes}
 use Rattle.config_terms.specs.declared.fault.ConfigFault.{ConfigFault}
-use Rattle.config_terms.specs.declared.fault.ConfigFault.TheVariants as config
 use Rattle.config_terms.specs.declared.terms.Kind.{Kind}
-use Rattle.config_terms.specs.declared.terms.Kind.TheVariants as kind
 use Rattle.config_terms.specs.declared.terms.Resource.{Resource}
-use Rattle.config_terms.specs.declared.terms.Resource.TheVariants as resource
 use Rattle.config_terms.specs.Edits.{empty}
 use Rattle.config_terms.specs.Edits as edits
-use Rattle.config_terms.specs.Fields.{attr_shown, fs_shown, kind_of, net_shown, rctl_shown, text_shown}
-use Rattle.config_terms.specs.Matches.{has_all}
-use Rattle.zn_base.specs.declared.values.Pair.{Pair}
+use Rattle.config_terms.specs.Fields.{kind_of}
 use Rattle.zone_config.specs.declared.terms.Contents.{Contents}
 use Rattle.zone_config.specs.Edits.{with_property, without_property}
 use Rattle.zone_config.specs.Property.{blank}
-use Rattle.zone_config.specs.Resources.{count_of, found, removed, with_replaced, with_resource}
+use Rattle.zone_config.specs.Removal.{given, resource_at, without_all, without_found}
+use Rattle.zone_config.specs.Resources.{count_of, found, with_replaced, with_resource}
 use Rattle.zonecfg_scopes.specs.declared.command.Command.{Command}
 use Rattle.zonecfg_scopes.specs.declared.command.Command.TheVariants.{Blank, Add, Append, Cancel, Clear, Create, Delete, End, Exit, Help, Info, Remove, RemoveItem, Revert, Select, Set}
 use Rattle.zonecfg_scopes.specs.declared.command.Matching.{Matching}
@@ -33,41 +29,10 @@ abbrev pub created : Bool → Contents
 created true = blank
 created false = record blank { brand = codes "ipkg" }
 
--- the resource of a kind at a place, or an empty one where there is none
-abbrev pub resource_at : Kind → ℕ → Contents → Resource
-resource_at kind.Fs place c = unwrap_or (option_map resource.Fs (slice_get c.fs place)) (empty kind.Fs)
-resource_at kind.Net place c = unwrap_or (option_map resource.Net (slice_get c.net place)) (empty kind.Net)
-resource_at kind.Device place c = unwrap_or (option_map resource.Device (slice_get c.device place)) (empty kind.Device)
-resource_at kind.Rctl place c = unwrap_or (option_map resource.Rctl (slice_get c.rctl place)) (empty kind.Rctl)
-resource_at kind.Attr place c = unwrap_or (option_map resource.Attr (slice_get c.attr place)) (empty kind.Attr)
-resource_at kind.Dataset place c = unwrap_or (option_map resource.Dataset (slice_get c.dataset place)) (empty kind.Dataset)
-
--- a configuration without the resource of a kind at a place
-abbrev pub without_place : Kind → Contents → ℕ → Contents
-without_place k c place = unwrap_or (option_map (λ r. r.1) (removed k place c)) c
-
--- a configuration without the resources of a kind that have all wanted pairs
-abbrev pub without_matches : Kind → List Pair → Contents → Contents
-without_matches kind.Fs wanted c = record c { fs = filter (λ f. not (has_all kind.Fs wanted (fs_shown f))) c.fs }
-without_matches kind.Net wanted c = record c { net = filter (λ n. not (has_all kind.Net wanted (net_shown n))) c.net }
-without_matches kind.Device wanted c = record c { device = filter (λ d. not (has_all kind.Device wanted (text_shown d))) c.device }
-without_matches kind.Rctl wanted c = record c { rctl = filter (λ r. not (has_all kind.Rctl wanted (rctl_shown r))) c.rctl }
-without_matches kind.Attr wanted c = record c { attr = filter (λ a. not (has_all kind.Attr wanted (attr_shown a))) c.attr }
-without_matches kind.Dataset wanted c = record c { dataset = filter (λ d. not (has_all kind.Dataset wanted (text_shown d))) c.dataset }
-
--- an answer, with what it gives made into something else
-abbrev pub given : {A B : Type 0} → (A → B) → Result A ConfigFault → Result B ConfigFault
-given f (Ok x) = Ok (f x)
-given f (Err fault) = Err fault
-
-abbrev pub unless_none : Result ℕ ConfigFault → Contents → Result Contents ConfigFault
-unless_none (Err config.NoMatch) c = Err config.NoMatch
-unless_none answer c = Ok c
-
 -- a configuration without the one resource that matches, or with `-F` without all that match
 unfoldable pub without_matching : Bool → Matching → Contents → Result Contents ConfigFault
-without_matching false m c = given (without_place m.kind c) (found m.kind m.pairs c)
-without_matching true m c = unless_none (found m.kind m.pairs c) (without_matches m.kind m.pairs c)
+without_matching false m c = without_found m.kind m.pairs c
+without_matching true m c = without_all m.kind m.pairs c
 
 -- the resource that a matching selects, with its place
 abbrev pub selection : Matching → Contents → Result ResourceScope ConfigFault

@@ -2,14 +2,8 @@
 use Rattle.std.specs.Prelude.{ℕ, List, [], ◌∷◌, Bool, true, false, ◌&&◌, Option, Some, None, if◌then◌else◌}
 use Rattle.std.specs.Str.{bytes_eq}
 use Rattle.zonecfg_lex.specs.declared.token.Token.{Token}
-use Rattle.zonecfg_lex.specs.declared.token.TokenKind.{TokenKind}
-use Rattle.zonecfg_lex.specs.declared.token.TokenKind.TheVariants.{Equals}
-use Rattle.zonecfg_lex.specs.Tokens.{is_word, text_of}
+use Rattle.zonecfg_lex.specs.Tokens.{is_equals, is_word, text_of}
 use Rattle.zonecfg_lex.specs.Value.{gives_text}
-
-abbrev pub is_equals : TokenKind → Bool
-is_equals Equals = true
-is_equals kind = false
 
 -- the word that a token is, or nothing where it is none
 abbrev pub said : List ℕ → Token → List ℕ

@@ -12,11 +12,10 @@ use crate::fault::EditFault;
 use crate::forms::read_command;
 use crate::info::help;
 use crate::opened::Opened;
-use crate::same::same_contents;
 use std::alloc::{AllocError, Global};
 use std::marker::Model;
 use zn_base::{Bytes, Listing, ZoneName};
-use zone_config::ZoneConfig;
+use zone_config::{ZoneConfig, same_contents};
 
 /// The editor of a zone's configuration (zonecfg(8)): its base, and what is open after the subcommands since.
 /// It keeps no list of them. Contracts see the name, the base and what is open.

@@ -3,13 +3,14 @@ ghost use Rattle.std.specs.Prelude.{◌≡◌, ◌≤◌, All, Ok, length};
 ghost use Rattle.std.specs.List.{list_any};
 ghost use Rattle.zn_base.specs.Answers.{AnswersUnless};
 ghost use Rattle.zonecfg_lex.specs.Value.{IsReadable, value_of};
-ghost use Rattle.zonecfg_scopes.specs.Forms.{add_of, alone, clear_of, command_of, create_of, force_of, form_of, info_of, matching_by, matching_of, names_list, remove_matching, remove_of, select_by, set_of};
+ghost use Rattle.zonecfg_scopes.specs.Forms.{add_of, alone, clear_of, command_of, create_of, force_of, form_of, info_of, matching_by, matching_of, names_list, remove_matching, remove_of, select_by, set_of, spelled_by};
+ghost use Rattle.zonecfg_lex.specs.Tokens.{part_tokens_of};
 
 use crate::EditFault;
 use crate::command::{Command, ListProperty, Matching, Topic};
 use crate::verb::Verb;
 use crate::words::{
-    are_pairs, behind_flag, first_value_missed, has_flag, is_equals, is_word, said,
+    are_pairs, behind_flag, first_value_missed, has_flag, said,
 };
 use config_terms::Kind;
 use std::alloc::Global;
@@ -73,7 +74,7 @@ fn clear(alloc: Global, line: &[u8], args: &[Token]) -> Result<Command, EditFaul
     ensures { AnswersUnless EditFault.Memory (clear_of line.now args.now) result }
 {
     match args {
-        [name] if is_word(*name) => Ok(Command::Clear(given_text(alloc, line, *name)?)),
+        [name] if name.is_word() => Ok(Command::Clear(given_text(alloc, line, *name)?)),
         _ => Err(EditFault::Usage),
     }
 }
@@ -87,7 +88,7 @@ fn set(alloc: Global, line: &[u8], args: &[Token]) -> Result<Command, EditFault>
     let [name, sign, rest @ ..] = args else {
         return Err(EditFault::Usage);
     };
-    if !is_word(*name) || !is_equals(*sign) {
+    if !name.is_word() || !sign.is_equals() {
         return Err(EditFault::Usage);
     }
     let value = value(alloc, line, rest)?;
@@ -227,6 +228,21 @@ fn form(alloc: Global, verb: Verb, line: &[u8], args: &[Token]) -> Result<Comman
     }
 }
 
+// The subcommand that some tokens spell.
+fn spelled(alloc: Global, line: &[u8], tokens: &[Token]) -> Result<Command, EditFault>
+    requires short { length line.now ≤ 4200 }
+    requires readable { All (IsReadable line.now) tokens.now }
+    ensures { AnswersUnless EditFault.Memory (spelled_by line.now tokens.now) result }
+{
+    let [first, args @ ..] = tokens else {
+        return Ok(Command::Blank);
+    };
+    match Verb::named(said(line, *first)) {
+        Some(verb) => form(alloc, verb, line, args),
+        None => Err(EditFault::UnknownCommand),
+    }
+}
+
 /// The subcommand that a line spells, or its first fault. `#` begins a word, since only a whole typed
 /// line is a comment.
 #[tactic(auto, unfolding(crate::specs::Forms::command_of))]
@@ -235,11 +251,16 @@ pub fn read_command(alloc: Global, line: &[u8]) -> Result<Command, EditFault>
     ensures { AnswersUnless EditFault.Memory (command_of line.now) result }
 {
     let tokens = part_tokens(alloc, line)?;
-    let [first, args @ ..] = tokens.as_slice() else {
-        return Ok(Command::Blank);
-    };
-    match Verb::named(said(line, *first)) {
-        Some(verb) => form(alloc, verb, line, args),
-        None => Err(EditFault::UnknownCommand),
-    }
+    spelled(alloc, line, &tokens)
+}
+
+/// The same of a line, or a part of one, whose tokens are there.
+#[tactic(auto, unfolding(crate::specs::Forms::command_of))]
+pub fn read_tokens(alloc: Global, line: &[u8], tokens: &[Token]) -> Result<Command, EditFault>
+    requires short { length line.now ≤ 4200 }
+    requires readable { All (IsReadable line.now) tokens.now }
+    requires read { part_tokens_of line.now ≡ Ok tokens.now }
+    ensures { AnswersUnless EditFault.Memory (command_of line.now) result }
+{
+    spelled(alloc, line, tokens)
 }

@@ -12,8 +12,7 @@ mod info;
 mod laws;
 mod line;
 mod opened;
-mod removal;
-mod same;
+mod turns;
 mod verb;
 mod words;
 
@@ -21,5 +20,6 @@ pub use base::Base;
 pub use command::{Command, EditReply, ListProperty, Matching, Topic};
 pub use editor::Editor;
 pub use fault::{EditFault, Scope};
-pub use forms::read_command;
-pub use laws::{lines_denote, one_stands};
+pub use forms::{read_command, read_tokens};
+pub use laws::{lines_denote, one_stands, refusal_is_the_first_cause};
+pub use turns::next_command;

@@ -1,25 +1,23 @@
 //! What is open, and what subcommands make of it.
-ghost use Rattle.std.specs.Prelude.{◌≡◌, ◌<◌, IfOk, IsTrue, OnErr, Err, Ok, codes, false, option_copied};
+ghost use Rattle.std.specs.Prelude.{◌≡◌, IfOk, IsTrue, OnErr, Err, Ok, codes, false, option_copied};
 ghost use Rattle.zn_base.specs.Answers.{AnswersUnless};
 ghost use Rattle.config_terms.specs.Edits.{Changes};
 ghost use Rattle.config_terms.specs.Fields.{kind_of};
-ghost use Rattle.zone_config.specs.Resources.{count_of};
 ghost use Rattle.zonecfg_scopes.specs.Denotes.{Follows};
 ghost use Rattle.zonecfg_scopes.specs.Info.{export_lines, info_lines};
 ghost use Rattle.zonecfg_scopes.specs.Open.{Nothing, Whole};
 ghost use Rattle.zonecfg_scopes.specs.OpenOf.{config_of};
-ghost use Rattle.zonecfg_scopes.specs.Scopes.{created, put_back, resource_at, selection, is_in_place, is_placed};
+ghost use Rattle.zonecfg_scopes.specs.Scopes.{created, is_in_place, is_placed, put_back, selection, without_matching};
 
 use crate::command::{Command, ListProperty, Matching, Topic};
 use crate::info::{resource_lines, topic_lines};
 use crate::line::export_lines;
-use crate::removal::remove_matching;
 use crate::{EditFault, Scope};
 use config_terms::{ConfigFault, Kind, Resource};
 use std::alloc::{AllocError, Global};
 use std::marker::Model;
 use zn_base::{Bytes, Listing, Text, TryClone, Value};
-use zone_config::{Contents, ZoneConfig, blank};
+use zone_config::{ZoneConfig, blank};
 
 /// The resource of an open scope. It is new, or was selected at its place among those of its kind.
 #[derive(Drop)]
@@ -80,26 +78,6 @@ fn created(alloc: Global, bare: bool) -> Result<ZoneConfig, EditFault>
     }
 }
 
-// A copy of the resource of a kind at a place.
-fn copy_at(
-    alloc: Global,
-    contents: &Contents,
-    kind: Kind,
-    place: usize,
-) -> Result<Resource, AllocError>
-    requires { place < count_of kind contents.now }
-    ensures { IfOk result (λ r. r ≡ resource_at kind place contents.now) }
-{
-    match kind {
-        Kind::Fs => Ok(Resource::Fs(contents.fs.at(place).try_clone(alloc)?)),
-        Kind::Net => Ok(Resource::Net(contents.net.at(place).try_clone(alloc)?)),
-        Kind::Device => Ok(Resource::Device(contents.device.at(place).try_clone(alloc)?)),
-        Kind::Rctl => Ok(Resource::Rctl(contents.rctl.at(place).try_clone(alloc)?)),
-        Kind::Attr => Ok(Resource::Attr(contents.attr.at(place).try_clone(alloc)?)),
-        Kind::Dataset => Ok(Resource::Dataset(contents.dataset.at(place).try_clone(alloc)?)),
-    }
-}
-
 // The place and a copy of the resource that a matching selects.
 fn selection(
     alloc: Global,
@@ -109,11 +87,28 @@ fn selection(
     ensures { AnswersUnless ConfigFault.Memory (selection matching.now config.now) result }
 {
     let place = config.find_resource(matching.kind, matching.pairs.as_slice())?;
-    let resource = copy_at(alloc, config, matching.kind, place as usize)?;
+    let resource = config.copy_at(alloc, matching.kind, place as usize)?;
     Ok(ResourceScope {
         resource,
         place: Some(place),
     })
+}
+
+// Removes the one resource that matches, or with `force` all that match.
+#[tactic(auto, unfolding(crate::specs::Scopes::without_matching))]
+fn remove_matching(
+    config: &mut ZoneConfig,
+    force: bool,
+    matching: &Matching,
+) -> Result<(), ConfigFault>
+    ensures { Changes config.old config.new result (without_matching force matching.now config.old) }
+{
+    let wanted = matching.pairs.as_slice();
+    if force {
+        config.remove_matches(matching.kind, wanted)
+    } else {
+        config.remove_found(matching.kind, wanted)
+    }
 }
 
 // Puts a copy of the resource of a scope last in its kind, or in its place.

@@ -1,37 +1,16 @@
 //! What the tokens of a subcommand say.
 ghost use Rattle.std.specs.Prelude.{◌≡◌, All, length};
-ghost use Rattle.zonecfg_lex.specs.Value.{IsReadable, gives_text};
-ghost use Rattle.zonecfg_lex.specs.Tokens.{is_word};
-ghost use Rattle.zonecfg_scopes.specs.Words.{are_pairs, begins_pair, behind_flag, first_value_missed, has_flag, is_equals, said, value_missed};
+ghost use Rattle.zonecfg_lex.specs.Value.{IsReadable};
+ghost use Rattle.zonecfg_scopes.specs.Words.{are_pairs, begins_pair, behind_flag, first_value_missed, has_flag, said, value_missed};
 
-use zonecfg_lex::{Token, TokenKind};
-
-/// Whether a token is a bare word.
-pub fn is_word(token: Token) -> bool
-    ensures { result ≡ is_word token.kind }
-{
-    token.kind == TokenKind::Word
-}
-
-/// Whether a token is an equals sign.
-pub fn is_equals(token: Token) -> bool
-    ensures { result ≡ is_equals token.kind }
-{
-    token.kind == TokenKind::Equals
-}
-
-fn gives_text(token: Token) -> bool
-    ensures { result ≡ gives_text token }
-{
-    matches!(token.kind, TokenKind::Word | TokenKind::Quoted)
-}
+use zonecfg_lex::Token;
 
 /// The word that a token is, or nothing where it is none.
-pub fn said(line: &[u8], token: Token) -> &[u8]
+pub(crate) fn said(line: &[u8], token: Token) -> &[u8]
     requires { IsReadable line.now token }
     ensures { result.now ≡ said line.now token }
 {
-    if is_word(token) {
+    if token.is_word() {
         token.text(line)
     } else {
         b""
@@ -39,7 +18,7 @@ pub fn said(line: &[u8], token: Token) -> &[u8]
 }
 
 /// Whether a flag stands first.
-pub fn has_flag(line: &[u8], tokens: &[Token], flag: &[u8]) -> bool
+pub(crate) fn has_flag(line: &[u8], tokens: &[Token], flag: &[u8]) -> bool
     requires { All (IsReadable line.now) tokens.now }
     ensures { result ≡ has_flag flag.now line.now tokens.now }
 {
@@ -50,7 +29,7 @@ pub fn has_flag(line: &[u8], tokens: &[Token], flag: &[u8]) -> bool
 }
 
 /// What stands behind a flag, where it stands first.
-pub fn behind_flag<'a>(line: &[u8], tokens: &'a [Token], flag: &[u8]) -> &'a [Token]
+pub(crate) fn behind_flag<'a>(line: &[u8], tokens: &'a [Token], flag: &[u8]) -> &'a [Token]
     requires { All (IsReadable line.now) tokens.now }
     ensures behind { result.now ≡ behind_flag flag.now line.now tokens.now }
     ensures readable { All (IsReadable line.now) result.now }
@@ -65,7 +44,7 @@ fn begins_pair(tokens: &[Token]) -> bool
     ensures { result ≡ begins_pair tokens.now }
 {
     match tokens {
-        [name, sign, ..] => is_word(*name) && is_equals(*sign),
+        [name, sign, ..] => name.is_word() && sign.is_equals(),
         _ => false,
     }
 }
@@ -77,7 +56,7 @@ fn value_missed(end: usize, tokens: &[Token]) -> Option<usize>
         return None;
     }
     match tokens {
-        [_, _, value, ..] if gives_text(*value) => None,
+        [_, _, value, ..] if value.gives_text() => None,
         [_, _, value, ..] => Some(value.start as usize),
         _ => Some(end),
     }
@@ -85,7 +64,7 @@ fn value_missed(end: usize, tokens: &[Token]) -> Option<usize>
 
 /// The first place where a word and an equals sign have no text behind them, in a line that ends at a
 /// place.
-pub fn first_value_missed(end: usize, tokens: &[Token]) -> Option<usize>
+pub(crate) fn first_value_missed(end: usize, tokens: &[Token]) -> Option<usize>
     ensures { result ≡ first_value_missed end tokens.now }
 {
     for at in 0..tokens.len() {
@@ -97,12 +76,12 @@ pub fn first_value_missed(end: usize, tokens: &[Token]) -> Option<usize>
 }
 
 /// Whether tokens are nothing but pairs of a word, an equals sign and a text.
-pub fn are_pairs(tokens: &[Token]) -> bool
+pub(crate) fn are_pairs(tokens: &[Token]) -> bool
     ensures { result ≡ are_pairs tokens.now }
 {
     let mut rest = tokens;
     while let [name, sign, value, behind @ ..] = rest {
-        if !is_word(*name) || !is_equals(*sign) || !gives_text(*value) {
+        if !name.is_word() || !sign.is_equals() || !value.gives_text() {
             return false;
         }
         rest = behind;

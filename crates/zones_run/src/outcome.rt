@@ -5,7 +5,8 @@ ghost use Rattle.zones_run.specs.Complaints.{complaint_status, complaint_text};
 use crate::refusal::{Refusal, push_refusal};
 use crate::status;
 use std::alloc::{AllocError, Global};
-use trace_text::{LineFault, push_numbered};
+use trace_text::LineFault;
+use zn_base::push_numbered;
 
 /// What ends a run with a line on standard error. Lines are numbered from 1.
 #[derive(Drop)]

@@ -6,7 +6,7 @@ ghost use Rattle.zones_run.specs.Refusals.{config_text, edit_text, flaw_text, le
 use config_terms::{Kind, Named};
 use config_verify::Flaw;
 use std::alloc::AllocError;
-use trace_text::{push_both, push_numbered};
+use zn_base::{push_both, push_numbered};
 use zone_config::ConfigFault;
 use zonecfg_lex::LexFault;
 use zonecfg_scopes::{EditFault, Scope};

@@ -25,7 +25,7 @@ fn is_refused_turn(turn: &TurnReply) -> bool
 {
     match turn {
         TurnReply::Failed(_, _) => true,
-        TurnReply::Finished(_, outcome) => *outcome != Outcome::Done,
+        TurnReply::Finished(_, outcome) => !matches!(outcome, Outcome::Done),
         _ => false,
     }
 }

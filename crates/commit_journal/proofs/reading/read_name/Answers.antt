@@ -1,4 +1,4 @@
-use Rattle.index_file.proofs.Parts.{name_of_name}
+use Rattle.zn_base.proofs.Read_back.{name_of_name}
 use Rattle.commit_journal.proofs.reading.read_name.Goals as goal
 
 pub returns-in-Ok : goal.returns-in-Ok

@@ -1,0 +1,126 @@
+//! What is done alike for each kind of resource, in one place a kind: its row below.
+
+// The kinds, each with its list in `Contents`, to a macro that makes a match of them.
+macro_rules! each_kind {
+    ($arms:ident, $given:tt) => {
+        $crate::kinds::$arms!(
+            $given, Fs fs, Net net, Device device, Rctl rctl, Attr attr, Dataset dataset
+        )
+    };
+}
+
+// By the kind: what is made of it and of its list.
+macro_rules! by_kind {
+    ($kind:expr, $contents:expr, |$list:ident| $body:expr) => {
+        $crate::kinds::by_kind!($kind, $contents, |kind, $list| $body)
+    };
+    ($kind:expr, $contents:expr, |$own:ident, $list:ident| $body:expr) => {
+        $crate::kinds::each_kind!(kind_arms, ($kind, $contents, $own, $list, $body))
+    };
+}
+
+macro_rules! kind_arms {
+    (
+        ($kind:expr, $contents:expr, $own:ident, $list:ident, $body:expr),
+        $($name:ident $field:ident),*
+    ) => {
+        match $kind {
+            $(Kind::$name => {
+                let $own = Kind::$name;
+                let $list = &$contents.$field;
+                $body
+            })*
+        }
+    };
+}
+
+// By the kind: a resource of what is made of its list.
+macro_rules! resource_by_kind {
+    ($kind:expr, $contents:expr, |$list:ident| $body:expr) => {
+        $crate::kinds::each_kind!(resource_arms, ($kind, $contents, $list, $body))
+    };
+}
+
+macro_rules! resource_arms {
+    (($kind:expr, $contents:expr, $list:ident, $body:expr), $($name:ident $field:ident),*) => {
+        match $kind {
+            $(Kind::$name => {
+                let $list = &$contents.$field;
+                Resource::$name($body)
+            })*
+        }
+    };
+}
+
+// The same, where the list may change.
+macro_rules! resource_by_kind_mut {
+    ($kind:expr, $contents:expr, |$list:ident| $body:expr) => {
+        $crate::kinds::each_kind!(resource_arms_mut, ($kind, $contents, $list, $body))
+    };
+}
+
+macro_rules! resource_arms_mut {
+    (($kind:expr, $contents:expr, $list:ident, $body:expr), $($name:ident $field:ident),*) => {
+        match $kind {
+            $(Kind::$name => {
+                let $list = &mut $contents.$field;
+                Resource::$name($body)
+            })*
+        }
+    };
+}
+
+// By a resource: what is made of its kind, of it, and of the list of its kind.
+macro_rules! by_resource {
+    ($resource:expr, $contents:expr, |$own:ident, $entry:ident, $list:ident| $body:expr) => {
+        $crate::kinds::each_kind!(entry_arms, ($resource, $contents, $own, $entry, $list, $body))
+    };
+}
+
+macro_rules! entry_arms {
+    (
+        ($resource:expr, $contents:expr, $own:ident, $entry:ident, $list:ident, $body:expr),
+        $($name:ident $field:ident),*
+    ) => {
+        match $resource {
+            $(Resource::$name($entry) => {
+                let $own = Kind::$name;
+                let $list = &$contents.$field;
+                $body
+            })*
+        }
+    };
+}
+
+// By a resource: what is done with it and the list of its kind.
+macro_rules! by_resource_mut {
+    ($resource:expr, $contents:expr, |$entry:ident, $list:ident| $body:expr) => {
+        $crate::kinds::each_kind!(entry_arms_mut, ($resource, $contents, $entry, $list, $body))
+    };
+}
+
+macro_rules! entry_arms_mut {
+    (
+        ($resource:expr, $contents:expr, $entry:ident, $list:ident, $body:expr),
+        $($name:ident $field:ident),*
+    ) => {
+        match $resource {
+            $(Resource::$name($entry) => {
+                let $list = &mut $contents.$field;
+                $body
+            })*
+        }
+    };
+}
+
+pub(crate) use by_kind;
+pub(crate) use by_resource;
+pub(crate) use by_resource_mut;
+pub(crate) use each_kind;
+pub(crate) use entry_arms;
+pub(crate) use entry_arms_mut;
+pub(crate) use kind_arms;
+pub(crate) use resource_arms;
+pub(crate) use resource_arms_mut;
+pub(crate) use resource_by_kind;
+pub(crate) use resource_by_kind_mut;
