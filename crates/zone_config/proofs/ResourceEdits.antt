@@ -1,8 +1,9 @@
 -- A configuration over a resource that comes, goes or takes another's place.
-use Rattle.std.proofs.Common.{◌≡◌, ◌≤◌, ◌<◌, ◌+◌, ◌-◌, ℕ, true, false, cond, List, [], ◌∷◌, ◌++◌, length, Option, Some, None, refl, ap, subst, arith, length-append, IsTrue, unwrap_or}
+use Rattle.std.proofs.Common.{◌≡◌, ◌≤◌, ◌<◌, ◌+◌, ◌-◌, ℕ, Bool, true, false, not, cond, List, [], ◌∷◌, ◌++◌, length, Option, Some, None, Ok, Err, refl, ap, sym, subst, arith, length-append, IsTrue, unwrap_or}
 use Rattle.std.specs.Prelude.{nat_le, nat_lt, option_map, slice_get, remove, slice_set}
 use Rattle.std.specs.List.{flat_map, list_all}
 use Rattle.std.proofs.lemmas.Bool.Decides.{nat_tests}
+use Rattle.config_terms.specs.declared.fault.ConfigFault.TheVariants.{BadValue, Duplicate, TooLarge}
 use Rattle.config_terms.specs.declared.terms.Attr as attr
 use Rattle.config_terms.specs.declared.terms.Fs as fs
 use Rattle.config_terms.specs.declared.terms.Net as net
@@ -18,9 +19,9 @@ use Rattle.zone_config.specs.declared.terms.Contents.{Contents}
 use Rattle.zone_config.specs.declared.terms.Property.{Property}
 use Rattle.zone_config.specs.declared.terms.Property.TheVariants.{Zonepath, Brand, Autoboot, Bootargs, Pool, Limitpriv, SchedulingClass, IpType, Hostid, FsAllowed}
 use Rattle.zone_config.specs.Property.{shown}
-use Rattle.zone_config.specs.Export.{export_text}
+use Rattle.zone_config.specs.Export.{export_text, sized}
 use Rattle.zone_config.specs.Sound.{AreSound, HasSoundResources, IsKept, IsSound, count}
-use Rattle.zone_config.specs.Resources.{added, count_of, fs_passed, has_taken, has_taken_but, limit_passed, removed, replaced, text_at, IsLengthOf}
+use Rattle.zone_config.specs.Resources.{added, count_of, fs_passed, has_taken, has_taken_but, length_of, limit_passed, removed, replaced, text_at, unless_passed, with_replaced, IsLengthOf}
 use Rattle.zone_config.proofs.Lists.{all-push, all-remove, all-set, length-remove_one, length-slice_set, sound-push, sound-remove, sound-set, text-push, text-remove, text-set, text_within}
 use Rattle.zone_config.proofs.PropertyEdits.{Measures, export_text-length}
 
@@ -324,3 +325,37 @@ count_of_within kind.Device c size k = omega (arith, k.sound.resources.few)
 count_of_within kind.Rctl c size k = omega (arith, k.sound.resources.few)
 count_of_within kind.Attr c size k = omega (arith, k.sound.resources.few)
 count_of_within kind.Dataset c size k = omega (arith, k.sound.resources.few)
+
+-- what was checked of a resource that is to have the place of another
+pub record IsChecked (r : Resource) (place : ℕ) (c : Contents) (n : ℕ) : Type 0 where
+  pub allowed : is_allowed r ≡ true
+  pub free : has_taken_but place r c ≡ false
+  pub few : options_passed r ≡ None
+  pub measured : n ≡ length (export_text (replaced place r c))
+  pub short : n ≤ 32768
+  pub answer : with_replaced place r c ≡ Ok (replaced place r c)
+
+sized_short : (d : Contents) (n : ℕ) → length_of (sized d) ≡ Ok n → (n ≡ length (export_text d)) × ((n ≤ 32768) × (sized d ≡ Ok d))
+sized_short d n h =
+    elim (nat_lt 32768 (length (export_text d))) as (λ b. nat_lt 32768 (length (export_text d)) ≡ b → length_of (cond b (Err (TooLarge (length (export_text d)))) (Ok d)) ≡ Ok n
+    → (n ≡ length (export_text d)) × ((n ≤ 32768) × (cond b (Err (TooLarge (length (export_text d)))) (Ok d) ≡ Ok d))) [
+      | true ↦ λ e g. absurd (cc)
+      | false ↦ λ e g. let same : length (export_text d) ≡ n = cc in (sym same, (grind (arith, nat_tests), refl))
+    ] refl h
+
+checked_by : (a t : Bool) (o : Option ℕ) (d : Contents) (n : ℕ) → length_of (cond (not a) (Err BadValue) (cond t (Err Duplicate) (unless_passed o d))) ≡ Ok n
+    → (a ≡ true) × ((t ≡ false) × ((o ≡ None) × ((n ≡ length (export_text d)) × ((n ≤ 32768) × (cond (not a) (Err BadValue) (cond t (Err Duplicate) (unless_passed o d)) ≡ Ok d)))))
+checked_by false t o d n h = absurd (cc)
+checked_by true true o d n h = absurd (cc)
+checked_by true false (Some limit) d n h = absurd (cc)
+checked_by true false None d n h = (refl, (refl, (refl, sized_short d n h)))
+
+pub is_checked : (r : Resource) (place : ℕ) (c : Contents) (n : ℕ) → length_of (with_replaced place r c) ≡ Ok n → IsChecked r place c n
+unfolding with_replaced
+is_checked r place c n h =
+    let all = checked_by (is_allowed r) (has_taken_but place r c) (options_passed r) (replaced place r c) n h in
+    record { allowed = all.0; free = all.1.0; few = all.1.1.0; measured = all.1.1.1.0; short = all.1.1.1.1.0; answer = all.1.1.1.1.1 }
+
+pub kept_checked : (r : Resource) (place : ℕ) (c : Contents) (size n : ℕ) → IsKept c size → length_of (with_replaced place r c) ≡ Ok n → IsKept (replaced place r c) n
+kept_checked r place c size n k h =
+    let s = is_checked r place c n h in kept_replaced r place c size n k s.allowed s.free s.few s.measured s.short

@@ -1,7 +1,9 @@
 pub mod Property
+pub mod Parts
 pub mod Export
 pub mod Sound
 pub mod Edits
+pub mod Kinds
 pub mod Resources
 pub mod Settable
 pub mod Removal

@@ -4,23 +4,17 @@ use Rattle.zn_base.specs.declared.values.Pair.{Pair}
 use Rattle.config_terms.specs.declared.fault.ConfigFault.{ConfigFault}
 use Rattle.config_terms.specs.declared.fault.ConfigFault.TheVariants.{NoMatch}
 use Rattle.config_terms.specs.declared.terms.Kind.{Kind}
-use Rattle.config_terms.specs.declared.terms.Kind.TheVariants as kind
 use Rattle.config_terms.specs.declared.terms.Resource.{Resource}
-use Rattle.config_terms.specs.declared.terms.Resource.TheVariants as resource
 use Rattle.config_terms.specs.Edits.{empty}
-use Rattle.config_terms.specs.Fields.{attr_shown, fs_shown, net_shown, rctl_shown, resource_shown, text_shown}
+use Rattle.config_terms.specs.Fields.{resource_shown}
 use Rattle.config_terms.specs.Matches.{has_all}
 use Rattle.zone_config.specs.declared.terms.Contents.{Contents}
+use Rattle.zone_config.specs.Kinds.{by_kind}
 use Rattle.zone_config.specs.Resources.{found, removed}
 
 -- the resource of a kind at a place, or an empty one where there is none
 abbrev pub resource_at : Kind → ℕ → Contents → Resource
-resource_at kind.Fs place c = unwrap_or (option_map resource.Fs (slice_get c.fs place)) (empty kind.Fs)
-resource_at kind.Net place c = unwrap_or (option_map resource.Net (slice_get c.net place)) (empty kind.Net)
-resource_at kind.Device place c = unwrap_or (option_map resource.Device (slice_get c.device place)) (empty kind.Device)
-resource_at kind.Rctl place c = unwrap_or (option_map resource.Rctl (slice_get c.rctl place)) (empty kind.Rctl)
-resource_at kind.Attr place c = unwrap_or (option_map resource.Attr (slice_get c.attr place)) (empty kind.Attr)
-resource_at kind.Dataset place c = unwrap_or (option_map resource.Dataset (slice_get c.dataset place)) (empty kind.Dataset)
+resource_at k place c = by_kind k (λ A row. unwrap_or (option_map row.make (slice_get (row.list c) place)) (empty row.kind))
 
 -- a configuration without the resource of a kind at a place
 abbrev pub without_place : Kind → Contents → ℕ → Contents
@@ -28,12 +22,7 @@ without_place k c place = unwrap_or (option_map (λ r. r.1) (removed k place c))
 
 -- a configuration without the resources of a kind that have all wanted pairs
 abbrev pub without_matches : Kind → List Pair → Contents → Contents
-without_matches kind.Fs wanted c = record c { fs = filter (λ f. not (has_all kind.Fs wanted (fs_shown f))) c.fs }
-without_matches kind.Net wanted c = record c { net = filter (λ n. not (has_all kind.Net wanted (net_shown n))) c.net }
-without_matches kind.Device wanted c = record c { device = filter (λ d. not (has_all kind.Device wanted (text_shown d))) c.device }
-without_matches kind.Rctl wanted c = record c { rctl = filter (λ r. not (has_all kind.Rctl wanted (rctl_shown r))) c.rctl }
-without_matches kind.Attr wanted c = record c { attr = filter (λ a. not (has_all kind.Attr wanted (attr_shown a))) c.attr }
-without_matches kind.Dataset wanted c = record c { dataset = filter (λ d. not (has_all kind.Dataset wanted (text_shown d))) c.dataset }
+without_matches k wanted c = by_kind k (λ A row. row.put (filter (λ x. not (has_all row.kind wanted (row.shown x))) (row.list c)) c)
 
 -- whether the resource of a kind at a place has all wanted pairs
 abbrev pub matches_at : Kind → List Pair → ℕ → Contents → Bool

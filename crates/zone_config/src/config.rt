@@ -1,5 +1,5 @@
 //! Configurations that are sound.
-ghost use Rattle.std.specs.Prelude.{◌≡◌, ◌<◌, ◌≤◌, Err, IfOk, IsTrue, None, OnErr, Some, false, length};
+ghost use Rattle.std.specs.Prelude.{◌≡◌, ◌<◌, ◌≤◌, Err, IfOk, IsTrue, None, Ok, OnErr, Some, false, length};
 ghost use Rattle.config_terms.specs.Allowed.{is_allowed, options_passed};
 ghost use Rattle.config_terms.specs.Edits.{Changes, ChangesSurely};
 ghost use Rattle.config_terms.specs.Fields.{kind_of};
@@ -7,7 +7,7 @@ ghost use Rattle.config_terms.specs.declared.fault.ConfigFault.TheVariants.{Memo
 ghost use Rattle.zone_config.specs.Edits.{alias_cleared, alias_set, property_set, with_property, without_property};
 ghost use Rattle.zone_config.specs.Export.{export_text, sized};
 ghost use Rattle.zone_config.specs.Property.{blank, without_value};
-ghost use Rattle.zone_config.specs.Resources.{added, count_of, found, has_taken, has_taken_but, limit_passed, removed, replaced, unless_passed, with_replaced, with_resource};
+ghost use Rattle.zone_config.specs.Resources.{added, count_of, found, has_taken, has_taken_but, length_of, limit_passed, removed, replaced, unless_passed, with_replaced, with_resource};
 ghost use Rattle.zone_config.specs.Sound.{IsSound};
 
 use crate::sizes::{size_added, size_replaced, size_with};
@@ -145,22 +145,47 @@ impl ZoneConfig {
 
     /// Puts a resource in the place of another of its kind. It takes no memory. Faults come in the order
     /// 23, 24, 27, 29, and after each all is as before.
-    #[tactic(auto, unfolding(crate::specs::Resources::with_replaced))]
     pub fn replace_resource(&mut self, place: u32, resource: Resource) -> Result<(), ConfigFault>
         requires { place < count_of (kind_of resource) self.old }
         ensures { ChangesSurely self.old self.new result (with_replaced place resource self.old) }
+    {
+        let size = self.check_replaced(place, &resource)?;
+        self.put_checked(place, resource, size);
+        Ok(())
+    }
+
+    /// How many bytes the export text has once a resource has the place of another of its kind, or why it
+    /// may not have it. It takes no memory.
+    #[tactic(auto, unfolding(crate::specs::Resources::with_replaced))]
+    pub fn check_replaced(&self, place: u32, resource: &Resource) -> Result<usize, ConfigFault>
+        requires { place < count_of (kind_of resource.now) self.now }
+        ensures { result ≡ length_of (with_replaced place resource.now self.now) }
     {
         let place = place as usize;
         if !resource.is_allowed() {
             return Err(ConfigFault::BadValue);
         }
-        if self.contents.has_taken_but(place, &resource) {
+        if self.contents.has_taken_but(place, resource) {
             return Err(ConfigFault::Duplicate);
         }
         if let Some(limit) = resource.options_passed() {
             return Err(ConfigFault::TooMany(limit));
         }
-        self.put_in_place(place, resource)
+        let size = size_replaced(&self.contents, self.size, place, resource);
+        if size > TEXT_MAX {
+            return Err(ConfigFault::TooLarge(size));
+        }
+        Ok(size)
+    }
+
+    /// Puts a resource in the place of another of its kind, which `check_replaced` answers the length for.
+    pub fn put_checked(&mut self, place: u32, resource: Resource, size: usize)
+        requires place { place < count_of (kind_of resource) self.old }
+        requires checked { length_of (with_replaced place resource self.old) ≡ Ok size }
+        ensures { with_replaced place resource self.old ≡ Ok self.new }
+    {
+        self.contents.replace(place as usize, resource);
+        self.size = size;
     }
 
     /// Takes the resource of a kind at a place out. It takes no memory.

@@ -1,12 +1,13 @@
 //! The properties of a configuration: what each shows, and how it is given a value.
 ghost use Rattle.std.specs.Prelude.{◌≡◌, ◌≤◌, IfOk, IsTrue, OnErr, OnOk, length};
 ghost use Rattle.config_terms.specs.Rules.{obeys};
+ghost use Rattle.zone_config.specs.Parts.{lists_of, settings_of};
 ghost use Rattle.zone_config.specs.Property.{blank, bool_text, ip_text, ip_type, property_rule, shown, with_value, without_value};
 
 use crate::{Contents, Property};
-use config_terms::{IpType, path_kept, path_text};
+use config_terms::{Attr, Fs, IpType, Net, Rctl, path_kept, path_text};
 use std::alloc::{AllocError, Global};
-use zn_base::{Listing, Text, TryClone};
+use zn_base::{AbsPath, Listing, Text, TryClone};
 
 fn bool_text(value: bool) -> &'static [u8]
     ensures { result.now ≡ bool_text value }
@@ -122,25 +123,79 @@ impl Contents {
     }
 }
 
+// Parts of a copy, each made by a function of its own: what has made few values has few to let go where memory
+// runs out.
+#[derive(Drop)]
+struct Settings {
+    zonepath: Option<AbsPath>,
+    brand: Text,
+    bootargs: Text,
+    pool: Text,
+    limitpriv: Text,
+    class: Text,
+    hostid: Text,
+    fs_allowed: Text,
+}
+
+#[derive(Drop)]
+struct Lists {
+    fs: Listing<Fs>,
+    net: Listing<Net>,
+    device: Listing<Text>,
+    rctl: Listing<Rctl>,
+    attr: Listing<Attr>,
+    dataset: Listing<Text>,
+}
+
+fn copy_settings(contents: &Contents, alloc: Global) -> Result<Settings, AllocError>
+    ensures { IfOk result (λ settings. settings ≡ settings_of contents.now) }
+{
+    Ok(Settings {
+        zonepath: contents.zonepath.try_clone(alloc)?,
+        brand: contents.brand.copy(alloc)?,
+        bootargs: contents.bootargs.copy(alloc)?,
+        pool: contents.pool.copy(alloc)?,
+        limitpriv: contents.limitpriv.copy(alloc)?,
+        class: contents.class.copy(alloc)?,
+        hostid: contents.hostid.copy(alloc)?,
+        fs_allowed: contents.fs_allowed.copy(alloc)?,
+    })
+}
+
+fn copy_lists(contents: &Contents, alloc: Global) -> Result<Lists, AllocError>
+    ensures { IfOk result (λ lists. lists ≡ lists_of contents.now) }
+{
+    Ok(Lists {
+        fs: contents.fs.try_clone(alloc)?,
+        net: contents.net.try_clone(alloc)?,
+        device: contents.device.try_clone(alloc)?,
+        rctl: contents.rctl.try_clone(alloc)?,
+        attr: contents.attr.try_clone(alloc)?,
+        dataset: contents.dataset.try_clone(alloc)?,
+    })
+}
+
 impl TryClone for Contents {
     fn try_clone(&self, alloc: Global) -> Result<Self, AllocError> {
+        let settings = copy_settings(self, alloc)?;
+        let lists = copy_lists(self, alloc)?;
         Ok(Contents {
-            zonepath: self.zonepath.try_clone(alloc)?,
-            brand: self.brand.copy(alloc)?,
+            zonepath: settings.zonepath,
+            brand: settings.brand,
             autoboot: self.autoboot,
-            bootargs: self.bootargs.copy(alloc)?,
-            pool: self.pool.copy(alloc)?,
-            limitpriv: self.limitpriv.copy(alloc)?,
-            class: self.class.copy(alloc)?,
+            bootargs: settings.bootargs,
+            pool: settings.pool,
+            limitpriv: settings.limitpriv,
+            class: settings.class,
             ip: self.ip,
-            hostid: self.hostid.copy(alloc)?,
-            fs_allowed: self.fs_allowed.copy(alloc)?,
-            fs: self.fs.try_clone(alloc)?,
-            net: self.net.try_clone(alloc)?,
-            device: self.device.try_clone(alloc)?,
-            rctl: self.rctl.try_clone(alloc)?,
-            attr: self.attr.try_clone(alloc)?,
-            dataset: self.dataset.try_clone(alloc)?,
+            hostid: settings.hostid,
+            fs_allowed: settings.fs_allowed,
+            fs: lists.fs,
+            net: lists.net,
+            device: lists.device,
+            rctl: lists.rctl,
+            attr: lists.attr,
+            dataset: lists.dataset,
         })
     }
 }
