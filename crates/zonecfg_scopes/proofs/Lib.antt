@@ -10,4 +10,3 @@ pub mod Ran
 pub mod Lines
 pub mod Shown
 pub mod Causes
-pub mod Turns
