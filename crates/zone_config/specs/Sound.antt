@@ -7,6 +7,7 @@ use Rattle.config_terms.specs.declared.terms.Kind.TheVariants as kind
 use Rattle.config_terms.specs.Allowed.{are_told_apart, attr_allowed, dataset_allowed, device_allowed, few_options, fs_allowed, net_allowed, rctl_allowed}
 use Rattle.config_terms.specs.Fields.{attr_shown, fs_shown, net_shown, rctl_shown, text_shown}
 use Rattle.config_terms.specs.Rules.{fits}
+use Rattle.zone_config.specs.declared.limits.TheConstants.{FS_MAX, RESOURCES_MAX, TEXT_MAX}
 use Rattle.zone_config.specs.declared.terms.Contents.{Contents}
 use Rattle.zone_config.specs.declared.terms.Property.{Property}
 use Rattle.zone_config.specs.Property.{property_rule, shown}
@@ -29,8 +30,8 @@ pub record HasSoundResources (c : Contents) : Type 0 where
   pub rctl : AreSound rctl_shown kind.Rctl rctl_allowed c.rctl
   pub attr : AreSound attr_shown kind.Attr attr_allowed c.attr
   pub dataset : AreSound text_shown kind.Dataset dataset_allowed c.dataset
-  pub few : count c ≤ 256
-  pub few_fs : length c.fs ≤ 100
+  pub few : count c ≤ RESOURCES_MAX
+  pub few_fs : length c.fs ≤ FS_MAX
   pub few_options : IsTrue (list_all few_options c.fs)
 
 -- each property is unset or has a value that its rule allows, and a zonepath that is set is not empty
@@ -42,7 +43,7 @@ pub record HasSoundProperties (c : Contents) : Type 0 where
 pub record IsSound (c : Contents) : Type 0 where
   pub properties : HasSoundProperties c
   pub resources : HasSoundResources c
-  pub short : length (export_text c) ≤ 32768
+  pub short : length (export_text c) ≤ TEXT_MAX
 
 -- a sound configuration, and how long its export text is
 pub record IsKept (c : Contents) (size : ℕ) : Type 0 where
