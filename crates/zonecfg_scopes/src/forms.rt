@@ -9,9 +9,7 @@ ghost use Rattle.zonecfg_lex.specs.Tokens.{part_tokens_of};
 use crate::EditFault;
 use crate::command::{Command, ListProperty, Matching, Topic};
 use crate::verb::Verb;
-use crate::words::{
-    are_pairs, behind_flag, first_value_missed, has_flag, said,
-};
+use crate::words::{are_pairs, behind_flag, first_value_missed, has_flag, said};
 use config_terms::Kind;
 use std::alloc::Global;
 use zn_base::Pair;
