@@ -140,10 +140,10 @@ fn guess(alloc: Global, body: &[u8]) -> Result<Option<Commit>, AllocError>
     let Some(zone_line) = cut_line(body, b"zone") else {
         return Ok(None);
     };
-    let Some(zone) = read_name(alloc, zone_line.value)? else {
+    let Some(state_line) = cut_line(zone_line.rest, b"state") else {
         return Ok(None);
     };
-    let Some(state_line) = cut_line(zone_line.rest, b"state") else {
+    let Some(zone) = read_name(alloc, zone_line.value)? else {
         return Ok(None);
     };
     if state_line.value == b"none".as_slice() {

@@ -88,7 +88,7 @@ fn faults_have_their_places(rt: HostRuntime) {
 }
 
 // A reply without its lines.
-#[derive(Clone, Copy, Debug, PartialEq, Eq)]
+#[derive(Clone, Copy, PartialEq, Eq)]
 enum Reply {
     Done,
     Lines,
@@ -384,11 +384,15 @@ fn comes_back_to_its_base(rt: &impl Abort, alloc: Global, editor: &mut Editor) {
     is_as(rt, editor, false, 8);
 }
 
+fn ends_its_scope(rt: &impl Abort, alloc: Global, editor: &mut Editor) {
+    done(rt, alloc, editor, &[b"end"]);
+    is_as(rt, editor, true, 8);
+}
+
 // A copy of an editor has its scope.
 fn is_copied(rt: &impl Abort, alloc: Global, editor: &Editor) -> Result<(), Fail> {
     let mut copy = editor.copy(alloc)?;
-    done(rt, alloc, &mut copy, &[b"end"]);
-    is_as(rt, &copy, true, 8);
+    ends_its_scope(rt, alloc, &mut copy);
     Ok(())
 }
 
@@ -450,6 +454,8 @@ fn is_shown(alloc: Global, editor: &mut Editor, line: &[u8], wanted: &[u8]) -> R
 }
 
 fn are_shown(rt: &impl Abort, alloc: Global, editor: &mut Editor) -> Result<(), Fail> {
+    done(rt, alloc, editor, MAKE);
+    done(rt, alloc, editor, ADD);
     for (line, wanted) in SHOWN {
         assert!(rt; is_shown(alloc, editor, line, wanted)?, "{line:?}");
     }
@@ -459,7 +465,5 @@ fn are_shown(rt: &impl Abort, alloc: Global, editor: &mut Editor) -> Result<(), 
 #[test]
 fn lines_are_shown(rt: HostRuntime) -> Result<(), Fail> {
     let mut editor = begun(rt.alloc(), None)?;
-    done(&rt, rt.alloc(), &mut editor, MAKE);
-    done(&rt, rt.alloc(), &mut editor, ADD);
     are_shown(&rt, rt.alloc(), &mut editor)
 }

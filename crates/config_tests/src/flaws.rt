@@ -77,24 +77,40 @@ fn property(kind: Kind, name: Named) -> &'static [u8] {
     }
 }
 
-// A flaw's code, or the kind that lacks a property, and what it tells.
+// A flaw's code, or the kind that lacks a property.
+fn code(answer: &Result<(), Flaw>) -> &'static [u8] {
+    match answer {
+        Ok(()) => b"ok",
+        Err(Flaw::Memory) => b"memory",
+        Err(Flaw::NoZonepath) => b"41",
+        Err(Flaw::MissingProperty(kind, _)) => kind.name(),
+        Err(Flaw::NetForm(_)) => b"43",
+        Err(Flaw::BadAddress(_)) => b"44",
+        Err(Flaw::SameDir(_)) => b"45",
+        Err(Flaw::UnknownBrand(_)) => b"46",
+        Err(Flaw::AttrForm(_)) => b"50",
+    }
+}
+
+// What a flaw tells.
+fn what(answer: &Result<(), Flaw>) -> &[u8] {
+    match answer {
+        Ok(()) | Err(Flaw::Memory | Flaw::NoZonepath) => b"",
+        Err(Flaw::MissingProperty(kind, name)) => property(*kind, *name),
+        Err(Flaw::NetForm(0)) => b"0",
+        Err(Flaw::NetForm(_)) => b"1",
+        Err(Flaw::BadAddress(text)) => text.bytes(),
+        Err(Flaw::SameDir(dir)) => dir.bytes(),
+        Err(Flaw::UnknownBrand(brand)) => brand.bytes(),
+        Err(Flaw::AttrForm(name)) => name.bytes(),
+    }
+}
+
 fn told(alloc: Global, answer: &Result<(), Flaw>) -> Result<Vec<u8>, AllocError> {
-    let (code, what): (&[u8], &[u8]) = match answer {
-        Ok(()) => (b"ok", b""),
-        Err(Flaw::Memory) => return Err(AllocError),
-        Err(Flaw::NoZonepath) => (b"41", b""),
-        Err(Flaw::MissingProperty(kind, name)) => (kind.name(), property(*kind, *name)),
-        Err(Flaw::NetForm(0)) => (b"43", b"0"),
-        Err(Flaw::NetForm(_)) => (b"43", b"1"),
-        Err(Flaw::BadAddress(text)) => (b"44", text.bytes()),
-        Err(Flaw::SameDir(dir)) => (b"45", dir.bytes()),
-        Err(Flaw::UnknownBrand(brand)) => (b"46", brand.bytes()),
-        Err(Flaw::AttrForm(name)) => (b"50", name.bytes()),
-    };
     let mut text = Vec::new(alloc);
-    text.extend_from_slice(code)?;
+    text.extend_from_slice(code(answer))?;
     text.push(b' ')?;
-    text.extend_from_slice(what)?;
+    text.extend_from_slice(what(answer))?;
     Ok(text)
 }
 

@@ -3,7 +3,7 @@ ghost use Rattle.std.specs.Prelude.{◌≤◌, length};
 
 use std::alloc::{AllocError, Global};
 use std::test::Fail;
-use zn_base::{Pair, Value};
+use zn_base::{Pair, Text, Value};
 use zonecfg_lex::TokenKind::{
     self, Close, Comma, Equals, ListClose, ListOpen, Open, Quoted, Semi, Word,
 };
@@ -160,6 +160,13 @@ fn push_pair(out: &mut Vec<u8>, pair: &Pair) -> Result<(), AllocError> {
     Ok(())
 }
 
+fn push_item(out: &mut Vec<u8>, text: &Text) -> Result<(), AllocError> {
+    out.push(b'[')?;
+    out.extend_from_slice(text.bytes())?;
+    out.push(b']')?;
+    Ok(())
+}
+
 // A text as it is, pairs as `(a=b)` and items as `[a]`, one behind the other.
 fn push_value(out: &mut Vec<u8>, value: &Value) -> Result<(), AllocError> {
     match value {
@@ -171,9 +178,7 @@ fn push_value(out: &mut Vec<u8>, value: &Value) -> Result<(), AllocError> {
         }
         Value::List(texts) => {
             for text in texts.as_slice() {
-                out.push(b'[')?;
-                out.extend_from_slice(text.bytes())?;
-                out.push(b']')?;
+                push_item(out, text)?;
             }
         }
     }

@@ -314,11 +314,17 @@ fn is_there(alloc: Global, devices: &[Text], path: &[u8]) -> Result<(bool, bool)
     Ok((is_taken(Kind::Device, &device, devices), but))
 }
 
+fn tells_taken(alloc: Global, devices: &[Text]) -> Result<bool, ConfigFault> {
+    Ok(
+        devices.len() == 3
+            && is_there(alloc, devices, b"/dev/c")? == (false, false)
+            && is_there(alloc, devices, b"/dev/b")? == (true, false),
+    )
+}
+
 #[test]
 fn keys_are_taken(rt: HostRuntime) -> Result<(), Fail> {
     let devices = devices(rt.alloc())?;
-    assert!(rt; devices.len() == 3);
-    assert!(rt; is_there(rt.alloc(), devices.as_slice(), b"/dev/c")? == (false, false));
-    assert!(rt; is_there(rt.alloc(), devices.as_slice(), b"/dev/b")? == (true, false));
+    assert!(rt; tells_taken(rt.alloc(), devices.as_slice())?);
     Ok(())
 }

@@ -38,7 +38,7 @@ pub fn pairs(alloc: Global, items: &[(&[u8], &[u8])]) -> Result<Listing<Pair>, C
 }
 
 /// A privileged limit of a resource control.
-pub fn limit(alloc: Global, number: &[u8], action: &[u8]) -> Result<Value, ConfigFault> {
+pub fn limit<'x>(alloc: Global, number: &'x [u8], action: &'x [u8]) -> Result<Value, ConfigFault> {
     let items = [
         (b"priv".as_slice(), b"privileged".as_slice()),
         (b"limit", number),

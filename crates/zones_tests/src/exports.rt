@@ -119,7 +119,7 @@ const FLAWED: &[(&[u8], &[u8])] = &[
 
 fn are_refused<R: Abort + AllocGlobal>(
     rt: &R,
-    rows: &[(&'static [u8], &[u8])],
+    rows: &[(&'static [u8], &'static [u8])],
 ) -> Result<(), Fail> {
     for (input, err_text) in rows {
         check(rt, Given { input, ..EXPORT }, 1, b"", err_text)?;

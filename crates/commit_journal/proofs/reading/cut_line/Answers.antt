@@ -1,4 +1,4 @@
-use Rattle.std.proofs.Common.{◌≡◌, ◌++◌, ◌∷◌, Some, List, ℕ, arith, ◌∙◌}
+use Rattle.std.proofs.Common.{◌≡◌, ◌++◌, ◌∷◌, Some, arith, ◌∙◌}
 use Rattle.std.specs.Prelude.{option_copied}
 use Rattle.commit_journal.proofs.Lines.{line_cut, value_cut}
 use Rattle.commit_journal.proofs.reading.cut_line.Goals as goal
