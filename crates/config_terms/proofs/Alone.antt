@@ -1,11 +1,14 @@
 -- The one place in a list where a test holds.
-use Rattle.std.proofs.Common.{◌≡◌, ◌∙◌, ◌≤◌, ◌<◌, ◌+◌, ◌-◌, ℕ, suc, Bool, true, false, not, cond, List, [], ◌∷◌, Option, Some, None, Ok, Err, length, refl, ap, sym, arith}
+use Rattle.std.proofs.Common.{◌≡◌, ◌∙◌, ◌≤◌, ◌<◌, ◌+◌, ◌-◌, ℕ, suc, Bool, true, false, not, cond, ◌&&◌, ◌||◌, List, [], ◌∷◌, Option, Some, None, Ok, Err, length, refl, ap, sym, arith}
 use Rattle.std.specs.Prelude.{count_by, drop, nat_lt, position, take}
 use Rattle.std.specs.List.{position_or_len}
+use Rattle.std.specs.Str.{bytes_eq}
 use Rattle.std.proofs.lemmas.Bool.Decides.{nat_tests}
+use Rattle.std.proofs.lemmas.Slice.Eq.{bytes_eq-Decides}
 use Rattle.std.proofs.lemmas.List.{take_rest}
 use Rattle.std.proofs.lemmas.List.Sums.{sum_by-cons}
 use Rattle.config_terms.specs.declared.fault.ConfigFault.TheVariants.{SeveralMatch}
+use Rattle.config_terms.specs.Allowed.{are_distinct, has_key}
 use Rattle.config_terms.specs.Matches.{only_place}
 
 counts_all : {A : Type 0} (xs : List A) → count_by (λ x. true) xs ≡ length xs
@@ -66,3 +69,46 @@ several_from_first p xs i n h e many =
     let all : count_by p xs ≡ n = sym (e ∙ ap (count_by p) (take_rest xs i) ∙ counted_from p xs i h) in
     let several : nat_lt 1 n ≡ true = grind (arith, nat_tests) in
     rw (h, all, several) refl
+
+-- where none has a key, none passes a test that wants it
+none_pass : {A : Type 0} (p : A → Bool) (key : A → List ℕ) (text : List ℕ) → ((x : A) → p x ≡ true → bytes_eq (key x) text ≡ true) → (xs : List A) → has_key key text xs ≡ false → count_by p xs ≡ 0
+none_pass p key text wants [] h = refl
+none_pass p key text wants (x ∷ xs) h =
+    elim (bytes_eq (key x) text) as (λ b. bytes_eq (key x) text ≡ b → (b || has_key key text xs) ≡ false → count_by p (x ∷ xs) ≡ 0) [
+      | true ↦ λ e g. absurd (cc)
+      | false ↦ λ e g.
+          elim (p x) as (λ b. p x ≡ b → count_by p (x ∷ xs) ≡ 0) [
+            | true ↦ λ d. absurd (let wanted = wants x d in cc)
+            | false ↦ λ d.
+                let none : cond {A = ℕ} (p x) 1 0 ≡ 0 = ap (λ b. cond {A = ℕ} b 1 0) d in
+                omega (arith, none, sum_by-cons (λ y. cond (p y) 1 0) x xs, none_pass p key text wants xs g)
+          ] refl
+    ] refl h
+
+-- where no two have one key, at most one passes a test that wants a key
+one_passes : {A : Type 0} (p : A → Bool) (key : A → List ℕ) (text : List ℕ) → ((x : A) → p x ≡ true → bytes_eq (key x) text ≡ true) → (xs : List A) → are_distinct key xs ≡ true → count_by p xs ≤ 1
+one_passes p key text wants [] h = omega arith
+one_passes p key text wants (x ∷ xs) h =
+    elim (has_key key (key x) xs) as (λ b. has_key key (key x) xs ≡ b → (not b && are_distinct key xs) ≡ true → count_by p (x ∷ xs) ≤ 1) [
+      | true ↦ λ e g. absurd (cc)
+      | false ↦ λ e g.
+          elim (p x) as (λ b. p x ≡ b → count_by p (x ∷ xs) ≤ 1) [
+            | true ↦ λ d.
+                let same : key x ≡ text = (bytes_eq-Decides (key x) text).0 (wants x d) in
+                let first : cond {A = ℕ} (p x) 1 0 ≡ 1 = ap (λ b. cond {A = ℕ} b 1 0) d in
+                let rest = none_pass p key text wants xs (ap (λ k. has_key key k xs) (sym same) ∙ e) in
+                omega (arith, first, rest, sum_by-cons (λ y. cond (p y) 1 0) x xs)
+            | false ↦ λ d.
+                let none : cond {A = ℕ} (p x) 1 0 ≡ 0 = ap (λ b. cond {A = ℕ} b 1 0) d in
+                omega (arith, none, sum_by-cons (λ y. cond (p y) 1 0) x xs, one_passes p key text wants xs g)
+          ] refl
+    ] refl h
+
+pub first_is_only : {A : Type 0} (p : A → Bool) (key : A → List ℕ) (text : List ℕ) → ((x : A) → p x ≡ true → bytes_eq (key x) text ≡ true) → (xs : List A) (i : ℕ) → are_distinct key xs ≡ true → position p xs ≡ Some i → Ok i ≡ only_place p xs
+first_is_only p key text wants xs i h e =
+    let few = one_passes p key text wants xs h in
+    one_from_first p xs i (count_by p xs) e (sym (ap (count_by p) (take_rest xs i) ∙ counted_from p xs i e)) few
+
+pub wants_key : (a b : Bool) → (a && b) ≡ true → a ≡ true
+wants_key true b h = refl
+wants_key false b h = absurd (cc)

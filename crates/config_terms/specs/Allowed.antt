@@ -77,6 +77,14 @@ abbrev pub are_distinct : {A : Type 0} → (A → List ℕ) → List A → Bool
 are_distinct key [] = true
 are_distinct key (x ∷ xs) = not (has_key key (key x) xs) && are_distinct key xs
 
+abbrev pub are_distinct_in : {A : Type 0} → (A → Field → List ℕ) → Option Field → List A → Bool
+are_distinct_in shown None xs = true
+are_distinct_in shown (Some f) xs = are_distinct (λ x. shown x f) xs
+
+-- whether no two of a kind have one key, where the kind has a key
+abbrev pub are_told_apart : {A : Type 0} → (A → Field → List ℕ) → Kind → List A → Bool
+are_told_apart shown k xs = are_distinct_in shown (key_field k) xs
+
 -- whether one of a list of a kind has the key of a resource, where the kind has a key
 abbrev pub is_taken_by : {A : Type 0} → (A → Field → List ℕ) → Option Field → A → List A → Bool
 is_taken_by shown None x xs = false

@@ -24,7 +24,7 @@ pub use fields::{Field, KINDS, Named};
 pub use given::path_kept;
 pub use laws::{edits_stay_allowed, resources_are_edited};
 pub use lines::{push_limit, push_options};
-pub use matches::{find_entry, has_all, has_key, is_taken, is_taken_but, keeps_key};
+pub use matches::{find_apart, find_entry, has_all, has_key, is_taken, is_taken_but, keeps_key};
 pub use printing::{entry_length, push_entries, push_entry};
 pub use rules::Rule;
 pub use terms::{Attr, Fs, IpType, Kind, Limit, Net, Rctl, Resource};

@@ -1,7 +1,7 @@
 //! Which resources match, and which are told apart by a name.
 ghost use Rattle.std.specs.Str.{bytes_eq};
-ghost use Rattle.std.specs.Prelude.{◌≡◌, ◌<◌, ◌≤◌, ◌∷◌, length, count_by, position, remove, true, IfOk};
-ghost use Rattle.config_terms.specs.Allowed.{has_key, is_taken, keeps_key};
+ghost use Rattle.std.specs.Prelude.{◌≡◌, ◌<◌, ◌≤◌, ◌∷◌, length, count_by, position, remove, true, IfOk, IsTrue, Some};
+ghost use Rattle.config_terms.specs.Allowed.{are_distinct, are_told_apart, has_key, is_taken, keeps_key};
 ghost use Rattle.config_terms.specs.Matches.{has_all, has_pair, is_text, is_wanted, only_place};
 
 use crate::{ConfigFault, Entry, Field, Kind};
@@ -99,8 +99,7 @@ fn only_match<T: Entry>(
     Ok(place)
 }
 
-// The property of the first pair is looked up once for all resources. It is the key of its kind most often: the
-// compiler makes a loop of its own of that case, which reads the key where it lies.
+// The property of the first pair is looked up once for all resources.
 fn match_pairs<T: Entry>(
     kind: Kind,
     entries: &[T],
@@ -111,13 +110,7 @@ fn match_pairs<T: Entry>(
     ensures inside { IfOk result (λ place. place < length entries.now) }
 {
     let field = kind.field(first.name.bytes());
-    let key = kind.key();
-    let text = first.value.bytes();
-    if field == key {
-        only_match(kind, entries, key, text, rest)
-    } else {
-        only_match(kind, entries, field, text, rest)
-    }
+    only_match(kind, entries, field, first.value.bytes(), rest)
 }
 
 // Where nothing is wanted, each resource matches.
@@ -146,6 +139,75 @@ pub fn find_entry<T: Entry>(
     match wanted {
         [] => only_entry(entries),
         [first, rest @ ..] => match_pairs(kind, entries, first, rest),
+    }
+}
+
+// The compiler knows the key of a kind, so this loop reads it where it lies.
+#[inline(always)]
+fn first_keyed<T: Entry>(
+    kind: Kind,
+    entries: &[T],
+    key: Field,
+    text: &[u8],
+    rest: &[Pair],
+) -> Option<usize>
+    ensures { result ≡ position (is_wanted T.shown kind (Some key) text.now rest.now) entries.now }
+{
+    entries.iter().position(|entry| is_same(entry.shown(key), text) && has_all(kind, entry, rest))
+}
+
+// Where a key is wanted that no two have, the first that has it is the only one that may match.
+#[inline(always)]
+#[tactic(auto, unfolding(crate::specs::Matches::only_place))]
+fn keyed_match<T: Entry>(
+    kind: Kind,
+    entries: &[T],
+    key: Field,
+    text: &[u8],
+    rest: &[Pair],
+) -> Result<usize, ConfigFault>
+    requires { IsTrue (are_distinct (λ e. T.shown e key) entries.now) }
+    ensures answer { result ≡ only_place (is_wanted T.shown kind (Some key) text.now rest.now) entries.now }
+    ensures inside { IfOk result (λ place. place < length entries.now) }
+{
+    match first_keyed(kind, entries, key, text, rest) {
+        None => Err(ConfigFault::NoMatch),
+        Some(place) => Ok(place),
+    }
+}
+
+/// The same of resources of which no two have one key.
+pub fn find_apart<T: Entry>(
+    kind: Kind,
+    entries: &[T],
+    wanted: &[Pair],
+) -> Result<usize, ConfigFault>
+    requires { IsTrue (are_told_apart T.shown kind entries.now) }
+    ensures answer { result ≡ only_place (λ e. has_all kind wanted.now (T.shown e)) entries.now }
+    ensures inside { IfOk result (λ place. place < length entries.now) }
+{
+    match wanted {
+        [] => only_entry(entries),
+        [first, rest @ ..] => match_apart(kind, entries, first, rest),
+    }
+}
+
+#[inline(always)]
+fn match_apart<T: Entry>(
+    kind: Kind,
+    entries: &[T],
+    first: &Pair,
+    rest: &[Pair],
+) -> Result<usize, ConfigFault>
+    requires { IsTrue (are_told_apart T.shown kind entries.now) }
+    ensures answer { result ≡ only_place (λ e. has_all kind (first.now ∷ rest.now) (T.shown e)) entries.now }
+    ensures inside { IfOk result (λ place. place < length entries.now) }
+{
+    let field = kind.field(first.name.bytes());
+    let text = first.value.bytes();
+    match kind.key() {
+        Some(key) if field == Some(key) => keyed_match(kind, entries, key, text, rest),
+        _ => only_match(kind, entries, field, text, rest),
     }
 }
 

@@ -25,7 +25,8 @@ use Rattle.export_read.specs.declared.command.Command.{Command}
 use Rattle.export_read.specs.declared.command.Command.TheVariants.{Create}
 use Rattle.zone_config.specs.Export.{export_text}
 use Rattle.zone_config.specs.Property.{properties}
-use Rattle.zone_config.specs.Sound.{IsSound, are_distinct_in, are_told_apart, count}
+use Rattle.config_terms.specs.Allowed.{are_distinct_in, are_told_apart}
+use Rattle.zone_config.specs.Sound.{IsSound, count}
 use Rattle.zone_config.specs.declared.terms.Contents.{Contents}
 use Rattle.export_read.specs.Drafts.{closed}
 use Rattle.export_read.specs.Names.{is_used}

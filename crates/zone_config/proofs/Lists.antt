@@ -8,9 +8,9 @@ use Rattle.std.proofs.lemmas.List.Concat.{flat_map-append}
 use Rattle.std.proofs.lemmas.List.Folds.{list_any-append, list_all-append}
 use Rattle.config_terms.specs.declared.fields.Field.{Field}
 use Rattle.config_terms.specs.declared.terms.Kind.{Kind}
-use Rattle.config_terms.specs.Allowed.{are_distinct, has_key, is_taken, is_taken_by, keeps_key, keeps_key_by}
+use Rattle.config_terms.specs.Allowed.{are_distinct, are_distinct_in, are_told_apart, has_key, is_taken, is_taken_by, keeps_key, keeps_key_by}
 use Rattle.config_terms.specs.Fields.{key_field}
-use Rattle.zone_config.specs.Sound.{AreSound, are_distinct_in, are_told_apart}
+use Rattle.zone_config.specs.Sound.{AreSound}
 
 -- tests joined by `and` and `or`
 pub first_true : (a b : Bool) → (a && b) ≡ true → a ≡ true

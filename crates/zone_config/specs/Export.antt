@@ -4,6 +4,7 @@ use Rattle.std.specs.List.{flat_map}
 use Rattle.config_terms.specs.declared.fault.ConfigFault.{ConfigFault}
 use Rattle.config_terms.specs.declared.fault.ConfigFault.TheVariants.{TooLarge}
 use Rattle.config_terms.specs.Texts.{setting, fs_text, net_text, device_text, rctl_text, attr_text, dataset_text}
+use Rattle.zone_config.specs.declared.limits.TheConstants.{TEXT_MAX}
 use Rattle.zone_config.specs.declared.terms.Contents.{Contents}
 use Rattle.zone_config.specs.declared.terms.Property.{Property}
 use Rattle.zone_config.specs.Property.{property_name, properties, shown}
@@ -17,12 +18,8 @@ export_text c =
     codes "create -b" ++ 10 ∷ [] ++ flat_map (property_line c) properties ++ flat_map fs_text c.fs ++ flat_map net_text c.net
     ++ flat_map device_text c.device ++ flat_map rctl_text c.rctl ++ flat_map attr_text c.attr ++ flat_map dataset_text c.dataset
 
--- the greatest length of an export text
-abbrev pub text_max : ℕ
-text_max = 32768
-
 abbrev pub unless_larger : ℕ → Contents → Result Contents ConfigFault
-unless_larger size c = if nat_lt text_max size then Err (TooLarge size) else Ok c
+unless_larger size c = if nat_lt TEXT_MAX size then Err (TooLarge size) else Ok c
 
 -- the configuration, unless its export text is too long
 abbrev pub sized : Contents → Result Contents ConfigFault

@@ -8,6 +8,7 @@ use Rattle.config_terms.specs.declared.terms.Resource.{Resource}
 use Rattle.config_terms.specs.declared.terms.Resource.TheVariants.{Fs}
 use Rattle.config_terms.specs.Allowed.{is_allowed, is_taken, options_passed}
 use Rattle.config_terms.specs.Matches.{has_all, only_place}
+use Rattle.zone_config.specs.declared.limits.TheConstants.{FS_MAX, RESOURCES_MAX}
 use Rattle.zone_config.specs.declared.terms.Contents.{Contents}
 use Rattle.zone_config.specs.Export.{export_text, sized}
 use Rattle.zone_config.specs.Kinds.{by_kind, by_resource}
@@ -40,12 +41,12 @@ has_taken_but place r c = by_resource r (λ A row x. is_taken row.shown row.kind
 
 -- the limit that one more file system passes, if it passes one
 abbrev pub fs_passed : Resource → Contents → Option ℕ
-fs_passed (Fs f) c = if nat_le 100 (length c.fs) then Some 100 else options_passed (Fs f)
+fs_passed (Fs f) c = if nat_le FS_MAX (length c.fs) then Some FS_MAX else options_passed (Fs f)
 fs_passed r c = None
 
 -- the first limit that one more resource passes, if it passes one
 abbrev pub limit_passed : Resource → Contents → Option ℕ
-limit_passed r c = if nat_le 256 (count c) then Some 256 else fs_passed r c
+limit_passed r c = if nat_le RESOURCES_MAX (count c) then Some RESOURCES_MAX else fs_passed r c
 
 abbrev pub unless_passed : Option ℕ → Contents → Result Contents ConfigFault
 unless_passed (Some limit) c = Err (TooMany limit)

@@ -10,6 +10,7 @@ use Rattle.config_terms.specs.Edits.{Changes, ChangesSurely}
 use Rattle.config_terms.specs.Numbers.{number_of}
 use Rattle.config_terms.specs.Rules.{obeys}
 use Rattle.zone_config.specs.declared.terms.Alias.{Alias}
+use Rattle.zone_config.specs.declared.limits.TheConstants.{RESOURCES_MAX, TEXT_MAX}
 use Rattle.zone_config.specs.declared.terms.Contents.{Contents}
 use Rattle.zone_config.specs.declared.terms.Property.{Property}
 use Rattle.zone_config.specs.declared.terms.Property.TheVariants.{Autoboot}
@@ -55,15 +56,15 @@ Shows s value old new = ⊥
 -- an alias has no rctl yet, and there are as many resources as there may be
 pub record HasNoPlace (a : Alias) (limit : ℕ) (old : Contents) : Type 0 where
   pub none : place_of a old.rctl ≡ None
-  pub told : limit ≡ 256
-  pub full : 256 ≤ count old
+  pub told : limit ≡ RESOURCES_MAX
+  pub full : RESOURCES_MAX ≤ count old
 
 -- how setting an allowed value may fail: for want of memory, or the text is too long; and of an alias, an rctl of another
 -- form holds it, or there is no place for its rctl
 abbrev pub MayRefuseSet : Option Setting → Contents → ConfigFault → Type 0
 MayRefuseSet None old fault = ⊥
 MayRefuseSet (Some s) old Memory = Unit {0}
-MayRefuseSet (Some s) old (TooLarge size) = 32768 < size
+MayRefuseSet (Some s) old (TooLarge size) = TEXT_MAX < size
 MayRefuseSet (Some (Aliased a)) old AliasHeld = IsTrue (is_held a old.rctl)
 MayRefuseSet (Some (Aliased a)) old (TooMany limit) = HasNoPlace a limit old
 MayRefuseSet (Some s) old fault = ⊥
@@ -96,7 +97,7 @@ IsCleared (Some (Aliased a)) old new = HasNoLimit a old new
 abbrev pub MayRefuseClear : Option Setting → Contents → ConfigFault → Type 0
 MayRefuseClear None old UnknownProperty = Unit {0}
 MayRefuseClear (Some (Aliased a)) old AliasHeld = IsTrue (is_held a old.rctl)
-MayRefuseClear (Some (Kept Autoboot)) old (TooLarge size) = 32768 < size
+MayRefuseClear (Some (Kept Autoboot)) old (TooLarge size) = TEXT_MAX < size
 MayRefuseClear s old fault = ⊥
 
 pub record Clears (name : List ℕ) (old new : Contents) (result : Result (Unit {0}) ConfigFault) : Type 0 where

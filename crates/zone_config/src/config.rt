@@ -9,7 +9,9 @@ ghost use Rattle.zone_config.specs.Export.{export_text, sized};
 ghost use Rattle.zone_config.specs.Property.{blank, without_value};
 ghost use Rattle.zone_config.specs.Resources.{added, count_of, found, has_taken, has_taken_but, length_of, limit_passed, removed, replaced, unless_passed, with_replaced, with_resource};
 ghost use Rattle.zone_config.specs.Sound.{IsSound};
+ghost use Rattle.zone_config.specs.declared.limits.TheConstants.{TEXT_MAX};
 
+use crate::limits::TEXT_MAX;
 use crate::sizes::{size_added, size_replaced, size_with};
 use crate::{Alias, Contents, Property, Setting};
 use config_terms::{ConfigFault, Entry, Kind, Resource, entry_length};
@@ -17,9 +19,6 @@ use std::alloc::Global;
 use std::marker::Model;
 use std::ops::Deref;
 use zn_base::{Pair, Text, TryClone, Value, read_decimal};
-
-// The greatest length of an export text, in bytes.
-const TEXT_MAX: usize = 32_768;
 
 /// A configuration: each property that is set has a value that its rule allows, no two rctls, attrs or
 /// datasets have one name and no two devices one match, there are at most 256 resources, 100 of them file
@@ -42,14 +41,16 @@ impl Model for ZoneConfig {
     ghost invariant = { λ c. IsKept c.contents c.size };
 }
 
+// The export text of a configuration in which nothing is set.
+const BLANK: &[u8] = b"create -b\nset autoboot=false\nset ip-type=shared\n";
+
 /// A configuration in which nothing is set. It takes no memory.
 pub fn blank(alloc: Global) -> ZoneConfig
     ensures { result ≡ blank }
 {
     ZoneConfig {
         contents: Contents::blank(alloc),
-        // `create -b`, and the lines of autoboot and ip-type.
-        size: 48,
+        size: BLANK.len(),
     }
 }
 
@@ -75,7 +76,7 @@ impl ZoneConfig {
     /// How many bytes the export text has. It takes no memory, and no look at the contents.
     pub fn text_length(&self) -> usize
         ensures same { result ≡ length (export_text self.now) }
-        ensures bound { result ≤ 32768 }
+        ensures bound { result ≤ TEXT_MAX }
     {
         self.size
     }

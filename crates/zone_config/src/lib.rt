@@ -8,6 +8,7 @@ mod config;
 mod contents;
 mod kinds;
 mod laws;
+mod limits;
 mod printing;
 mod property;
 mod removal;

@@ -1,23 +1,19 @@
 //! The resources of a configuration, kind by kind.
 ghost use Rattle.std.specs.Prelude.{◌≡◌, ◌<◌, ◌≤◌, IfOk, IsTrue, OnErr, OnOk, Some, length, remove};
-ghost use Rattle.config_terms.specs.Allowed.{is_taken};
+ghost use Rattle.config_terms.specs.Allowed.{are_told_apart, is_taken};
 ghost use Rattle.config_terms.specs.Fields.{kind_of};
 ghost use Rattle.zone_config.specs.Resources.{IsLengthOf, added, count_of, found, fs_passed, has_taken, has_taken_but, limit_passed, removed, replaced, text_at};
-ghost use Rattle.zone_config.specs.Sound.{HasSoundResources, are_told_apart, count};
+ghost use Rattle.zone_config.specs.declared.limits.TheConstants.{RESOURCES_MAX};
+ghost use Rattle.zone_config.specs.Sound.{HasSoundResources, count};
 
 use crate::Contents;
 use crate::kinds::{by_kind, by_resource, by_resource_mut, resource_by_kind_mut};
+use crate::limits::{FS_MAX, RESOURCES_MAX};
 use config_terms::{
-    ConfigFault, Entry, Kind, Resource, entry_length, find_entry, is_taken, is_taken_but, keeps_key,
+    ConfigFault, Entry, Kind, Resource, entry_length, find_apart, is_taken, is_taken_but, keeps_key,
 };
 use std::alloc::AllocError;
 use zn_base::{Listing, Pair};
-
-// The greatest number of resources of a configuration.
-const RESOURCES_MAX: usize = 256;
-
-// The greatest number of file systems among them.
-const FS_MAX: usize = 100;
 
 // Whether another resource of a kind than the one at a place has a resource's key. Where the key is that one's,
 // no other has it, and none is looked at.
@@ -35,7 +31,7 @@ fn is_taken_beside<T: Entry>(kind: Kind, place: usize, entry: &T, list: &Listing
 impl Contents {
     #[tactic(auto, unfolding(crate::specs::Sound::count))]
     fn count(&self) -> usize
-        requires { count self.now ≤ 256 }
+        requires { count self.now ≤ RESOURCES_MAX }
         ensures { result ≡ count self.now }
     {
         self.fs.len()
@@ -57,7 +53,7 @@ impl Contents {
 
     /// The first limit that one more resource passes: 256, 100 or 32.
     pub(crate) fn limit_passed(&self, resource: &Resource) -> Option<usize>
-        requires { count self.now ≤ 256 }
+        requires { count self.now ≤ RESOURCES_MAX }
         ensures { result ≡ limit_passed resource.now self.now }
     {
         if self.count() >= RESOURCES_MAX {
@@ -120,13 +116,14 @@ impl Contents {
 
     /// The place of the one resource of a kind that each wanted pair matches.
     pub(crate) fn find(&self, kind: Kind, wanted: &[Pair]) -> Result<usize, ConfigFault>
+        requires { HasSoundResources self.now }
         ensures answer { result ≡ found kind wanted.now self.now }
         ensures inside { IfOk result (λ place. place < count_of kind self.now) }
     {
         by_kind!(
             kind,
             self,
-            |kind, list| find_entry(kind, list.as_slice(), wanted)
+            |kind, list| find_apart(kind, list.as_slice(), wanted)
         )
     }
 }

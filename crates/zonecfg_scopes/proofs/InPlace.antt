@@ -23,7 +23,7 @@ use Rattle.zonecfg_scopes.specs.declared.command.Matching.{Matching}
 use Rattle.zonecfg_scopes.specs.declared.command.Topic.TheVariants.{Everything}
 use Rattle.zonecfg_scopes.specs.declared.fault.EditFault.{EditFault}
 use Rattle.zonecfg_scopes.specs.declared.fault.EditFault.TheVariants.{Memory}
-use Rattle.zonecfg_scopes.specs.declared.opened.ResourceScope.{ResourceScope}
+use Rattle.zonecfg_scopes.specs.declared.resource_scope.ResourceScope.{ResourceScope}
 use Rattle.zonecfg_scopes.specs.Commands.{list_name}
 use Rattle.zonecfg_scopes.specs.Denotes.{Follows}
 use Rattle.zonecfg_scopes.specs.Open.{Open, Nothing, Whole, Inside}

@@ -10,7 +10,7 @@ use Rattle.zonecfg_scopes.specs.declared.command.Command.TheVariants.{Add, Appen
 use Rattle.zonecfg_scopes.specs.declared.command.Matching.{Matching}
 use Rattle.zonecfg_scopes.specs.declared.command.Topic.TheVariants.{Everything}
 use Rattle.zonecfg_scopes.specs.declared.fault.EditFault.{EditFault}
-use Rattle.zonecfg_scopes.specs.declared.opened.ResourceScope.{ResourceScope}
+use Rattle.zonecfg_scopes.specs.declared.resource_scope.ResourceScope.{ResourceScope}
 use Rattle.zonecfg_scopes.specs.Denotes.{Begins, Builds, Denotes, Stands, Stays, adds, based, built_appended, built_cleared, built_from, built_kept, built_removed, built_set, denotes_cancelled, denotes_cleared, denotes_created, denotes_ended, denotes_kept, denotes_removed, denotes_set, fault_in, only_shows, refusal, selects, whole}
 use Rattle.zonecfg_scopes.specs.Edited.{or_stay, stepped}
 use Rattle.zonecfg_scopes.specs.Laws.{OneStands}

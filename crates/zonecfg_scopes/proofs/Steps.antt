@@ -16,7 +16,7 @@ use Rattle.zonecfg_scopes.specs.declared.fault.EditFault.{EditFault}
 use Rattle.zonecfg_scopes.specs.declared.fault.EditFault.TheVariants.{Memory, NeedForce, NothingOpen, WrongScope}
 use Rattle.zonecfg_scopes.specs.declared.fault.Scope.TheVariants.{Global, Resource as Scoped}
 use Rattle.zonecfg_scopes.specs.Open.{Open, Nothing, Whole, Inside}
-use Rattle.zonecfg_scopes.specs.declared.opened.ResourceScope.{ResourceScope}
+use Rattle.zonecfg_scopes.specs.declared.resource_scope.ResourceScope.{ResourceScope}
 use Rattle.zonecfg_scopes.specs.Commands.{list_name}
 use Rattle.zonecfg_scopes.specs.Denotes.{Begins, Builds, Denotes, EndsInside, Follows, GoesOn, Stands, Stays, adds, built_appended, built_cleared, built_from, built_kept, built_removed, built_set, denotes_cancelled, denotes_cleared, denotes_created, denotes_ended, denotes_kept, denotes_removed, denotes_set, fault_in, refusal, selects}
 use Rattle.zonecfg_scopes.specs.Edited.{or_stay, stepped}

@@ -1,7 +1,7 @@
 -- What is open, by the configuration and the scope that are kept.
 use Rattle.std.specs.Prelude.{Option, Some, None}
 use Rattle.zone_config.specs.declared.terms.Contents.{Contents}
-use Rattle.zonecfg_scopes.specs.declared.opened.ResourceScope.{ResourceScope}
+use Rattle.zonecfg_scopes.specs.declared.resource_scope.ResourceScope.{ResourceScope}
 use Rattle.zonecfg_scopes.specs.Open.{Open, Nothing, Whole, Inside}
 
 abbrev pub open_of : Option Contents → Option ResourceScope → Open

@@ -20,7 +20,7 @@ use Rattle.zonecfg_scopes.specs.declared.fault.EditFault.{EditFault}
 use Rattle.zonecfg_scopes.specs.declared.fault.EditFault.TheVariants.{NeedForce, NothingOpen, WrongScope}
 use Rattle.zonecfg_scopes.specs.declared.fault.Scope.TheVariants.{Global, Resource as Scoped}
 use Rattle.zonecfg_scopes.specs.Open.{Open, Nothing, Whole, Inside}
-use Rattle.zonecfg_scopes.specs.declared.opened.ResourceScope.{ResourceScope}
+use Rattle.zonecfg_scopes.specs.declared.resource_scope.ResourceScope.{ResourceScope}
 use Rattle.zonecfg_scopes.specs.Commands.{list_name}
 use Rattle.zonecfg_scopes.specs.Faults.{passed_on}
 

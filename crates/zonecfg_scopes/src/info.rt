@@ -25,7 +25,7 @@ fn help_line(alloc: Global) -> Result<Bytes, AllocError>
 }
 
 /// The line of `help`.
-pub fn help(alloc: Global) -> Result<Listing<Bytes>, AllocError>
+pub(crate) fn help(alloc: Global) -> Result<Listing<Bytes>, AllocError>
     ensures { IfOk result (λ lines. lines ≡ help_line ∷ []) }
 {
     let mut lines = Listing::new(alloc);
@@ -289,7 +289,7 @@ fn push_topic(
 }
 
 /// The lines of what `info` shows of a configuration, by the zone's name.
-pub fn topic_lines(
+pub(crate) fn topic_lines(
     alloc: Global,
     topic: Topic,
     name: &[u8],
@@ -303,7 +303,10 @@ pub fn topic_lines(
 }
 
 /// The lines of a resource.
-pub fn resource_lines(alloc: Global, resource: &Resource) -> Result<Listing<Bytes>, AllocError>
+pub(crate) fn resource_lines(
+    alloc: Global,
+    resource: &Resource,
+) -> Result<Listing<Bytes>, AllocError>
     ensures { IfOk result (λ lines. lines ≡ resource_lines resource.now) }
 {
     let mut lines = Listing::new(alloc);

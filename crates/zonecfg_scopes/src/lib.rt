@@ -5,6 +5,7 @@
 
 mod base;
 mod command;
+mod create;
 mod editor;
 mod fault;
 mod forms;
@@ -12,6 +13,7 @@ mod info;
 mod laws;
 mod line;
 mod opened;
+mod resource_scope;
 mod turns;
 mod verb;
 mod words;

@@ -17,7 +17,7 @@ fn line_of(alloc: Global, pieces: &[&[u8]]) -> Result<Bytes, AllocError>
 }
 
 /// Puts a line of some pieces, one after another, last.
-pub fn push_line(
+pub(crate) fn push_line(
     alloc: Global,
     out: &mut Listing<Bytes>,
     pieces: &[&[u8]],
@@ -29,7 +29,7 @@ pub fn push_line(
 }
 
 /// The lines of the export text of a configuration.
-pub fn export_lines(alloc: Global, config: &ZoneConfig) -> Result<Listing<Bytes>, AllocError>
+pub(crate) fn export_lines(alloc: Global, config: &ZoneConfig) -> Result<Listing<Bytes>, AllocError>
     ensures { IfOk result (λ lines. lines ≡ lines_of (export_text config.now)) }
 {
     match export(alloc, config) {

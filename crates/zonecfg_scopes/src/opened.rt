@@ -1,30 +1,24 @@
 //! What is open, and what subcommands make of it.
-ghost use Rattle.std.specs.Prelude.{◌≡◌, IfOk, IsTrue, OnErr, Err, Ok, codes, false, option_copied};
-ghost use Rattle.zn_base.specs.Answers.{AnswersUnless};
+ghost use Rattle.std.specs.Prelude.{◌≡◌, IfOk, IsTrue, OnErr, Err, option_copied};
 ghost use Rattle.config_terms.specs.Edits.{Changes};
-ghost use Rattle.config_terms.specs.Fields.{kind_of};
 ghost use Rattle.zonecfg_scopes.specs.Denotes.{Follows};
 ghost use Rattle.zonecfg_scopes.specs.Info.{export_lines, info_lines};
 ghost use Rattle.zonecfg_scopes.specs.Open.{Nothing, Whole};
 ghost use Rattle.zonecfg_scopes.specs.OpenOf.{config_of};
-ghost use Rattle.zonecfg_scopes.specs.Scopes.{created, is_in_place, is_placed, put_back, selection, without_matching};
+ghost use Rattle.zonecfg_scopes.specs.Scopes.{is_in_place, without_matching};
+ghost use Rattle.zone_config.specs.Resources.{with_resource};
 
 use crate::command::{Command, ListProperty, Matching, Topic};
+use crate::create::created;
 use crate::info::{resource_lines, topic_lines};
 use crate::line::export_lines;
+use crate::resource_scope::{ResourceScope, selection, wrong_scope};
 use crate::{EditFault, Scope};
 use config_terms::{ConfigFault, Kind, Resource};
 use std::alloc::{AllocError, Global};
 use std::marker::Model;
 use zn_base::{Bytes, Listing, Text, TryClone, Value};
-use zone_config::{ZoneConfig, blank};
-
-/// The resource of an open scope. It is new, or was selected at its place among those of its kind.
-#[derive(Drop)]
-pub struct ResourceScope {
-    pub resource: Resource,
-    pub place: Option<u32>,
-}
+use zone_config::ZoneConfig;
 
 /// What is open: nothing, a configuration in the global scope, or a resource of one, which is as before
 /// the scope. Contracts see these three.
@@ -41,57 +35,6 @@ impl Model for Opened {
     ghost Value = { Open };
 
     ghost view = { λ o. open_of o.config o.scope };
-}
-
-fn wrong_scope(scope: &ResourceScope) -> EditFault
-    ensures { result ≡ EditFault.WrongScope (Scope.Resource (kind_of scope.now.resource)) }
-{
-    EditFault::WrongScope(Scope::Resource(scope.resource.kind()))
-}
-
-fn ipkg(alloc: Global) -> Result<Value, EditFault>
-    ensures { AnswersUnless EditFault.Memory (Ok (Value.Simple (codes "ipkg"))) result }
-{
-    Ok(Value::Simple(Text::of(alloc, b"ipkg")?))
-}
-
-#[tactic(auto, using(crate::proofs::Branded::branded))]
-fn branded(alloc: Global) -> Result<ZoneConfig, EditFault>
-    ensures { AnswersUnless EditFault.Memory (Ok (created false)) result }
-{
-    let mut config = blank(alloc);
-    let brand = ipkg(alloc)?;
-    match config.set_property(alloc, b"brand", &brand) {
-        Ok(()) => Ok(config),
-        // The brand is allowed, so only memory can be wanting.
-        Err(_) => Err(EditFault::Memory),
-    }
-}
-
-fn created(alloc: Global, bare: bool) -> Result<ZoneConfig, EditFault>
-    ensures { AnswersUnless EditFault.Memory (Ok (created bare)) result }
-{
-    if bare {
-        Ok(blank(alloc))
-    } else {
-        branded(alloc)
-    }
-}
-
-// The place and a copy of the resource that a matching selects.
-fn selection(
-    alloc: Global,
-    config: &ZoneConfig,
-    matching: &Matching,
-) -> Result<ResourceScope, ConfigFault>
-    ensures { AnswersUnless ConfigFault.Memory (selection matching.now config.now) result }
-{
-    let place = config.find_resource(matching.kind, matching.pairs.as_slice())?;
-    let resource = config.copy_at(alloc, matching.kind, place as usize)?;
-    Ok(ResourceScope {
-        resource,
-        place: Some(place),
-    })
 }
 
 // Removes the one resource that matches, or with `force` all that match.
@@ -111,25 +54,16 @@ fn remove_matching(
     }
 }
 
-// Puts a copy of the resource of a scope last in its kind, or in its place.
-fn put_back(
-    alloc: Global,
-    config: &mut ZoneConfig,
-    scope: &ResourceScope,
-) -> Result<(), ConfigFault>
-    requires { IsTrue (is_placed scope.now.place scope.now.resource config.old) }
-    ensures { Changes config.old config.new result (put_back scope.now.place scope.now.resource config.old) }
+// Puts a copy of a new resource last in its kind.
+fn put_last(alloc: Global, config: &mut ZoneConfig, resource: &Resource) -> Result<(), ConfigFault>
+    ensures { Changes config.old config.new result (with_resource resource.now config.old) }
 {
-    let resource = scope.resource.try_clone(alloc)?;
-    match scope.place {
-        None => config.add_resource(resource),
-        Some(place) => config.replace_resource(place, resource),
-    }
+    config.add_resource(resource.try_clone(alloc)?)
 }
 
 impl Opened {
     /// Nothing is open.
-    pub fn nothing() -> Opened
+    pub(crate) fn nothing() -> Opened
         ensures { result ≡ Nothing }
     {
         Opened {
@@ -139,7 +73,7 @@ impl Opened {
     }
 
     /// A configuration is open, in the global scope.
-    pub fn whole(config: ZoneConfig) -> Opened
+    pub(crate) fn whole(config: ZoneConfig) -> Opened
         ensures { result ≡ Whole config }
     {
         Opened {
@@ -149,7 +83,7 @@ impl Opened {
     }
 
     /// The configuration that is open.
-    pub fn config(&self) -> Option<&ZoneConfig>
+    pub(crate) fn config(&self) -> Option<&ZoneConfig>
         ensures { option_copied result ≡ config_of self.now }
     {
         self.config.as_ref()
@@ -157,7 +91,7 @@ impl Opened {
 
     /// The lines of what `info` shows, by the zone's name.
     #[tactic(auto, unfolding(crate::specs::Info::info_lines))]
-    pub fn info(
+    pub(crate) fn info(
         &self,
         alloc: Global,
         name: &[u8],
@@ -174,7 +108,7 @@ impl Opened {
 
     /// The lines of `export`.
     #[tactic(auto, unfolding(crate::specs::Info::export_lines))]
-    pub fn export(&self, alloc: Global) -> Result<Listing<Bytes>, AllocError>
+    pub(crate) fn export(&self, alloc: Global) -> Result<Listing<Bytes>, AllocError>
         ensures { IfOk result (λ lines. lines ≡ export_lines self.now) }
     {
         match (&self.config, &self.scope) {
@@ -184,7 +118,7 @@ impl Opened {
     }
 
     /// The same is open in the copy.
-    pub fn copy(&self, alloc: Global) -> Result<Opened, EditFault>
+    pub(crate) fn copy(&self, alloc: Global) -> Result<Opened, EditFault>
         ensures same { IfOk result (λ o. o ≡ self.now) }
         ensures memory { OnErr result (result ≡ Err EditFault.Memory) }
     {
@@ -313,7 +247,15 @@ impl Opened {
         match (&mut self.config, &self.scope) {
             (None, _) => return Err(EditFault::NothingOpen),
             (Some(_), None) => return Err(EditFault::WrongScope(Scope::Global)),
-            (Some(config), Some(scope)) => put_back(alloc, config, scope)?,
+            (Some(config), Some(scope)) => match scope.place {
+                None => put_last(alloc, config, &scope.resource)?,
+                Some(place) => {
+                    let size = config.check_replaced(place, &scope.resource)?;
+                    if let Some(scope) = self.scope.take() {
+                        config.put_checked(place, scope.resource, size);
+                    }
+                }
+            },
         }
         self.scope = None;
         Ok(())
@@ -380,7 +322,7 @@ impl Opened {
     }
 
     /// Does what a subcommand says. A refused one leaves all as it was, and so does want of memory.
-    pub fn obey(&mut self, alloc: Global, command: &Command) -> Result<(), EditFault>
+    pub(crate) fn obey(&mut self, alloc: Global, command: &Command) -> Result<(), EditFault>
         requires { IsTrue (is_in_place self.old) }
         ensures { Follows command.now self.old self.new result }
     {
