@@ -13,7 +13,7 @@ use Rattle.zones_run.specs.Refusals.{refused}
 use Rattle.zones_run.specs.Subcommands.{Edits, is_elsewhere, looked_over, obeyed, passed}
 
 -- a refusal that a definition gives
-pub refuses : (new : Open) (refusal : Refusal) (said : Result Open Refusal) → said ≡ Err refusal → Edits new (Err refusal) said
+pub refuses : (new : Open) (refusal : Refusal) (said : Result Open Refusal) → said ≡ Err refusal → Edits {A = Unit {0}} new (Err refusal) said
 refuses new Wants_memory said e = tt
 refuses new (Edit fault) said e = e
 refuses new (Flawed flaw) said e = e
@@ -31,7 +31,7 @@ unanswered command e (Ok o) fault h = absurd (cc)
 unanswered command e (Err other) fault h = cc
 
 -- the editor refuses it, or memory runs out
-pub fails : (command : Command) (e : Edited) (new : Open) (fault : EditFault) → is_elsewhere command ≡ false → (fault ≡ Memory) ⊎ (answer_of command e ≡ Err fault) → Edits new (Err (refused fault)) (obeyed command e.opened)
+pub fails : (command : Command) (e : Edited) (new : Open) (fault : EditFault) → is_elsewhere command ≡ false → (fault ≡ Memory) ⊎ (answer_of command e ≡ Err fault) → Edits {A = Unit {0}} new (Err (refused fault)) (obeyed command e.opened)
 fails command e new Memory is (inl h) = tt
 fails command e new fault is (inl h) = absurd (cc)
 fails command e new fault is (inr h) = refuses new (refused fault) (obeyed command e.opened) (here command e.opened is ∙ ap (passed command) (unanswered command e (made command e.opened) fault h))

@@ -90,8 +90,8 @@ fn obey_parts(
     line: Part,
 ) -> Result<(), Refusal>
     requires brands { brands.now ≡ known_brands }
-    requires short { length line.entry.text.now ≤ 4200 }
-    requires reads { ReadsInParts line.entry.text.now [] line.entry.tokens.now }
+    requires short { length line.text.now ≤ 4200 }
+    requires reads { ReadsInParts line.text.now [] line.tokens.now }
     ensures { Edits editor.new.opened result (in_turn obeyed_as (texts_from false line.entry.text.now line.entry.tokens.now) editor.old.opened) }
 {
     let mut left = line;
