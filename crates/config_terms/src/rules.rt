@@ -113,6 +113,37 @@ fn is_attribute_name(value: &[u8]) -> bool
         && !value.starts_with(b"zone")
 }
 
+#[tactic(auto, unfolding(crate::specs::Rules::obeys))]
+fn is_flag(value: &[u8]) -> bool
+    ensures { result ≡ obeys Rule.Flag value.now }
+{
+    value == b"true".as_slice() || value == b"false".as_slice()
+}
+
+#[tactic(auto, unfolding(crate::specs::Rules::obeys))]
+fn is_ip_way(value: &[u8]) -> bool
+    ensures { result ≡ obeys Rule.IpWay value.now }
+{
+    value == b"shared".as_slice() || value == b"exclusive".as_slice()
+}
+
+#[tactic(auto, unfolding(crate::specs::Rules::obeys))]
+fn is_host_id(value: &[u8]) -> bool
+    ensures { result ≡ obeys Rule.HostId value.now }
+{
+    value.len() <= 8 && all_hex_bytes(value) && value != b"ffffffff".as_slice()
+}
+
+#[tactic(auto, unfolding(crate::specs::Rules::obeys))]
+fn is_attribute_form(value: &[u8]) -> bool
+    ensures { result ≡ obeys Rule.AttributeForm value.now }
+{
+    value == b"int".as_slice()
+        || value == b"uint".as_slice()
+        || value == b"boolean".as_slice()
+        || value == b"string".as_slice()
+}
+
 impl Rule {
     /// Whether the rule allows a value. It takes no memory.
     #[tactic(auto, unfolding(crate::specs::Rules::obeys))]
@@ -122,24 +153,17 @@ impl Rule {
         match self {
             Rule::RootedPath => is_path(value),
             Rule::OwnPath => is_path(value) && value != b"/".as_slice(),
-            Rule::Flag => value == b"true".as_slice() || value == b"false".as_slice(),
+            Rule::Flag => is_flag(value),
             Rule::ShortName => value.len() <= 32 && all_name_bytes(value),
             Rule::Simple => value.len() <= 1023 && all_simple_bytes(value),
-            Rule::IpWay => value == b"shared".as_slice() || value == b"exclusive".as_slice(),
-            Rule::HostId => {
-                value.len() <= 8 && all_hex_bytes(value) && value != b"ffffffff".as_slice()
-            }
+            Rule::IpWay => is_ip_way(value),
+            Rule::HostId => is_host_id(value),
             Rule::Number => read_decimal(value, u64::MAX).is_some(),
             Rule::TypeWord => 1 <= value.len() && value.len() <= 15 && all_alphanumeric(value),
             Rule::OptionWord => 1 <= value.len() && value.len() <= 63 && all_option_bytes(value),
             Rule::ControlName => 1 <= value.len() && value.len() <= 63 && all_name_bytes(value),
             Rule::AttributeName => is_attribute_name(value),
-            Rule::AttributeForm => {
-                value == b"int".as_slice()
-                    || value == b"uint".as_slice()
-                    || value == b"boolean".as_slice()
-                    || value == b"string".as_slice()
-            }
+            Rule::AttributeForm => is_attribute_form(value),
         }
     }
 

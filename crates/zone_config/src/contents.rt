@@ -1,7 +1,7 @@
 //! The properties of a configuration: what each shows, and how it is given a value.
 ghost use Rattle.std.specs.Prelude.{◌≡◌, ◌≤◌, IfOk, IsTrue, OnErr, OnOk, length};
 ghost use Rattle.config_terms.specs.Rules.{obeys};
-ghost use Rattle.zone_config.specs.Parts.{lists_of, settings_of};
+ghost use Rattle.zone_config.specs.Parts.{boot_of, lists_of, rights_of};
 ghost use Rattle.zone_config.specs.Property.{blank, bool_text, ip_text, ip_type, property_rule, shown, with_value, without_value};
 
 use crate::{Contents, Property};
@@ -126,11 +126,15 @@ impl Contents {
 // Parts of a copy, each made by a function of its own: what has made few values has few to let go where memory
 // runs out.
 #[derive(Drop)]
-struct Settings {
+struct Boot {
     zonepath: Option<AbsPath>,
     brand: Text,
     bootargs: Text,
     pool: Text,
+}
+
+#[derive(Drop)]
+struct Rights {
     limitpriv: Text,
     class: Text,
     hostid: Text,
@@ -147,14 +151,21 @@ struct Lists {
     dataset: Listing<Text>,
 }
 
-fn copy_settings(contents: &Contents, alloc: Global) -> Result<Settings, AllocError>
-    ensures { IfOk result (λ settings. settings ≡ settings_of contents.now) }
+fn copy_boot(contents: &Contents, alloc: Global) -> Result<Boot, AllocError>
+    ensures { IfOk result (λ boot. boot ≡ boot_of contents.now) }
 {
-    Ok(Settings {
+    Ok(Boot {
         zonepath: contents.zonepath.try_clone(alloc)?,
         brand: contents.brand.copy(alloc)?,
         bootargs: contents.bootargs.copy(alloc)?,
         pool: contents.pool.copy(alloc)?,
+    })
+}
+
+fn copy_rights(contents: &Contents, alloc: Global) -> Result<Rights, AllocError>
+    ensures { IfOk result (λ rights. rights ≡ rights_of contents.now) }
+{
+    Ok(Rights {
         limitpriv: contents.limitpriv.copy(alloc)?,
         class: contents.class.copy(alloc)?,
         hostid: contents.hostid.copy(alloc)?,
@@ -177,19 +188,20 @@ fn copy_lists(contents: &Contents, alloc: Global) -> Result<Lists, AllocError>
 
 impl TryClone for Contents {
     fn try_clone(&self, alloc: Global) -> Result<Self, AllocError> {
-        let settings = copy_settings(self, alloc)?;
+        let boot = copy_boot(self, alloc)?;
+        let rights = copy_rights(self, alloc)?;
         let lists = copy_lists(self, alloc)?;
         Ok(Contents {
-            zonepath: settings.zonepath,
-            brand: settings.brand,
+            zonepath: boot.zonepath,
+            brand: boot.brand,
             autoboot: self.autoboot,
-            bootargs: settings.bootargs,
-            pool: settings.pool,
-            limitpriv: settings.limitpriv,
-            class: settings.class,
+            bootargs: boot.bootargs,
+            pool: boot.pool,
+            limitpriv: rights.limitpriv,
+            class: rights.class,
             ip: self.ip,
-            hostid: settings.hostid,
-            fs_allowed: settings.fs_allowed,
+            hostid: rights.hostid,
+            fs_allowed: rights.fs_allowed,
             fs: lists.fs,
             net: lists.net,
             device: lists.device,
