@@ -10,7 +10,7 @@ invariant-loop-command l = record {
   short : length l.left.text.now ≤ 4200;
   reads : ReadsInParts l.left.text.now [] l.left.tokens.now;
   same : in_turn obeyed_as (texts_from false l.left.text.now l.left.tokens.now) l.editor.opened
-    ≡ in_turn obeyed_as (texts_from false l.initial.left.text.now l.initial.left.tokens.now) l.fn.editor.opened;
+      ≡ in_turn obeyed_as (texts_from false l.initial.left.text.now l.initial.left.tokens.now) l.fn.editor.opened;
 }
 
 abbrev pub decreases-loop-command : goal.decreases-loop-command
