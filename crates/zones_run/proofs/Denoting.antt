@@ -20,7 +20,7 @@ use Rattle.zonecfg_scopes.specs.Scopes.{made}
 use Rattle.zonecfg_scopes.specs.Turns.{all_in_turn, commands_by, goes_on, in_turn, line_commands, line_in_turn, script_of}
 use Rattle.zonecfg_scopes.proofs.Steps.{stands_stepped}
 use Rattle.zones_run.specs.declared.refusal.Refusal.{Refusal}
-use Rattle.zones_run.specs.declared.status.TheConstants.{DONE}
+use Rattle.zones_run.specs.Statuses.{status_done}
 use Rattle.zones_run.specs.Denoted.{ExportsDenoted}
 use Rattle.zones_run.specs.Exporting.{edited, ended, exported, led_on, written_unless_flawed}
 use Rattle.zn_base.specs.Lines.{lines_of}
@@ -94,18 +94,18 @@ module _ (base : Option Contents) where
   line_stands line cs o new e s = line_by (subcommands_of line) cs o new e s
 
 -- a run that goes on past a line
-leads : (number : ℕ) (past : Bool) (said : Result Open Refusal) (more : Open → Output) → (cond past (limit_at number) (led_on number said more)).status ≡ DONE
+leads : (number : ℕ) (past : Bool) (said : Result Open Refusal) (more : Open → Output) → (cond past (limit_at number) (led_on number said more)).status ≡ status_done
     → (o : Open) × (said ≡ Ok o) × (cond past (limit_at number) (led_on number said more) ≡ more o)
 leads number true said more done = absurd (omega (arith, done))
 leads number false (Ok o) more done = (o, refl, refl)
 leads number false (Err refusal) more done = absurd (omega (arith, done))
 
-flawless : (found : List Flaw) (c : Contents) → (written_unless_flawed (first found) c).status ≡ DONE → (found ≡ []) × (written_unless_flawed (first found) c ≡ written (export_text c))
+flawless : (found : List Flaw) (c : Contents) → (written_unless_flawed (first found) c).status ≡ status_done → (found ≡ []) × (written_unless_flawed (first found) c ≡ written (export_text c))
 flawless [] c done = (refl, refl)
 flawless (flaw ∷ found) c done = absurd (omega (arith, done))
 
 -- the end of the input
-end_denotes : (cs : List Command) (o : Open) → Stands None cs o → (ended o).status ≡ DONE → ExportsDenoted cs (ended o)
+end_denotes : (cs : List Command) (o : Open) → Stands None cs o → (ended o).status ≡ status_done → ExportsDenoted cs (ended o)
 end_denotes cs Nothing s done = absurd (omega (arith, done))
 end_denotes cs (Inside c r at) s done = absurd (omega (arith, done))
 end_denotes cs (Whole c) s done =
@@ -113,7 +113,7 @@ end_denotes cs (Whole c) s done =
     record { config = c; denoted = s; flawless = none.0; text = none.1 }
 
 -- the lines from one on
-lines_denote : (lines : List (List ℕ)) (number : ℕ) (cs : List Command) (o : Open) → Stands None cs o → (edited number o lines).status ≡ DONE → ExportsDenoted (cs ++ flat_map line_commands lines) (edited number o lines)
+lines_denote : (lines : List (List ℕ)) (number : ℕ) (cs : List Command) (o : Open) → Stands None cs o → (edited number o lines).status ≡ status_done → ExportsDenoted (cs ++ flat_map line_commands lines) (edited number o lines)
 lines_denote [] number cs o s done =
     let P : List Command → Type 0 = λ xs. ExportsDenoted xs (ended o) in
     subst P (sym (append-nil cs)) (end_denotes cs o s done)
@@ -126,5 +126,5 @@ lines_denote (line ∷ lines) number cs o s done =
     (subst P (append_assoc cs (line_commands line) (flat_map line_commands lines))
     (lines_denote lines (number + 1) (cs ++ line_commands line) led.0 here (sym (ap (λ output. output.status) led.2) ∙ done)))
 
-pub exports_denoted : (bytes : List ℕ) → (exported bytes).status ≡ DONE → ExportsDenoted (script_of bytes) (exported bytes)
+pub exports_denoted : (bytes : List ℕ) → (exported bytes).status ≡ status_done → ExportsDenoted (script_of bytes) (exported bytes)
 exports_denoted bytes done = lines_denote (lines_of bytes) 1 [] Nothing based done

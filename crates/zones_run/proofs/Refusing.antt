@@ -6,7 +6,7 @@ use Rattle.zonecfg_scopes.specs.declared.command.Command.{Command}
 use Rattle.zonecfg_scopes.specs.Denotes.{Stands, based}
 use Rattle.zonecfg_scopes.specs.Open.{Open, Nothing}
 use Rattle.zones_run.specs.declared.refusal.Refusal.{Refusal}
-use Rattle.zones_run.specs.declared.status.TheConstants.{REFUSED}
+use Rattle.zones_run.specs.Statuses.{status_refused}
 use Rattle.zonecfg_scopes.specs.Turns.{line_commands}
 use Rattle.zones_run.specs.Denoted.{RefusesEnd, RefusesLine}
 use Rattle.zones_run.specs.Exporting.{edited, exported, led_on, refused_at}
@@ -17,7 +17,7 @@ use Rattle.zones_run.specs.Subcommands.{edit_of}
 use Rattle.zones_run.proofs.Denoting.{line_stands}
 
 -- a run that ends with a refusal is refused at this line, or goes on past it
-meets : (number : ℕ) (past : Bool) (said : Result Open Refusal) (more : Open → Output) → (cond past (limit_at number) (led_on number said more)).status ≡ REFUSED
+meets : (number : ℕ) (past : Bool) (said : Result Open Refusal) (more : Open → Output) → (cond past (limit_at number) (led_on number said more)).status ≡ status_refused
     → ((refusal : Refusal) × (said ≡ Err refusal) × (cond past (limit_at number) (led_on number said more) ≡ refused_at number refusal))
     ⊎ ((next : Open) × (said ≡ Ok next) × (cond past (limit_at number) (led_on number said more) ≡ more next))
 meets number true said more is = absurd (omega (arith, is))
@@ -27,7 +27,7 @@ meets number false (Err refusal) more is = inl (refusal, refl, refl)
 -- the lines from one on, behind some that were obeyed
 lines_refused : (lines : List (List ℕ)) (number : ℕ) (all before : List (List ℕ)) (o : Open)
     → all ≡ before ++ lines → number ≡ length before + 1 → Stands None (flat_map line_commands before) o
-    → (edited number o lines).status ≡ REFUSED → RefusesLine all (edited number o lines) ⊎ RefusesEnd all (edited number o lines)
+    → (edited number o lines).status ≡ status_refused → RefusesLine all (edited number o lines) ⊎ RefusesEnd all (edited number o lines)
 lines_refused [] number all before o cut is s refused =
     let P : List (List ℕ) → Type 0 = λ xs. Stands None (flat_map line_commands xs) o in
     inr (record { opened = o; stands = subst P (sym (cut ∙ append-nil before)) s; told = refl })
@@ -56,5 +56,5 @@ lines_refused (line ∷ lines) number all before o cut is s refused =
           (sym (ap (λ output. output.status) on.2) ∙ refused))
     ]
 
-pub refusals_denoted : (bytes : List ℕ) → (exported bytes).status ≡ REFUSED → RefusesLine (lines_of bytes) (exported bytes) ⊎ RefusesEnd (lines_of bytes) (exported bytes)
+pub refusals_denoted : (bytes : List ℕ) → (exported bytes).status ≡ status_refused → RefusesLine (lines_of bytes) (exported bytes) ⊎ RefusesEnd (lines_of bytes) (exported bytes)
 refusals_denoted bytes refused = lines_refused (lines_of bytes) 1 (lines_of bytes) [] Nothing refl refl based refused

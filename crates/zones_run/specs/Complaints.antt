@@ -4,7 +4,7 @@ use Rattle.std.specs.Fmt.{decimal}
 use Rattle.trace_text.specs.Faults.{fault_text}
 use Rattle.zones_run.specs.declared.outcome.Complaint.{Complaint}
 use Rattle.zones_run.specs.declared.outcome.Complaint.TheVariants.{Line, End, Grammar, FirstRefused, Limit}
-use Rattle.zones_run.specs.declared.status.TheConstants.{GRAMMAR, LIMIT, REFUSED}
+use Rattle.zones_run.specs.Statuses.{status_grammar, status_limit, status_refused}
 use Rattle.zones_run.specs.Output.{Output}
 use Rattle.zones_run.specs.Refusals.{refusal_text}
 
@@ -16,11 +16,11 @@ complaint_text (FirstRefused number) = codes "first refused line: " ++ decimal n
 complaint_text (Limit number) = codes "limit at line " ++ decimal number ++ 10 ∷ []
 
 abbrev pub complaint_status : Complaint → ℕ
-complaint_status (Line number refusal) = REFUSED
-complaint_status (End refusal) = REFUSED
-complaint_status (Grammar number fault) = GRAMMAR
-complaint_status (FirstRefused number) = REFUSED
-complaint_status (Limit number) = LIMIT
+complaint_status (Line number refusal) = status_refused
+complaint_status (End refusal) = status_refused
+complaint_status (Grammar number fault) = status_grammar
+complaint_status (FirstRefused number) = status_refused
+complaint_status (Limit number) = status_limit
 
 -- the output that is a complaint alone
 abbrev pub complaint_output : Complaint → Output

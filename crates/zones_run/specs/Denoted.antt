@@ -9,7 +9,7 @@ use Rattle.zonecfg_scopes.specs.Denotes.{Denotes, Stands}
 use Rattle.zonecfg_scopes.specs.Open.{Open}
 use Rattle.zonecfg_scopes.specs.Turns.{line_commands, script_of}
 use Rattle.zones_run.specs.declared.refusal.Refusal.{Refusal}
-use Rattle.zones_run.specs.declared.status.TheConstants.{DONE, REFUSED}
+use Rattle.zones_run.specs.Statuses.{status_done, status_refused}
 use Rattle.zones_run.specs.Exporting.{ended, exported, refused_at}
 use Rattle.zn_base.specs.Lines.{lines_of}
 use Rattle.zones_run.specs.Output.{Output, written}
@@ -24,7 +24,7 @@ pub record ExportsDenoted (cs : List Command) (output : Output) : Type 0 where
 
 -- a law: where the status is 0, what is written is the export text of what the subcommands of the input denote
 abbrev pub ExportsWhatIsDenoted : Type 0
-ExportsWhatIsDenoted = (bytes : List ℕ) → (exported bytes).status ≡ DONE → ExportsDenoted (script_of bytes) (exported bytes)
+ExportsWhatIsDenoted = (bytes : List ℕ) → (exported bytes).status ≡ status_done → ExportsDenoted (script_of bytes) (exported bytes)
 
 -- the first line that is refused, at what the subcommands of the lines before it denote
 pub record RefusesLine (lines : List (List ℕ)) (output : Output) : Type 0 where
@@ -46,5 +46,5 @@ pub record RefusesEnd (lines : List (List ℕ)) (output : Output) : Type 0 where
 
 -- a law: where the status is 1, what is refused is a line or the end, at what the subcommands before it denote
 abbrev pub RefusesAtWhatIsDenoted : Type 0
-RefusesAtWhatIsDenoted = (bytes : List ℕ) → (exported bytes).status ≡ REFUSED
+RefusesAtWhatIsDenoted = (bytes : List ℕ) → (exported bytes).status ≡ status_refused
     → RefusesLine (lines_of bytes) (exported bytes) ⊎ RefusesEnd (lines_of bytes) (exported bytes)

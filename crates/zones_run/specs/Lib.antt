@@ -1,3 +1,5 @@
+pub mod Statuses
+pub mod Fixed
 pub mod Lines
 pub mod Reading
 pub mod Refusals

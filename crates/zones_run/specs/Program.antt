@@ -1,10 +1,10 @@
 -- What the program writes for its words and its whole input, as far as the input is known.
 use Rattle.std.specs.Prelude.{◌≡◌, ℕ, List, [], Option, Some, None, IfSome}
 use Rattle.std.specs.Option.{option_map}
-use Rattle.zones_run.specs.declared.status.TheConstants.{USAGE}
+use Rattle.zones_run.specs.Statuses.{status_usage}
 use Rattle.zones_run.specs.declared.words.Command.{Command}
 use Rattle.zones_run.specs.declared.words.Command.TheVariants.{Export, Trace, Help, Version}
-use Rattle.zones_run.specs.declared.words.TheConstants.{HELP, USAGE_LINE, VERSION}
+use Rattle.zones_run.specs.Fixed.{help_text, usage_text, version_text}
 use Rattle.zones_run.specs.Exporting.{exported}
 use Rattle.zones_run.specs.Output.{Output, written}
 use Rattle.zones_run.specs.Tracing.{AnswersRead, HasReplies, run_of, traced}
@@ -13,13 +13,19 @@ use Rattle.zones_run.specs.Words.{command_of}
 abbrev pub output_for : Option Command → Option (List ℕ) → Option Output
 output_for (Some Export) input = option_map exported input
 output_for (Some Trace) input = option_map traced input
-output_for (Some Help) input = Some (written HELP.now)
-output_for (Some Version) input = Some (written VERSION.now)
-output_for None input = Some (record { status = USAGE; out = []; err = USAGE_LINE.now })
+output_for (Some Help) input = Some (written help_text)
+output_for (Some Version) input = Some (written version_text)
+output_for None input = Some (record { status = status_usage; out = []; err = usage_text })
 
 -- the output for some words, as far as the input is known
 abbrev pub output_of : List (List ℕ) → Option (List ℕ) → Option Output
 output_of words input = output_for (command_of words) input
+
+-- words that ask for no input: the help, the version, and what is no form of the command line
+abbrev pub ReadsNothing : Option Command → Type 0
+ReadsNothing (Some Export) = ⊥
+ReadsNothing (Some Trace) = ⊥
+ReadsNothing command = Unit {0}
 
 -- where the input was not read to its end, a trace has written whole replies, and every other command nothing
 abbrev pub HasAnswered : Option Command → Option (List ℕ) → (held holds : Option (List ℕ)) → Type 0

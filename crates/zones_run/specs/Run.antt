@@ -1,7 +1,7 @@
 -- What a run leaves on its two sinks, by its status.
 use Rattle.std.specs.Prelude.{◌≡◌, ◌≤◌, ◌⊎◌, ◌++◌, ◌∷◌, [], ℕ, List, length, take, Option, codes}
 use Rattle.zn_io.specs.Streams.{Rose, after_known}
-use Rattle.zones_run.specs.declared.status.TheConstants.{DONE, GRAMMAR, LIMIT, NO_MEMORY, READ_FAULT, REFUSED, USAGE, WRITE_FAULT}
+use Rattle.zones_run.specs.Statuses.{status_done, status_grammar, status_limit, status_no_memory, status_read_fault, status_refused, status_usage, status_write_fault}
 use Rattle.zones_run.specs.declared.fault.RunFault.{RunFault}
 use Rattle.zones_run.specs.declared.fault.RunFault.TheVariants.{Memory, Read, Write}
 use Rattle.zones_run.specs.declared.lines.ReadFault.{ReadFault}
@@ -10,10 +10,10 @@ use Rattle.zones_run.specs.Output.{Output}
 
 -- the statuses that the words and the whole input decide
 abbrev pub IsDecided : ℕ → Type 0
-IsDecided status = (status ≡ DONE) ⊎ ((status ≡ REFUSED) ⊎ ((status ≡ USAGE) ⊎ ((status ≡ GRAMMAR) ⊎ (status ≡ LIMIT))))
+IsDecided status = (status ≡ status_done) ⊎ ((status ≡ status_refused) ⊎ ((status ≡ status_usage) ⊎ ((status ≡ status_grammar) ⊎ (status ≡ status_limit))))
 
 abbrev pub IsStatus : ℕ → Type 0
-IsStatus status = IsDecided status ⊎ ((status ≡ READ_FAULT) ⊎ ((status ≡ WRITE_FAULT) ⊎ (status ≡ NO_MEMORY)))
+IsStatus status = IsDecided status ⊎ ((status ≡ status_read_fault) ⊎ ((status ≡ status_write_fault) ⊎ (status ≡ status_no_memory)))
 
 -- the status and what standard output has taken are those of an output
 pub record Agrees (output : Output) (status : ℕ) (held holds : Option (List ℕ)) : Type 0 where
@@ -44,9 +44,9 @@ memory_line = codes "no memory" ++ 10 ∷ []
 
 -- the exit status of what ends a run
 abbrev pub fault_status : RunFault → ℕ
-fault_status Memory = NO_MEMORY
-fault_status Read = READ_FAULT
-fault_status Write = WRITE_FAULT
+fault_status Memory = status_no_memory
+fault_status Read = status_read_fault
+fault_status Write = status_write_fault
 
 -- what a fault of reading ends a run with
 abbrev pub run_fault_of : ReadFault → RunFault

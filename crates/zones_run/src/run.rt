@@ -2,7 +2,7 @@
 ghost use Rattle.std.specs.Prelude.{◌≡◌, ◌≢◌, ◌≤◌, ◌⊎◌, ◌↔◌, ◌++◌, ◌∷◌, [], map, string_bytes, IfSome, None};
 ghost use Rattle.zn_io.specs.Streams.{Rose, TakesFront, after_known};
 ghost use Rattle.zones_run.specs.Complaints.{complaint_status, complaint_text};
-ghost use Rattle.zones_run.specs.Program.{HasAnswered, HasAnsweredRead, output_of};
+ghost use Rattle.zones_run.specs.Program.{HasAnswered, HasAnsweredRead, ReadsNothing, output_of};
 ghost use Rattle.zones_run.specs.Run.{Agrees, HasFront, IsDecided, IsStatus, TakesFronts, fault_status, memory_line, read_fault_line, write_fault_line};
 ghost use Rattle.zones_run.specs.Words.{command_of};
 ghost use Rattle.zones_run.specs.Tracing.{AnswersRead, HasReplies, run_of, traced};
@@ -138,6 +138,9 @@ pub fn run_zones<S: Source, K: Sink, E: Sink>(
         TakesFront (E.holds err.old) (E.holds err.new) (E.faults err.old) (E.faults err.new) o.err) }
     ensures whole_line { result ≤ REFUSED → IfSome (output_of (map string_bytes words.now) (S.left src.old)) (λ o.
         E.holds err.new ≡ after_known (E.holds err.old) o.err) }
+
+    // Where no command reads its input, none of it is taken.
+    ensures unread { ReadsNothing (command_of (map string_bytes words.now)) → src.new ≡ src.old }
 
     // Words that are no form of the command line.
     ensures usage { (result ≡ USAGE) ↔ (command_of (map string_bytes words.now) ≡ None) }

@@ -1,0 +1,30 @@
+-- The texts that are the same in every run.
+use Rattle.std.specs.Prelude.{ℕ, List, [], ◌∷◌, ◌++◌, codes}
+use Rattle.std.specs.List.{flat_map}
+
+-- lines, each with its newline
+abbrev pub text_of_lines : List (List ℕ) → List ℕ
+text_of_lines lines = flat_map (λ line. line ++ 10 ∷ []) lines
+
+-- where the words are no form of the command line
+abbrev pub usage_text : List ℕ
+usage_text = text_of_lines (codes "usage: zones export|script|trace|given|purge ZONE|index|bulk N|live" ∷ [])
+
+abbrev pub version_text : List ℕ
+version_text = text_of_lines (codes "zones 0.1.0" ∷ [])
+
+abbrev pub help_text : List ℕ
+help_text = text_of_lines (
+    codes "usage: zones COMMAND" ∷
+    [] ∷
+    codes "COMMAND is one of" ∷
+    codes "  export     write the export text of the zonecfg(8) subcommands on standard input" ∷
+    codes "  trace      write the reply to each event of the trace on standard input" ∷
+    codes "  --help     write this text" ∷
+    codes "  --version  write the version" ∷
+    [] ∷
+    codes "The exit status is 0 where all is done, 1 where a line or the end of the input is" ∷
+    codes "refused, 2 for a faulty command line, 3 for a line outside the grammar of a trace, 4" ∷
+    codes "for a read fault, 5 for a write fault, 8 for a line above 4096 bytes or more than" ∷
+    codes "200000 lines, and 9 where memory runs out." ∷
+    [])
