@@ -58,11 +58,11 @@ module _ (base : Option Contents) where
       subst P (ap (or_stay o) e) (stands_stepped base cs command o s)
 
   -- one part of a line
-  part_stands : (cs : List Command) (read : Result Command EditFault) (o new : Open) → obeyed_as read o ≡ Ok new → Stands base cs o → Stands base (cs ++ with_command read []) new
+  pub part_stands : (cs : List Command) (read : Result Command EditFault) (o new : Open) → obeyed_as read o ≡ Ok new → Stands base cs o → Stands base (cs ++ with_command read []) new
   part_stands cs (Ok command) o new e s = after cs command o new (makes command o new (is_elsewhere command) refl e) s
   part_stands cs (Err fault) o new e s = absurd (cc)
 
-  with_front : (read : Result Command EditFault) (cs : List Command) → with_command read cs ≡ with_command read [] ++ cs
+  pub with_front : (read : Result Command EditFault) (cs : List Command) → with_command read cs ≡ with_command read [] ++ cs
   with_front (Ok command) cs = refl
   with_front (Err fault) cs = refl
 
