@@ -6,11 +6,7 @@
 - sizes: counted in crates/, always.
 - speed: instructions of the native program by valgrind's callgrind, as the difference of two lengths, over the script
   that tools/bench_export.py writes and over a trace of a zone that boots and halts over and over.
-- gate: minutes of one processor, from the LOG of timed runs, of the crates from the lowest up and then of all:
-
-      { for name in NAME..; do echo "== $name"; time rt ci $name; done; echo "== all"; time rt ci --anew; } >LOG 2>&1
-
-  What a run passed is kept, so each one counts its own crate alone.
+- gate: minutes of one processor, from the LOG that tools/time_gate.py writes of a run from nothing.
 
 What this run can't measure (no LOG, a crate that it lacks, no program, no valgrind) stays as the file has it, and a
 line on standard output says so. A second run changes nothing.
@@ -145,13 +141,9 @@ def speed(text, args):
 # The gate.
 
 def timed(log):
-    """The minutes of one processor and by the clock of each run in a log."""
-    found = {}
-    for block in re.split(r"^== ", pathlib.Path(log).read_text(errors="replace"), flags=re.M)[1:]:
-        times = {word: 60 * int(m) + float(s) for word, m, s in re.findall(r"^(real|user|sys)\s+(\d+)m([\d.]+)s", block, flags=re.M)}
-        if len(times) == 3 and re.search(r"\b0 failed", block):
-            found[block.split()[0]] = ((times["user"] + times["sys"]) / 60, times["real"] / 60)
-    return found
+    """The minutes of each crate in a log, and of the whole run, which has those by the clock too."""
+    rows = [line.split() for line in pathlib.Path(log).read_text().splitlines()]
+    return {row[0]: [float(it) for it in row[1:]] for row in rows if row}
 
 
 def above(name, all_crates):
@@ -179,7 +171,7 @@ def gate(text, args):
     whole = re.search(r"^A whole run .*$", text, flags=re.M)
     said = whole[0] if whole else ""
     if "all" in found:
-        said = "A whole run from nothing: %.0f minutes of one processor, %.0f by the clock." % found["all"]
+        said = "A whole run from nothing: %.0f minutes of one processor, %.0f by the clock." % tuple(found["all"])
     elif said:
         print("gate: the whole run kept as it was (no '== all' in %s)" % args.gate)
     return table(["Crate", "Minutes", "After a change"], rows) + ("\n\n" + said if said else "")
@@ -187,7 +179,7 @@ def gate(text, args):
 
 def main():
     parser = argparse.ArgumentParser(description=__doc__, formatter_class=argparse.RawDescriptionHelpFormatter)
-    parser.add_argument("--gate", metavar="LOG", help="the log of timed runs of rt ci")
+    parser.add_argument("--gate", metavar="LOG", help="what tools/time_gate.py wrote")
     parser.add_argument("--program", metavar="FILE", default=str(PROGRAM), help="the native program")
     args = parser.parse_args()
     page = PAGE.read_text()
