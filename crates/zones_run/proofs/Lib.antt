@@ -4,9 +4,11 @@ pub mod Runs
 pub mod Fronts
 pub mod Traces
 pub mod TraceRuns
+pub mod Begins
 pub mod TraceEnds
 pub mod Denoting
 pub mod Refusing
 pub mod Obeying
 pub mod Turning
 pub mod Ending
+pub mod ExportRuns

@@ -12,7 +12,8 @@ use Rattle.zones_run.specs.Statuses.{status_refused}
 use Rattle.zonecfg_scopes.specs.Edited.{commands_of, with_command}
 use Rattle.zonecfg_scopes.specs.Forms.{command_of}
 use Rattle.zonecfg_scopes.specs.Turns.{all_in_turn, goes_on, in_turn, line_commands, line_in_turn}
-use Rattle.zones_run.specs.Denoted.{RefusesAll, RefusesEnd, RefusesLine, RefusesSubcommand, lines_in_turn}
+use Rattle.zones_run.specs.Denoted.{RefusesAll, RefusesEnd, RefusesLine, RefusesSubcommand}
+use Rattle.zones_run.specs.Obeyed.{lines_in_turn}
 use Rattle.zones_run.specs.Exporting.{edited, exported, led_on, refused_at}
 use Rattle.zn_base.specs.Lines.{lines_of}
 use Rattle.zones_run.specs.Complaints.{limit_at}
@@ -84,7 +85,7 @@ unfolding edit_of line_in_turn
 edit_refused line cs o refusal e s = line_refused line cs o refusal (subcommands_of line) refl e s
 
 -- one more line that is obeyed
-turn_more : (lines : List (List ℕ)) (line : List ℕ) (from o next : Open) → lines_in_turn lines from ≡ Ok o → edit_of line o ≡ Ok next → lines_in_turn (lines ++ line ∷ []) from ≡ Ok next
+pub turn_more : (lines : List (List ℕ)) (line : List ℕ) (from o next : Open) → lines_in_turn lines from ≡ Ok o → edit_of line o ≡ Ok next → lines_in_turn (lines ++ line ∷ []) from ≡ Ok next
 turn_more [] line from o next done is =
     let same : from ≡ o = cc in
     ap (λ x. goes_on (edit_of line x) (λ y. Ok y)) same ∙ ap (λ answer. goes_on answer (λ y. Ok y)) is

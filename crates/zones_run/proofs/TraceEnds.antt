@@ -28,6 +28,7 @@ use Rattle.zones_run.specs.declared.fault.RunFault.TheVariants.{Memory, Read, Wr
 use Rattle.zones_run.specs.declared.fault.RunFault.{RunFault}
 use Rattle.zones_run.specs.declared.lines.ReadFault.{ReadFault}
 use Rattle.zones_run.specs.declared.lines.ReadFault.TheVariants.{Failed, Memory as No_memory}
+use Rattle.zones_run.proofs.Begins.{before_known-append, taken_whole}
 use Rattle.zones_run.proofs.Fronts.{after_known-append, after_known-nil}
 use Rattle.zones_run.proofs.TraceRuns.{RunsOn, known_run}
 use Rattle.zones_run.proofs.Traces.{from_first_line, or_else-None, run_on, script_line, with_script}
@@ -114,29 +115,17 @@ pub reads_up_to : (stands : State → Type 0) (refused : Option ℕ) (n : ℕ) (
 reads_up_to stands refused n held holds bytes left None run begins = tt
 reads_up_to stands refused n held holds bytes left (Some input) run begins =
     let known = run.known in
-    let entries : (run_of known.past).entries ≡ run.done = ap (λ r. r.entries) (from_first_line known.past) ∙ ap (λ lines. (run_on [] None 1 (opening []) lines).entries) (sym (append-nil (lines_of known.past))) ∙ ap (λ r. r.entries) (known.leads []) ∙ append-nil run.done in
+    let so_far : run_of known.past ≡ run_on run.done refused n run.state [] = from_first_line known.past ∙ ap (run_on [] None 1 (opening [])) (sym (append-nil (lines_of known.past))) ∙ known.leads [] in
+    let entries : (run_of known.past).entries ≡ run.done = ap (λ r. r.entries) so_far ∙ append-nil run.done in
     record {
       taken = known.past;
       begun = begins.begun;
       clean = begins.clean;
-      ended = ended known.fresh (sym known.here ∙ begins.taken);
+      ended = taken_whole known.past known.to_come begins.begun left known.fresh (sym known.here ∙ begins.taken);
       read = ap Some known.all ∙ ap (before_known known.past) (sym known.here ∙ begins.taken) ∙ sym (before_known-append left known.past begins.begun);
+      going = ap (λ r. r.ending) so_far;
       text = run.text ∙ ap (λ entries. after_known held (replies_text entries)) (sym entries);
     }
-  where
-    before_known-append : (known : Option (List ℕ)) (xs ys : List ℕ) → before_known (xs ++ ys) known ≡ before_known xs (before_known ys known)
-    before_known-append None xs ys = refl
-    before_known-append (Some bs) xs ys = ap Some (append_assoc xs ys bs)
-
-    none_behind : (begun : List ℕ) (left : Option (List ℕ)) → Some [] ≡ before_known begun left → (begun ≡ []) × IsAtEnd left
-    none_behind begun None e = absurd (cc)
-    none_behind [] (Some []) e = (refl, refl)
-    none_behind [] (Some (b ∷ bs)) e = absurd (cc)
-    none_behind (b ∷ begun) (Some bs) e = absurd (cc)
-
-    ended : {past to_come : List ℕ} → AreWhole past ⊎ (to_come ≡ []) → Some to_come ≡ before_known begins.begun left → AreWhole past ⊎ ((begins.begun ≡ []) × IsAtEnd left)
-    ended (inl whole) e = inl whole
-    ended (inr none) e = inr (none_behind begins.begun left (ap Some (sym none) ∙ e))
 
 -- a front of a text in the midst of a longer one
 front_within : (held between holds : Option (List ℕ)) (before text more : List ℕ) (count : ℕ) → between ≡ after_known held before → holds ≡ after_known between (take count text) → HasFront held holds (before ++ (text ++ more))
@@ -259,14 +248,6 @@ ended_front (Err Write) held holds now input waiting tells answered front none w
 pub stops_outside : (stop : Stop) (fault : LineFault) (said : Result (Option Event) LineFault) → Stops stop said → stop ≡ Grammar fault → said ≡ Err fault
 stops_outside (Grammar found) fault said stops same = stops ∙ cc
 stops_outside No_room fault said stops same = absurd (cc)
-
--- the source failed where nothing of a line was begun
-pub begins_nothing : (old new : Option (List ℕ)) → old ≡ new → BeginsLine old new
-begins_nothing old new same = record { begun = []; clean = refl; taken = same ∙ nothing_before new }
-  where
-    nothing_before : (known : Option (List ℕ)) → known ≡ before_known [] known
-    nothing_before None = refl
-    nothing_before (Some bs) = refl
 
 -- a fault of reading that ends a trace as one is the source's
 pub source_failed : {T : Type 0} (r : Result T RunFault) (fault : ReadFault) → IsErrAnd r (λ e. e ≡ run_fault_of fault) → IsErrOf r Read → fault ≡ Failed

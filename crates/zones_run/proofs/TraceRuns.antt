@@ -81,13 +81,13 @@ lines_of-append past bytes (inl none) = rw none refl
 lines_of-append past bytes (inr whole) = rw whole.1 (lines_of-onto whole.0 bytes)
 
 -- one piece of the bytes to come is taken as a line
-record Taken (past line to_come : List ℕ) (new : Option (List ℕ)) : Type 0 where
-  now_past : List ℕ
-  now_to_come : List ℕ
-  here : new ≡ Some now_to_come
-  all : past ++ to_come ≡ now_past ++ now_to_come
-  fresh : AreWhole now_past ⊎ (now_to_come ≡ [])
-  lines : lines_of now_past ≡ lines_of past ++ line ∷ []
+pub record Taken (past line to_come : List ℕ) (new : Option (List ℕ)) : Type 0 where
+  pub now_past : List ℕ
+  pub now_to_come : List ℕ
+  pub here : new ≡ Some now_to_come
+  pub all : past ++ to_come ≡ now_past ++ now_to_come
+  pub fresh : AreWhole now_past ⊎ (now_to_come ≡ [])
+  pub lines : lines_of now_past ≡ lines_of past ++ line ∷ []
 
 takes_whole : (past line to_come : List ℕ) (new : Option (List ℕ)) → AreWhole past → has_newline line ≡ false → Some to_come ≡ before_known (line ++ 10 ∷ []) new → Taken past line to_come new
 takes_whole past line to_come None whole clean is = absurd (cc)
@@ -128,7 +128,7 @@ none_to_end [] to_come new none is some = omega arith
 none_to_end (b ∷ line) to_come None none is some = cc
 none_to_end (b ∷ line) to_come (Some rest) none is some = cc
 
-takes : (past line to_come : List ℕ) (new : Option (List ℕ)) → AreWhole past ⊎ (to_come ≡ []) → TakesLine line (Some to_come) new → Taken past line to_come new
+pub takes : (past line to_come : List ℕ) (new : Option (List ℕ)) → AreWhole past ⊎ (to_come ≡ []) → TakesLine line (Some to_come) new → Taken past line to_come new
 takes past line to_come new (inl whole) took = elim took.ended as (λ _. Taken past line to_come new) [
   | inl newline ↦ takes_whole past line to_come new whole took.clean newline
   | inr last ↦ takes_last past line to_come new whole took.clean last.0 last.1 last.2

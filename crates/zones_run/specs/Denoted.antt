@@ -12,14 +12,15 @@ use Rattle.zonecfg_scopes.specs.Edited.{commands_of}
 use Rattle.zonecfg_scopes.specs.Faults.{lexed}
 use Rattle.zonecfg_scopes.specs.Forms.{command_of}
 use Rattle.zonecfg_scopes.specs.Open.{Open, Nothing}
-use Rattle.zonecfg_scopes.specs.Turns.{goes_on, in_turn, line_commands, script_of}
+use Rattle.zonecfg_scopes.specs.Turns.{in_turn, line_commands, script_of}
 use Rattle.zones_run.specs.declared.refusal.Refusal.{Refusal}
 use Rattle.zones_run.specs.Statuses.{status_done, status_refused}
 use Rattle.zones_run.specs.Exporting.{ended, exported, refused_at}
 use Rattle.zn_base.specs.Lines.{lines_of}
+use Rattle.zones_run.specs.Obeyed.{lines_in_turn}
 use Rattle.zones_run.specs.Output.{Output, written}
 use Rattle.zones_run.specs.Refusals.{refused as of_fault}
-use Rattle.zones_run.specs.Subcommands.{edit_of, known_brands, obeyed_as}
+use Rattle.zones_run.specs.Subcommands.{known_brands, obeyed_as}
 
 -- the export text of a configuration without flaws that some subcommands denote, with nothing open before them
 pub record ExportsDenoted (cs : List Command) (output : Output) : Type 0 where
@@ -49,11 +50,6 @@ pub record RefusesAll (line : List ℕ) (refusal : Refusal) : Type 0 where
   pub fault : LexFault
   pub wrong : subcommands_of line ≡ Err fault
   pub refused : refusal ≡ of_fault (lexed fault)
-
--- what lines make of what is open, one after another, up to the first that is refused
-abbrev pub lines_in_turn : List (List ℕ) → Open → Result Open Refusal
-lines_in_turn [] o = Ok o
-lines_in_turn (line ∷ lines) o = goes_on (edit_of line o) (lines_in_turn lines)
 
 -- the first line that is refused: those before it are obeyed, and it is refused at one of its subcommands, or as a whole
 pub record RefusesLine (lines : List (List ℕ)) (output : Output) : Type 0 where

@@ -4,6 +4,7 @@ pub mod Lines
 pub mod Reading
 pub mod Refusals
 pub mod Subcommands
+pub mod Obeyed
 pub mod Words
 pub mod Output
 pub mod Complaints

@@ -6,6 +6,7 @@ use Rattle.zones_run.specs.declared.words.Command.{Command}
 use Rattle.zones_run.specs.declared.words.Command.TheVariants.{Export, Trace, Help, Version}
 use Rattle.zones_run.specs.Fixed.{help_text, usage_text, version_text}
 use Rattle.zones_run.specs.Exporting.{exported}
+use Rattle.zones_run.specs.Obeyed.{ObeysRead}
 use Rattle.zones_run.specs.Output.{Output, written}
 use Rattle.zones_run.specs.Tracing.{AnswersRead, HasReplies, run_of, traced}
 use Rattle.zones_run.specs.Words.{command_of}
@@ -32,8 +33,9 @@ abbrev pub HasAnswered : Option Command → Option (List ℕ) → (held holds : 
 HasAnswered (Some Trace) input held holds = IfSome input (λ bytes. HasReplies held holds (run_of bytes))
 HasAnswered command input held holds = holds ≡ held
 
--- the same where the source failed: a trace has answered just the lines that were taken whole
+-- the same where the source failed: a trace has answered just the lines that were taken whole, and `export` has obeyed them
 abbrev pub HasAnsweredRead : Option Command → (input left held holds : Option (List ℕ)) → Type 0
 HasAnsweredRead (Some Trace) input left held holds =
     IfSome input (λ bytes. HasReplies held holds (run_of bytes)) × IfSome input (λ _. AnswersRead input left held holds)
+HasAnsweredRead (Some Export) input left held holds = (holds ≡ held) × IfSome input (λ _. ObeysRead input left)
 HasAnsweredRead command input left held holds = holds ≡ held

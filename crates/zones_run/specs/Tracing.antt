@@ -135,14 +135,15 @@ pub record HasReplies (held holds : Option (List ℕ)) (run : Run) : Type 0 wher
   pub count : ℕ
   pub taken : holds ≡ after_known held (replies_text (take count run.entries))
 
--- the source failed after some whole lines and the beginning of one: just those lines were answered, and their replies
--- written. Only a last line, with nothing behind it, may be answered without its newline
+-- the source failed after some whole lines and the beginning of one: none of those lines ends the run, just they were
+-- answered, and their replies written. Only a last line, with nothing behind it, may be answered without its newline
 pub record AnswersRead (input left held holds : Option (List ℕ)) : Type 0 where
   pub taken : List ℕ
   pub begun : List ℕ
   pub clean : has_newline begun ≡ false
   pub ended : AreWhole taken ⊎ ((begun ≡ []) × IsAtEnd left)
   pub read : input ≡ before_known (taken ++ begun) left
+  pub going : (run_of taken).ending ≡ At_end
   pub text : holds ≡ after_known held (replies_text (run_of taken).entries)
 
 -- what an event was answered, in the state that the machine stood for

@@ -4,6 +4,7 @@ ghost use Rattle.zn_io.specs.Streams.{Rose};
 ghost use Rattle.zonecfg_scopes.specs.Open.{Nothing};
 ghost use Rattle.zones_run.specs.Outcomes.{ended_by, outcome_of};
 ghost use Rattle.zones_run.specs.Exporting.{ended, exported};
+ghost use Rattle.zones_run.specs.Obeyed.{ObeysRead};
 ghost use Rattle.zones_run.specs.Subcommands.{known_brands};
 
 use crate::edit::{edit, known_brands, obey};
@@ -48,6 +49,7 @@ fn edit_lines<S: Source>(
     requires nothing { editor.old.opened ≡ Nothing }
     ensures whole { IfOk result (λ complaint. IfSome (S.left source.old) (λ bytes. ended_by complaint editor.new.opened ≡ exported bytes)) }
     ensures failed { IsErrOf result ReadFault.Failed → Rose (S.faults source.old) (S.faults source.new) }
+    ensures taken { IsErrOf result ReadFault.Failed → IfSome (S.left source.old) (λ _. ObeysRead (S.left source.old) (S.left source.new)) }
     ensures later { S.faults source.old ≤ S.faults source.new }
 {
     let mut ahead = Ahead::new();
@@ -98,6 +100,7 @@ fn edit_all<S: Source>(
     requires nothing { editor.old.opened ≡ Nothing }
     ensures whole { IfOk result (λ outcome. IfSome (S.left source.old) (λ bytes. outcome_of outcome ≡ exported bytes)) }
     ensures failed { IsErrOf result ReadFault.Failed → Rose (S.faults source.old) (S.faults source.new) }
+    ensures taken { IsErrOf result ReadFault.Failed → IfSome (S.left source.old) (λ _. ObeysRead (S.left source.old) (S.left source.new)) }
     ensures later { S.faults source.old ≤ S.faults source.new }
 {
     match edit_lines(alloc, editor, brands, source)? {
@@ -111,6 +114,7 @@ fn edit_all<S: Source>(
 pub fn export_all<S: Source>(alloc: Global, source: &mut S) -> Result<Outcome, ReadFault>
     ensures whole { IfOk result (λ outcome. IfSome (S.left source.old) (λ bytes. outcome_of outcome ≡ exported bytes)) }
     ensures failed { IsErrOf result ReadFault.Failed → Rose (S.faults source.old) (S.faults source.new) }
+    ensures taken { IsErrOf result ReadFault.Failed → IfSome (S.left source.old) (λ _. ObeysRead (S.left source.old) (S.left source.new)) }
     ensures later { S.faults source.old ≤ S.faults source.new }
 {
     let brands = known_brands(alloc)?;

@@ -1,4 +1,7 @@
-use Rattle.std.proofs.Common.{◌≡◌, ◌+◌, ap, sym, ◌∙◌, arith}
+use Rattle.std.proofs.Common.{◌≡◌, ◌+◌, Err, ap, rules, sym, ◌∙◌, arith}
+use Rattle.zones_run.specs.declared.lines.ReadFault.TheVariants.{Failed}
+use Rattle.zones_run.proofs.Begins.{begins_nothing}
+use Rattle.zones_run.proofs.ExportRuns.{obeys_line, obeys_up_to}
 use Rattle.std.specs.Option.{option_map}
 use Rattle.zn_base.specs.Lines.{lines_of}
 use Rattle.zones_run.specs.Exporting.{edited}
@@ -13,3 +16,21 @@ returns-then-branch-clause-whole g c =
     let same = rw last at c.loop-before.invariant.same in
     limit_begins o c.refill.new.self (left c.refill.new.source) (left c.args.source.now) (c.in_ok-refill.ensures.more c.if-branch.true)
     (ap (λ known. option_map (edited 200001 o) (option_map lines_of known)) (sym c.in_ok-refill.ensures.bytes) ∙ same)
+
+pub returns-in_err-next_line-clause-taken : goal.returns-in_err-next_line-clause-taken
+returns-in_err-next_line-clause-taken g c = λ is.
+    let failed : c.in_err-next_line.field-0.0 ≡ Failed = search rules in
+    obeys_up_to _ _ _ _ c.loop-before.invariant.obeyed (c.in_err-next_line.ensures.begun (ap Err failed))
+
+pub loop-before-preserved : goal.loop-before-preserved
+loop-before-preserved g c =
+    let took = rw c.in-Line.is at c.in_ok-next_line.ensures.took in
+    let obeyed = rw c.deref.ensures.value at c.in-Ok.ensures in
+    record {
+      same = search rules;
+      obeyed = obeys_line _ _ _ _ _ _ c.loop-before.invariant.obeyed took obeyed;
+      later = omega (arith, c.loop-before.invariant.later, c.next_line.ensures.later);
+    }
+
+pub returns-in_err-refill-clause-taken : goal.returns-in_err-refill-clause-taken
+returns-in_err-refill-clause-taken g c = λ _. obeys_up_to _ _ _ _ c.loop-before.invariant.obeyed (begins_nothing _ _ c.in_err-refill.ensures.kept)

@@ -1,8 +1,9 @@
 use Rattle.std.proofs.Common.{◌∙◌, ap, refl, arith}
 use Rattle.std.specs.Prelude.{Err}
 use Rattle.zn_io.specs.Streams.{after_known}
+use Rattle.zones_run.proofs.Begins.{begins_nothing}
 use Rattle.zones_run.proofs.TraceRuns.{runs_from_start, runs_line, runs_told}
-use Rattle.zones_run.proofs.TraceEnds.{begins_nothing, flushed_front, has_replies, nothing_waits, nothing_written, reads_up_to, source_failed, stops_outside, tells_end, tells_fault, tells_last, tells_last_end, tells_long, written_front, written_on}
+use Rattle.zones_run.proofs.TraceEnds.{flushed_front, has_replies, nothing_waits, nothing_written, reads_up_to, source_failed, stops_outside, tells_end, tells_fault, tells_last, tells_last_end, tells_long, written_front, written_on}
 use Rattle.zones_run.proofs.trace.take_lines.Goals as goal
 
 pub loop-before-init : goal.loop-before-init
