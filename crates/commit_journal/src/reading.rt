@@ -4,7 +4,6 @@ ghost use Rattle.std.specs.Option.{IsSomeAnd};
 ghost use Rattle.uuid_text.specs.Text.{uuid_text};
 ghost use Rattle.zn_base.specs.Cuts.{lacks};
 ghost use Rattle.zn_base.specs.Lines.{newline};
-ghost use Rattle.zn_base.specs.Names.{is_name};
 ghost use Rattle.zn_base.specs.States.{state_text};
 ghost use Rattle.zone_config.specs.Export.{export_text};
 ghost use Rattle.zone_config.specs.Sound.{IsSound};
@@ -20,7 +19,7 @@ use crate::{Commit, Record};
 use export_read::read_export;
 use std::alloc::{AllocError, Global};
 use uuid_text::read_uuid;
-use zn_base::{NameFault, ZoneName, ZoneState, split_at_byte};
+use zn_base::{ZoneName, ZoneState, split_at_byte};
 use zone_config::{ConfigFault, ZoneConfig};
 
 // What a line tells, and what is behind it.
@@ -46,16 +45,6 @@ fn cut_line<'a>(bytes: &'a [u8], word: &[u8]) -> Option<Line<'a>>
         value: &line[start..],
         rest,
     })
-}
-
-fn read_name(alloc: Global, bytes: &[u8]) -> Result<Option<ZoneName>, AllocError>
-    ensures { IsTrue (is_name bytes.now) → IfOk result (λ name. name ≡ Some bytes.now) }
-{
-    match ZoneName::read(alloc, bytes) {
-        Ok(name) => Ok(Some(name)),
-        Err(NameFault::Memory) => Err(AllocError),
-        Err(_) => Ok(None),
-    }
 }
 
 // The number whose digits but the last are those of another, if it fits.
@@ -143,7 +132,7 @@ fn guess(alloc: Global, body: &[u8]) -> Result<Option<Commit>, AllocError>
     let Some(state_line) = cut_line(zone_line.rest, b"state") else {
         return Ok(None);
     };
-    let Some(zone) = read_name(alloc, zone_line.value)? else {
+    let Some(zone) = ZoneName::read_if_name(alloc, zone_line.value)? else {
         return Ok(None);
     };
     if state_line.value == b"none".as_slice() {

@@ -3,7 +3,6 @@ ghost use Rattle.std.specs.Prelude.{◌≡◌, ◌≢◌, ◌∷◌, ◌++◌, �
 ghost use Rattle.std.specs.List.{Any};
 ghost use Rattle.std.specs.Option.{IsSomeAnd};
 ghost use Rattle.uuid_text.specs.Text.{uuid_text};
-ghost use Rattle.zn_base.specs.Names.{is_name};
 ghost use Rattle.zn_base.specs.Path.{is_path};
 ghost use Rattle.zn_base.specs.States.{is_stored, state_text};
 ghost use Rattle.index_file.specs.declared.fault.IndexFault.TheVariants.{Memory};
@@ -16,7 +15,7 @@ use crate::{IndexFault, IndexRow};
 use std::alloc::{AllocError, Global};
 use uuid::fmt::Hyphenated;
 use uuid_text::read_uuid;
-use zn_base::{AbsPath, NameFault, PathFault, ZoneName, ZoneState, place_of_byte, split_at_byte};
+use zn_base::{AbsPath, PathFault, ZoneName, ZoneState, place_of_byte, split_at_byte};
 
 // The fields of a line, as they stand in it.
 #[derive(Clone, Copy)]
@@ -65,17 +64,6 @@ fn unescaped(alloc: Global, bytes: &[u8]) -> Result<Vec<u8>, AllocError>
     Ok(path)
 }
 
-fn read_name(alloc: Global, bytes: &[u8]) -> Result<Option<ZoneName>, IndexFault>
-    ensures name { IsTrue (is_name bytes.now) → IfOk result (λ name. name ≡ Some bytes.now) }
-    ensures memory { IfErr result (λ fault. fault ≡ Memory) }
-{
-    match ZoneName::read(alloc, bytes) {
-        Ok(name) => Ok(Some(name)),
-        Err(NameFault::Memory) => Err(IndexFault::Memory),
-        Err(_) => Ok(None),
-    }
-}
-
 fn read_path(alloc: Global, bytes: &[u8]) -> Result<Option<AbsPath>, IndexFault>
     ensures path { (path : List ℕ) → IsTrue (is_path path) → bytes.now ≡ escaped path → IfOk result (λ found. found ≡ Some path) }
     ensures memory { IfErr result (λ fault. fault ≡ Memory) }
@@ -103,7 +91,7 @@ fn guess(alloc: Global, line: &[u8]) -> Result<Option<IndexRow>, IndexFault>
     let Some(uuid) = read_uuid(fields.uuid) else {
         return Ok(None);
     };
-    let Some(name) = read_name(alloc, fields.name)? else {
+    let Some(name) = ZoneName::read_if_name(alloc, fields.name)? else {
         return Ok(None);
     };
     let Some(path) = read_path(alloc, fields.path)? else {

@@ -1,5 +1,5 @@
 //! Zone names.
-ghost use Rattle.std.specs.Prelude.{◌≡◌, ◌≤◌, IfOk, IsTrue, bytes_eq, codes, length, nat_eq, not, position};
+ghost use Rattle.std.specs.Prelude.{◌≡◌, ◌≤◌, IfOk, IsTrue, None, Some, bytes_eq, codes, if◌then◌else◌, length, nat_eq, not, position};
 ghost use Rattle.std.specs.Cmp.{partial_equiv_from_equiv};
 ghost use Rattle.std.specs.Cmp.Lexicographic.{nat_list_eq_equiv};
 ghost use Rattle.std.specs.Cmp.Rules.{hashing};
@@ -122,6 +122,17 @@ impl ZoneName {
         Ok(ZoneName {
             bytes: Vec::from_slice(alloc, bytes)?,
         })
+    }
+
+    /// The name that the bytes are, or nothing where they are none.
+    pub fn read_if_name(alloc: Global, bytes: &[u8]) -> Result<Option<ZoneName>, AllocError>
+        ensures { IfOk result (λ name. name ≡ (if is_name bytes.now then Some bytes.now else None)) }
+    {
+        match ZoneName::read(alloc, bytes) {
+            Ok(name) => Ok(Some(name)),
+            Err(NameFault::Memory) => Err(AllocError),
+            Err(_) => Ok(None),
+        }
     }
 
     /// The bytes of the name.
