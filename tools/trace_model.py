@@ -1,4 +1,4 @@
-"""A plain, slow model of `zones trace`, written from docs/FORMATS.md and not from the program.
+"""A plain, slow model of `zones trace`, written from docs/COMMANDS.md and docs/TRACES.md, and not from the program.
 
 run(data) gives (status, standard output, standard error) for a whole input. It shares no code with the
 program and is meant for comparing the two; tools/fuzz_trace.py does that.
