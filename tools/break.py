@@ -3,7 +3,7 @@
 
     tools/break.py [--count N] [--seed S] [--program FILE]
 
-Each run must end with a status that docs/FORMATS.md states and the line on standard error that belongs to it; no
+Each run must end with a status that docs/COMMANDS.md states and the line on standard error that belongs to it; no
 run may crash, hang, or take more memory for a longer input. It is no part of the gate.
 """
 

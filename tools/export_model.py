@@ -1,4 +1,4 @@
-"""A plain, slow model of `zones export`, written from docs/FORMATS.md alone.
+"""A plain, slow model of `zones export`, written from docs/COMMANDS.md and docs/ZONECFG.md alone.
 
 run(data) gives (status, standard output, standard error) for a whole input. It shares no code with the
 program and is meant for comparing the two; tools/fuzz_export.py does that.

@@ -173,7 +173,7 @@ class Maker:
         return self.data()
 
     def one_line(self):
-        """A line that may be wrong in any of the known ways, behind a zone that is made."""
+        """A line that may be wrong in any of the known ways, after a zone that is made."""
         rng = self.rng
         self.begin(NAMES, 3)
         for _ in range(rng.choice([0, 1, 2])):

@@ -4,7 +4,7 @@
     tools/refuse.py [--program FILE]
 
 A small library stands before the C library and lets the call with a given number fail; gcc builds it in a temporary
-folder. A run must end as docs/FORMATS.md states: status 9, 4 or 5 with its line, `export` with nothing written, `trace`
+folder. A run must end as docs/COMMANDS.md states: status 9, 4 or 5 with its line, `export` with nothing written, `trace`
 with whole replies, and where nothing was refused with its text. The same is done to each allocation of the test
 programs that `rt test` left in crates/*/out: a test must end with success, an error or a failed assertion. It is no
 part of the gate.

@@ -1,4 +1,4 @@
-"""A plain, slow model of `zones trace`, written from docs/FORMATS.md and not from the program.
+"""A plain, slow model of `zones trace`, written from docs/COMMANDS.md and docs/TRACES.md, and not from the program.
 
 run(data) gives (status, standard output, standard error) for a whole input. It shares no code with the
 program and is meant for comparing the two; tools/fuzz_trace.py does that.
@@ -21,7 +21,7 @@ PIDS = range(2, 30000)
 ZIDS = range(1, 10000)
 SESSIONS = {b"%d" % number: number for number in range(1, 65)}
 
-# The states that a request begins in, and its steps. Numbers are put behind zid, devices, init, kill and zidback.
+# The states that a request begins in, and its steps. Numbers are put after zid, devices, init, kill and zidback.
 FROM = {"install": ["configured"], "boot": ["installed", "ready"], "halt": ["ready", "running"]}
 INSTALL = [
     "hook before install", "record incomplete", "copy 1", "copy 2", "copy 3", "copy 4", "record installed",
@@ -75,19 +75,19 @@ def event_of(line):
         raise Outside("101 BadTag")
     if len(words) == 1:
         bad_word(len(line))
-    behind = 2 + len(words[1]) + 1
+    after = 2 + len(words[1]) + 1
     if words[0] == b"D":
         if name_fault(words[1]):
             bad_word(2)
         if len(words) > 2:
-            bad_word(behind)
+            bad_word(after)
         return ("D", words[1])
     if words[1] not in SESSIONS:
         bad_word(2)
-    for place in range(behind, len(line)):
+    for place in range(after, len(line)):
         if not 32 <= line[place] <= 126:
             bad_word(place)
-    return ("S", SESSIONS[words[1]], line[behind:])
+    return ("S", SESSIONS[words[1]], line[after:])
 
 
 # What a session types.
@@ -222,7 +222,7 @@ class Host:
         self.tickets = {number: held for number, held in self.tickets.items() if held != (name, ticket)}
 
     def step(self, name, step):
-        """Does one step of a request, and answers it as it is told."""
+        """Does one step of a request, and answers it as it is printed."""
         kind, _, state = step.partition(" ")
         if kind in ("record", "state"):
             self.states[name] = state

@@ -27,4 +27,6 @@ help_text = text_of_lines (
     codes "refused, 2 for a faulty command line, 3 for a line outside the grammar of a trace, 4" ∷
     codes "for a read fault, 5 for a write fault, 8 for a line above 4096 bytes or more than" ∷
     codes "200000 lines, and 9 where memory runs out." ∷
+    [] ∷
+    codes "docs/CODES.md says what each code means, and what to do about it." ∷
     [])

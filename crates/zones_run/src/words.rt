@@ -19,7 +19,8 @@ COMMAND is one of
 \nThe exit status is 0 where all is done, 1 where a line or the end of the input is
 refused, 2 for a faulty command line, 3 for a line outside the grammar of a trace, 4
 for a read fault, 5 for a write fault, 8 for a line above 4096 bytes or more than
-200000 lines, and 9 where memory runs out.\n";
+200000 lines, and 9 where memory runs out.\n
+docs/CODES.md says what each code means, and what to do about it.\n";
 
 /// The forms of the command line.
 #[derive(Clone, Copy, Debug, PartialEq, Eq)]

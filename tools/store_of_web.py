@@ -1,5 +1,5 @@
 #!/usr/bin/env python3
-"""Writes a store of one zone to standard output, by docs/FORMATS.md and by nothing else."""
+"""Writes a store of one zone to standard output, by docs/STORE.md and by nothing else."""
 import sys
 import uuid
 

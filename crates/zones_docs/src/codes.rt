@@ -1,0 +1,285 @@
+//! The codes that can be printed, made from the fault types, and their paragraphs in docs/CODES.md.
+use crate::runs::run;
+use config_verify::Flaw;
+use std::alloc::{AllocError, Global};
+use std::rt::Files;
+use std::{fs, io, str};
+use trace_text::LineFault;
+use zn_base::NameFault;
+use zone_config::ConfigFault;
+use zone_machine::{Outcome, Refusal};
+use zonecfg_lex::LexFault;
+use zonecfg_scopes::EditFault;
+
+const PAGE: &str = "CODES.md";
+
+// How the paragraph of a code begins; its code and name follow, to the end of the line.
+const HEAD: &str = "### ";
+
+// A command, an input that it refuses, and the code and name that it prints.
+type Run = (&'static str, &'static str, &'static str);
+
+// For each variant of a fault type the runs that print it: a variant that is left out doesn't compile.
+macro_rules! runs_of {
+    ($fault:ty: $($variant:pat => [$($run:expr),*]),+ $(,)?) => {
+        match None::<&$fault> {
+            None => &[$($($run,)*)+],
+            $(Some($variant) => &[],)+
+        }
+    };
+}
+
+fn lex_runs() -> &'static [Run] {
+    runs_of!(LexFault:
+        LexFault::Memory => [],
+        LexFault::OpenQuote(_) => [("export", "create; set pool=\"a\n", "11 OpenQuote")],
+        LexFault::StrayByte(_) => [("export", "create; set pool=a)\n", "12 StrayByte")],
+        LexFault::OpenBracket(_) => [("export", "create; set pool=(a\n", "13 OpenBracket")],
+        LexFault::NoValue(_) => [("export", "create; set pool=\n", "14 NoValue")],
+    )
+}
+
+const DUPLICATE: &str = "create; add attr; set name=a; end; add attr; set name=a; end\n";
+
+const SEVERAL: &str = "create; add net; end; add net; end; remove net\n";
+
+const OPTIONS: &str = "create; add fs
+add options [a,a,a,a,a,a,a,a,a,a,a,a,a,a,a,a,a,a,a,a,a,a,a,a,a,a,a,a,a,a,a,a,a]\n";
+
+const HELD: &str = "create; add rctl; set name=zone.max-lwps; end; set max-lwps=1\n";
+
+// No command reads an export text, so none prints `NotExport`; `TooLarge` wants a longer input, as `too_large` makes.
+fn config_runs() -> &'static [Run] {
+    runs_of!(ConfigFault:
+        ConfigFault::Memory => [],
+        ConfigFault::NotExport(_) => [],
+        ConfigFault::UnknownProperty => [("export", "create; set dir=/a\n", "22 UnknownProperty")],
+        ConfigFault::BadValue => [("export", "create; set autoboot=yes\n", "23 BadValue")],
+        ConfigFault::Duplicate => [("export", DUPLICATE, "24 Duplicate")],
+        ConfigFault::NoMatch => [("export", "create; select fs dir=/a\n", "25 NoMatch")],
+        ConfigFault::SeveralMatch(_) => [("export", SEVERAL, "26 SeveralMatch")],
+        ConfigFault::TooMany(_) => [("export", OPTIONS, "27 TooMany")],
+        ConfigFault::AliasHeld => [("export", HELD, "28 AliasHeld")],
+        ConfigFault::TooLarge(_) => [],
+    )
+}
+
+const TOO_LARGE: &str = "29 TooLarge";
+
+// Nets with long names, so many that the export text would be too long.
+fn too_large(alloc: Global) -> Result<Vec<u8>, AllocError> {
+    let mut input = b"create\n".to_vec(alloc)?;
+    for _ in 0..40 {
+        input.extend_from_slice(b"add net; set physical=")?;
+        for _ in 0..1000 {
+            input.push(b'x')?;
+        }
+        input.extend_from_slice(b"; end\n")?;
+    }
+    Ok(input)
+}
+
+fn edit_runs() -> &'static [Run] {
+    runs_of!(EditFault:
+        EditFault::Memory => [],
+        EditFault::Lex(_) => [],
+        EditFault::UnknownCommand => [("export", "create; frob\n", "31 UnknownCommand")],
+        EditFault::WrongScope(_) => [("export", "create; end\n", "32 WrongScope")],
+        EditFault::NothingOpen => [("export", "verify\n", "33 NothingOpen")],
+        EditFault::NeedForce => [("export", "create; create\n", "34 NeedForce")],
+        EditFault::Usage => [("export", "create; add zone\n", "35 Usage")],
+        EditFault::NotHere => [("export", "commit\n", "36 NotHere")],
+        EditFault::Config(_) => [],
+    )
+}
+
+const NO_ADDRESS: &str = "create; set zonepath=/z; add net; set physical=e0; end\n";
+
+const NO_NUMBERS: &str = "create; set zonepath=/z; add net; set physical=e0; set address=x; end\n";
+
+const ROOT_DIR: &str =
+    "create; set zonepath=/z; add fs; set dir=/; set special=/a; set type=lofs; end\n";
+
+const NO_NUMBER: &str =
+    "create; set zonepath=/z; add attr; set name=n; set type=int; set value=x; end\n";
+
+fn flaw_runs() -> &'static [Run] {
+    runs_of!(Flaw:
+        Flaw::Memory => [],
+        Flaw::NoZonepath => [("export", "create\n", "41 NoZonepath")],
+        Flaw::MissingProperty(_, _) => [(
+            "export",
+            "create; set zonepath=/z; add fs; end\n",
+            "42 MissingProperty"
+        )],
+        Flaw::NetForm(_) => [("export", NO_ADDRESS, "43 NetForm")],
+        Flaw::BadAddress(_) => [("export", NO_NUMBERS, "44 BadAddress")],
+        Flaw::SameDir(_) => [("export", ROOT_DIR, "45 SameDir")],
+        Flaw::UnknownBrand(_) => [(
+            "export",
+            "create; set zonepath=/z; set brand=lx9\n",
+            "46 UnknownBrand"
+        )],
+        Flaw::AttrForm(_) => [("export", NO_NUMBER, "50 AttrForm")],
+    )
+}
+
+fn line_runs() -> &'static [Run] {
+    runs_of!(LineFault:
+        LineFault::Memory => [],
+        LineFault::BadTag => [("trace", "Q\n", "101 BadTag")],
+        LineFault::BadWord(_) => [("trace", "S 65 x\n", "102 BadWord")],
+        LineFault::GrantForm => [("trace", "@- D a\n", "103 GrantForm")],
+    )
+}
+
+const LONG_NAME: &str = "S 1 zoneadm -z \
+aaaaaaaaaaaaaaaaaaaaaaaaaaaaaaaaaaaaaaaaaaaaaaaaaaaaaaaaaaaaaaaa boot\n";
+
+// A word of a line is never empty, so no command prints `Empty`.
+fn name_runs() -> &'static [Run] {
+    runs_of!(NameFault:
+        NameFault::Memory => [],
+        NameFault::Empty => [],
+        NameFault::TooLong => [("trace", LONG_NAME, "2 TooLong")],
+        NameFault::BadByte(_) => [("trace", "S 1 zoneadm -z -a boot\n", "3 BadByte")],
+        NameFault::Reserved => [("trace", "S 1 zoneadm -z global boot\n", "4 Reserved")],
+    )
+}
+
+const ROOT_PATH: &str = "S 1 zonecfg -z a create -b; set zonepath=/; set brand=ipkg\n";
+
+const MADE_TWICE: &str = "S 1 zonecfg -z a create -b; set zonepath=/a; set brand=ipkg
+S 1 zonecfg -z a create -b; set zonepath=/a; set brand=ipkg\n";
+
+const SAME_PATH: &str = "S 1 zonecfg -z a create -b; set zonepath=/a; set brand=ipkg
+S 1 zonecfg -z b create -b; set zonepath=/a; set brand=ipkg\n";
+
+const ASKED_TWICE: &str = "S 1 zonecfg -z a create -b; set zonepath=/a; set brand=ipkg
+S 1 zoneadm -z a install
+S 1 zoneadm -z a install\n";
+
+const ASKED_NINE_TIMES: &str = "S 1 zonecfg -z a create -b; set zonepath=/a; set brand=ipkg
+S 1 zoneadm -z a install\nS 2 zoneadm -z a install\nS 3 zoneadm -z a install
+S 4 zoneadm -z a install\nS 5 zoneadm -z a install\nS 6 zoneadm -z a install
+S 7 zoneadm -z a install\nS 8 zoneadm -z a install\nS 9 zoneadm -z a install\n";
+
+fn reply_runs() -> &'static [Run] {
+    runs_of!(Refusal:
+        Refusal::BadName(_) => [],
+        Refusal::BadValue => [("trace", ROOT_PATH, "23 BadValue")],
+        Refusal::NeedForce => [("trace", MADE_TWICE, "34 NeedForce")],
+        Refusal::Denied(_) => [("trace", SAME_PATH, "82 Denied")],
+        Refusal::NoZone => [("trace", "S 1 zoneadm -z a boot\n", "90 NoZone")],
+        Refusal::Waiting(_) => [("trace", ASKED_TWICE, "91 Waiting")],
+        Refusal::DeskFull => [("trace", ASKED_NINE_TIMES, "92 DeskFull")],
+        Refusal::Usage => [("trace", "S 1 zlogin a\n", "93 Usage")],
+    )
+}
+
+const HALTED_TOO_EARLY: &str = "S 1 zonecfg -z a create -b; set zonepath=/a; set brand=ipkg
+S 1 zoneadm -z a halt
+D a\n";
+
+// In no trace a pool of numbers comes to its end, so none prints what a step was denied.
+fn outcome_runs() -> &'static [Run] {
+    runs_of!(Outcome:
+        Outcome::Done => [],
+        Outcome::WrongState(_) => [("trace", HALTED_TOO_EARLY, "81 WrongState")],
+        Outcome::Denied(_) => [],
+    )
+}
+
+fn has(text: &[u8], part: &str) -> bool {
+    match str::from_utf8(text) {
+        Ok(text) => text.contains(part),
+        Err(_) => false,
+    }
+}
+
+fn has_paragraph(page: &str, title: &str) -> bool {
+    for line in page.lines() {
+        if line.strip_prefix(HEAD) == Some(title) {
+            return true;
+        }
+    }
+    false
+}
+
+// Runs a command, and prints what is wrong: that it doesn't print the code and name, or that they have no paragraph.
+fn check_run(
+    rt: &(impl Print + AllocGlobal),
+    page: &str,
+    command: &str,
+    input: Vec<u8>,
+    title: &str,
+) -> io::Result<()> {
+    let ended = run(rt.alloc(), command, input)?;
+    if !has(ended.out.bytes(), title) && !has(ended.err.bytes(), title) {
+        println!(rt; "{title} IS NOT PRINTED")?;
+    }
+    if !has_paragraph(page, title) {
+        println!(rt; "{title} HAS NO PARAGRAPH")?;
+    }
+    Ok(())
+}
+
+fn is_among(titles: &[&str], title: &str) -> bool {
+    for it in titles {
+        if *it == title {
+            return true;
+        }
+    }
+    false
+}
+
+// Each paragraph is of a code that is printed.
+fn check_paragraphs(rt: &impl Print, page: &str, titles: &[&str]) -> io::Result<()> {
+    let mut count = 0u64;
+    for line in page.lines() {
+        if let Some(title) = line.strip_prefix(HEAD) {
+            count = count.saturating_add(1);
+            if !is_among(titles, title) {
+                println!(rt; "{title} IS NO CODE")?;
+            }
+        }
+    }
+    println!(rt; "{count} codes have their paragraph")
+}
+
+/// Prints each code of no run or no paragraph, and each paragraph of no code, and how many there are.
+pub fn check(rt: &(impl Files + Print + AllocGlobal)) -> io::Result<()> {
+    let page = fs::read_to_string(rt, PAGE)?;
+    let mut titles = Vec::new(rt.alloc());
+    let all = [
+        lex_runs(),
+        config_runs(),
+        edit_runs(),
+        flaw_runs(),
+        line_runs(),
+        name_runs(),
+        reply_runs(),
+        outcome_runs(),
+    ];
+    for runs in all {
+        for (command, input, title) in runs {
+            check_run(
+                rt,
+                page.as_str(),
+                command,
+                input.as_bytes().to_vec(rt.alloc())?,
+                title,
+            )?;
+            titles.push(*title)?;
+        }
+    }
+    check_run(
+        rt,
+        page.as_str(),
+        "export",
+        too_large(rt.alloc())?,
+        TOO_LARGE,
+    )?;
+    titles.push(TOO_LARGE)?;
+    check_paragraphs(rt, page.as_str(), titles.as_slice())
+}

@@ -1,0 +1,91 @@
+//! The examples, each with the files beside it that say how it ends.
+use crate::runs::run;
+use std::rt::Files;
+use std::{fs, io};
+
+struct Example {
+    command: &'static str,
+    input: &'static str,
+    status: u8,
+    // The file of what comes on standard output; none: nothing.
+    out: Option<&'static str>,
+    // The file of the line on standard error; none: nothing.
+    err: Option<&'static str>,
+}
+
+const EXAMPLES: &[Example] = &[
+    Example {
+        command: "export",
+        input: "examples/web.zonecfg",
+        status: 0,
+        out: Some("examples/web.export"),
+        err: None,
+    },
+    Example {
+        command: "export",
+        input: "examples/mount.zonecfg",
+        status: 0,
+        out: Some("examples/mount.export"),
+        err: None,
+    },
+    Example {
+        command: "export",
+        input: "examples/full.zonecfg",
+        status: 0,
+        out: Some("examples/full.export"),
+        err: None,
+    },
+    Example {
+        command: "export",
+        input: "examples/refused.zonecfg",
+        status: 1,
+        out: None,
+        err: Some("examples/refused.message"),
+    },
+    Example {
+        command: "trace",
+        input: "examples/web.trace",
+        status: 0,
+        out: Some("examples/web.replies"),
+        err: None,
+    },
+    Example {
+        command: "trace",
+        input: "examples/two.trace",
+        status: 1,
+        out: Some("examples/two.replies"),
+        err: Some("examples/two.message"),
+    },
+];
+
+fn text_of(rt: &(impl Files + AllocGlobal), file: Option<&str>) -> io::Result<Vec<u8>> {
+    match file {
+        Some(name) => fs::read(rt, name),
+        None => Ok(Vec::new(rt.alloc())),
+    }
+}
+
+// Whether an example ends as its files say.
+fn is_kept(rt: &(impl Files + AllocGlobal), example: &Example) -> io::Result<bool> {
+    let ended = run(rt.alloc(), example.command, fs::read(rt, example.input)?)?;
+    let out = text_of(rt, example.out)?;
+    let err = text_of(rt, example.err)?;
+    Ok(
+        ended.status == example.status
+            && ended.out.bytes() == out.as_slice()
+            && ended.err.bytes() == err.as_slice(),
+    )
+}
+
+/// Runs each example, and prints whether it ended as its files say.
+pub fn check(rt: &(impl Files + Print + AllocGlobal)) -> io::Result<()> {
+    for example in EXAMPLES {
+        let said = if is_kept(rt, example)? {
+            "as written"
+        } else {
+            "DIFFERS"
+        };
+        println!(rt; "{}: {}", example.input, said)?;
+    }
+    Ok(())
+}

@@ -1,0 +1,15 @@
+//! The test of what is written for users: each example ends as the files beside its input say, and each code that
+//! `zones` can print has its paragraph in docs/CODES.md, and each paragraph its code. They lie in `data/`, where a
+//! program that the gate runs may read them; `examples/` and `docs/CODES.md` are links to them.
+#![tactic(auto)]
+
+mod codes;
+mod examples;
+mod runs;
+
+use std::io;
+
+fn main(rt: HostRuntime) -> io::Result<()> {
+    examples::check(&rt)?;
+    codes::check(&rt)
+}
