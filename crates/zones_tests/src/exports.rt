@@ -5,7 +5,66 @@ use std::process::Abort;
 use std::test::Fail;
 use zn_base::push_numbered;
 
+// A zone with a resource of every kind.
+const FULL: &[u8] = b"# a zone with a resource of every kind
+create
+set zonepath=/zones/web; set bootargs=\"-m verbose\"
+set cpu-shares=20
+add fs
+set dir=/usr/local; set special=/export/local; set type=lofs
+add options [ro,nodevices]
+end
+add net; set address=10.0.0.10/24; set physical=net0; end
+add device; set match=/dev/dsk/*; end
+add rctl
+set name=zone.max-sem-ids
+add value (priv=privileged,limit=100,action=deny)
+end
+add attr; set name=owner; set type=string; set value=\"web team\"; end
+add dataset; set name=tank/web; end
+select attr name=owner; set value=\"ops team\"; end
+verify
+";
+
+const FULL_TEXT: &[u8] = b"create -b
+set zonepath=/zones/web
+set brand=ipkg
+set autoboot=false
+set bootargs=\"-m verbose\"
+set ip-type=shared
+add fs
+set dir=/usr/local
+set special=/export/local
+set type=lofs
+add options [ro,nodevices]
+end
+add net
+set address=10.0.0.10/24
+set physical=net0
+end
+add device
+set match=/dev/dsk/*
+end
+add rctl
+set name=zone.cpu-shares
+add value (priv=privileged,limit=20,action=none)
+end
+add rctl
+set name=zone.max-sem-ids
+add value (priv=privileged,limit=100,action=deny)
+end
+add attr
+set name=owner
+set type=string
+set value=\"ops team\"
+end
+add dataset
+set name=tank/web
+end
+";
+
 const SCRIPTS: &[(&[u8], &[u8])] = &[
+    (FULL, FULL_TEXT),
     (WEB, WEB_TEXT),
     (
         b"create -b\nset zonepath=/zones/web\nset brand=ipkg",
