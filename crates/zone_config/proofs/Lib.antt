@@ -1,6 +1,7 @@
 mod Examples
 pub mod Lists
 pub mod PropertyEdits
+pub mod Rows
 pub mod ResourceEdits
 pub mod Aliases
 pub mod Settings

@@ -9,6 +9,8 @@ use Rattle.config_terms.specs.declared.rules.Rule.{Rule}
 use Rattle.config_terms.specs.declared.rules.Rule.TheVariants.{OwnPath, RootedPath}
 use Rattle.config_terms.specs.declared.terms.Attr as attr
 use Rattle.config_terms.specs.declared.terms.Fs as fs
+use Rattle.config_terms.specs.declared.terms.Kind.{Kind}
+use Rattle.config_terms.specs.declared.terms.Kind.TheVariants as kind
 use Rattle.config_terms.specs.declared.terms.Net as net
 use Rattle.config_terms.specs.declared.terms.Rctl as rctl
 use Rattle.config_terms.specs.declared.terms.IpType.TheVariants.{Shared, Exclusive}
@@ -21,7 +23,8 @@ use Rattle.zone_config.specs.declared.terms.Property.{Property}
 use Rattle.zone_config.specs.declared.terms.Property.TheVariants.{Zonepath, Brand, Autoboot, Bootargs, Pool, Limitpriv, SchedulingClass, IpType, Hostid, FsAllowed}
 use Rattle.zone_config.specs.Property.{blank, bool_text, ip_text, properties, property_name, property_rule, shown, unset_text, with_value}
 use Rattle.zone_config.specs.Export.{export_text, property_line}
-use Rattle.zone_config.specs.Sound.{HasSoundResources, IsKept, count}
+use Rattle.zone_config.specs.Kinds.{by_kind}
+use Rattle.zone_config.specs.Sound.{AreSound, HasSoundResources, IsKept, count}
 use Rattle.zone_config.proofs.Lists.{first_true}
 
 -- the export text, part by part
@@ -205,26 +208,20 @@ lists-with Hostid v c = refl
 lists-with FsAllowed v c = refl
 
 -- resources that are the same stay sound
-sound-lists : (c d : Contents) → lists d ≡ lists c → HasSoundResources c → HasSoundResources d
+sound-each : (c d : Contents) → lists d ≡ lists c → HasSoundResources c → (k : Kind) → by_kind k (λ A row. AreSound row (row.list d))
+sound-each c d e s kind.Fs = rw (ap (λ (l : Lists). l.0) e) (s.kinds kind.Fs)
+sound-each c d e s kind.Net = rw (ap (λ (l : Lists). l.1) e) (s.kinds kind.Net)
+sound-each c d e s kind.Device = rw (ap (λ (l : Lists). l.2) e) (s.kinds kind.Device)
+sound-each c d e s kind.Rctl = rw (ap (λ (l : Lists). l.3) e) (s.kinds kind.Rctl)
+sound-each c d e s kind.Attr = rw (ap (λ (l : Lists). l.4) e) (s.kinds kind.Attr)
+sound-each c d e s kind.Dataset = rw (ap (λ (l : Lists). l.5) e) (s.kinds kind.Dataset)
+
+same-count : (c d : Contents) → lists d ≡ lists c → count d ≡ count c
 unfolding count
-sound-lists c d e s =
-    let fs = ap (λ (l : Lists). l.0) e in
-    let net = ap (λ (l : Lists). l.1) e in
-    let device = ap (λ (l : Lists). l.2) e in
-    let rctl = ap (λ (l : Lists). l.3) e in
-    let attr = ap (λ (l : Lists). l.4) e in
-    let dataset = ap (λ (l : Lists). l.5) e in
-    record {
-      fs = rw fs s.fs;
-      net = rw net s.net;
-      device = rw device s.device;
-      rctl = rw rctl s.rctl;
-      attr = rw attr s.attr;
-      dataset = rw dataset s.dataset;
-      few = rw (fs, net, device, rctl, attr, dataset) s.few;
-      few_fs = rw fs s.few_fs;
-      few_options = rw fs s.few_options;
-    }
+same-count c d e = ap (λ (l : Lists). length l.0 + length l.1 + length l.2 + length l.3 + length l.4 + length l.5) e
+
+sound-lists : (c d : Contents) → lists d ≡ lists c → HasSoundResources c → HasSoundResources d
+sound-lists c d e s = record { kinds = sound-each c d e s; few = rw (same-count c d e) s.few }
 
 -- the length of the line that goes, and of the text with the one that comes
 pub record Measures (old line size text : ℕ) : Type 0 where
@@ -256,23 +253,17 @@ kept_with p v c size n k e fit measured short =
     }
 
 -- a configuration in which nothing is set is sound
+blank-each : (k : Kind) → by_kind k (λ A row. AreSound row (row.list blank))
+blank-each kind.Fs = record { each = refl; few_options = refl; once = refl; few = omega arith }
+blank-each k = record { each = refl; few_options = refl; once = refl; few = tt }
+
 pub blank_kept : IsKept blank 48
 unfolding setting count export_text
 blank_kept = record {
   measured = refl;
   sound = record {
     properties = record { values = fits_unset; zonepath = λ h. cc };
-    resources = record {
-      fs = record { each = refl; once = refl };
-      net = record { each = refl; once = refl };
-      device = record { each = refl; once = refl };
-      rctl = record { each = refl; once = refl };
-      attr = record { each = refl; once = refl };
-      dataset = record { each = refl; once = refl };
-      few = omega arith;
-      few_fs = omega arith;
-      few_options = refl;
-    };
+    resources = record { kinds = blank-each; few = omega arith };
     short = omega arith;
   };
 }

@@ -8,6 +8,7 @@ use Rattle.zn_base.specs.declared.values.Value.{Value}
 use Rattle.zn_base.specs.declared.values.Value.TheVariants.{Simple, Complex, List as Items}
 use Rattle.config_terms.specs.declared.fault.ConfigFault.{ConfigFault}
 use Rattle.config_terms.specs.declared.fault.ConfigFault.TheVariants as fault
+use Rattle.config_terms.specs.declared.terms.Kind.TheVariants as kind
 use Rattle.config_terms.specs.declared.terms.Rctl.{Rctl}
 use Rattle.config_terms.specs.declared.terms.Resource.TheVariants as resource
 use Rattle.config_terms.specs.Numbers.{number_of}
@@ -110,7 +111,7 @@ limited_in_place : (a : Alias) (n i : ℕ) (c : Contents) → IsSound c → plac
 limited_in_place a n i c s h =
     let parts = parted (is_named_for a) c.rctl i h in
     record {
-      one = one_in_place (is_named_for a) c.rctl i (alias_rctl a n) parts (none_behind (λ r. r.name) (rctl_name a) c.rctl i s.resources.rctl.once parts) (named_for_own a n);
+      one = one_in_place (is_named_for a) c.rctl i (alias_rctl a n) parts (none_behind (λ r. r.name) (rctl_name a) c.rctl i (s.resources.kinds kind.Rctl).once parts) (named_for_own a n);
       same = refl;
     }
 
