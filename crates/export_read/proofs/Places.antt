@@ -155,7 +155,7 @@ module _ (c : Contents) (sound : IsSound c) where
 
   few : length c.fs + length c.net + length c.device + length c.rctl + length c.attr + length c.dataset ≤ 256
   unfolding count
-  few = sound.resources.few
+  few = omega (arith, sound.resources.few)
 
   fs_place : IsPlace kind.Fs Fs fs_shown fs_options fs_commands c now_fs H (N ++ (D ++ (R ++ (A ++ S)))) c.fs
   unfolding count
@@ -171,7 +171,7 @@ module _ (c : Contents) (sound : IsSound c) where
         let n = length_at pre post c.fs x at in
         let m = few in
         let k = (sound.resources.kinds kind.Fs).few in
-        let all : nat_le 256 (length pre + 0 + 0 + 0 + 0 + 0) ≡ false = grind (arith, nat_tests) in
+        let all : nat_le 256 (count (now_fs pre)) ≡ false = grind (arith, nat_tests) in
         let own : nat_le 100 (length pre) ≡ false = grind (arith, nat_tests) in
         rw (all, own, less) refl;
   }
@@ -189,7 +189,7 @@ module _ (c : Contents) (sound : IsSound c) where
     limit = λ pre post x y at less.
         let n = length_at pre post c.net x at in
         let m = few in
-        let all : nat_le 256 (length c.fs + length pre + 0 + 0 + 0 + 0) ≡ false = grind (arith, nat_tests) in
+        let all : nat_le 256 (count (now_net pre)) ≡ false = grind (arith, nat_tests) in
         rw all refl;
   }
 
@@ -206,7 +206,7 @@ module _ (c : Contents) (sound : IsSound c) where
     limit = λ pre post x y at less.
         let n = length_at pre post c.device x at in
         let m = few in
-        let all : nat_le 256 (length c.fs + length c.net + length pre + 0 + 0 + 0) ≡ false = grind (arith, nat_tests) in
+        let all : nat_le 256 (count (now_device pre)) ≡ false = grind (arith, nat_tests) in
         rw all refl;
   }
     where
@@ -226,7 +226,7 @@ module _ (c : Contents) (sound : IsSound c) where
     limit = λ pre post x y at less.
         let n = length_at pre post c.rctl x at in
         let m = few in
-        let all : nat_le 256 (length c.fs + length c.net + length c.device + length pre + 0 + 0) ≡ false = grind (arith, nat_tests) in
+        let all : nat_le 256 (count (now_rctl pre)) ≡ false = grind (arith, nat_tests) in
         rw all refl;
   }
     where
@@ -246,7 +246,7 @@ module _ (c : Contents) (sound : IsSound c) where
     limit = λ pre post x y at less.
         let n = length_at pre post c.attr x at in
         let m = few in
-        let all : nat_le 256 (length c.fs + length c.net + length c.device + length c.rctl + length pre + 0) ≡ false = grind (arith, nat_tests) in
+        let all : nat_le 256 (count (now_attr pre)) ≡ false = grind (arith, nat_tests) in
         rw all refl;
   }
     where
@@ -266,7 +266,7 @@ module _ (c : Contents) (sound : IsSound c) where
     limit = λ pre post x y at less.
         let n = length_at pre post c.dataset x at in
         let m = few in
-        let all : nat_le 256 (length c.fs + length c.net + length c.device + length c.rctl + length c.attr + length pre) ≡ false = grind (arith, nat_tests) in
+        let all : nat_le 256 (count (now_dataset pre)) ≡ false = grind (arith, nat_tests) in
         rw all refl;
   }
 

@@ -1,7 +1,8 @@
 mod Examples
 pub mod Lists
-pub mod PropertyEdits
 pub mod Rows
+pub mod SameResources
+pub mod PropertyEdits
 pub mod ResourceEdits
 pub mod Aliases
 pub mod Settings

@@ -69,8 +69,8 @@ module _ {A : Type 0} (row : Row A) (law : IsLawful row) (wanted : List Pair) (c
   matches-row : matches_at row.kind wanted place c ≡ has_all row.kind wanted (row.shown x)
   matches-row =
       ap (λ r. has_all row.kind wanted (resource_shown r))
-      (law.of_kind Resource (λ B other. unwrap_or (option_map other.make (slice_get (other.list c) place)) (empty other.kind)) ∙ ap (λ o. unwrap_or (option_map row.make o) (empty row.kind)) at)
-      ∙ ap (has_all row.kind wanted) (law.shown x)
+      (law.known.of_kind Resource (λ B other. unwrap_or (option_map other.make (slice_get (other.list c) place)) (empty other.kind)) ∙ ap (λ o. unwrap_or (option_map row.make o) (empty row.kind)) at)
+      ∙ ap (has_all row.kind wanted) (law.known.shown x)
 
   without-row : without_place row.kind c place ≡ row.put (remove (row.list c) place) c
   without-row =
@@ -86,18 +86,18 @@ module _ (A : Type 0) (row : Row A) (law : IsLawful row) (wanted : List Pair) (c
   so_far n = row.put (tested_from n) c
 
   partly-row : (n : ℕ) → partly row.kind wanted n c ≡ so_far n
-  partly-row n = law.of_kind Contents (λ B other. other.put (kept (stays other wanted) n (other.list c)) c)
+  partly-row n = law.known.of_kind Contents (λ B other. other.put (kept (stays other wanted) n (other.list c)) c)
 
   row_tested : (n : ℕ) (x : A) (b : Bool) → slice_get (row.list c) n ≡ Some x → has_all row.kind wanted (row.shown x) ≡ b
       → cond b (row.put (remove (tested_from (suc n)) n) (so_far (suc n))) (so_far (suc n)) ≡ so_far n
-  row_tested n x true e h = law.again _ _ c ∙ ap (λ xs. row.put xs c) (kept-removed (stays row wanted) n (row.list c) x e (ap not h))
+  row_tested n x true e h = law.part.again _ _ c ∙ ap (λ xs. row.put xs c) (kept-removed (stays row wanted) n (row.list c) x e (ap not h))
   row_tested n x false e h = ap (λ xs. row.put xs c) (kept-stays (stays row wanted) n (row.list c) x e (ap not h))
 
   row_partly-step : (n : ℕ) → n < count_of row.kind c → without_match_at row.kind wanted n (partly row.kind wanted (suc n) c) ≡ partly row.kind wanted n c
   row_partly-step n h =
       let counts = count_of-row row law c in
       let at = slice_get-Some (row.list c) n (omega arith) in
-      let listed = law.listed (tested_from (suc n)) c in
+      let listed = law.part.listed (tested_from (suc n)) c in
       let there : slice_get (row.list (so_far (suc n))) n ≡ Some at.0 = ap (λ xs. slice_get xs n) listed ∙ slice_get-kept (stays row wanted) n (row.list c) ∙ at.1 in
       ap (without_match_at row.kind wanted n) (partly-row (suc n))
       ∙ ap (λ b. cond b (without_place row.kind (so_far (suc n)) n) (so_far (suc n))) (matches-row row law wanted (so_far (suc n)) n at.0 there)
@@ -107,12 +107,12 @@ module _ (A : Type 0) (row : Row A) (law : IsLawful row) (wanted : List Pair) (c
 
   row_partly-all : partly row.kind wanted (count_of row.kind c) c ≡ c
   row_partly-all =
-      ap (λ n. partly row.kind wanted n c) (count_of-row row law c) ∙ partly-row (length (row.list c)) ∙ ap (λ xs. row.put xs c) (kept-all (stays row wanted) (row.list c)) ∙ law.unchanged c
+      ap (λ n. partly row.kind wanted n c) (count_of-row row law c) ∙ partly-row (length (row.list c)) ∙ ap (λ xs. row.put xs c) (kept-all (stays row wanted) (row.list c)) ∙ law.part.unchanged c
 
   row_partly-count : (n : ℕ) → n < count_of row.kind c → n < count_of row.kind (partly row.kind wanted (suc n) c)
   row_partly-count n h =
       let counts = count_of-row row law c in
-      let now = ap (count_of row.kind) (partly-row (suc n)) ∙ count_of-row row law (so_far (suc n)) ∙ ap length (law.listed (tested_from (suc n)) c) in
+      let now = ap (count_of row.kind) (partly-row (suc n)) ∙ count_of-row row law (so_far (suc n)) ∙ ap length (law.part.listed (tested_from (suc n)) c) in
       let less = less-kept (stays row wanted) n (row.list c) (omega arith) in
       omega arith
 

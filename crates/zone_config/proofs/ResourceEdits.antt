@@ -17,7 +17,7 @@ use Rattle.zone_config.specs.Sound.{AreSound, HasSoundResources, IsKept, IsSound
 use Rattle.zone_config.specs.Resources.{added, are_apart, count_of, has_taken, has_taken_but, kind_passed, length_of, limit_passed, most_passed, removed, replaced, text_at, unless_passed, with_replaced, IsLengthOf}
 use Rattle.zone_config.proofs.Lists.{length-remove_one, length-slice_set, sound-push, sound-remove, sound-set, text-push, text-remove, text-set, text_within}
 use Rattle.zone_config.proofs.PropertyEdits.{Measures}
-use Rattle.zone_config.proofs.Rows.{IsLawful, SameProperties, added-row, count_of-row, each_kind, each_resource, has_taken-row, has_taken_but-row, kind_passed-row, removed-row, replaced-row, text_at-row}
+use Rattle.zone_config.proofs.Rows.{IsLawful, SameProperties, added-row, count_of-row, each_kind, each_resource, has_taken-row, has_taken_but-row, kind_passed-row, removed-row, replaced-row, sound-row, text_at-row}
 
 no_limit : (n : ℕ) (o : Option ℕ) → cond (nat_le 256 n) (Some 256) o ≡ None → (n < 256) × (o ≡ None)
 no_limit n o h =
@@ -79,7 +79,7 @@ module _ (A : Type 0) (row : Row A) (law : IsLawful row) (c : Contents) (x : A) 
       → HasSoundResources (added (row.make x) c)
   row_sound-added s allowed free few room =
       let within = within_if_not_passed row.most (length (row.list c)) (options_passed (row.make x)) (sym (kind_passed-row row law c x) ∙ room) in
-      let own = sound-push row (row.list c) (law.sound c s) x allowed (few_if_not_passed (row.make x) within.1) (sym (has_taken-row row law c x) ∙ free) within.0 in
+      let own = sound-push row (row.list c) (sound-row row law c s) x allowed (few_if_not_passed (row.make x) within.1) (sym (has_taken-row row law c x) ∙ free) within.0 in
       record { kinds = rw (added-row row law c x) (law.put_sound (row.list c ++ x ∷ []) c s own); few = few }
 
   row_same-added : SameProperties c (added (row.make x) c)
@@ -87,12 +87,12 @@ module _ (A : Type 0) (row : Row A) (law : IsLawful row) (c : Contents) (x : A) 
 
   row_size_added : (size : ℕ) → IsKept c size → size + length (resource_text (row.make x)) ≡ length (export_text (added (row.make x) c))
   row_size_added size k =
-      rw (added-row row law c x, law.text x) (omega (arith, k.measured, law.measured (row.list c ++ x ∷ []) c, text-push row.text (row.list c) x))
+      rw (added-row row law c x, law.known.text x) (omega (arith, k.measured, law.measured (row.list c ++ x ∷ []) c, text-push row.text (row.list c) x))
 
   row_sound-replaced : (place : ℕ) → HasSoundResources c → is_allowed (row.make x) ≡ true → has_taken_but place (row.make x) c ≡ false → options_passed (row.make x) ≡ None
       → HasSoundResources (replaced place (row.make x) c)
   row_sound-replaced place s allowed free few =
-      let own = sound-set row (row.list c) (law.sound c s) place x allowed (few_if_not_passed (row.make x) few) (sym (has_taken_but-row row law c place x) ∙ free) in
+      let own = sound-set row (row.list c) (sound-row row law c s) place x allowed (few_if_not_passed (row.make x) few) (sym (has_taken_but-row row law c place x) ∙ free) in
       rw (replaced-row row law c place x) (record {
         kinds = law.put_sound (slice_set (row.list c) place x) c s own;
         few = omega (arith, s.few, law.counted (slice_set (row.list c) place x) c, length-slice_set (row.list c) place x);
@@ -104,11 +104,11 @@ module _ (A : Type 0) (row : Row A) (law : IsLawful row) (c : Contents) (x : A) 
   row_size-set : (place : ℕ) (t : List ℕ) (size : ℕ) → IsKept c size → text_at place (kind_of (row.make x)) c ≡ Some t
       → Measures (length t) (length (resource_text (row.make x))) size (length (export_text (replaced place (row.make x) c)))
   row_size-set place t size k h =
-      let at : text_at place row.kind c ≡ Some t = rw (← law.kind x) h in
+      let at : text_at place row.kind c ≡ Some t = rw (← law.known.kind x) h in
       let text = text-replaced row.text (row.list c) place x t (sym (text_at-row row law c place) ∙ at) in
       let now = law.measured (slice_set (row.list c) place x) c in
       let without = law.measured [] c in
-      rw (replaced-row row law c place x, law.text x) (record { within = omega (arith, k.measured); now = omega (arith, k.measured) })
+      rw (replaced-row row law c place x, law.known.text x) (record { within = omega (arith, k.measured); now = omega (arith, k.measured) })
 
 -- one more resource
 count-added : (r : Resource) (c : Contents) → count (added r c) ≡ count c + 1
@@ -192,8 +192,8 @@ module _ (A : Type 0) (row : Row A) (law : IsLawful row) (c : Contents) (size : 
       let rest = remove (row.list c) place in
       let one = length-remove_one (row.list c) place x at in
       let text = text-remove row.text (row.list c) place x at in
-      leaves_rest c (row.put rest c) (row.make x) size k (rw (law.text x) (omega (arith, law.measured rest c))) (law.properties rest c) (record {
-        kinds = law.put_sound rest c k.sound.resources (sound-remove row (row.list c) (law.sound c k.sound.resources) place);
+      leaves_rest c (row.put rest c) (row.make x) size k (rw (law.known.text x) (omega (arith, law.measured rest c))) (law.properties rest c) (record {
+        kinds = law.put_sound rest c k.sound.resources (sound-remove row (row.list c) (sound-row row law c k.sound.resources) place);
         few = omega (arith, k.sound.resources.few, law.counted rest c);
       })
 
@@ -205,7 +205,7 @@ module _ (A : Type 0) (row : Row A) (law : IsLawful row) (c : Contents) (size : 
   row_count_within = omega (arith, count_of-row row law c, law.counted [] c, k.sound.resources.few)
 
   row_apart : are_apart row.kind c ≡ true
-  row_apart = law.of_kind Bool (λ B other. are_told_apart other.shown other.kind (other.list c)) ∙ (law.sound c k.sound.resources).once
+  row_apart = law.known.of_kind Bool (λ B other. are_told_apart other.shown other.kind (other.list c)) ∙ (sound-row row law c k.sound.resources).once
 
 pub leaves : (k : Kind) (place : ℕ) (c d : Contents) (r : Resource) (size : ℕ) → IsKept c size → removed k place c ≡ Some (r, d) → Leaves r d size
 leaves k place c d r size kept = each_kind (λ k. removed k place c ≡ Some (r, d) → Leaves r d size) (λ A row law. row_leaves A row law c size kept place d r) k

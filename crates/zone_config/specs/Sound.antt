@@ -1,10 +1,10 @@
 -- What is true of every configuration.
-use Rattle.std.specs.Prelude.{◌≡◌, ◌≢◌, ◌+◌, ◌≤◌, ℕ, List, [], length, nat_le, Bool, IsTrue, Option, Some, None}
-use Rattle.std.specs.List.{list_all}
+use Rattle.std.specs.Prelude.{◌≡◌, ◌≢◌, ◌≤◌, ℕ, List, [], length, nat_le, Bool, IsTrue, Option, Some, None}
+use Rattle.std.specs.List.{list_all, sum_by}
 use Rattle.config_terms.specs.declared.terms.Kind.{Kind}
 use Rattle.config_terms.specs.declared.terms.Resource.{Resource}
 use Rattle.config_terms.specs.Allowed.{are_told_apart, is_allowed}
-use Rattle.config_terms.specs.Fields.{resource_options}
+use Rattle.config_terms.specs.Fields.{kinds, resource_options}
 use Rattle.config_terms.specs.Rules.{fits}
 use Rattle.zone_config.specs.declared.limits.TheConstants.{RESOURCES_MAX, TEXT_MAX}
 use Rattle.zone_config.specs.declared.terms.Contents.{Contents}
@@ -15,7 +15,7 @@ use Rattle.zone_config.specs.Property.{property_rule, shown}
 
 -- how many resources there are
 unfoldable pub count : Contents → ℕ
-count c = length c.fs + length c.net + length c.device + length c.rctl + length c.attr + length c.dataset
+count c = sum_by (λ k. by_kind k (λ A row. length (row.list c))) kinds
 
 -- a number is within a bound, where there is one
 abbrev pub IsWithin : Option ℕ → ℕ → Type 0

@@ -38,6 +38,22 @@ macro_rules! kind_arms {
     };
 }
 
+// The sum over the kinds of what is made of the list of each.
+macro_rules! sum_of_kinds {
+    ($contents:expr, |$list:ident| $body:expr) => {
+        $crate::each_kind!(kind_sum, ($contents, $list, $body))
+    };
+}
+
+macro_rules! kind_sum {
+    (($contents:expr, $list:ident, $body:expr), $($name:ident $field:ident),*) => {
+        0 $(+ {
+            let $list = &$contents.$field;
+            $body
+        })*
+    };
+}
+
 // By the kind: a resource of what is made of its list.
 macro_rules! resource_by_kind {
     ($kind:expr, $contents:expr, |$list:ident| $body:expr) => {
@@ -121,7 +137,9 @@ pub(crate) use by_resource;
 pub(crate) use by_resource_mut;
 pub(crate) use entry_arms;
 pub(crate) use entry_arms_mut;
+pub(crate) use kind_sum;
 pub(crate) use resource_arms;
 pub(crate) use resource_arms_mut;
 pub(crate) use resource_by_kind;
 pub(crate) use resource_by_kind_mut;
+pub(crate) use sum_of_kinds;

@@ -6,7 +6,7 @@ ghost use Rattle.zone_config.specs.Resources.{IsLengthOf, added, are_apart, coun
 ghost use Rattle.zone_config.specs.declared.limits.TheConstants.{RESOURCES_MAX};
 ghost use Rattle.zone_config.specs.Sound.{count};
 
-use crate::kinds::{by_resource, by_resource_mut, resource_by_kind_mut};
+use crate::kinds::{by_resource, by_resource_mut, resource_by_kind_mut, sum_of_kinds};
 use crate::limits::{FS_MAX, RESOURCES_MAX};
 use crate::{Contents, by_kind};
 use config_terms::{
@@ -34,12 +34,7 @@ impl Contents {
         requires { count self.now ≤ RESOURCES_MAX }
         ensures { result ≡ count self.now }
     {
-        self.fs.len()
-            + self.net.len()
-            + self.device.len()
-            + self.rctl.len()
-            + self.attr.len()
-            + self.dataset.len()
+        sum_of_kinds!(self, |list| list.len())
     }
 
     fn kind_passed(&self, resource: &Resource) -> Option<usize>

@@ -53,7 +53,7 @@ unwrapped-kind mk none k (Some a) h n = h a
 resource_at-kind : (k : Kind) (place : ℕ) (c : Contents) → kind_of (resource_at k place c) ≡ k
 resource_at-kind k place c =
     each_kind (λ k. kind_of (resource_at k place c) ≡ k)
-    (λ A row law. ap kind_of (resource_at-row row law c place) ∙ unwrapped-kind row.make (empty row.kind) row.kind (slice_get (row.list c) place) law.kind law.nothing) k
+    (λ A row law. ap kind_of (resource_at-row row law c place) ∙ unwrapped-kind row.make (empty row.kind) row.kind (slice_get (row.list c) place) law.known.kind law.known.nothing) k
 
 place_or-inside : (n : ℕ) (o : Option ℕ) (place bound : ℕ) → place_or n o ≡ Ok place → ((at : ℕ) → o ≡ Some at → at < bound) → place < bound
 place_or-inside n None place bound e h = absurd (cc)

@@ -24,10 +24,10 @@ KeepsKind r (Ok s) = kind_of s ≡ kind_of r
 KeepsKind r (Err fault) = Unit {0}
 
 with_field-kind : (field : Field) (text : List ℕ) (r : Resource) → kind_of (with_field field text r) ≡ kind_of r
-with_field-kind field text r = each_resource (λ r. kind_of (with_field field text r) ≡ kind_of r) (λ A row law x. law.edited field text x ∙ sym (law.kind x)) r
+with_field-kind field text r = each_resource (λ r. kind_of (with_field field text r) ≡ kind_of r) (λ A row law x. law.known.edited field text x ∙ sym (law.known.kind x)) r
 
 without_list-kind : (r : Resource) → kind_of (without_list r) ≡ kind_of r
-without_list-kind r = each_resource (λ r. kind_of (without_list r) ≡ kind_of r) (λ A row law x. law.unlisted x ∙ sym (law.kind x)) r
+without_list-kind r = each_resource (λ r. kind_of (without_list r) ≡ kind_of r) (λ A row law x. law.known.unlisted x ∙ sym (law.known.kind x)) r
 
 field_set-kind : (field : Field) (v : Value) (r : Resource) → KeepsKind r (field_set field v r)
 field_set-kind field (Simple text) r =
