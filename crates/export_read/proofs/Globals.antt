@@ -10,6 +10,7 @@ use Rattle.config_terms.specs.Rules.{fits, obeys}
 use Rattle.config_terms.specs.Texts.{setting}
 use Rattle.config_terms.specs.declared.terms.IpType.{IpType as Ip}
 use Rattle.config_terms.specs.declared.terms.IpType.TheVariants.{Shared, Exclusive}
+use Rattle.config_terms.specs.declared.terms.Kind.TheVariants as kind
 use Rattle.zone_config.specs.Edits.{with_property}
 use Rattle.zone_config.specs.Export.{export_text, property_line}
 use Rattle.zone_config.specs.Property.{bool_text, ip_text, properties, property_name, property_rule, setting_named, shown, with_value}
@@ -18,7 +19,8 @@ use Rattle.zone_config.specs.declared.terms.Contents.{Contents}
 use Rattle.zone_config.specs.declared.terms.Property.{Property}
 use Rattle.zone_config.specs.declared.terms.Property.TheVariants.{Zonepath, Brand, Autoboot, Bootargs, Pool, Limitpriv, SchedulingClass, IpType, Hostid, FsAllowed}
 use Rattle.zone_config.specs.declared.terms.Setting.TheVariants.{Kept}
-use Rattle.zone_config.proofs.PropertyEdits.{Lists, lists, lists-with, shown_obeyed, shown-with}
+use Rattle.zone_config.proofs.PropertyEdits.{resources-with, shown_obeyed, shown-with}
+use Rattle.zone_config.proofs.SameResources.{HaveSameResources, same-texts, same_resources-self, same_resources-then}
 use Rattle.export_read.proofs.Printable.{fits-set}
 use Rattle.export_read.proofs.Texts.{text-each, text-where_set, text_of}
 use Rattle.export_read.specs.Commands.{property_commands}
@@ -32,23 +34,15 @@ shows c p = shown p c
 
 -- a configuration without resources, and with no empty path
 pub record IsBare (s : Contents) : Type 0 where
-  pub lists : lists s ≡ lists least
+  pub resources : HaveSameResources least s
   pub zonepath : s.zonepath ≢ Some []
-
-nothing_behind : (text : List ℕ) → text ++ [] ++ [] ++ [] ++ [] ++ [] ++ [] ≡ text
-nothing_behind text = simp append-nil refl
 
 -- its text has the lines of its properties alone
 pub bare_text : (s : Contents) → IsBare s → export_text s ≡ codes "create -b\n" ++ flat_map (property_line s) properties
 unfolding export_text
 bare_text s bare =
-    let fs = ap (λ (l : Lists). l.0) bare.lists in
-    let net = ap (λ (l : Lists). l.1) bare.lists in
-    let device = ap (λ (l : Lists). l.2) bare.lists in
-    let rctl = ap (λ (l : Lists). l.3) bare.lists in
-    let attr = ap (λ (l : Lists). l.4) bare.lists in
-    let dataset = ap (λ (l : Lists). l.5) bare.lists in
-    rw (fs, net, device, rctl, attr, dataset) (nothing_behind (codes "create -b\n" ++ flat_map (property_line s) properties))
+    let lines = codes "create -b\n" ++ flat_map (property_line s) properties in
+    ap (λ l. lines ++ l) (same-texts least s bare.resources) ∙ append-nil lines
 
 -- the properties are no longer than the whole
 within_whole : (c : Contents) → length (codes "create -b\n" ++ flat_map (property_line c) properties) ≤ length (export_text c)
@@ -136,7 +130,7 @@ zonepath-with Hostid v s h = h
 zonepath-with FsAllowed v s h = h
 
 bare-with : (p : Property) (v : List ℕ) (s : Contents) → IsBare s → IsBare (with_value p v s)
-bare-with p v s bare = record { lists = lists-with p v s ∙ bare.lists; zonepath = zonepath-with p v s bare.zonepath }
+bare-with p v s bare = record { resources = same_resources-then least s (with_value p v s) bare.resources (resources-with p v s); zonepath = zonepath-with p v s bare.zonepath }
 
 module _ (c : Contents) (sound : IsSound c) where
   abbrev Between : List Property → List Property → Contents → Type 0
@@ -187,7 +181,7 @@ module _ (c : Contents) (sound : IsSound c) where
   }
 
   least_bare : IsBare least
-  least_bare = record { lists = refl; zonepath = λ h. cc }
+  least_bare = record { resources = same_resources-self least; zonepath = λ h. cc }
 
   -- the properties of the scope, and what they make
   pub walk_properties : Reaches shows closed IsBare least c properties (Create ∷ []) least (flat_map (property_commands c) properties)
@@ -241,10 +235,10 @@ same_properties c e set bare h =
       ip = ip i;
       hostid = hostid i;
       fs_allowed = fs_allowed i;
-      fs = ap (λ (l : Lists). l.0) bare.lists i;
-      net = ap (λ (l : Lists). l.1) bare.lists i;
-      device = ap (λ (l : Lists). l.2) bare.lists i;
-      rctl = ap (λ (l : Lists). l.3) bare.lists i;
-      attr = ap (λ (l : Lists). l.4) bare.lists i;
-      dataset = ap (λ (l : Lists). l.5) bare.lists i;
+      fs = bare.resources kind.Fs i;
+      net = bare.resources kind.Net i;
+      device = bare.resources kind.Device i;
+      rctl = bare.resources kind.Rctl i;
+      attr = bare.resources kind.Attr i;
+      dataset = bare.resources kind.Dataset i;
     }

@@ -155,7 +155,7 @@ module _ (c : Contents) (sound : IsSound c) where
 
   few : length c.fs + length c.net + length c.device + length c.rctl + length c.attr + length c.dataset ≤ 256
   unfolding count
-  few = sound.resources.few
+  few = omega (arith, sound.resources.few)
 
   fs_place : IsPlace kind.Fs Fs fs_shown fs_options fs_commands c now_fs H (N ++ (D ++ (R ++ (A ++ S)))) c.fs
   unfolding count
@@ -170,8 +170,8 @@ module _ (c : Contents) (sound : IsSound c) where
     limit = λ pre post x y at less.
         let n = length_at pre post c.fs x at in
         let m = few in
-        let k = sound.resources.few_fs in
-        let all : nat_le 256 (length pre + 0 + 0 + 0 + 0 + 0) ≡ false = grind (arith, nat_tests) in
+        let k = (sound.resources.kinds kind.Fs).few in
+        let all : nat_le 256 (count (now_fs pre)) ≡ false = grind (arith, nat_tests) in
         let own : nat_le 100 (length pre) ≡ false = grind (arith, nat_tests) in
         rw (all, own, less) refl;
   }
@@ -189,7 +189,7 @@ module _ (c : Contents) (sound : IsSound c) where
     limit = λ pre post x y at less.
         let n = length_at pre post c.net x at in
         let m = few in
-        let all : nat_le 256 (length c.fs + length pre + 0 + 0 + 0 + 0) ≡ false = grind (arith, nat_tests) in
+        let all : nat_le 256 (count (now_net pre)) ≡ false = grind (arith, nat_tests) in
         rw all refl;
   }
 
@@ -206,7 +206,7 @@ module _ (c : Contents) (sound : IsSound c) where
     limit = λ pre post x y at less.
         let n = length_at pre post c.device x at in
         let m = few in
-        let all : nat_le 256 (length c.fs + length c.net + length pre + 0 + 0 + 0) ≡ false = grind (arith, nat_tests) in
+        let all : nat_le 256 (count (now_device pre)) ≡ false = grind (arith, nat_tests) in
         rw all refl;
   }
     where
@@ -226,7 +226,7 @@ module _ (c : Contents) (sound : IsSound c) where
     limit = λ pre post x y at less.
         let n = length_at pre post c.rctl x at in
         let m = few in
-        let all : nat_le 256 (length c.fs + length c.net + length c.device + length pre + 0 + 0) ≡ false = grind (arith, nat_tests) in
+        let all : nat_le 256 (count (now_rctl pre)) ≡ false = grind (arith, nat_tests) in
         rw all refl;
   }
     where
@@ -246,7 +246,7 @@ module _ (c : Contents) (sound : IsSound c) where
     limit = λ pre post x y at less.
         let n = length_at pre post c.attr x at in
         let m = few in
-        let all : nat_le 256 (length c.fs + length c.net + length c.device + length c.rctl + length pre + 0) ≡ false = grind (arith, nat_tests) in
+        let all : nat_le 256 (count (now_attr pre)) ≡ false = grind (arith, nat_tests) in
         rw all refl;
   }
     where
@@ -266,24 +266,25 @@ module _ (c : Contents) (sound : IsSound c) where
     limit = λ pre post x y at less.
         let n = length_at pre post c.dataset x at in
         let m = few in
-        let all : nat_le 256 (length c.fs + length c.net + length c.device + length c.rctl + length c.attr + length pre) ≡ false = grind (arith, nat_tests) in
+        let all : nat_le 256 (count (now_dataset pre)) ≡ false = grind (arith, nat_tests) in
         rw all refl;
   }
-
-  small_lists : {B : Type 0} (xs : List B) → list_all (λ a. nat_le (length (no_options a)) 32) xs ≡ true
-  small_lists [] = refl
-  small_lists (x ∷ xs) = small_lists xs
 
   -- all resources of a configuration are walked, kind by kind
   pub walk_resources : Walks H (closed (without_resources c)) (F ++ (N ++ (D ++ (R ++ (A ++ S))))) (closed c)
   walk_resources =
-      let r = sound.resources in
-      let fs = walk_kind kind.Fs Fs fs_shown fs_options fs_values fs_with fs_whole no_fs fs_form c now_fs H (N ++ (D ++ (R ++ (A ++ S)))) c.fs fs_place r.fs.each r.fs.once r.few_options in
-      let net = walk_kind kind.Net Net net_shown no_options no_values net_with always_whole no_net net_form c now_net (H ++ F) (D ++ (R ++ (A ++ S))) c.net net_place r.net.each r.net.once (small_lists c.net) in
-      let device = walk_kind kind.Device Device device_shown no_options no_values device_with always_whole [] device_form c now_device ((H ++ F) ++ N) (R ++ (A ++ S)) c.device device_place r.device.each r.device.once (small_lists c.device) in
-      let rctl = walk_kind kind.Rctl Rctl rctl_shown no_options rctl_values rctl_with always_whole no_rctl rctl_form c now_rctl (((H ++ F) ++ N) ++ D) (A ++ S) c.rctl rctl_place r.rctl.each r.rctl.once (small_lists c.rctl) in
-      let attr = walk_kind kind.Attr Attr attr_shown no_options no_values attr_with always_whole no_attr attr_form c now_attr ((((H ++ F) ++ N) ++ D) ++ R) S c.attr attr_place r.attr.each r.attr.once (small_lists c.attr) in
-      let dataset = walk_kind kind.Dataset Dataset dataset_shown no_options no_values dataset_with always_whole [] dataset_form c now_dataset (((((H ++ F) ++ N) ++ D) ++ R) ++ A) [] c.dataset dataset_place r.dataset.each r.dataset.once (small_lists c.dataset) in
+      let fs_sound = sound.resources.kinds kind.Fs in
+      let fs = walk_kind kind.Fs Fs fs_shown fs_options fs_values fs_with fs_whole no_fs fs_form c now_fs H (N ++ (D ++ (R ++ (A ++ S)))) c.fs fs_place fs_sound.each fs_sound.once fs_sound.few_options in
+      let net_sound = sound.resources.kinds kind.Net in
+      let net = walk_kind kind.Net Net net_shown no_options no_values net_with always_whole no_net net_form c now_net (H ++ F) (D ++ (R ++ (A ++ S))) c.net net_place net_sound.each net_sound.once net_sound.few_options in
+      let device_sound = sound.resources.kinds kind.Device in
+      let device = walk_kind kind.Device Device device_shown no_options no_values device_with always_whole [] device_form c now_device ((H ++ F) ++ N) (R ++ (A ++ S)) c.device device_place device_sound.each device_sound.once device_sound.few_options in
+      let rctl_sound = sound.resources.kinds kind.Rctl in
+      let rctl = walk_kind kind.Rctl Rctl rctl_shown no_options rctl_values rctl_with always_whole no_rctl rctl_form c now_rctl (((H ++ F) ++ N) ++ D) (A ++ S) c.rctl rctl_place rctl_sound.each rctl_sound.once rctl_sound.few_options in
+      let attr_sound = sound.resources.kinds kind.Attr in
+      let attr = walk_kind kind.Attr Attr attr_shown no_options no_values attr_with always_whole no_attr attr_form c now_attr ((((H ++ F) ++ N) ++ D) ++ R) S c.attr attr_place attr_sound.each attr_sound.once attr_sound.few_options in
+      let dataset_sound = sound.resources.kinds kind.Dataset in
+      let dataset = walk_kind kind.Dataset Dataset dataset_shown no_options no_values dataset_with always_whole [] dataset_form c now_dataset (((((H ++ F) ++ N) ++ D) ++ R) ++ A) [] c.dataset dataset_place dataset_sound.each dataset_sound.once dataset_sound.few_options in
       walk-then F (N ++ (D ++ (R ++ (A ++ S)))) H (closed (without_resources c)) (closed (now_fs c.fs)) (closed c) fs
       (walk-then N (D ++ (R ++ (A ++ S))) (H ++ F) (closed (now_fs c.fs)) (closed (now_net c.net)) (closed c) net
       (walk-then D (R ++ (A ++ S)) ((H ++ F) ++ N) (closed (now_net c.net)) (closed (now_device c.device)) (closed c) device

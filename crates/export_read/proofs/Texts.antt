@@ -56,8 +56,8 @@ text-entry k shown options values =
     (text-both (map (λ v. Value v) values) (End ∷ []) _ (codes "end\n") (text-values values) refl)) in
     ap (λ l. codes "add " ++ l) (append_assoc (kind_name k) (10 ∷ []) _ ∙ ap (λ l. kind_name k ++ 10 ∷ l) body)
 
-regroup : (a b c d e f g h : List ℕ) → a ++ (b ++ (c ++ (d ++ (e ++ (f ++ (g ++ h)))))) ≡ a ++ b ++ c ++ d ++ e ++ f ++ g ++ h
-regroup a b c d e f g h = simp append_assoc refl
+regroup : (a b c d e f g h : List ℕ) → a ++ (b ++ (c ++ (d ++ (e ++ (f ++ (g ++ h)))))) ≡ a ++ b ++ (c ++ (d ++ (e ++ (f ++ (g ++ (h ++ []))))))
+regroup a b c d e f g h = simp (append_assoc, append-nil) refl
 
 -- the text is the script's
 pub text-script : (c : Contents) → text_of (script c) ≡ export_text c

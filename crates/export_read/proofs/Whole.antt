@@ -16,6 +16,7 @@ use Rattle.zn_base.specs.Lines.{lines_of}
 use Rattle.export_read.specs.Lines.{ended}
 use Rattle.export_read.specs.declared.command.Command.{Command}
 use Rattle.export_read.specs.declared.command.Command.TheVariants.{Create}
+use Rattle.zone_config.proofs.SameResources.{same_resources-self}
 use Rattle.zone_config.specs.Export.{export_text, property_line}
 use Rattle.zone_config.specs.Property.{properties}
 use Rattle.zone_config.specs.Sound.{IsSound}
@@ -30,7 +31,7 @@ use Rattle.export_read.proofs.Walks.{Begins, Walks, walk-one, walk-then}
 
 start_begins : Begins (Create ∷ []) start
 unfolding completed
-start_begins = (least, refl, (flat_map (property_line least) properties, bare_text least (record { lists = refl; zonepath = λ h. cc })))
+start_begins = (least, refl, (flat_map (property_line least) properties, bare_text least (record { resources = same_resources-self least; zonepath = λ h. cc })))
 
 -- each line of each text is taken, and after each the text so far begins one
 pub walk : (c : Contents) → IsSound c → Walks [] start (script c) (closed c)

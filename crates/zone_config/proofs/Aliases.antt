@@ -109,7 +109,7 @@ place_within a rctls i h =
     omega (arith, s.place, ap length s.are, length-append s.front (s.it ∷ s.back))
 
 pub free_but : (a : Alias) (n i size : ℕ) (c : Contents) → IsKept c size → place_of a c.rctl ≡ Some i → has_taken_but i (resource.Rctl (alias_rctl a n)) c ≡ false
-free_but a n i size c k h = key_taken_once (λ r. r.name) (rctl_name a) c.rctl i k.sound.resources.rctl.once (parted (is_named_for a) c.rctl i h)
+free_but a n i size c k h = key_taken_once (λ r. r.name) (rctl_name a) c.rctl i (k.sound.resources.kinds kind.Rctl).once (parted (is_named_for a) c.rctl i h)
 
 pub free_anew : (a : Alias) (n : ℕ) (c : Contents) → place_of a c.rctl ≡ None → has_taken (resource.Rctl (alias_rctl a n)) c ≡ false
 free_anew a n c h = none_passes (is_named_for a) c.rctl h

@@ -6,6 +6,7 @@ use Rattle.std.proofs.lemmas.List.Elements.{filter-append}
 use Rattle.config_terms.specs.declared.fault.ConfigFault.{ConfigFault}
 use Rattle.config_terms.specs.declared.fault.ConfigFault.TheVariants as fault
 use Rattle.config_terms.specs.declared.terms.IpType.TheVariants.{Shared, Exclusive}
+use Rattle.config_terms.specs.declared.terms.Kind.TheVariants as kind
 use Rattle.config_terms.specs.Texts.{setting}
 use Rattle.zone_config.specs.declared.terms.Alias.{Alias}
 use Rattle.zone_config.specs.declared.terms.Contents.{Contents}
@@ -83,7 +84,7 @@ without_limit a None c s h = record { gone = filter-none (is_named_for a) c.rctl
 without_limit a (Some i) c s h =
     let parts = parted (is_named_for a) c.rctl i h in
     record {
-      gone = filter-none (is_named_for a) (remove c.rctl i) (key_taken_once (λ r. r.name) (rctl_name a) c.rctl i s.resources.rctl.once parts);
+      gone = filter-none (is_named_for a) (remove c.rctl i) (key_taken_once (λ r. r.name) (rctl_name a) c.rctl i (s.resources.kinds kind.Rctl).once parts);
       others = filter-without (is_named_for a) c.rctl i parts;
       same = refl;
     }

@@ -1,5 +1,7 @@
 mod Examples
 pub mod Lists
+pub mod Rows
+pub mod SameResources
 pub mod PropertyEdits
 pub mod ResourceEdits
 pub mod Aliases

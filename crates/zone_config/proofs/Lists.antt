@@ -8,9 +8,10 @@ use Rattle.std.proofs.lemmas.List.Concat.{flat_map-append}
 use Rattle.std.proofs.lemmas.List.Folds.{list_any-append, list_all-append}
 use Rattle.config_terms.specs.declared.fields.Field.{Field}
 use Rattle.config_terms.specs.declared.terms.Kind.{Kind}
-use Rattle.config_terms.specs.Allowed.{are_distinct, are_distinct_in, are_told_apart, has_key, is_taken, is_taken_by, keeps_key, keeps_key_by}
+use Rattle.config_terms.specs.Allowed.{are_distinct, are_distinct_in, are_told_apart, has_key, is_allowed, is_taken, is_taken_by, keeps_key, keeps_key_by}
 use Rattle.config_terms.specs.Fields.{key_field}
-use Rattle.zone_config.specs.Sound.{AreSound}
+use Rattle.zone_config.specs.Kinds.{Row}
+use Rattle.zone_config.specs.Sound.{AreSound, IsWithin, has_few_options}
 
 -- tests joined by `and` and `or`
 pub first_true : (a b : Bool) → (a && b) ≡ true → a ≡ true
@@ -147,17 +148,56 @@ apart-kept shown k xs i x y h e s = apart_in (key_field k) h s where
       let same : shown x f ≡ shown y f = (bytes_eq-Decides (shown x f) (shown y f)).0 s in
       ap (λ k. has_key (λ z. shown z f) k (remove xs i)) same ∙ distinct-others (λ z. shown z f) xs i y h e
 
+-- how many there are
+pub length-remove_one : {A : Type 0} (xs : List A) (i : ℕ) (x : A) → slice_get xs i ≡ Some x → length (remove xs i) + 1 ≡ length xs
+length-remove_one [] i x h = absurd (cc)
+length-remove_one (y ∷ ys) zero x h = omega arith
+length-remove_one (y ∷ ys) (suc i) x h = let more = length-remove_one ys i x h in omega arith
+
+pub length-slice_set : {A : Type 0} (xs : List A) (i : ℕ) (x : A) → length (slice_set xs i x) ≡ length xs
+length-slice_set [] i x = refl
+length-slice_set (y ∷ ys) zero x = refl
+length-slice_set (y ∷ ys) (suc i) x = ap suc (length-slice_set ys i x)
+
+length-remove_less : {A : Type 0} (xs : List A) (i : ℕ) → length (remove xs i) ≤ length xs
+length-remove_less [] zero = omega arith
+length-remove_less [] (suc i) = omega arith
+length-remove_less (y ∷ ys) zero = omega arith
+length-remove_less (y ∷ ys) (suc i) = let more = length-remove_less ys i in omega arith
+
+-- a bound keeps what is less, too
+within_less : (most : Option ℕ) (m n : ℕ) → m ≤ n → IsWithin most n → IsWithin most m
+within_less None m n h w = tt
+within_less (Some most) m n h w = omega arith
+
 -- a sound list stays sound
-pub sound-push : {A : Type 0} (shown : A → Field → List ℕ) (k : Kind) (allowed : A → Bool) (xs : List A) (x : A) → AreSound shown k allowed xs → allowed x ≡ true → is_taken shown k x xs ≡ false → AreSound shown k allowed (xs ++ x ∷ [])
-sound-push shown k allowed xs x s h g = record { each = all-push allowed xs x s.each h; once = apart-push shown (key_field k) xs x s.once g }
+module _ {A : Type 0} (row : Row A) (xs : List A) (s : AreSound row xs) where
+  pub sound-push : (x : A) → is_allowed (row.make x) ≡ true → has_few_options (row.make x) ≡ true → is_taken row.shown row.kind x xs ≡ false → IsWithin row.most (length xs + 1)
+      → AreSound row (xs ++ x ∷ [])
+  sound-push x allowed few free room = record {
+    each = all-push (λ y. is_allowed (row.make y)) xs x s.each allowed;
+    few_options = all-push (λ y. has_few_options (row.make y)) xs x s.few_options few;
+    once = apart-push row.shown (key_field row.kind) xs x s.once free;
+    few = rw (length-append xs (x ∷ [])) room;
+  }
 
-pub sound-remove : {A : Type 0} (shown : A → Field → List ℕ) (k : Kind) (allowed : A → Bool) (xs : List A) (i : ℕ) → AreSound shown k allowed xs → AreSound shown k allowed (remove xs i)
-sound-remove shown k allowed xs i s = record { each = all-remove allowed xs i s.each; once = apart-remove shown (key_field k) xs i s.once }
+  pub sound-remove : (i : ℕ) → AreSound row (remove xs i)
+  sound-remove i = record {
+    each = all-remove (λ y. is_allowed (row.make y)) xs i s.each;
+    few_options = all-remove (λ y. has_few_options (row.make y)) xs i s.few_options;
+    once = apart-remove row.shown (key_field row.kind) xs i s.once;
+    few = within_less row.most (length (remove xs i)) (length xs) (length-remove_less xs i) s.few;
+  }
 
-pub sound-set : {A : Type 0} (shown : A → Field → List ℕ) (k : Kind) (allowed : A → Bool) (xs : List A) (i : ℕ) (x : A) → AreSound shown k allowed xs → allowed x ≡ true → is_taken shown k x (remove xs i) ≡ false → AreSound shown k allowed (slice_set xs i x)
-sound-set shown k allowed xs i x s h g = record { each = all-set allowed xs i x s.each h; once = apart-set shown (key_field k) xs i x s.once g }
+  pub sound-set : (i : ℕ) (x : A) → is_allowed (row.make x) ≡ true → has_few_options (row.make x) ≡ true → is_taken row.shown row.kind x (remove xs i) ≡ false → AreSound row (slice_set xs i x)
+  sound-set i x allowed few free = record {
+    each = all-set (λ y. is_allowed (row.make y)) xs i x s.each allowed;
+    few_options = all-set (λ y. has_few_options (row.make y)) xs i x s.few_options few;
+    once = apart-set row.shown (key_field row.kind) xs i x s.once free;
+    few = rw (length-slice_set xs i x) s.few;
+  }
 
--- how long the texts of a list are, and how many there are
+-- how long the texts of a list are
 pub text-push : {A : Type 0} (f : A → List ℕ) (xs : List A) (x : A) → length (flat_map f (xs ++ x ∷ [])) ≡ length (flat_map f xs) + length (f x)
 text-push f xs x = ap length (flat_map-append f xs (x ∷ [])) ∙ omega (arith, length-append (flat_map f xs) (f x ++ []), length-append (f x) [])
 
@@ -177,13 +217,3 @@ text-set f (z ∷ zs) (suc i) x y h =
 
 pub text_within : {A : Type 0} (f : A → List ℕ) (xs : List A) (i : ℕ) (x : A) → slice_get xs i ≡ Some x → length (f x) ≤ length (flat_map f xs)
 text_within f xs i x h = omega (arith, text-remove f xs i x h)
-
-pub length-remove_one : {A : Type 0} (xs : List A) (i : ℕ) (x : A) → slice_get xs i ≡ Some x → length (remove xs i) + 1 ≡ length xs
-length-remove_one [] i x h = absurd (cc)
-length-remove_one (y ∷ ys) zero x h = omega arith
-length-remove_one (y ∷ ys) (suc i) x h = let more = length-remove_one ys i x h in omega arith
-
-pub length-slice_set : {A : Type 0} (xs : List A) (i : ℕ) (x : A) → length (slice_set xs i x) ≡ length xs
-length-slice_set [] i x = refl
-length-slice_set (y ∷ ys) zero x = refl
-length-slice_set (y ∷ ys) (suc i) x = ap suc (length-slice_set ys i x)

@@ -7,30 +7,23 @@ use Rattle.std.proofs.lemmas.Slice.Eq.{bytes_eq-Decides}
 use Rattle.zn_base.specs.Path.{is_path}
 use Rattle.config_terms.specs.declared.rules.Rule.{Rule}
 use Rattle.config_terms.specs.declared.rules.Rule.TheVariants.{OwnPath, RootedPath}
-use Rattle.config_terms.specs.declared.terms.Attr as attr
-use Rattle.config_terms.specs.declared.terms.Fs as fs
-use Rattle.config_terms.specs.declared.terms.Net as net
-use Rattle.config_terms.specs.declared.terms.Rctl as rctl
+use Rattle.config_terms.specs.declared.terms.Kind.{Kind}
+use Rattle.config_terms.specs.declared.terms.Kind.TheVariants as kind
 use Rattle.config_terms.specs.declared.terms.IpType.TheVariants.{Shared, Exclusive}
 use Rattle.config_terms.specs.Edits.{kept_path}
 use Rattle.config_terms.specs.Fields.{path_text}
 use Rattle.config_terms.specs.Rules.{fits, obeys}
-use Rattle.config_terms.specs.Texts.{setting, fs_text, net_text, device_text, rctl_text, attr_text, dataset_text}
+use Rattle.config_terms.specs.Texts.{setting}
 use Rattle.zone_config.specs.declared.terms.Contents.{Contents}
 use Rattle.zone_config.specs.declared.terms.Property.{Property}
 use Rattle.zone_config.specs.declared.terms.Property.TheVariants.{Zonepath, Brand, Autoboot, Bootargs, Pool, Limitpriv, SchedulingClass, IpType, Hostid, FsAllowed}
 use Rattle.zone_config.specs.Property.{blank, bool_text, ip_text, properties, property_name, property_rule, shown, unset_text, with_value}
 use Rattle.zone_config.specs.Export.{export_text, property_line}
-use Rattle.zone_config.specs.Sound.{HasSoundResources, IsKept, count}
+use Rattle.zone_config.specs.Kinds.{by_kind}
+use Rattle.zone_config.specs.Sound.{AreSound, IsKept, count}
 use Rattle.zone_config.proofs.Lists.{first_true}
-
--- the export text, part by part
-pub export_text-length : (c : Contents)
-    → length (export_text c) ≡ 10 + length (flat_map (property_line c) properties) + length (flat_map fs_text c.fs)
-    + length (flat_map net_text c.net) + length (flat_map device_text c.device) + length (flat_map rctl_text c.rctl)
-    + length (flat_map attr_text c.attr) + length (flat_map dataset_text c.dataset)
-unfolding export_text
-export_text-length c = simp length-append (omega arith)
+use Rattle.zone_config.proofs.Rows.{export_text-length}
+use Rattle.zone_config.proofs.SameResources.{HaveSameResources, same-texts, same_resources-apart, sound-same}
 
 -- a path that a text is shows as that text
 kept_path-shown : (v : List ℕ) → path_text (kept_path v) ≡ v
@@ -180,51 +173,18 @@ zonepath-with IpType v c s = s
 zonepath-with Hostid v c s = s
 zonepath-with FsAllowed v c s = s
 
--- the lists of resources of a configuration
-abbrev pub Lists : Type 0
-Lists = List fs.Fs × List net.Net × List (List ℕ) × List rctl.Rctl × List attr.Attr × List (List ℕ)
-
-abbrev pub lists : Contents → Lists
-lists c = (c.fs, c.net, c.device, c.rctl, c.attr, c.dataset)
-
-abbrev texts_length : Lists → ℕ
-texts_length l =
-    length (flat_map fs_text l.0) + length (flat_map net_text l.1) + length (flat_map device_text l.2) + length (flat_map rctl_text l.3)
-    + length (flat_map attr_text l.4) + length (flat_map dataset_text l.5)
-
-pub lists-with : (p : Property) (v : List ℕ) (c : Contents) → lists (with_value p v c) ≡ lists c
-lists-with Zonepath v c = refl
-lists-with Brand v c = refl
-lists-with Autoboot v c = refl
-lists-with Bootargs v c = refl
-lists-with Pool v c = refl
-lists-with Limitpriv v c = refl
-lists-with SchedulingClass v c = refl
-lists-with IpType v c = refl
-lists-with Hostid v c = refl
-lists-with FsAllowed v c = refl
-
--- resources that are the same stay sound
-sound-lists : (c d : Contents) → lists d ≡ lists c → HasSoundResources c → HasSoundResources d
-unfolding count
-sound-lists c d e s =
-    let fs = ap (λ (l : Lists). l.0) e in
-    let net = ap (λ (l : Lists). l.1) e in
-    let device = ap (λ (l : Lists). l.2) e in
-    let rctl = ap (λ (l : Lists). l.3) e in
-    let attr = ap (λ (l : Lists). l.4) e in
-    let dataset = ap (λ (l : Lists). l.5) e in
-    record {
-      fs = rw fs s.fs;
-      net = rw net s.net;
-      device = rw device s.device;
-      rctl = rw rctl s.rctl;
-      attr = rw attr s.attr;
-      dataset = rw dataset s.dataset;
-      few = rw (fs, net, device, rctl, attr, dataset) s.few;
-      few_fs = rw fs s.few_fs;
-      few_options = rw fs s.few_options;
-    }
+-- its resources are as they were
+pub resources-with : (p : Property) (v : List ℕ) (c : Contents) → HaveSameResources c (with_value p v c)
+resources-with Zonepath v c = same_resources-apart c (with_value Zonepath v c)
+resources-with Brand v c = same_resources-apart c (with_value Brand v c)
+resources-with Autoboot v c = same_resources-apart c (with_value Autoboot v c)
+resources-with Bootargs v c = same_resources-apart c (with_value Bootargs v c)
+resources-with Pool v c = same_resources-apart c (with_value Pool v c)
+resources-with Limitpriv v c = same_resources-apart c (with_value Limitpriv v c)
+resources-with SchedulingClass v c = same_resources-apart c (with_value SchedulingClass v c)
+resources-with IpType v c = same_resources-apart c (with_value IpType v c)
+resources-with Hostid v c = same_resources-apart c (with_value Hostid v c)
+resources-with FsAllowed v c = same_resources-apart c (with_value FsAllowed v c)
 
 -- the length of the line that goes, and of the text with the one that comes
 pub record Measures (old line size text : ℕ) : Type 0 where
@@ -238,7 +198,7 @@ size_with p v c size k e =
     let then = export_text-length c in
     let lines = lines-with p v c in
     let shows = ap (λ t. length (setting (property_name p) t)) e in
-    let texts = ap texts_length (lists-with p v c) in
+    let texts = ap length (same-texts c (with_value p v c) (resources-with p v c)) in
     let within = line_within p c in
     record { within = omega (arith, k.measured); now = omega (arith, k.measured) }
 
@@ -250,29 +210,23 @@ kept_with p v c size n k e fit measured short =
       measured = measured;
       sound = record {
         properties = record { values = fits-with p v c e fit s.properties.values; zonepath = zonepath-with p v c s.properties.zonepath };
-        resources = sound-lists c (with_value p v c) (lists-with p v c) s.resources;
+        resources = sound-same c (with_value p v c) (resources-with p v c) s.resources;
         short = omega arith;
       };
     }
 
 -- a configuration in which nothing is set is sound
+blank-each : (k : Kind) → by_kind k (λ A row. AreSound row (row.list blank))
+blank-each kind.Fs = record { each = refl; few_options = refl; once = refl; few = omega arith }
+blank-each k = record { each = refl; few_options = refl; once = refl; few = tt }
+
 pub blank_kept : IsKept blank 48
 unfolding setting count export_text
 blank_kept = record {
   measured = refl;
   sound = record {
     properties = record { values = fits_unset; zonepath = λ h. cc };
-    resources = record {
-      fs = record { each = refl; once = refl };
-      net = record { each = refl; once = refl };
-      device = record { each = refl; once = refl };
-      rctl = record { each = refl; once = refl };
-      attr = record { each = refl; once = refl };
-      dataset = record { each = refl; once = refl };
-      few = omega arith;
-      few_fs = omega arith;
-      few_options = refl;
-    };
+    resources = record { kinds = blank-each; few = omega arith };
     short = omega arith;
   };
 }

@@ -2,16 +2,16 @@
 use Rattle.std.proofs.Common.{◌≡◌, ℕ, zero, suc, ◌-◌, ◌<◌, ◌≤◌, Bool, true, false, cond, not, List, [], ◌∷◌, Option, Some, length, refl, ap, sym, subst, arith, ◌∙◌}
 use Rattle.std.specs.Prelude.{filter, option_map, remove, slice_get, unwrap_or}
 use Rattle.config_terms.specs.declared.terms.Kind.{Kind}
-use Rattle.config_terms.specs.declared.terms.Kind.TheVariants as kind
 use Rattle.config_terms.specs.declared.terms.Resource.{Resource}
-use Rattle.config_terms.specs.declared.terms.Resource.TheVariants as resource
 use Rattle.config_terms.specs.Edits.{empty}
 use Rattle.config_terms.specs.Fields.{resource_shown}
 use Rattle.config_terms.specs.Matches.{has_all}
 use Rattle.zn_base.specs.declared.values.Pair.{Pair}
 use Rattle.zone_config.specs.declared.terms.Contents.{Contents}
+use Rattle.zone_config.specs.Kinds.{Row, by_kind}
+use Rattle.zone_config.specs.Removal.{matches_at, without_match_at, without_matches, without_place}
 use Rattle.zone_config.specs.Resources.{count_of}
-use Rattle.zone_config.specs.Removal.{without_match_at, without_matches}
+use Rattle.zone_config.proofs.Rows.{IsLawful, count_of-row, each_kind, removed-row}
 
 -- a list of which only what stands from a place on was tested
 abbrev pub kept : {A : Type 0} → (A → Bool) → ℕ → List A → List A
@@ -56,75 +56,82 @@ slice_get-Some [] k h = absurd (omega arith)
 slice_get-Some (x ∷ xs) zero h = (x, refl)
 slice_get-Some (x ∷ xs) (suc k) h = slice_get-Some xs k (omega arith)
 
--- one kind of resources: how one is a resource, which match, and how a list of them is put into a configuration
-module _ {A : Type 0} (mk : A → Resource) (matches : Resource → Bool) (put : List A → Contents) (none : Resource) where
-  abbrev stays : A → Bool
-  stays a = not (matches (mk a))
-
-  -- a configuration without the one at a place, where that matches
-  abbrev without : List A → Option A → ℕ → Contents
-  without ys o k =
-      cond (matches (unwrap_or (option_map mk o) none))
-      (unwrap_or (option_map (λ (r : Resource × Contents). r.1) (option_map (λ a. (mk a, put (remove ys k))) o)) (put ys)) (put ys)
-
-  without_one : (k : ℕ) (xs : List A) (a : A) (b : Bool) → slice_get xs k ≡ Some a → matches (mk a) ≡ b
-      → cond b (put (remove (kept stays (suc k) xs) k)) (put (kept stays (suc k) xs)) ≡ put (kept stays k xs)
-  without_one k xs a true e h = ap put (kept-removed stays k xs a e (ap not h))
-  without_one k xs a false e h = ap put (kept-stays stays k xs a e (ap not h))
-
-  step : (k : ℕ) (xs : List A) → k < length xs → without (kept stays (suc k) xs) (slice_get (kept stays (suc k) xs) k) k ≡ put (kept stays k xs)
-  step k xs h =
-      let at = slice_get-Some xs k h in
-      ap (λ o. without (kept stays (suc k) xs) o k) (slice_get-kept stays k xs ∙ at.1) ∙ without_one k xs at.0 (matches (mk at.0)) at.1 refl
-
--- whether a resource stays
-abbrev pub unmatched : Kind → List Pair → Resource → Bool
-unmatched k wanted r = not (has_all k wanted (resource_shown r))
+-- whether one of a kind stays
+abbrev pub stays : {A : Type 0} → Row A → List Pair → A → Bool
+stays row wanted x = not (has_all row.kind wanted (row.shown x))
 
 -- a configuration of which only what stands from a place on was tested
 abbrev pub partly : Kind → List Pair → ℕ → Contents → Contents
-partly kind.Fs wanted n c = record c { fs = kept (λ a. unmatched kind.Fs wanted (resource.Fs a)) n c.fs }
-partly kind.Net wanted n c = record c { net = kept (λ a. unmatched kind.Net wanted (resource.Net a)) n c.net }
-partly kind.Device wanted n c = record c { device = kept (λ a. unmatched kind.Device wanted (resource.Device a)) n c.device }
-partly kind.Rctl wanted n c = record c { rctl = kept (λ a. unmatched kind.Rctl wanted (resource.Rctl a)) n c.rctl }
-partly kind.Attr wanted n c = record c { attr = kept (λ a. unmatched kind.Attr wanted (resource.Attr a)) n c.attr }
-partly kind.Dataset wanted n c = record c { dataset = kept (λ a. unmatched kind.Dataset wanted (resource.Dataset a)) n c.dataset }
+partly k wanted n c = by_kind k (λ A row. row.put (kept (stays row wanted) n (row.list c)) c)
+
+-- the resource at a place, by the row of its kind
+module _ {A : Type 0} (row : Row A) (law : IsLawful row) (wanted : List Pair) (c : Contents) (place : ℕ) (x : A) (at : slice_get (row.list c) place ≡ Some x) where
+  matches-row : matches_at row.kind wanted place c ≡ has_all row.kind wanted (row.shown x)
+  matches-row =
+      ap (λ r. has_all row.kind wanted (resource_shown r))
+      (law.known.of_kind Resource (λ B other. unwrap_or (option_map other.make (slice_get (other.list c) place)) (empty other.kind)) ∙ ap (λ o. unwrap_or (option_map row.make o) (empty row.kind)) at)
+      ∙ ap (has_all row.kind wanted) (law.known.shown x)
+
+  without-row : without_place row.kind c place ≡ row.put (remove (row.list c) place) c
+  without-row =
+      ap (λ o. unwrap_or (option_map (λ (r : Resource × Contents). r.1) o) c)
+      (removed-row row law c place ∙ ap (option_map (λ y. (row.make y, row.put (remove (row.list c) place) c))) at)
+
+-- one more place tested, none, and the next one, by the row of a kind
+module _ (A : Type 0) (row : Row A) (law : IsLawful row) (wanted : List Pair) (c : Contents) where
+  abbrev tested_from : ℕ → List A
+  tested_from n = kept (stays row wanted) n (row.list c)
+
+  abbrev so_far : ℕ → Contents
+  so_far n = row.put (tested_from n) c
+
+  partly-row : (n : ℕ) → partly row.kind wanted n c ≡ so_far n
+  partly-row n = law.known.of_kind Contents (λ B other. other.put (kept (stays other wanted) n (other.list c)) c)
+
+  row_tested : (n : ℕ) (x : A) (b : Bool) → slice_get (row.list c) n ≡ Some x → has_all row.kind wanted (row.shown x) ≡ b
+      → cond b (row.put (remove (tested_from (suc n)) n) (so_far (suc n))) (so_far (suc n)) ≡ so_far n
+  row_tested n x true e h = law.part.again _ _ c ∙ ap (λ xs. row.put xs c) (kept-removed (stays row wanted) n (row.list c) x e (ap not h))
+  row_tested n x false e h = ap (λ xs. row.put xs c) (kept-stays (stays row wanted) n (row.list c) x e (ap not h))
+
+  row_partly-step : (n : ℕ) → n < count_of row.kind c → without_match_at row.kind wanted n (partly row.kind wanted (suc n) c) ≡ partly row.kind wanted n c
+  row_partly-step n h =
+      let counts = count_of-row row law c in
+      let at = slice_get-Some (row.list c) n (omega arith) in
+      let listed = law.part.listed (tested_from (suc n)) c in
+      let there : slice_get (row.list (so_far (suc n))) n ≡ Some at.0 = ap (λ xs. slice_get xs n) listed ∙ slice_get-kept (stays row wanted) n (row.list c) ∙ at.1 in
+      ap (without_match_at row.kind wanted n) (partly-row (suc n))
+      ∙ ap (λ b. cond b (without_place row.kind (so_far (suc n)) n) (so_far (suc n))) (matches-row row law wanted (so_far (suc n)) n at.0 there)
+      ∙ ap (λ d. cond (has_all row.kind wanted (row.shown at.0)) d (so_far (suc n)))
+      (without-row row law wanted (so_far (suc n)) n at.0 there ∙ ap (λ xs. row.put (remove xs n) (so_far (suc n))) listed)
+      ∙ row_tested n at.0 (has_all row.kind wanted (row.shown at.0)) at.1 refl ∙ sym (partly-row n)
+
+  row_partly-all : partly row.kind wanted (count_of row.kind c) c ≡ c
+  row_partly-all =
+      ap (λ n. partly row.kind wanted n c) (count_of-row row law c) ∙ partly-row (length (row.list c)) ∙ ap (λ xs. row.put xs c) (kept-all (stays row wanted) (row.list c)) ∙ law.part.unchanged c
+
+  row_partly-count : (n : ℕ) → n < count_of row.kind c → n < count_of row.kind (partly row.kind wanted (suc n) c)
+  row_partly-count n h =
+      let counts = count_of-row row law c in
+      let now = ap (count_of row.kind) (partly-row (suc n)) ∙ count_of-row row law (so_far (suc n)) ∙ ap length (law.part.listed (tested_from (suc n)) c) in
+      let less = less-kept (stays row wanted) n (row.list c) (omega arith) in
+      omega arith
 
 -- one more place tested
-pub partly-step : (k : Kind) (wanted : List Pair) (n : ℕ) (c : Contents) → n < count_of k c → without_match_at k wanted n (partly k wanted (suc n) c) ≡ partly k wanted n c
-partly-step kind.Fs wanted n c h = step resource.Fs (λ r. has_all kind.Fs wanted (resource_shown r)) (λ xs. record c { fs = xs }) (empty kind.Fs) n c.fs h
-partly-step kind.Net wanted n c h = step resource.Net (λ r. has_all kind.Net wanted (resource_shown r)) (λ xs. record c { net = xs }) (empty kind.Net) n c.net h
-partly-step kind.Device wanted n c h = step resource.Device (λ r. has_all kind.Device wanted (resource_shown r)) (λ xs. record c { device = xs }) (empty kind.Device) n c.device h
-partly-step kind.Rctl wanted n c h = step resource.Rctl (λ r. has_all kind.Rctl wanted (resource_shown r)) (λ xs. record c { rctl = xs }) (empty kind.Rctl) n c.rctl h
-partly-step kind.Attr wanted n c h = step resource.Attr (λ r. has_all kind.Attr wanted (resource_shown r)) (λ xs. record c { attr = xs }) (empty kind.Attr) n c.attr h
-partly-step kind.Dataset wanted n c h = step resource.Dataset (λ r. has_all kind.Dataset wanted (resource_shown r)) (λ xs. record c { dataset = xs }) (empty kind.Dataset) n c.dataset h
+partly-step : (k : Kind) (wanted : List Pair) (n : ℕ) (c : Contents) → n < count_of k c → without_match_at k wanted n (partly k wanted (suc n) c) ≡ partly k wanted n c
+partly-step k wanted n c =
+    each_kind (λ k. n < count_of k c → without_match_at k wanted n (partly k wanted (suc n) c) ≡ partly k wanted n c) (λ A row law. row_partly-step A row law wanted c n) k
 
 -- no place tested
-pub partly-all : (k : Kind) (wanted : List Pair) (c : Contents) → partly k wanted (count_of k c) c ≡ c
-partly-all kind.Fs wanted c = ap (λ xs. record c { fs = xs }) (kept-all (λ a. unmatched kind.Fs wanted (resource.Fs a)) c.fs)
-partly-all kind.Net wanted c = ap (λ xs. record c { net = xs }) (kept-all (λ a. unmatched kind.Net wanted (resource.Net a)) c.net)
-partly-all kind.Device wanted c = ap (λ xs. record c { device = xs }) (kept-all (λ a. unmatched kind.Device wanted (resource.Device a)) c.device)
-partly-all kind.Rctl wanted c = ap (λ xs. record c { rctl = xs }) (kept-all (λ a. unmatched kind.Rctl wanted (resource.Rctl a)) c.rctl)
-partly-all kind.Attr wanted c = ap (λ xs. record c { attr = xs }) (kept-all (λ a. unmatched kind.Attr wanted (resource.Attr a)) c.attr)
-partly-all kind.Dataset wanted c = ap (λ xs. record c { dataset = xs }) (kept-all (λ a. unmatched kind.Dataset wanted (resource.Dataset a)) c.dataset)
+partly-all : (k : Kind) (wanted : List Pair) (c : Contents) → partly k wanted (count_of k c) c ≡ c
+partly-all k wanted c = each_kind (λ k. partly k wanted (count_of k c) c ≡ c) (λ A row law. row_partly-all A row law wanted c) k
 
 -- each place tested
 pub partly-none : (k : Kind) (wanted : List Pair) (c : Contents) → partly k wanted 0 c ≡ without_matches k wanted c
-partly-none kind.Fs wanted c = refl
-partly-none kind.Net wanted c = refl
-partly-none kind.Device wanted c = refl
-partly-none kind.Rctl wanted c = refl
-partly-none kind.Attr wanted c = refl
-partly-none kind.Dataset wanted c = refl
+partly-none k wanted c = refl
 
 -- the next place is there
-pub partly-count : (k : Kind) (wanted : List Pair) (n : ℕ) (c : Contents) → n < count_of k c → n < count_of k (partly k wanted (suc n) c)
-partly-count kind.Fs wanted n c h = less-kept (λ a. unmatched kind.Fs wanted (resource.Fs a)) n c.fs h
-partly-count kind.Net wanted n c h = less-kept (λ a. unmatched kind.Net wanted (resource.Net a)) n c.net h
-partly-count kind.Device wanted n c h = less-kept (λ a. unmatched kind.Device wanted (resource.Device a)) n c.device h
-partly-count kind.Rctl wanted n c h = less-kept (λ a. unmatched kind.Rctl wanted (resource.Rctl a)) n c.rctl h
-partly-count kind.Attr wanted n c h = less-kept (λ a. unmatched kind.Attr wanted (resource.Attr a)) n c.attr h
-partly-count kind.Dataset wanted n c h = less-kept (λ a. unmatched kind.Dataset wanted (resource.Dataset a)) n c.dataset h
+partly-count : (k : Kind) (wanted : List Pair) (n : ℕ) (c : Contents) → n < count_of k c → n < count_of k (partly k wanted (suc n) c)
+partly-count k wanted n c = each_kind (λ k. n < count_of k c → n < count_of k (partly k wanted (suc n) c)) (λ A row law. row_partly-count A row law wanted c n) k
 
 pub untested_count : (k : Kind) (c contents : Contents) (n : ℕ) → contents ≡ c → n ≡ count_of k contents → n ≡ count_of k c
 untested_count k c contents n same counts = counts ∙ ap (count_of k) same

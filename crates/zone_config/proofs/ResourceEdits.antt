@@ -1,43 +1,23 @@
 -- A configuration over a resource that comes, goes or takes another's place.
-use Rattle.std.proofs.Common.{◌≡◌, ◌≤◌, ◌<◌, ◌+◌, ◌-◌, ℕ, Bool, true, false, not, cond, List, [], ◌∷◌, ◌++◌, length, Option, Some, None, Ok, Err, refl, ap, sym, subst, arith, length-append, IsTrue, unwrap_or}
+use Rattle.std.proofs.Common.{◌≡◌, ◌≤◌, ◌<◌, ◌+◌, ◌-◌, ℕ, Bool, true, false, not, cond, List, [], ◌∷◌, ◌++◌, length, Option, Some, None, Ok, Err, refl, ap, sym, subst, ◌∙◌, arith, length-append, unwrap_or}
 use Rattle.std.specs.Prelude.{nat_le, nat_lt, option_map, slice_get, remove, slice_set}
-use Rattle.std.specs.List.{flat_map, list_all}
+use Rattle.std.specs.List.{flat_map}
 use Rattle.std.proofs.lemmas.Bool.Decides.{nat_tests}
 use Rattle.config_terms.specs.declared.fault.ConfigFault.TheVariants.{BadValue, Duplicate, TooLarge}
-use Rattle.config_terms.specs.declared.terms.Attr as attr
-use Rattle.config_terms.specs.declared.terms.Fs as fs
-use Rattle.config_terms.specs.declared.terms.Net as net
-use Rattle.config_terms.specs.declared.terms.Rctl as rctl
 use Rattle.config_terms.specs.declared.terms.Kind.{Kind}
-use Rattle.config_terms.specs.declared.terms.Kind.TheVariants as kind
 use Rattle.config_terms.specs.declared.terms.Resource.{Resource}
-use Rattle.config_terms.specs.declared.terms.Resource.TheVariants.{Fs, Net, Device, Rctl, Attr, Dataset}
-use Rattle.config_terms.specs.Allowed.{few_options, is_allowed, fs_allowed, net_allowed, device_allowed, rctl_allowed, attr_allowed, dataset_allowed, options_passed}
-use Rattle.config_terms.specs.Fields.{kind_of, fs_shown, net_shown, text_shown, rctl_shown, attr_shown}
-use Rattle.config_terms.specs.Texts.{fs_text, net_text, device_text, rctl_text, attr_text, dataset_text, resource_text}
+use Rattle.config_terms.specs.declared.terms.Resource.TheVariants.{Fs}
+use Rattle.config_terms.specs.Allowed.{are_told_apart, is_allowed, options_passed}
+use Rattle.config_terms.specs.Fields.{kind_of}
+use Rattle.config_terms.specs.Texts.{resource_text}
 use Rattle.zone_config.specs.declared.terms.Contents.{Contents}
-use Rattle.zone_config.specs.declared.terms.Property.{Property}
-use Rattle.zone_config.specs.declared.terms.Property.TheVariants.{Zonepath, Brand, Autoboot, Bootargs, Pool, Limitpriv, SchedulingClass, IpType, Hostid, FsAllowed}
-use Rattle.zone_config.specs.Property.{shown}
 use Rattle.zone_config.specs.Export.{export_text, sized}
-use Rattle.zone_config.specs.Sound.{AreSound, HasSoundResources, IsKept, IsSound, count}
-use Rattle.zone_config.specs.Resources.{added, count_of, fs_passed, has_taken, has_taken_but, length_of, limit_passed, removed, replaced, text_at, unless_passed, with_replaced, IsLengthOf}
-use Rattle.zone_config.proofs.Lists.{all-push, all-remove, all-set, length-remove_one, length-slice_set, sound-push, sound-remove, sound-set, text-push, text-remove, text-set, text_within}
-use Rattle.zone_config.proofs.PropertyEdits.{Measures, export_text-length}
-
--- what a configuration shows is no matter of its lists
-pub shown-lists : (q : Property) (c : Contents) (fs : List fs.Fs) (net : List net.Net) (device : List (List ℕ)) (rctl : List rctl.Rctl) (attr : List attr.Attr) (dataset : List (List ℕ))
-    → shown q (record c { fs = fs; net = net; device = device; rctl = rctl; attr = attr; dataset = dataset }) ≡ shown q c
-shown-lists Zonepath c fs net device rctl attr dataset = refl
-shown-lists Brand c fs net device rctl attr dataset = refl
-shown-lists Autoboot c fs net device rctl attr dataset = refl
-shown-lists Bootargs c fs net device rctl attr dataset = refl
-shown-lists Pool c fs net device rctl attr dataset = refl
-shown-lists Limitpriv c fs net device rctl attr dataset = refl
-shown-lists SchedulingClass c fs net device rctl attr dataset = refl
-shown-lists IpType c fs net device rctl attr dataset = refl
-shown-lists Hostid c fs net device rctl attr dataset = refl
-shown-lists FsAllowed c fs net device rctl attr dataset = refl
+use Rattle.zone_config.specs.Kinds.{Row}
+use Rattle.zone_config.specs.Sound.{AreSound, HasSoundResources, IsKept, IsSound, IsWithin, count, has_few_options}
+use Rattle.zone_config.specs.Resources.{added, are_apart, count_of, has_taken, has_taken_but, kind_passed, length_of, limit_passed, most_passed, removed, replaced, text_at, unless_passed, with_replaced, IsLengthOf}
+use Rattle.zone_config.proofs.Lists.{length-remove_one, length-slice_set, sound-push, sound-remove, sound-set, text-push, text-remove, text-set, text_within}
+use Rattle.zone_config.proofs.PropertyEdits.{Measures}
+use Rattle.zone_config.proofs.Rows.{IsLawful, SameProperties, added-row, count_of-row, each_kind, each_resource, has_taken-row, has_taken_but-row, kind_passed-row, removed-row, replaced-row, sound-row, text_at-row}
 
 no_limit : (n : ℕ) (o : Option ℕ) → cond (nat_le 256 n) (Some 256) o ≡ None → (n < 256) × (o ≡ None)
 no_limit n o h =
@@ -46,36 +26,6 @@ no_limit n o h =
       | false ↦ λ e g. (grind (arith, nat_tests), g)
     ] refl h
 
--- the resources of a configuration, where one kind has another list
-fs-listed : (c : Contents) (xs : List fs.Fs) → HasSoundResources c → AreSound fs_shown kind.Fs fs_allowed xs → count (record c { fs = xs }) ≤ 256
-    → length xs ≤ 100 → IsTrue (list_all few_options xs) → HasSoundResources (record c { fs = xs })
-fs-listed c xs s own few few_fs options = record { fs = own; net = s.net; device = s.device; rctl = s.rctl; attr = s.attr; dataset = s.dataset; few = few; few_fs = few_fs; few_options = options }
-
-net-listed : (c : Contents) (xs : List net.Net) → HasSoundResources c → AreSound net_shown kind.Net net_allowed xs → count (record c { net = xs }) ≤ 256 → HasSoundResources (record c { net = xs })
-net-listed c xs s own few = record { fs = s.fs; net = own; device = s.device; rctl = s.rctl; attr = s.attr; dataset = s.dataset; few = few; few_fs = s.few_fs; few_options = s.few_options }
-
-device-listed : (c : Contents) (xs : List (List ℕ)) → HasSoundResources c → AreSound text_shown kind.Device device_allowed xs → count (record c { device = xs }) ≤ 256 → HasSoundResources (record c { device = xs })
-device-listed c xs s own few = record { fs = s.fs; net = s.net; device = own; rctl = s.rctl; attr = s.attr; dataset = s.dataset; few = few; few_fs = s.few_fs; few_options = s.few_options }
-
-rctl-listed : (c : Contents) (xs : List rctl.Rctl) → HasSoundResources c → AreSound rctl_shown kind.Rctl rctl_allowed xs → count (record c { rctl = xs }) ≤ 256 → HasSoundResources (record c { rctl = xs })
-rctl-listed c xs s own few = record { fs = s.fs; net = s.net; device = s.device; rctl = own; attr = s.attr; dataset = s.dataset; few = few; few_fs = s.few_fs; few_options = s.few_options }
-
-attr-listed : (c : Contents) (xs : List attr.Attr) → HasSoundResources c → AreSound attr_shown kind.Attr attr_allowed xs → count (record c { attr = xs }) ≤ 256 → HasSoundResources (record c { attr = xs })
-attr-listed c xs s own few = record { fs = s.fs; net = s.net; device = s.device; rctl = s.rctl; attr = own; dataset = s.dataset; few = few; few_fs = s.few_fs; few_options = s.few_options }
-
-dataset-listed : (c : Contents) (xs : List (List ℕ)) → HasSoundResources c → AreSound text_shown kind.Dataset dataset_allowed xs → count (record c { dataset = xs }) ≤ 256 → HasSoundResources (record c { dataset = xs })
-dataset-listed c xs s own few = record { fs = s.fs; net = s.net; device = s.device; rctl = s.rctl; attr = s.attr; dataset = own; few = few; few_fs = s.few_fs; few_options = s.few_options }
-
--- one more resource
-count-added : (r : Resource) (c : Contents) → count (added r c) ≡ count c + 1
-unfolding count
-count-added (Fs f) c = simp length-append (omega arith)
-count-added (Net n) c = simp length-append (omega arith)
-count-added (Device m) c = simp length-append (omega arith)
-count-added (Rctl r) c = simp length-append (omega arith)
-count-added (Attr a) c = simp length-append (omega arith)
-count-added (Dataset d) c = simp length-append (omega arith)
-
 few_if_none : (k : ℕ) → cond {A = Option ℕ} (nat_lt 32 k) (Some 32) None ≡ None → nat_le k 32 ≡ true
 few_if_none k h =
     elim (nat_lt 32 k) as (λ b. nat_lt 32 k ≡ b → cond {A = Option ℕ} b (Some 32) None ≡ None → nat_le k 32 ≡ true) [
@@ -83,41 +33,17 @@ few_if_none k h =
       | false ↦ λ d f. grind (arith, nat_tests)
     ] refl h
 
-no_fs_limit : (f : fs.Fs) (c : Contents) → fs_passed (Fs f) c ≡ None → (length c.fs < 100) × (few_options f ≡ true)
-no_fs_limit f c h =
-    elim (nat_le 100 (length c.fs)) as (λ b. nat_le 100 (length c.fs) ≡ b → cond {A = Option ℕ} b (Some 100) (options_passed (Fs f)) ≡ None → (length c.fs < 100) × (few_options f ≡ true)) [
+few_if_not_passed : (r : Resource) → options_passed r ≡ None → has_few_options r ≡ true
+few_if_not_passed (Fs f) h = few_if_none (length f.options) h
+few_if_not_passed r h = refl
+
+within_if_not_passed : (most : Option ℕ) (n : ℕ) (further : Option ℕ) → most_passed most n further ≡ None → IsWithin most (n + 1) × (further ≡ None)
+within_if_not_passed None n further h = (tt, h)
+within_if_not_passed (Some most) n further h =
+    elim (nat_le most n) as (λ b. nat_le most n ≡ b → cond b (Some most) further ≡ None → IsWithin (Some most) (n + 1) × (further ≡ None)) [
       | true ↦ λ e g. absurd (cc)
-      | false ↦ λ e g. (grind (arith, nat_tests), few_if_none (length f.options) g)
+      | false ↦ λ e g. (grind (arith, nat_tests), g)
     ] refl h
-
-sound-added : (r : Resource) (c : Contents) → HasSoundResources c → is_allowed r ≡ true → has_taken r c ≡ false → count (added r c) ≤ 256 → fs_passed r c ≡ None
-    → HasSoundResources (added r c)
-sound-added (Fs f) c s a t few l =
-    let room = no_fs_limit f c l in
-    fs-listed c (c.fs ++ f ∷ []) s (sound-push fs_shown kind.Fs fs_allowed c.fs f s.fs a t) few
-    (simp length-append (omega (arith, room.0))) (all-push few_options c.fs f s.few_options room.1)
-sound-added (Net n) c s a t few l = net-listed c (c.net ++ n ∷ []) s (sound-push net_shown kind.Net net_allowed c.net n s.net a t) few
-sound-added (Device m) c s a t few l = device-listed c (c.device ++ m ∷ []) s (sound-push text_shown kind.Device device_allowed c.device m s.device a t) few
-sound-added (Rctl r) c s a t few l = rctl-listed c (c.rctl ++ r ∷ []) s (sound-push rctl_shown kind.Rctl rctl_allowed c.rctl r s.rctl a t) few
-sound-added (Attr x) c s a t few l = attr-listed c (c.attr ++ x ∷ []) s (sound-push attr_shown kind.Attr attr_allowed c.attr x s.attr a t) few
-sound-added (Dataset d) c s a t few l = dataset-listed c (c.dataset ++ d ∷ []) s (sound-push text_shown kind.Dataset dataset_allowed c.dataset d s.dataset a t) few
-
--- what a configuration shows is no matter of its resources
-pub record SameProperties (c d : Contents) : Type 0 where
-  pub shown : (q : Property) → shown q d ≡ shown q c
-  pub zonepath : d.zonepath ≡ c.zonepath
-
-pub same-lists : (c : Contents) (fs : List fs.Fs) (net : List net.Net) (device : List (List ℕ)) (rctl : List rctl.Rctl) (attr : List attr.Attr) (dataset : List (List ℕ))
-    → SameProperties c (record c { fs = fs; net = net; device = device; rctl = rctl; attr = attr; dataset = dataset })
-same-lists c fs net device rctl attr dataset = record { shown = λ q. shown-lists q c fs net device rctl attr dataset; zonepath = refl }
-
-pub same-added : (r : Resource) (c : Contents) → SameProperties c (added r c)
-same-added (Fs f) c = same-lists c _ _ _ _ _ _
-same-added (Net n) c = same-lists c _ _ _ _ _ _
-same-added (Device m) c = same-lists c _ _ _ _ _ _
-same-added (Rctl r) c = same-lists c _ _ _ _ _ _
-same-added (Attr a) c = same-lists c _ _ _ _ _ _
-same-added (Dataset d) c = same-lists c _ _ _ _ _ _
 
 -- properties as before, resources that are sound, and a short text
 pub kept-same : (c d : Contents) (n : ℕ) → IsSound c → SameProperties c d → HasSoundResources d → n ≡ length (export_text d) → n ≤ 32768 → IsKept d n
@@ -133,51 +59,6 @@ kept-same c d n s same resources measured short = record {
   };
 }
 
-pub kept_added : (r : Resource) (c : Contents) (size n : ℕ) → IsKept c size → is_allowed r ≡ true → has_taken r c ≡ false → limit_passed r c ≡ None
-    → n ≡ length (export_text (added r c)) → n ≤ 32768 → IsKept (added r c) n
-kept_added r c size n k a t l e short =
-    let room : (count c < 256) × (fs_passed r c ≡ None) = no_limit (count c) (fs_passed r c) l in
-    kept-same c (added r c) n k.sound (same-added r c) (sound-added r c k.sound.resources a t (omega (arith, count-added r c, room.0)) room.1) e short
-
-pub size_added : (r : Resource) (c : Contents) (size : ℕ) → IsKept c size → size + length (resource_text r) ≡ length (export_text (added r c))
-size_added (Fs f) c size k = let more = text-push fs_text c.fs f in omega (arith, k.measured, export_text-length c, export_text-length (added (Fs f) c))
-size_added (Net n) c size k = let more = text-push net_text c.net n in omega (arith, k.measured, export_text-length c, export_text-length (added (Net n) c))
-size_added (Device m) c size k = let more = text-push device_text c.device m in omega (arith, k.measured, export_text-length c, export_text-length (added (Device m) c))
-size_added (Rctl r) c size k = let more = text-push rctl_text c.rctl r in omega (arith, k.measured, export_text-length c, export_text-length (added (Rctl r) c))
-size_added (Attr a) c size k = let more = text-push attr_text c.attr a in omega (arith, k.measured, export_text-length c, export_text-length (added (Attr a) c))
-size_added (Dataset d) c size k = let more = text-push dataset_text c.dataset d in omega (arith, k.measured, export_text-length c, export_text-length (added (Dataset d) c))
-
--- a resource in the place of another
-sound-replaced : (r : Resource) (place : ℕ) (c : Contents) → HasSoundResources c → is_allowed r ≡ true → has_taken_but place r c ≡ false → options_passed r ≡ None
-    → HasSoundResources (replaced place r c)
-unfolding count
-sound-replaced (Fs f) place c s a t l =
-    fs-listed c (slice_set c.fs place f) s (sound-set fs_shown kind.Fs fs_allowed c.fs place f s.fs a t) (rw (length-slice_set c.fs place f) s.few)
-    (rw (length-slice_set c.fs place f) s.few_fs) (all-set few_options c.fs place f s.few_options (few_if_none (length f.options) l))
-sound-replaced (Net n) place c s a t l =
-    net-listed c (slice_set c.net place n) s (sound-set net_shown kind.Net net_allowed c.net place n s.net a t) (rw (length-slice_set c.net place n) s.few)
-sound-replaced (Device m) place c s a t l =
-    device-listed c (slice_set c.device place m) s (sound-set text_shown kind.Device device_allowed c.device place m s.device a t) (rw (length-slice_set c.device place m) s.few)
-sound-replaced (Rctl r) place c s a t l =
-    rctl-listed c (slice_set c.rctl place r) s (sound-set rctl_shown kind.Rctl rctl_allowed c.rctl place r s.rctl a t) (rw (length-slice_set c.rctl place r) s.few)
-sound-replaced (Attr x) place c s a t l =
-    attr-listed c (slice_set c.attr place x) s (sound-set attr_shown kind.Attr attr_allowed c.attr place x s.attr a t) (rw (length-slice_set c.attr place x) s.few)
-sound-replaced (Dataset d) place c s a t l =
-    dataset-listed c (slice_set c.dataset place d) s (sound-set text_shown kind.Dataset dataset_allowed c.dataset place d s.dataset a t) (rw (length-slice_set c.dataset place d) s.few)
-
-pub same-replaced : (r : Resource) (place : ℕ) (c : Contents) → SameProperties c (replaced place r c)
-same-replaced (Fs f) place c = same-lists c _ _ _ _ _ _
-same-replaced (Net n) place c = same-lists c _ _ _ _ _ _
-same-replaced (Device m) place c = same-lists c _ _ _ _ _ _
-same-replaced (Rctl r) place c = same-lists c _ _ _ _ _ _
-same-replaced (Attr a) place c = same-lists c _ _ _ _ _ _
-same-replaced (Dataset d) place c = same-lists c _ _ _ _ _ _
-
-pub kept_replaced : (r : Resource) (place : ℕ) (c : Contents) (size n : ℕ) → IsKept c size → is_allowed r ≡ true → has_taken_but place r c ≡ false
-    → options_passed r ≡ None → n ≡ length (export_text (replaced place r c)) → n ≤ 32768 → IsKept (replaced place r c) n
-kept_replaced r place c size n k a t l e short =
-    kept-same c (replaced place r c) n k.sound (same-replaced r place c) (sound-replaced r place c k.sound.resources a t l) e short
-
 some_image : {A : Type 0} (f : A → List ℕ) (o : Option A) (t : List ℕ) → option_map f o ≡ Some t → (x : A) × ((o ≡ Some x) × (f x ≡ t))
 some_image f None t h = absurd (cc)
 some_image f (Some x) t h = (x, (refl, cc))
@@ -189,38 +70,89 @@ text-replaced f xs i x t h =
     let at = some_image f (slice_get xs i) t h in
     rw (← at.1.1) (text_within f xs i at.0 at.1.0, text-set f xs i x at.0 at.1.0)
 
+-- one more resource, and one in the place of another, by the row of their kind
+module _ (A : Type 0) (row : Row A) (law : IsLawful row) (c : Contents) (x : A) where
+  row_count-added : count (added (row.make x) c) ≡ count c + 1
+  row_count-added = rw (added-row row law c x) (omega (arith, law.counted (row.list c ++ x ∷ []) c, length-append (row.list c) (x ∷ [])))
+
+  row_sound-added : HasSoundResources c → is_allowed (row.make x) ≡ true → has_taken (row.make x) c ≡ false → count (added (row.make x) c) ≤ 256 → kind_passed (row.make x) c ≡ None
+      → HasSoundResources (added (row.make x) c)
+  row_sound-added s allowed free few room =
+      let within = within_if_not_passed row.most (length (row.list c)) (options_passed (row.make x)) (sym (kind_passed-row row law c x) ∙ room) in
+      let own = sound-push row (row.list c) (sound-row row law c s) x allowed (few_if_not_passed (row.make x) within.1) (sym (has_taken-row row law c x) ∙ free) within.0 in
+      record { kinds = rw (added-row row law c x) (law.put_sound (row.list c ++ x ∷ []) c s own); few = few }
+
+  row_same-added : SameProperties c (added (row.make x) c)
+  row_same-added = rw (added-row row law c x) (law.properties (row.list c ++ x ∷ []) c)
+
+  row_size_added : (size : ℕ) → IsKept c size → size + length (resource_text (row.make x)) ≡ length (export_text (added (row.make x) c))
+  row_size_added size k =
+      rw (added-row row law c x, law.known.text x) (omega (arith, k.measured, law.measured (row.list c ++ x ∷ []) c, text-push row.text (row.list c) x))
+
+  row_sound-replaced : (place : ℕ) → HasSoundResources c → is_allowed (row.make x) ≡ true → has_taken_but place (row.make x) c ≡ false → options_passed (row.make x) ≡ None
+      → HasSoundResources (replaced place (row.make x) c)
+  row_sound-replaced place s allowed free few =
+      let own = sound-set row (row.list c) (sound-row row law c s) place x allowed (few_if_not_passed (row.make x) few) (sym (has_taken_but-row row law c place x) ∙ free) in
+      rw (replaced-row row law c place x) (record {
+        kinds = law.put_sound (slice_set (row.list c) place x) c s own;
+        few = omega (arith, s.few, law.counted (slice_set (row.list c) place x) c, length-slice_set (row.list c) place x);
+      })
+
+  row_same-replaced : (place : ℕ) → SameProperties c (replaced place (row.make x) c)
+  row_same-replaced place = rw (replaced-row row law c place x) (law.properties (slice_set (row.list c) place x) c)
+
+  row_size-set : (place : ℕ) (t : List ℕ) (size : ℕ) → IsKept c size → text_at place (kind_of (row.make x)) c ≡ Some t
+      → Measures (length t) (length (resource_text (row.make x))) size (length (export_text (replaced place (row.make x) c)))
+  row_size-set place t size k h =
+      let at : text_at place row.kind c ≡ Some t = rw (← law.known.kind x) h in
+      let text = text-replaced row.text (row.list c) place x t (sym (text_at-row row law c place) ∙ at) in
+      let now = law.measured (slice_set (row.list c) place x) c in
+      let without = law.measured [] c in
+      rw (replaced-row row law c place x, law.known.text x) (record { within = omega (arith, k.measured); now = omega (arith, k.measured) })
+
+-- one more resource
+count-added : (r : Resource) (c : Contents) → count (added r c) ≡ count c + 1
+count-added r c = each_resource (λ r. count (added r c) ≡ count c + 1) (λ A row law. row_count-added A row law c) r
+
+sound-added : (r : Resource) (c : Contents) → HasSoundResources c → is_allowed r ≡ true → has_taken r c ≡ false → count (added r c) ≤ 256 → kind_passed r c ≡ None
+    → HasSoundResources (added r c)
+sound-added r c =
+    each_resource (λ r. HasSoundResources c → is_allowed r ≡ true → has_taken r c ≡ false → count (added r c) ≤ 256 → kind_passed r c ≡ None → HasSoundResources (added r c))
+    (λ A row law. row_sound-added A row law c) r
+
+same-added : (r : Resource) (c : Contents) → SameProperties c (added r c)
+same-added r c = each_resource (λ r. SameProperties c (added r c)) (λ A row law. row_same-added A row law c) r
+
+pub kept_added : (r : Resource) (c : Contents) (size n : ℕ) → IsKept c size → is_allowed r ≡ true → has_taken r c ≡ false → limit_passed r c ≡ None
+    → n ≡ length (export_text (added r c)) → n ≤ 32768 → IsKept (added r c) n
+kept_added r c size n k a t l e short =
+    let room : (count c < 256) × (kind_passed r c ≡ None) = no_limit (count c) (kind_passed r c) l in
+    kept-same c (added r c) n k.sound (same-added r c) (sound-added r c k.sound.resources a t (omega (arith, count-added r c, room.0)) room.1) e short
+
+pub size_added : (r : Resource) (c : Contents) (size : ℕ) → IsKept c size → size + length (resource_text r) ≡ length (export_text (added r c))
+size_added r c =
+    each_resource (λ r. (size : ℕ) → IsKept c size → size + length (resource_text r) ≡ length (export_text (added r c))) (λ A row law. row_size_added A row law c) r
+
+-- a resource in the place of another
+sound-replaced : (r : Resource) (place : ℕ) (c : Contents) → HasSoundResources c → is_allowed r ≡ true → has_taken_but place r c ≡ false → options_passed r ≡ None
+    → HasSoundResources (replaced place r c)
+sound-replaced r place c =
+    each_resource (λ r. HasSoundResources c → is_allowed r ≡ true → has_taken_but place r c ≡ false → options_passed r ≡ None → HasSoundResources (replaced place r c))
+    (λ A row law x. row_sound-replaced A row law c x place) r
+
+same-replaced : (r : Resource) (place : ℕ) (c : Contents) → SameProperties c (replaced place r c)
+same-replaced r place c = each_resource (λ r. SameProperties c (replaced place r c)) (λ A row law x. row_same-replaced A row law c x place) r
+
+pub kept_replaced : (r : Resource) (place : ℕ) (c : Contents) (size n : ℕ) → IsKept c size → is_allowed r ≡ true → has_taken_but place r c ≡ false
+    → options_passed r ≡ None → n ≡ length (export_text (replaced place r c)) → n ≤ 32768 → IsKept (replaced place r c) n
+kept_replaced r place c size n k a t l e short =
+    kept-same c (replaced place r c) n k.sound (same-replaced r place c) (sound-replaced r place c k.sound.resources a t l) e short
+
 size-set : (r : Resource) (place : ℕ) (c : Contents) (t : List ℕ) (size : ℕ) → IsKept c size → text_at place (kind_of r) c ≡ Some t
     → Measures (length t) (length (resource_text r)) size (length (export_text (replaced place r c)))
-size-set (Fs f) place c t size k h =
-    let text = text-replaced fs_text c.fs place f t h in
-    let then = export_text-length c in
-    let now = export_text-length (replaced place (Fs f) c) in
-    record { within = omega (arith, k.measured); now = omega (arith, k.measured) }
-size-set (Net n) place c t size k h =
-    let text = text-replaced net_text c.net place n t h in
-    let then = export_text-length c in
-    let now = export_text-length (replaced place (Net n) c) in
-    record { within = omega (arith, k.measured); now = omega (arith, k.measured) }
-size-set (Device m) place c t size k h =
-    let text = text-replaced device_text c.device place m t h in
-    let then = export_text-length c in
-    let now = export_text-length (replaced place (Device m) c) in
-    record { within = omega (arith, k.measured); now = omega (arith, k.measured) }
-size-set (Rctl r) place c t size k h =
-    let text = text-replaced rctl_text c.rctl place r t h in
-    let then = export_text-length c in
-    let now = export_text-length (replaced place (Rctl r) c) in
-    record { within = omega (arith, k.measured); now = omega (arith, k.measured) }
-size-set (Attr a) place c t size k h =
-    let text = text-replaced attr_text c.attr place a t h in
-    let then = export_text-length c in
-    let now = export_text-length (replaced place (Attr a) c) in
-    record { within = omega (arith, k.measured); now = omega (arith, k.measured) }
-size-set (Dataset d) place c t size k h =
-    let text = text-replaced dataset_text c.dataset place d t h in
-    let then = export_text-length c in
-    let now = export_text-length (replaced place (Dataset d) c) in
-    record { within = omega (arith, k.measured); now = omega (arith, k.measured) }
+size-set r place c t size k =
+    each_resource (λ r. text_at place (kind_of r) c ≡ Some t → Measures (length t) (length (resource_text r)) size (length (export_text (replaced place r c))))
+    (λ A row law x. row_size-set A row law c x place t size k) r
 
 -- the same in the form of the code
 pub size_replaced : (r : Resource) (place : ℕ) (c : Contents) (size old : ℕ) → IsKept c size → IsLengthOf old (text_at place (kind_of r) c)
@@ -254,77 +186,37 @@ leaves_rest c d r size k e same resources = record {
   kept = kept-same c d (size - length (resource_text r)) k.sound same resources (omega (arith, k.measured)) (omega (arith, k.measured, k.sound.short));
 }
 
-leaves_fs : (c : Contents) (i : ℕ) (f : fs.Fs) (size : ℕ) → IsKept c size → slice_get c.fs i ≡ Some f → Leaves (Fs f) (record c { fs = remove c.fs i }) size
-unfolding count
-leaves_fs c i f size k h =
-    let s = k.sound.resources in
-    let one = length-remove_one c.fs i f h in
-    leaves_rest c (record c { fs = remove c.fs i }) (Fs f) size k
-    (omega (arith, text-remove fs_text c.fs i f h, export_text-length c, export_text-length (record c { fs = remove c.fs i }))) (same-lists c _ _ _ _ _ _)
-    (fs-listed c (remove c.fs i) s (sound-remove fs_shown kind.Fs fs_allowed c.fs i s.fs) (omega (arith, s.few)) (omega (arith, s.few_fs)) (all-remove few_options c.fs i s.few_options))
+module _ (A : Type 0) (row : Row A) (law : IsLawful row) (c : Contents) (size : ℕ) (k : IsKept c size) where
+  row_leaves-at : (place : ℕ) (x : A) → slice_get (row.list c) place ≡ Some x → Leaves (row.make x) (row.put (remove (row.list c) place) c) size
+  row_leaves-at place x at =
+      let rest = remove (row.list c) place in
+      let one = length-remove_one (row.list c) place x at in
+      let text = text-remove row.text (row.list c) place x at in
+      leaves_rest c (row.put rest c) (row.make x) size k (rw (law.known.text x) (omega (arith, law.measured rest c))) (law.properties rest c) (record {
+        kinds = law.put_sound rest c k.sound.resources (sound-remove row (row.list c) (sound-row row law c k.sound.resources) place);
+        few = omega (arith, k.sound.resources.few, law.counted rest c);
+      })
 
-leaves_net : (c : Contents) (i : ℕ) (n : net.Net) (size : ℕ) → IsKept c size → slice_get c.net i ≡ Some n → Leaves (Net n) (record c { net = remove c.net i }) size
-unfolding count
-leaves_net c i n size k h =
-    let s = k.sound.resources in
-    let one = length-remove_one c.net i n h in
-    leaves_rest c (record c { net = remove c.net i }) (Net n) size k
-    (omega (arith, text-remove net_text c.net i n h, export_text-length c, export_text-length (record c { net = remove c.net i }))) (same-lists c _ _ _ _ _ _)
-    (net-listed c (remove c.net i) s (sound-remove net_shown kind.Net net_allowed c.net i s.net) (omega (arith, s.few)))
+  row_leaves : (place : ℕ) (d : Contents) (r : Resource) → removed row.kind place c ≡ Some (r, d) → Leaves r d size
+  row_leaves place d r h =
+      image_case (slice_get (row.list c) place) (λ x. (row.make x, row.put (remove (row.list c) place) c)) r d size (row_leaves-at place) (sym (removed-row row law c place) ∙ h)
 
-leaves_device : (c : Contents) (i : ℕ) (m : List ℕ) (size : ℕ) → IsKept c size → slice_get c.device i ≡ Some m → Leaves (Device m) (record c { device = remove c.device i }) size
-unfolding count
-leaves_device c i m size k h =
-    let s = k.sound.resources in
-    let one = length-remove_one c.device i m h in
-    leaves_rest c (record c { device = remove c.device i }) (Device m) size k
-    (omega (arith, text-remove device_text c.device i m h, export_text-length c, export_text-length (record c { device = remove c.device i }))) (same-lists c _ _ _ _ _ _)
-    (device-listed c (remove c.device i) s (sound-remove text_shown kind.Device device_allowed c.device i s.device) (omega (arith, s.few)))
+  row_count_within : count_of row.kind c ≤ 256
+  row_count_within = omega (arith, count_of-row row law c, law.counted [] c, k.sound.resources.few)
 
-leaves_rctl : (c : Contents) (i : ℕ) (r : rctl.Rctl) (size : ℕ) → IsKept c size → slice_get c.rctl i ≡ Some r → Leaves (Rctl r) (record c { rctl = remove c.rctl i }) size
-unfolding count
-leaves_rctl c i r size k h =
-    let s = k.sound.resources in
-    let one = length-remove_one c.rctl i r h in
-    leaves_rest c (record c { rctl = remove c.rctl i }) (Rctl r) size k
-    (omega (arith, text-remove rctl_text c.rctl i r h, export_text-length c, export_text-length (record c { rctl = remove c.rctl i }))) (same-lists c _ _ _ _ _ _)
-    (rctl-listed c (remove c.rctl i) s (sound-remove rctl_shown kind.Rctl rctl_allowed c.rctl i s.rctl) (omega (arith, s.few)))
-
-leaves_attr : (c : Contents) (i : ℕ) (a : attr.Attr) (size : ℕ) → IsKept c size → slice_get c.attr i ≡ Some a → Leaves (Attr a) (record c { attr = remove c.attr i }) size
-unfolding count
-leaves_attr c i a size k h =
-    let s = k.sound.resources in
-    let one = length-remove_one c.attr i a h in
-    leaves_rest c (record c { attr = remove c.attr i }) (Attr a) size k
-    (omega (arith, text-remove attr_text c.attr i a h, export_text-length c, export_text-length (record c { attr = remove c.attr i }))) (same-lists c _ _ _ _ _ _)
-    (attr-listed c (remove c.attr i) s (sound-remove attr_shown kind.Attr attr_allowed c.attr i s.attr) (omega (arith, s.few)))
-
-leaves_dataset : (c : Contents) (i : ℕ) (d : List ℕ) (size : ℕ) → IsKept c size → slice_get c.dataset i ≡ Some d → Leaves (Dataset d) (record c { dataset = remove c.dataset i }) size
-unfolding count
-leaves_dataset c i d size k h =
-    let s = k.sound.resources in
-    let one = length-remove_one c.dataset i d h in
-    leaves_rest c (record c { dataset = remove c.dataset i }) (Dataset d) size k
-    (omega (arith, text-remove dataset_text c.dataset i d h, export_text-length c, export_text-length (record c { dataset = remove c.dataset i }))) (same-lists c _ _ _ _ _ _)
-    (dataset-listed c (remove c.dataset i) s (sound-remove text_shown kind.Dataset dataset_allowed c.dataset i s.dataset) (omega (arith, s.few)))
+  row_apart : are_apart row.kind c ≡ true
+  row_apart = law.known.of_kind Bool (λ B other. are_told_apart other.shown other.kind (other.list c)) ∙ (sound-row row law c k.sound.resources).once
 
 pub leaves : (k : Kind) (place : ℕ) (c d : Contents) (r : Resource) (size : ℕ) → IsKept c size → removed k place c ≡ Some (r, d) → Leaves r d size
-leaves kind.Fs i c d r size k h = image_case (slice_get c.fs i) (λ f. (Fs f, record c { fs = remove c.fs i })) r d size (λ f g. leaves_fs c i f size k g) h
-leaves kind.Net i c d r size k h = image_case (slice_get c.net i) (λ n. (Net n, record c { net = remove c.net i })) r d size (λ n g. leaves_net c i n size k g) h
-leaves kind.Device i c d r size k h = image_case (slice_get c.device i) (λ m. (Device m, record c { device = remove c.device i })) r d size (λ m g. leaves_device c i m size k g) h
-leaves kind.Rctl i c d r size k h = image_case (slice_get c.rctl i) (λ x. (Rctl x, record c { rctl = remove c.rctl i })) r d size (λ x g. leaves_rctl c i x size k g) h
-leaves kind.Attr i c d r size k h = image_case (slice_get c.attr i) (λ a. (Attr a, record c { attr = remove c.attr i })) r d size (λ a g. leaves_attr c i a size k g) h
-leaves kind.Dataset i c d r size k h = image_case (slice_get c.dataset i) (λ x. (Dataset x, record c { dataset = remove c.dataset i })) r d size (λ x g. leaves_dataset c i x size k g) h
+leaves k place c d r size kept = each_kind (λ k. removed k place c ≡ Some (r, d) → Leaves r d size) (λ A row law. row_leaves A row law c size kept place d r) k
 
 -- a place in a kind is small
 pub count_of_within : (k : Kind) (c : Contents) (size : ℕ) → IsKept c size → count_of k c ≤ 256
-unfolding count
-count_of_within kind.Fs c size k = omega (arith, k.sound.resources.few)
-count_of_within kind.Net c size k = omega (arith, k.sound.resources.few)
-count_of_within kind.Device c size k = omega (arith, k.sound.resources.few)
-count_of_within kind.Rctl c size k = omega (arith, k.sound.resources.few)
-count_of_within kind.Attr c size k = omega (arith, k.sound.resources.few)
-count_of_within kind.Dataset c size k = omega (arith, k.sound.resources.few)
+count_of_within k c size kept = each_kind (λ k. count_of k c ≤ 256) (λ A row law. row_count_within A row law c size kept) k
+
+-- no two of a kind have one key
+pub apart_if_kept : (k : Kind) (c : Contents) (size : ℕ) → IsKept c size → are_apart k c ≡ true
+apart_if_kept k c size kept = each_kind (λ k. are_apart k c ≡ true) (λ A row law. row_apart A row law c size kept) k
 
 -- what was checked of a resource that is to have the place of another
 pub record IsChecked (r : Resource) (place : ℕ) (c : Contents) (n : ℕ) : Type 0 where

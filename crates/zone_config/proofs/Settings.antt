@@ -1,6 +1,6 @@
 -- What `set_property` makes of a configuration.
 use Rattle.std.proofs.Common.{◌≡◌, inl, inr, ℕ, Bool, true, false, cond, not, List, [], ◌∷◌, ◌++◌, length, Option, Some, None, Result, Ok, Err, refl, ap, sym, subst, ◌∙◌, IsTrue, IfErr, append-nil, arith}
-use Rattle.std.specs.Prelude.{filter, is_some, map, nat_le, nat_lt, slice_set}
+use Rattle.std.specs.Prelude.{filter, is_some, nat_le, nat_lt, slice_set}
 use Rattle.std.specs.List.{list_any}
 use Rattle.std.proofs.lemmas.Bool.Decides.{nat_tests}
 use Rattle.std.proofs.lemmas.List.Elements.{filter-append}
@@ -8,6 +8,7 @@ use Rattle.zn_base.specs.declared.values.Value.{Value}
 use Rattle.zn_base.specs.declared.values.Value.TheVariants.{Simple, Complex, List as Items}
 use Rattle.config_terms.specs.declared.fault.ConfigFault.{ConfigFault}
 use Rattle.config_terms.specs.declared.fault.ConfigFault.TheVariants as fault
+use Rattle.config_terms.specs.declared.terms.Kind.TheVariants as kind
 use Rattle.config_terms.specs.declared.terms.Rctl.{Rctl}
 use Rattle.config_terms.specs.declared.terms.Resource.TheVariants as resource
 use Rattle.config_terms.specs.Numbers.{number_of}
@@ -25,7 +26,8 @@ use Rattle.zone_config.specs.Resources.{added, limit_passed, replaced, unless_pa
 use Rattle.zone_config.specs.Edits.{alias_rctl, alias_set, is_held, is_named_for, limit_set, named_set, place_of, property_set, rctl_put, setting_set, with_property}
 use Rattle.zone_config.specs.Settable.{MayRefuseSet, SetsWhereAllowed, Shows, ShowsLimit, ShowsText, allows, allows_value, is_settable}
 use Rattle.zone_config.proofs.Lists.{first_false, rest_false}
-use Rattle.zone_config.proofs.PropertyEdits.{Lists, lists-with, shown-with, shown_obeyed}
+use Rattle.zone_config.proofs.PropertyEdits.{resources-with, shown-with, shown_obeyed}
+use Rattle.zone_config.proofs.SameResources.{same-resources}
 use Rattle.zone_config.proofs.Aliases.{Parts, none_behind, none_passes, parted, slice_set-middle}
 
 -- what a bound on the text leaves
@@ -56,7 +58,7 @@ pub shows_text : (p : Property) (v : List ℕ) (c : Contents) → shown p (with_
 shows_text p v c h = record {
   given = h;
   others = λ q differ. elim (shown-with p q v c) [ inl same ↦ absurd (differ same) | inr as_before ↦ as_before ];
-  same = ap (λ (l : Lists). map resource.Fs l.0 ++ map resource.Net l.1 ++ map resource.Device l.2 ++ map resource.Rctl l.3 ++ map resource.Attr l.4 ++ map resource.Dataset l.5) (lists-with p v c);
+  same = same-resources c (with_value p v c) (resources-with p v c);
 }
 
 property-refused : (p : Property) (v : List ℕ) (c : Contents) → obeys (property_rule p) v ≡ true → IfErr (property_set p v c) (MayRefuseSet (Some (Kept p)) c)
@@ -110,7 +112,7 @@ limited_in_place : (a : Alias) (n i : ℕ) (c : Contents) → IsSound c → plac
 limited_in_place a n i c s h =
     let parts = parted (is_named_for a) c.rctl i h in
     record {
-      one = one_in_place (is_named_for a) c.rctl i (alias_rctl a n) parts (none_behind (λ r. r.name) (rctl_name a) c.rctl i s.resources.rctl.once parts) (named_for_own a n);
+      one = one_in_place (is_named_for a) c.rctl i (alias_rctl a n) parts (none_behind (λ r. r.name) (rctl_name a) c.rctl i (s.resources.kinds kind.Rctl).once parts) (named_for_own a n);
       same = refl;
     }
 

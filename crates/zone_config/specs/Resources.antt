@@ -5,10 +5,9 @@ use Rattle.config_terms.specs.declared.fault.ConfigFault.{ConfigFault}
 use Rattle.config_terms.specs.declared.fault.ConfigFault.TheVariants.{BadValue, Duplicate, TooMany}
 use Rattle.config_terms.specs.declared.terms.Kind.{Kind}
 use Rattle.config_terms.specs.declared.terms.Resource.{Resource}
-use Rattle.config_terms.specs.declared.terms.Resource.TheVariants.{Fs}
-use Rattle.config_terms.specs.Allowed.{is_allowed, is_taken, options_passed}
+use Rattle.config_terms.specs.Allowed.{are_told_apart, is_allowed, is_taken, options_passed}
 use Rattle.config_terms.specs.Matches.{has_all, only_place}
-use Rattle.zone_config.specs.declared.limits.TheConstants.{FS_MAX, RESOURCES_MAX}
+use Rattle.zone_config.specs.declared.limits.TheConstants.{RESOURCES_MAX}
 use Rattle.zone_config.specs.declared.terms.Contents.{Contents}
 use Rattle.zone_config.specs.Export.{export_text, sized}
 use Rattle.zone_config.specs.Kinds.{by_kind, by_resource}
@@ -39,14 +38,22 @@ has_taken r c = by_resource r (λ A row x. is_taken row.shown row.kind x (row.li
 abbrev pub has_taken_but : ℕ → Resource → Contents → Bool
 has_taken_but place r c = by_resource r (λ A row x. is_taken row.shown row.kind x (remove (row.list c) place))
 
--- the limit that one more file system passes, if it passes one
-abbrev pub fs_passed : Resource → Contents → Option ℕ
-fs_passed (Fs f) c = if nat_le FS_MAX (length c.fs) then Some FS_MAX else options_passed (Fs f)
-fs_passed r c = None
+-- whether no two of a kind have one key, where the kind has a key
+abbrev pub are_apart : Kind → Contents → Bool
+are_apart k c = by_kind k (λ A row. are_told_apart row.shown row.kind (row.list c))
+
+-- the bound that one more passes, where there is one, or else a further limit
+abbrev pub most_passed : Option ℕ → ℕ → Option ℕ → Option ℕ
+most_passed None n further = further
+most_passed (Some most) n further = if nat_le most n then Some most else further
+
+-- the limit of its kind that one more resource passes, if it passes one
+abbrev pub kind_passed : Resource → Contents → Option ℕ
+kind_passed r c = by_resource r (λ A row x. most_passed row.most (length (row.list c)) (options_passed r))
 
 -- the first limit that one more resource passes, if it passes one
 abbrev pub limit_passed : Resource → Contents → Option ℕ
-limit_passed r c = if nat_le RESOURCES_MAX (count c) then Some RESOURCES_MAX else fs_passed r c
+limit_passed r c = if nat_le RESOURCES_MAX (count c) then Some RESOURCES_MAX else kind_passed r c
 
 abbrev pub unless_passed : Option ℕ → Contents → Result Contents ConfigFault
 unless_passed (Some limit) c = Err (TooMany limit)

@@ -1,12 +1,13 @@
 -- What a user of `set_property` and `clear_property` relies on.
-use Rattle.std.specs.Prelude.{◌≡◌, ◌≢◌, ℕ, List, [], ◌∷◌, ◌++◌, Bool, false, not, filter, is_some, map, Option, Some, None, Result, IfErr, OnOk, IsTrue, ◌<◌, ◌≤◌}
+use Rattle.std.specs.Prelude.{◌≡◌, ◌≢◌, ℕ, List, [], ◌∷◌, Bool, false, not, filter, is_some, map, Option, Some, None, Result, IfErr, OnOk, IsTrue, ◌<◌, ◌≤◌}
+use Rattle.std.specs.List.{flat_map}
 use Rattle.zn_base.specs.declared.values.Value.{Value}
 use Rattle.zn_base.specs.declared.values.Value.TheVariants.{Simple}
 use Rattle.config_terms.specs.declared.fault.ConfigFault.{ConfigFault}
 use Rattle.config_terms.specs.declared.fault.ConfigFault.TheVariants.{Memory, UnknownProperty, AliasHeld, TooMany, TooLarge}
 use Rattle.config_terms.specs.declared.terms.Resource.{Resource}
-use Rattle.config_terms.specs.declared.terms.Resource.TheVariants.{Fs, Net, Device, Rctl, Attr, Dataset}
 use Rattle.config_terms.specs.Edits.{Changes, ChangesSurely}
+use Rattle.config_terms.specs.Fields.{kinds}
 use Rattle.config_terms.specs.Numbers.{number_of}
 use Rattle.config_terms.specs.Rules.{obeys}
 use Rattle.zone_config.specs.declared.terms.Alias.{Alias}
@@ -17,6 +18,7 @@ use Rattle.zone_config.specs.declared.terms.Property.TheVariants.{Autoboot}
 use Rattle.zone_config.specs.declared.terms.Setting.{Setting}
 use Rattle.zone_config.specs.declared.terms.Setting.TheVariants.{Kept, Aliased}
 use Rattle.zone_config.specs.Edits.{alias_rctl, is_held, is_named_for, place_of, with_property, without_property}
+use Rattle.zone_config.specs.Kinds.{by_kind}
 use Rattle.zone_config.specs.Property.{property_rule, setting_named, shown, unset_text}
 use Rattle.zone_config.specs.Sound.{IsSound, count}
 
@@ -34,7 +36,7 @@ is_settable name value = allows_value (setting_named name) value
 
 -- all resources, kind by kind
 abbrev pub resources : Contents → List Resource
-resources c = map Fs c.fs ++ map Net c.net ++ map Device c.device ++ map Rctl c.rctl ++ map Attr c.attr ++ map Dataset c.dataset
+resources c = flat_map (λ k. by_kind k (λ A row. map row.make (row.list c))) kinds
 
 -- a property shows a text, and everything else is as it was
 pub record ShowsText (p : Property) (text : List ℕ) (old new : Contents) : Type 0 where

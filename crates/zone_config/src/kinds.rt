@@ -1,24 +1,28 @@
 //! What is done alike for each kind of resource, in one place a kind: its row below.
 
-// The kinds, each with its list in `Contents`, to a macro that makes a match of them.
+/// The kinds, each with its list in `Contents`, to a macro that makes a match of them.
+#[macro_export]
 macro_rules! each_kind {
     ($arms:ident, $given:tt) => {
-        $crate::kinds::$arms!(
+        $crate::$arms!(
             $given, Fs fs, Net net, Device device, Rctl rctl, Attr attr, Dataset dataset
         )
     };
 }
 
-// By the kind: what is made of it and of its list.
+/// By the kind: what is made of it and of its list.
+#[macro_export]
 macro_rules! by_kind {
     ($kind:expr, $contents:expr, |$list:ident| $body:expr) => {
-        $crate::kinds::by_kind!($kind, $contents, |kind, $list| $body)
+        $crate::by_kind!($kind, $contents, |kind, $list| $body)
     };
     ($kind:expr, $contents:expr, |$own:ident, $list:ident| $body:expr) => {
-        $crate::kinds::each_kind!(kind_arms, ($kind, $contents, $own, $list, $body))
+        $crate::each_kind!(kind_arms, ($kind, $contents, $own, $list, $body))
     };
 }
 
+/// The arms of `by_kind!`.
+#[macro_export]
 macro_rules! kind_arms {
     (
         ($kind:expr, $contents:expr, $own:ident, $list:ident, $body:expr),
@@ -34,10 +38,26 @@ macro_rules! kind_arms {
     };
 }
 
+// The sum over the kinds of what is made of the list of each.
+macro_rules! sum_of_kinds {
+    ($contents:expr, |$list:ident| $body:expr) => {
+        $crate::each_kind!(kind_sum, ($contents, $list, $body))
+    };
+}
+
+macro_rules! kind_sum {
+    (($contents:expr, $list:ident, $body:expr), $($name:ident $field:ident),*) => {
+        0 $(+ {
+            let $list = &$contents.$field;
+            $body
+        })*
+    };
+}
+
 // By the kind: a resource of what is made of its list.
 macro_rules! resource_by_kind {
     ($kind:expr, $contents:expr, |$list:ident| $body:expr) => {
-        $crate::kinds::each_kind!(resource_arms, ($kind, $contents, $list, $body))
+        $crate::each_kind!(resource_arms, ($kind, $contents, $list, $body))
     };
 }
 
@@ -55,7 +75,7 @@ macro_rules! resource_arms {
 // The same, where the list may change.
 macro_rules! resource_by_kind_mut {
     ($kind:expr, $contents:expr, |$list:ident| $body:expr) => {
-        $crate::kinds::each_kind!(resource_arms_mut, ($kind, $contents, $list, $body))
+        $crate::each_kind!(resource_arms_mut, ($kind, $contents, $list, $body))
     };
 }
 
@@ -73,7 +93,7 @@ macro_rules! resource_arms_mut {
 // By a resource: what is made of its kind, of it, and of the list of its kind.
 macro_rules! by_resource {
     ($resource:expr, $contents:expr, |$own:ident, $entry:ident, $list:ident| $body:expr) => {
-        $crate::kinds::each_kind!(entry_arms, ($resource, $contents, $own, $entry, $list, $body))
+        $crate::each_kind!(entry_arms, ($resource, $contents, $own, $entry, $list, $body))
     };
 }
 
@@ -95,7 +115,7 @@ macro_rules! entry_arms {
 // By a resource: what is done with it and the list of its kind.
 macro_rules! by_resource_mut {
     ($resource:expr, $contents:expr, |$entry:ident, $list:ident| $body:expr) => {
-        $crate::kinds::each_kind!(entry_arms_mut, ($resource, $contents, $entry, $list, $body))
+        $crate::each_kind!(entry_arms_mut, ($resource, $contents, $entry, $list, $body))
     };
 }
 
@@ -113,14 +133,13 @@ macro_rules! entry_arms_mut {
     };
 }
 
-pub(crate) use by_kind;
 pub(crate) use by_resource;
 pub(crate) use by_resource_mut;
-pub(crate) use each_kind;
 pub(crate) use entry_arms;
 pub(crate) use entry_arms_mut;
-pub(crate) use kind_arms;
+pub(crate) use kind_sum;
 pub(crate) use resource_arms;
 pub(crate) use resource_arms_mut;
 pub(crate) use resource_by_kind;
 pub(crate) use resource_by_kind_mut;
+pub(crate) use sum_of_kinds;

@@ -1,12 +1,12 @@
 //! The export text.
 ghost use Rattle.std.specs.Prelude.{◌≡◌, ◌++◌, Err, IfOk, OnErr, OnOk};
 ghost use Rattle.std.specs.List.{flat_map};
-ghost use Rattle.config_terms.specs.Texts.{attr_text, dataset_text, device_text, fs_text, net_text, rctl_text};
-ghost use Rattle.zone_config.specs.Export.{export_text, property_line};
+ghost use Rattle.config_terms.specs.Fields.{kinds};
+ghost use Rattle.zone_config.specs.Export.{export_text, kind_text, property_line};
 ghost use Rattle.zone_config.specs.Property.{properties};
 
-use crate::{Contents, PROPERTIES, Property, ZoneConfig};
-use config_terms::{ConfigFault, Kind, push_entries, push_setting};
+use crate::{Contents, PROPERTIES, Property, ZoneConfig, by_kind};
+use config_terms::{ConfigFault, KINDS, Kind, push_entries, push_setting};
 use std::alloc::{AllocError, Global};
 
 fn push_lines(
@@ -28,6 +28,31 @@ fn push_properties(out: &mut Vec<u8>, contents: &Contents) -> Result<(), AllocEr
     push_lines(out, contents, &PROPERTIES)
 }
 
+fn push_kind(out: &mut Vec<u8>, contents: &Contents, kind: Kind) -> Result<(), AllocError>
+    ensures { OnOk result (out.new.items ≡ out.old.items ++ kind_text contents.now kind) }
+{
+    by_kind!(
+        kind,
+        contents,
+        |kind, list| push_entries(out, kind, list.as_slice())
+    )
+}
+
+fn push_kinds(out: &mut Vec<u8>, contents: &Contents, kinds: &[Kind]) -> Result<(), AllocError>
+    ensures { OnOk result (out.new.items ≡ out.old.items ++ flat_map (kind_text contents.now) kinds.now) }
+{
+    for kind in kinds {
+        push_kind(out, contents, *kind)?;
+    }
+    Ok(())
+}
+
+fn push_resources(out: &mut Vec<u8>, contents: &Contents) -> Result<(), AllocError>
+    ensures { OnOk result (out.new.items ≡ out.old.items ++ flat_map (kind_text contents.now) kinds) }
+{
+    push_kinds(out, contents, &KINDS)
+}
+
 /// The export text of a configuration, which zonecfg(8) reads back.
 #[tactic(auto, unfolding(crate::specs::Export::export_text))]
 pub fn export(alloc: Global, config: &ZoneConfig) -> Result<Vec<u8>, ConfigFault>
@@ -38,11 +63,6 @@ pub fn export(alloc: Global, config: &ZoneConfig) -> Result<Vec<u8>, ConfigFault
     let mut out = Vec::new(alloc);
     out.extend_from_slice(b"create -b\n")?;
     push_properties(&mut out, contents)?;
-    push_entries(&mut out, Kind::Fs, contents.fs.as_slice())?;
-    push_entries(&mut out, Kind::Net, contents.net.as_slice())?;
-    push_entries(&mut out, Kind::Device, contents.device.as_slice())?;
-    push_entries(&mut out, Kind::Rctl, contents.rctl.as_slice())?;
-    push_entries(&mut out, Kind::Attr, contents.attr.as_slice())?;
-    push_entries(&mut out, Kind::Dataset, contents.dataset.as_slice())?;
+    push_resources(&mut out, contents)?;
     Ok(out)
 }

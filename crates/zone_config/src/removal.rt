@@ -4,8 +4,8 @@ ghost use Rattle.config_terms.specs.Edits.{ChangesSurely};
 ghost use Rattle.zone_config.specs.Removal.{matches_at, resource_at, without_all, without_found, without_match_at, without_matches};
 ghost use Rattle.zone_config.specs.Resources.{count_of};
 
-use crate::kinds::{by_kind, resource_by_kind};
-use crate::{Contents, ZoneConfig};
+use crate::kinds::resource_by_kind;
+use crate::{Contents, ZoneConfig, by_kind};
 use config_terms::{ConfigFault, Kind, Resource, has_all};
 use std::alloc::{AllocError, Global};
 use zn_base::{Pair, TryClone};

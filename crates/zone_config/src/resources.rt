@@ -2,13 +2,13 @@
 ghost use Rattle.std.specs.Prelude.{◌≡◌, ◌<◌, ◌≤◌, IfOk, IsTrue, OnErr, OnOk, Some, length, remove};
 ghost use Rattle.config_terms.specs.Allowed.{are_told_apart, is_taken};
 ghost use Rattle.config_terms.specs.Fields.{kind_of};
-ghost use Rattle.zone_config.specs.Resources.{IsLengthOf, added, count_of, found, fs_passed, has_taken, has_taken_but, limit_passed, removed, replaced, text_at};
+ghost use Rattle.zone_config.specs.Resources.{IsLengthOf, added, are_apart, count_of, found, has_taken, has_taken_but, kind_passed, limit_passed, removed, replaced, text_at};
 ghost use Rattle.zone_config.specs.declared.limits.TheConstants.{RESOURCES_MAX};
-ghost use Rattle.zone_config.specs.Sound.{HasSoundResources, count};
+ghost use Rattle.zone_config.specs.Sound.{count};
 
-use crate::Contents;
-use crate::kinds::{by_kind, by_resource, by_resource_mut, resource_by_kind_mut};
+use crate::kinds::{by_resource, by_resource_mut, resource_by_kind_mut, sum_of_kinds};
 use crate::limits::{FS_MAX, RESOURCES_MAX};
+use crate::{Contents, by_kind};
 use config_terms::{
     ConfigFault, Entry, Kind, Resource, entry_length, find_apart, is_taken, is_taken_but, keeps_key,
 };
@@ -34,16 +34,11 @@ impl Contents {
         requires { count self.now ≤ RESOURCES_MAX }
         ensures { result ≡ count self.now }
     {
-        self.fs.len()
-            + self.net.len()
-            + self.device.len()
-            + self.rctl.len()
-            + self.attr.len()
-            + self.dataset.len()
+        sum_of_kinds!(self, |list| list.len())
     }
 
-    fn fs_passed(&self, resource: &Resource) -> Option<usize>
-        ensures { result ≡ fs_passed resource.now self.now }
+    fn kind_passed(&self, resource: &Resource) -> Option<usize>
+        ensures { result ≡ kind_passed resource.now self.now }
     {
         match resource {
             Resource::Fs(_) if self.fs.len() >= FS_MAX => Some(FS_MAX),
@@ -59,7 +54,7 @@ impl Contents {
         if self.count() >= RESOURCES_MAX {
             return Some(RESOURCES_MAX);
         }
-        self.fs_passed(resource)
+        self.kind_passed(resource)
     }
 
     /// Whether another resource of its kind has the resource's key.
@@ -74,7 +69,7 @@ impl Contents {
     /// The same of the resources but the one at a place.
     pub(crate) fn has_taken_but(&self, place: usize, resource: &Resource) -> bool
         requires place { place < count_of (kind_of resource.now) self.now }
-        requires sound { HasSoundResources self.now }
+        requires once { IsTrue (are_apart (kind_of resource.now) self.now) }
         ensures { result ≡ has_taken_but place resource.now self.now }
     {
         by_resource!(resource, self, |kind, entry, list| {
@@ -116,7 +111,7 @@ impl Contents {
 
     /// The place of the one resource of a kind that each wanted pair matches.
     pub(crate) fn find(&self, kind: Kind, wanted: &[Pair]) -> Result<usize, ConfigFault>
-        requires { HasSoundResources self.now }
+        requires { IsTrue (are_apart kind self.now) }
         ensures answer { result ≡ found kind wanted.now self.now }
         ensures inside { IfOk result (λ place. place < count_of kind self.now) }
     {

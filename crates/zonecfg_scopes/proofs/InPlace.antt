@@ -1,22 +1,21 @@
 -- What was selected keeps its place.
-use Rattle.std.proofs.Common.{◌≡◌, ℕ, ◌<◌, Bool, true, false, cond, nat_lt, List, [], ◌∷◌, Option, Some, None, Result, Ok, Err, length, refl, ap, subst, arith, ◌∙◌}
-use Rattle.std.specs.Prelude.{count_by, option_map, position, unwrap_or}
+use Rattle.std.proofs.Common.{◌≡◌, ℕ, ◌<◌, Bool, true, false, cond, nat_lt, List, [], ◌∷◌, Option, Some, None, Result, Ok, Err, length, refl, ap, sym, subst, arith, ◌∙◌}
+use Rattle.std.specs.Prelude.{count_by, option_map, position, slice_get, unwrap_or}
 use Rattle.std.proofs.lemmas.Bool.Decides.{nat_tests}
 use Rattle.std.proofs.lemmas.List.Quantifiers.{position-Some}
 use Rattle.config_terms.specs.declared.fault.ConfigFault.{ConfigFault}
 use Rattle.config_terms.specs.declared.fault.ConfigFault.TheVariants.{SeveralMatch}
 use Rattle.config_terms.specs.declared.terms.Kind.{Kind}
-use Rattle.config_terms.specs.declared.terms.Kind.TheVariants as kind
 use Rattle.config_terms.specs.declared.terms.Resource.{Resource}
-use Rattle.config_terms.specs.declared.terms.Resource.TheVariants as resource
 use Rattle.config_terms.specs.Edits as edits
 use Rattle.config_terms.specs.Edits.{empty}
 use Rattle.config_terms.specs.Fields.{kind_of}
-use Rattle.config_terms.specs.Matches.{only_place, place_or}
+use Rattle.config_terms.specs.Matches.{has_all, only_place, place_or}
 use Rattle.zn_base.specs.declared.values.Pair.{Pair}
 use Rattle.zone_config.specs.declared.terms.Contents.{Contents}
 use Rattle.zone_config.specs.Edits.{with_property, without_property}
 use Rattle.zone_config.specs.Resources.{count_of, found}
+use Rattle.zone_config.proofs.Rows.{count_of-row, each_kind, found-row, resource_at-row}
 use Rattle.zonecfg_scopes.specs.declared.command.Command.{Command}
 use Rattle.zonecfg_scopes.specs.declared.command.Command.TheVariants.{Blank, Add, Append, Cancel, Clear, Create, Delete, End, Exit, Help, Info, Remove, RemoveItem, Revert, Select, Set}
 use Rattle.zonecfg_scopes.specs.declared.command.Matching.{Matching}
@@ -52,12 +51,9 @@ unwrapped-kind mk none k None h n = n
 unwrapped-kind mk none k (Some a) h n = h a
 
 resource_at-kind : (k : Kind) (place : ℕ) (c : Contents) → kind_of (resource_at k place c) ≡ k
-resource_at-kind kind.Fs place c = unwrapped-kind resource.Fs (empty kind.Fs) kind.Fs _ (λ a. refl) refl
-resource_at-kind kind.Net place c = unwrapped-kind resource.Net (empty kind.Net) kind.Net _ (λ a. refl) refl
-resource_at-kind kind.Device place c = unwrapped-kind resource.Device (empty kind.Device) kind.Device _ (λ a. refl) refl
-resource_at-kind kind.Rctl place c = unwrapped-kind resource.Rctl (empty kind.Rctl) kind.Rctl _ (λ a. refl) refl
-resource_at-kind kind.Attr place c = unwrapped-kind resource.Attr (empty kind.Attr) kind.Attr _ (λ a. refl) refl
-resource_at-kind kind.Dataset place c = unwrapped-kind resource.Dataset (empty kind.Dataset) kind.Dataset _ (λ a. refl) refl
+resource_at-kind k place c =
+    each_kind (λ k. kind_of (resource_at k place c) ≡ k)
+    (λ A row law. ap kind_of (resource_at-row row law c place) ∙ unwrapped-kind row.make (empty row.kind) row.kind (slice_get (row.list c) place) law.known.kind law.known.nothing) k
 
 place_or-inside : (n : ℕ) (o : Option ℕ) (place bound : ℕ) → place_or n o ≡ Ok place → ((at : ℕ) → o ≡ Some at → at < bound) → place < bound
 place_or-inside n None place bound e h = absurd (cc)
@@ -74,12 +70,9 @@ only_place-inside test (x ∷ xs) place e =
     place_or-inside (count_by test (x ∷ xs)) (position test (x ∷ xs)) place (length (x ∷ xs)) e (λ at h. (position-Some test (x ∷ xs) at x h).0)
 
 found-inside : (k : Kind) (wanted : List Pair) (c : Contents) (place : ℕ) → found k wanted c ≡ Ok place → place < count_of k c
-found-inside kind.Fs wanted c place e = only_place-inside _ c.fs place e
-found-inside kind.Net wanted c place e = only_place-inside _ c.net place e
-found-inside kind.Device wanted c place e = only_place-inside _ c.device place e
-found-inside kind.Rctl wanted c place e = only_place-inside _ c.rctl place e
-found-inside kind.Attr wanted c place e = only_place-inside _ c.attr place e
-found-inside kind.Dataset wanted c place e = only_place-inside _ c.dataset place e
+found-inside k wanted c place =
+    each_kind (λ k. found k wanted c ≡ Ok place → place < count_of k c)
+    (λ A row law e. rw (count_of-row row law c) (only_place-inside (λ x. has_all row.kind wanted (row.shown x)) (row.list c) place (sym (found-row row law c wanted) ∙ e))) k
 
 test_less : (m n : ℕ) → m < n → nat_lt m n ≡ true
 test_less m n h = grind (arith, nat_tests)

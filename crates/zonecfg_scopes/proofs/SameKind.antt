@@ -1,5 +1,5 @@
 -- An edit of a resource keeps its kind.
-use Rattle.std.proofs.Common.{◌≡◌, ℕ, true, false, cond, List, [], Option, Some, None, Result, Ok, Err, refl}
+use Rattle.std.proofs.Common.{◌≡◌, ℕ, true, false, cond, List, [], Option, Some, None, Result, Ok, Err, refl, sym, ◌∙◌}
 use Rattle.zn_base.specs.declared.values.Value.{Value}
 use Rattle.zn_base.specs.declared.values.Value.TheVariants.{Simple, Complex, List as Items}
 use Rattle.config_terms.specs.declared.fault.ConfigFault.{ConfigFault}
@@ -12,10 +12,11 @@ use Rattle.config_terms.specs.declared.lists.ListEdit.TheVariants.{Put, Add, Rem
 use Rattle.config_terms.specs.declared.terms.Fs as fs
 use Rattle.config_terms.specs.declared.terms.Rctl as rctl
 use Rattle.config_terms.specs.declared.terms.Resource.{Resource}
-use Rattle.config_terms.specs.declared.terms.Resource.TheVariants.{Fs, Net, Device, Rctl, Attr, Dataset}
+use Rattle.config_terms.specs.declared.terms.Resource.TheVariants.{Fs, Rctl}
 use Rattle.config_terms.specs.Edits.{and_then, cleared_in, edited_in, field_set, fs_edited, list_edited, put_in, rctl_edited, with_field, with_property, with_value, without_list, without_property, without_value}
 use Rattle.config_terms.specs.Fields.{field_rule, kind_of, named}
 use Rattle.config_terms.specs.Rules.{obeys}
+use Rattle.zone_config.proofs.Rows.{each_resource}
 
 -- an answer, if there is one, has the kind of a resource
 abbrev pub KeepsKind : Resource → Result Resource ConfigFault → Type 0
@@ -23,20 +24,10 @@ KeepsKind r (Ok s) = kind_of s ≡ kind_of r
 KeepsKind r (Err fault) = Unit {0}
 
 with_field-kind : (field : Field) (text : List ℕ) (r : Resource) → kind_of (with_field field text r) ≡ kind_of r
-with_field-kind field text (Fs f) = refl
-with_field-kind field text (Net n) = refl
-with_field-kind field text (Device m) = refl
-with_field-kind field text (Rctl r) = refl
-with_field-kind field text (Attr a) = refl
-with_field-kind field text (Dataset d) = refl
+with_field-kind field text r = each_resource (λ r. kind_of (with_field field text r) ≡ kind_of r) (λ A row law x. law.known.edited field text x ∙ sym (law.known.kind x)) r
 
 without_list-kind : (r : Resource) → kind_of (without_list r) ≡ kind_of r
-without_list-kind (Fs f) = refl
-without_list-kind (Net n) = refl
-without_list-kind (Device m) = refl
-without_list-kind (Rctl r) = refl
-without_list-kind (Attr a) = refl
-without_list-kind (Dataset d) = refl
+without_list-kind r = each_resource (λ r. kind_of (without_list r) ≡ kind_of r) (λ A row law x. law.known.unlisted x ∙ sym (law.known.kind x)) r
 
 field_set-kind : (field : Field) (v : Value) (r : Resource) → KeepsKind r (field_set field v r)
 field_set-kind field (Simple text) r =
@@ -56,10 +47,7 @@ list_edited-kind : (edit : ListEdit) (v : Value) (r : Resource) → KeepsKind r 
 unfolding list_edited
 list_edited-kind edit v (Fs f) = fs_kept f (fs_edited edit v f)
 list_edited-kind edit v (Rctl r) = rctl_kept r (rctl_edited edit v r)
-list_edited-kind edit v (Net n) = tt
-list_edited-kind edit v (Device m) = tt
-list_edited-kind edit v (Attr a) = tt
-list_edited-kind edit v (Dataset d) = tt
+list_edited-kind edit v r = tt
 
 put_in-kind : (o : Option Named) (v : Value) (r : Resource) → KeepsKind r (put_in o v r)
 put_in-kind None v r = tt

@@ -4,11 +4,11 @@ use Rattle.std.specs.List.{flat_map, join_with_byte}
 use Rattle.zn_base.specs.Lines.{lines_of}
 use Rattle.config_terms.specs.declared.fields.Field.{Field}
 use Rattle.config_terms.specs.declared.terms.Kind.{Kind}
-use Rattle.config_terms.specs.declared.terms.Kind.TheVariants as kind
 use Rattle.config_terms.specs.declared.terms.Limit.{Limit}
 use Rattle.config_terms.specs.declared.terms.Rctl.{Rctl}
 use Rattle.config_terms.specs.declared.terms.Resource.{Resource}
-use Rattle.config_terms.specs.Fields.{attr_shown, field_name, fields_of, fs_shown, kind_name, kind_of, kinds, net_shown, rctl_shown, resource_options, resource_shown, resource_values, text_shown}
+use Rattle.config_terms.specs.declared.terms.Resource.TheVariants as resource
+use Rattle.config_terms.specs.Fields.{field_name, fields_of, kind_name, kind_of, kinds, resource_options, resource_shown, resource_values}
 use Rattle.config_terms.specs.Texts.{joined, limit_text, options_text}
 use Rattle.zone_config.specs.declared.terms.Alias.{Alias}
 use Rattle.zone_config.specs.declared.terms.Contents.{Contents}
@@ -16,6 +16,7 @@ use Rattle.zone_config.specs.declared.terms.Property.{Property}
 use Rattle.zone_config.specs.declared.terms.Setting.TheVariants.{Aliased, Kept}
 use Rattle.zone_config.specs.Edits.{is_named_for}
 use Rattle.zone_config.specs.Export.{export_text}
+use Rattle.zone_config.specs.Kinds.{by_kind}
 use Rattle.zone_config.specs.Property.{properties, property_name, shown}
 use Rattle.zonecfg_scopes.specs.declared.command.Topic.{Topic}
 use Rattle.zonecfg_scopes.specs.declared.command.Topic.TheVariants.{Everything, Resources, Setting}
@@ -59,21 +60,13 @@ entry_lines k shown options values = (kind_name k ++ codes ":") ∷ field_lines 
 abbrev pub resource_lines : Resource → List (List ℕ)
 resource_lines r = entry_lines (kind_of r) (resource_shown r) (resource_options r) (resource_values r)
 
-abbrev pub rctl_lines : Rctl → List (List ℕ)
-rctl_lines r = entry_lines kind.Rctl (rctl_shown r) [] r.values
-
 -- the lines of all resources of a kind, in their order
 unfoldable pub kind_lines : Contents → Kind → List (List ℕ)
-kind_lines c kind.Fs = flat_map (λ f. entry_lines kind.Fs (fs_shown f) f.options []) c.fs
-kind_lines c kind.Net = flat_map (λ n. entry_lines kind.Net (net_shown n) [] []) c.net
-kind_lines c kind.Device = flat_map (λ m. entry_lines kind.Device (text_shown m) [] []) c.device
-kind_lines c kind.Rctl = flat_map rctl_lines c.rctl
-kind_lines c kind.Attr = flat_map (λ a. entry_lines kind.Attr (attr_shown a) [] []) c.attr
-kind_lines c kind.Dataset = flat_map (λ d. entry_lines kind.Dataset (text_shown d) [] []) c.dataset
+kind_lines c k = by_kind k (λ A row. flat_map (λ x. resource_lines (row.make x)) (row.list c))
 
 abbrev pub rctl_lines_if : Option Rctl → List (List ℕ)
 rctl_lines_if None = []
-rctl_lines_if (Some r) = rctl_lines r
+rctl_lines_if (Some r) = resource_lines (resource.Rctl r)
 
 -- the lines of the rctl that has the name of an alias's, whatever its form, where there is one
 unfoldable pub alias_lines : Alias → Contents → List (List ℕ)

@@ -12,7 +12,7 @@ use crate::line::push_line;
 use config_terms::{Entry, KINDS, Kind, Limit, Rctl, Resource, push_limit, push_options};
 use std::alloc::{AllocError, Global};
 use zn_base::{Bytes, Listing, Text};
-use zone_config::{Alias, Contents, PROPERTIES, Property, Setting};
+use zone_config::{Alias, Contents, PROPERTIES, Property, Setting, by_kind};
 
 const HELP: &[u8] =
     b"add cancel clear commit create delete end exit export help info remove revert select set verify";
@@ -160,14 +160,11 @@ fn push_kind(
 ) -> Result<(), AllocError>
     ensures { OnOk result (out.new ≡ out.old ++ kind_lines contents.now kind) }
 {
-    match kind {
-        Kind::Fs => push_entries(alloc, out, kind, contents.fs.as_slice()),
-        Kind::Net => push_entries(alloc, out, kind, contents.net.as_slice()),
-        Kind::Device => push_entries(alloc, out, kind, contents.device.as_slice()),
-        Kind::Rctl => push_entries(alloc, out, kind, contents.rctl.as_slice()),
-        Kind::Attr => push_entries(alloc, out, kind, contents.attr.as_slice()),
-        Kind::Dataset => push_entries(alloc, out, kind, contents.dataset.as_slice()),
-    }
+    by_kind!(
+        kind,
+        contents,
+        |kind, list| push_entries(alloc, out, kind, list.as_slice())
+    )
 }
 
 fn push_kind_lines(
