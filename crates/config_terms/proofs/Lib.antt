@@ -1,6 +1,7 @@
 pub mod Short
 pub mod Alone
 pub mod Paths
+pub mod By_kind
 pub mod Staying
 mod Examples
 pub mod Settables

@@ -13,11 +13,10 @@ use Rattle.config_terms.specs.declared.fields.Named.TheVariants.{One, Many}
 use Rattle.config_terms.specs.declared.lists.ListEdit.{ListEdit}
 use Rattle.config_terms.specs.declared.lists.ListEdit.TheVariants.{Put, Add, Remove}
 use Rattle.config_terms.specs.declared.terms.Fs as fs
-use Rattle.config_terms.specs.declared.terms.Kind.TheVariants as kind
 use Rattle.config_terms.specs.declared.terms.Limit.{Limit}
 use Rattle.config_terms.specs.declared.terms.Rctl as rctl
 use Rattle.config_terms.specs.declared.terms.Resource.{Resource}
-use Rattle.config_terms.specs.declared.terms.Resource.TheVariants.{Fs, Net, Device, Rctl, Attr, Dataset}
+use Rattle.config_terms.specs.declared.terms.Resource.TheVariants.{Fs, Rctl}
 use Rattle.config_terms.specs.Edits.{and_then, cleared_in, edited, edited_in, limit_given, list_edited, options_edited, options_given, passes_options, put_in, same_limit, with_field, with_property, with_value, without_each, without_property, without_value}
 use Rattle.config_terms.specs.Fields.{field_rule, kind_of, named}
 use Rattle.config_terms.specs.Rules.{obeys}
@@ -100,10 +99,7 @@ list_by : (edit : ListEdit) (v : Value) (old : Resource) (name : List ℕ) → n
 unfolding list_edited
 list_by edit v (Fs x) name h = options_by edit v x (options_given edit v) refl
 list_by edit v (Rctl x) name h = values_by edit v x (limit_given v) refl
-list_by edit v (Net x) name h = absurd (named_no_list kind.Net name refl h)
-list_by edit v (Device x) name h = absurd (named_no_list kind.Device name refl h)
-list_by edit v (Attr x) name h = absurd (named_no_list kind.Attr name refl h)
-list_by edit v (Dataset x) name h = absurd (named_no_list kind.Dataset name refl h)
+list_by edit v old name h = absurd (named_no_list (kind_of old) name refl h)
 
 set_by : (n : Option Named) (name : List ℕ) (v : Value) (old : Resource) → named (kind_of old) name ≡ n
     → Comes (Shows n name v old) (MayRefuseSet n v old) (put_in n v old)
@@ -123,11 +119,8 @@ cleared_by : (n : Option Named) (name : List ℕ) (old : Resource) → named (ki
 cleared_by None name old h = (refl, refl)
 cleared_by (Some (One f)) name old h = text_shows old name [] f (named_one (kind_of old) name f h)
 cleared_by (Some Many) name (Fs x) h = (refl, refl, refl, refl)
-cleared_by (Some Many) name (Net x) h = (refl, refl, refl, refl)
-cleared_by (Some Many) name (Device x) h = (refl, refl, refl, refl)
 cleared_by (Some Many) name (Rctl x) h = (refl, refl, refl, refl)
-cleared_by (Some Many) name (Attr x) h = (refl, refl, refl, refl)
-cleared_by (Some Many) name (Dataset x) h = (refl, refl, refl, refl)
+cleared_by (Some Many) name old h = (refl, refl, refl, refl)
 
 edited_by : (n : Option Named) (edit : ListEdit) (name : List ℕ) (v : Value) (old : Resource) → named (kind_of old) name ≡ n
     → Comes (ShowsEdit n edit v old) (MayRefuseEdit n edit v old) (edited_in n edit v old)

@@ -1,83 +1,35 @@
 -- The edits of one resource, as its user sees them.
-use Rattle.std.proofs.Common.{◌≡◌, ◌∙◌, ℕ, Bool, true, false, cond, List, [], ◌∷◌, Option, Some, None, refl, ap, sym, subst}
-use Rattle.std.specs.Prelude.{position, slice_set}
+use Rattle.std.proofs.Common.{◌≡◌, ◌∙◌, ℕ, Bool, true, false, List, Option, Some, None, length, refl, ap, sym, arith, nat_lt}
+use Rattle.std.specs.Prelude.{position, slice_get}
+use Rattle.std.specs.List.{position_or_len}
 use Rattle.std.specs.Str.{bytes_eq}
+use Rattle.std.proofs.lemmas.Bool.Decides.{nat_tests}
+use Rattle.std.proofs.lemmas.List.Folds.{find_at}
+use Rattle.std.proofs.lemmas.Option.{slice_get_within}
 use Rattle.config_terms.specs.declared.fields.Field.{Field}
-use Rattle.config_terms.specs.declared.fields.Field.TheVariants.{FsDir, FsSpecial, FsRaw, FsType, NetAddress, NetAllowed, NetPhysical, NetDefrouter, DeviceMatch, RctlName, AttrName, AttrType, AttrValue, DatasetName}
 use Rattle.config_terms.specs.declared.fields.Named.TheVariants.{One, Many}
 use Rattle.config_terms.specs.declared.terms.Kind.{Kind}
 use Rattle.config_terms.specs.declared.terms.Resource.{Resource}
-use Rattle.config_terms.specs.declared.terms.Resource.TheVariants.{Fs, Net, Device, Rctl, Attr, Dataset}
-use Rattle.config_terms.specs.Edits.{kept_path, with_field}
-use Rattle.config_terms.specs.Fields.{field_name, field_named, is_name_of_list, kind_of, list_name, named, path_text, resource_options, resource_values, simple_or_list}
-use Rattle.config_terms.specs.Settable.{ShowsText, place_named, shown_texts}
+use Rattle.config_terms.specs.Edits.{with_field}
+use Rattle.config_terms.specs.Fields.{field_name, field_named, fields_of, is_name_of_list, kind_of, list_name, named, simple_or_list}
+use Rattle.config_terms.specs.Settable.{ShowsText}
+use Rattle.config_terms.proofs.By_kind.{puts_at}
 
--- a resource with a property put, whose place in the table is o
-record ShowsAt (f : Field) (o : Option ℕ) (text : List ℕ) (r : Resource) : Type 0 where
-  place : ℕ
-  there : o ≡ Some place
-  kind : kind_of (with_field f text r) ≡ kind_of r
-  texts : shown_texts (with_field f text r) ≡ slice_set (shown_texts r) place text
-  options : resource_options (with_field f text r) ≡ resource_options r
-  values : resource_values (with_field f text r) ≡ resource_values r
-
--- the first of some fields whose test passes, and its place
-first_of_one : (K : Field → Option ℕ → Type 0) (w : Bool) (a f : Field) → K a (Some 0) → cond w (Some a) None ≡ Some f → K f (position (λ b. b) (w ∷ []))
-first_of_one K true a f ka h = let e : a ≡ f = cc in subst (λ g. K g (Some 0)) e ka
-first_of_one K false a f ka h = absurd (cc)
-
-first_of_three : (K : Field → Option ℕ → Type 0) (w x y : Bool) (a b c f : Field) → K a (Some 0) → K b (Some 1) → K c (Some 2)
-    → cond w (Some a) (cond x (Some b) (cond y (Some c) None)) ≡ Some f → K f (position (λ b. b) (w ∷ x ∷ y ∷ []))
-first_of_three K true x y a b c f ka kb kc h = let e : a ≡ f = cc in subst (λ g. K g (Some 0)) e ka
-first_of_three K false true y a b c f ka kb kc h = let e : b ≡ f = cc in subst (λ g. K g (Some 1)) e kb
-first_of_three K false false true a b c f ka kb kc h = let e : c ≡ f = cc in subst (λ g. K g (Some 2)) e kc
-first_of_three K false false false a b c f ka kb kc h = absurd (cc)
-
-first_of_four : (K : Field → Option ℕ → Type 0) (w x y z : Bool) (a b c d f : Field) → K a (Some 0) → K b (Some 1) → K c (Some 2) → K d (Some 3)
-    → cond w (Some a) (cond x (Some b) (cond y (Some c) (cond z (Some d) None))) ≡ Some f → K f (position (λ b. b) (w ∷ x ∷ y ∷ z ∷ []))
-first_of_four K true x y z a b c d f ka kb kc kd h = let e : a ≡ f = cc in subst (λ g. K g (Some 0)) e ka
-first_of_four K false true y z a b c d f ka kb kc kd h = let e : b ≡ f = cc in subst (λ g. K g (Some 1)) e kb
-first_of_four K false false true z a b c d f ka kb kc kd h = let e : c ≡ f = cc in subst (λ g. K g (Some 2)) e kc
-first_of_four K false false false true a b c d f ka kb kc kd h = let e : d ≡ f = cc in subst (λ g. K g (Some 3)) e kd
-first_of_four K false false false false a b c d f ka kb kc kd h = absurd (cc)
-
-shown_path : (t : List ℕ) → path_text (kept_path t) ≡ t
-shown_path [] = refl
-shown_path (b ∷ t) = refl
+-- a test holds first where its search comes to an end
+first_at : {A : Type 0} (p : A → Bool) (xs : List A) (x : A) → slice_get xs (position_or_len p xs) ≡ Some x → position p xs ≡ Some (position_or_len p xs)
+first_at p xs x h =
+    let inside = slice_get_within xs (position_or_len p xs) x h in
+    let within : nat_lt (position_or_len p xs) (length xs) ≡ true = grind (arith, nat_tests) in
+    rw within refl
 
 -- the text of a property that is put shows in its place of the table
-put_shows : (r : Resource) (name text : List ℕ) (f : Field) → field_named (kind_of r) name ≡ Some f → ShowsAt f (place_named (kind_of r) name) text r
-put_shows (Fs x) name text f h =
-    first_of_four (λ g o. ShowsAt g o text (Fs x)) (bytes_eq name (field_name FsDir)) (bytes_eq name (field_name FsSpecial)) (bytes_eq name (field_name FsRaw)) (bytes_eq name (field_name FsType)) FsDir FsSpecial FsRaw FsType f
-    (record { place = 0; there = refl; kind = refl; texts = ap (λ t. t ∷ x.special ∷ x.raw ∷ x.fstype ∷ []) (shown_path text); options = refl; values = refl })
-    (record { place = 1; there = refl; kind = refl; texts = refl; options = refl; values = refl })
-    (record { place = 2; there = refl; kind = refl; texts = refl; options = refl; values = refl })
-    (record { place = 3; there = refl; kind = refl; texts = refl; options = refl; values = refl }) h
-put_shows (Net x) name text f h =
-    first_of_four (λ g o. ShowsAt g o text (Net x)) (bytes_eq name (field_name NetAddress)) (bytes_eq name (field_name NetAllowed)) (bytes_eq name (field_name NetPhysical)) (bytes_eq name (field_name NetDefrouter)) NetAddress NetAllowed NetPhysical NetDefrouter f
-    (record { place = 0; there = refl; kind = refl; texts = refl; options = refl; values = refl })
-    (record { place = 1; there = refl; kind = refl; texts = refl; options = refl; values = refl })
-    (record { place = 2; there = refl; kind = refl; texts = refl; options = refl; values = refl })
-    (record { place = 3; there = refl; kind = refl; texts = refl; options = refl; values = refl }) h
-put_shows (Device x) name text f h =
-    first_of_one (λ g o. ShowsAt g o text (Device x)) (bytes_eq name (field_name DeviceMatch)) DeviceMatch f
-    (record { place = 0; there = refl; kind = refl; texts = refl; options = refl; values = refl }) h
-put_shows (Rctl x) name text f h =
-    first_of_one (λ g o. ShowsAt g o text (Rctl x)) (bytes_eq name (field_name RctlName)) RctlName f
-    (record { place = 0; there = refl; kind = refl; texts = refl; options = refl; values = refl }) h
-put_shows (Attr x) name text f h =
-    first_of_three (λ g o. ShowsAt g o text (Attr x)) (bytes_eq name (field_name AttrName)) (bytes_eq name (field_name AttrType)) (bytes_eq name (field_name AttrValue)) AttrName AttrType AttrValue f
-    (record { place = 0; there = refl; kind = refl; texts = refl; options = refl; values = refl })
-    (record { place = 1; there = refl; kind = refl; texts = refl; options = refl; values = refl })
-    (record { place = 2; there = refl; kind = refl; texts = refl; options = refl; values = refl }) h
-put_shows (Dataset x) name text f h =
-    first_of_one (λ g o. ShowsAt g o text (Dataset x)) (bytes_eq name (field_name DatasetName)) DatasetName f
-    (record { place = 0; there = refl; kind = refl; texts = refl; options = refl; values = refl }) h
-
 pub text_shows : (r : Resource) (name text : List ℕ) (f : Field) → field_named (kind_of r) name ≡ Some f → ShowsText name text r (with_field f text r)
 text_shows r name text f h =
-    let at = put_shows r name text f h in
-    record { place = at.place; there = at.there; kind = at.kind; texts = at.texts; options = at.options; values = at.values }
+    let test : Field → Bool = λ g. bytes_eq name (field_name g) in
+    let fs : List Field = fields_of (kind_of r) in
+    let at : slice_get fs (position_or_len test fs) ≡ Some f = sym (find_at test fs) ∙ h in
+    let puts = puts_at r text (position_or_len test fs) f at in
+    record { place = position_or_len test fs; there = first_at test fs f at; kind = puts.0; texts = puts.1; options = puts.2; values = puts.3 }
 
 -- what a name stands for in a kind's table
 is_one : (o : Option Field) (listed : Bool) (f : Field) → simple_or_list o listed ≡ Some (One f) → o ≡ Some f

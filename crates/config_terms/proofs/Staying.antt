@@ -1,7 +1,6 @@
 -- An edit leaves an allowed resource allowed.
-use Rattle.std.proofs.Common.{◌≡◌, inl, inr, ℕ, zero, suc, codes, Bool, true, false, cond, ◌&&◌, List, [], ◌∷◌, ◌++◌, Option, Some, None, Result, Ok, Err, IsTrue, refl, subst, arith}
-use Rattle.std.specs.Prelude.{position, remove, option_map, option_and_then, ok_or}
-use Rattle.std.proofs.lemmas.Bool.Decides.{nat_tests}
+use Rattle.std.proofs.Common.{◌≡◌, inl, inr, ℕ, zero, suc, codes, Bool, true, false, cond, ◌&&◌, List, [], ◌∷◌, ◌++◌, Option, Some, None, Result, Ok, Err, IsTrue, refl, subst, sym}
+use Rattle.std.specs.Prelude.{map, position, remove, option_map, option_and_then, ok_or, slice_get, slice_set}
 use Rattle.std.proofs.lemmas.List.Folds.{list_all-append}
 use Rattle.std.specs.List.{list_all}
 use Rattle.std.specs.Char.{is_ascii_digit}
@@ -12,28 +11,26 @@ use Rattle.zn_base.specs.declared.values.Value.TheVariants.{Simple as Text, Comp
 use Rattle.config_terms.specs.declared.fault.ConfigFault.{ConfigFault}
 use Rattle.config_terms.specs.declared.fault.ConfigFault.TheVariants.{BadValue, NoMatch, TooMany}
 use Rattle.config_terms.specs.declared.fields.Field.{Field}
-use Rattle.config_terms.specs.declared.fields.Field.TheVariants.{FsDir, FsSpecial, FsRaw, FsType, NetAddress, NetAllowed, NetPhysical, NetDefrouter, DeviceMatch, RctlName, AttrName, AttrType, AttrValue, DatasetName}
 use Rattle.config_terms.specs.declared.fields.Named.{Named}
 use Rattle.config_terms.specs.declared.fields.Named.TheVariants.{One, Many}
 use Rattle.config_terms.specs.declared.lists.ListEdit.{ListEdit}
 use Rattle.config_terms.specs.declared.lists.ListEdit.TheVariants.{Put, Add, Remove}
-use Rattle.config_terms.specs.declared.rules.Rule.TheVariants.{RootedPath, Simple, TypeWord, OptionWord, ControlName, AttributeName, AttributeForm}
-use Rattle.config_terms.specs.declared.terms.Attr as attr
+use Rattle.config_terms.specs.declared.rules.Rule.TheVariants.{OptionWord}
 use Rattle.config_terms.specs.declared.terms.Fs as fs
 use Rattle.config_terms.specs.declared.terms.Limit.{Limit}
-use Rattle.config_terms.specs.declared.terms.Net as net
 use Rattle.config_terms.specs.declared.terms.Rctl as rctl
 use Rattle.config_terms.specs.declared.terms.Kind.{Kind}
 use Rattle.config_terms.specs.declared.terms.Kind.TheVariants as kind
 use Rattle.config_terms.specs.declared.terms.Resource.{Resource}
-use Rattle.config_terms.specs.declared.terms.Resource.TheVariants.{Fs, Net, Device, Rctl, Attr, Dataset}
+use Rattle.config_terms.specs.declared.terms.Resource.TheVariants.{Fs, Rctl}
 use Rattle.config_terms.specs.Numbers.{is_limit, number_of}
 use Rattle.zn_base.specs.Decimals.{decimal_of, digits_value, has_no_leading_zero, is_decimal}
 use Rattle.config_terms.specs.Rules.{obeys, fits}
-use Rattle.config_terms.specs.Fields.{field_rule, path_text, named, kind_of, fs_shown, net_shown, text_shown, rctl_shown, attr_shown}
-use Rattle.config_terms.specs.Allowed.{is_allowed_limit, is_kept_path, fields_fit, entry_allowed, is_allowed}
-use Rattle.config_terms.specs.Edits.{empty, kept_path, fs_with, net_with, device_with, rctl_with, attr_with, dataset_with, with_field, field_set, option_texts, options_given, are_limit_pairs, limit_of_pairs, limit_given, without_first, without_each, edited, passes_options, options_edited, same_limit, and_then, fs_edited, rctl_edited, list_edited, without_list, put_in, with_property, cleared_in, without_property, edited_in, with_value, without_value}
+use Rattle.config_terms.specs.Fields.{field_rule, fields_of, fs_shown, kind_of, named, rctl_shown, resource_options, resource_shown, resource_values}
+use Rattle.config_terms.specs.Allowed.{is_allowed_limit, is_kept_path, is_whole, fields_fit, entry_allowed, is_allowed}
+use Rattle.config_terms.specs.Edits.{with_field, field_set, option_texts, options_given, are_limit_pairs, limit_of_pairs, limit_given, without_first, without_each, edited, passes_options, options_edited, same_limit, and_then, fs_edited, rctl_edited, list_edited, without_list, put_in, with_property, cleared_in, without_property, edited_in, with_value, without_value}
 use Rattle.config_terms.specs.Staying.{IsEdited}
+use Rattle.config_terms.proofs.By_kind.{placed, puts_at}
 use Rattle.config_terms.proofs.Paths.{obeyed_fits}
 
 first_true : (a b : Bool) → (a && b) ≡ true → a ≡ true
@@ -47,27 +44,6 @@ rest_true false b h = absurd (cc)
 both_true : (a b : Bool) → a ≡ true → b ≡ true → (a && b) ≡ true
 both_true true b h g = g
 both_true false b h g = h
-
-pub empty_allowed : (k : Kind) → IsTrue (is_allowed (empty k))
-unfolding fits fields_fit entry_allowed
-empty_allowed kind.Fs = refl
-empty_allowed kind.Net = refl
-empty_allowed kind.Device = refl
-empty_allowed kind.Rctl = refl
-empty_allowed kind.Attr = refl
-empty_allowed kind.Dataset = refl
-
-shown_path : (t : List ℕ) → path_text (kept_path t) ≡ t
-shown_path [] = refl
-shown_path (b ∷ t) = refl
-
-kept_path_kept : (t : List ℕ) → is_kept_path (kept_path t) ≡ true
-kept_path_kept [] = refl
-kept_path_kept (b ∷ t) = grind (arith, nat_tests)
-
-four : (a b c d : Bool) → (a && (b && (c && (d && true)))) ≡ true → (a ≡ true) × (b ≡ true) × (c ≡ true) × (d ≡ true)
-four true true true true h = (refl, refl, refl, refl)
-four _ _ _ _ h = absurd (cc)
 
 three : (a b c : Bool) → ((a && b) && c) ≡ true → (a ≡ true) × (b ≡ true) × (c ≡ true)
 three true true true h = (refl, refl, refl)
@@ -91,116 +67,58 @@ whole : (k : Kind) (shown : Field → List ℕ) (os : List (List ℕ)) (vs : Lis
 unfolding entry_allowed
 whole k shown os vs f o v = rw (f, o, v) refl
 
--- the four properties of an fs and of a net fit
-record FsFits (f : fs.Fs) : Type 0 where
-  dir : fits RootedPath (path_text f.dir) ≡ true
-  special : fits Simple f.special ≡ true
-  raw : fits Simple f.raw ≡ true
-  form : fits TypeWord f.fstype ≡ true
+-- whether a property is unset or obeys its rule, by what it shows
+abbrev does_fit : (Field → List ℕ) → Field → Bool
+does_fit shown f = fits (field_rule f) (shown f)
 
-fs_fits : (f : fs.Fs) → fields_fit kind.Fs (fs_shown f) ≡ true → FsFits f
+-- properties that show the same texts
+all_fit : (fs : List Field) (old new : Field → List ℕ) → map new fs ≡ map old fs → list_all (does_fit old) fs ≡ true → list_all (does_fit new) fs ≡ true
+all_fit [] old new texts h = refl
+all_fit (f ∷ fs) old new texts h =
+    let own : new f ≡ old f = cc in
+    let others : map new fs ≡ map old fs = cc in
+    both_true (does_fit new f) (list_all (does_fit new) fs) (rw own (first_true (does_fit old f) (list_all (does_fit old) fs) h))
+    (all_fit fs old new others (rest_true (does_fit old f) (list_all (does_fit old) fs) h))
+
+-- properties of which one shows another text, that fits
+one_fits : (fs : List Field) (old new : Field → List ℕ) (place : ℕ) (x : Field) (t : List ℕ) → slice_get fs place ≡ Some x → map new fs ≡ slice_set (map old fs) place t
+    → fits (field_rule x) t ≡ true → list_all (does_fit old) fs ≡ true → list_all (does_fit new) fs ≡ true
+one_fits [] old new place x t at texts g h = refl
+one_fits (f ∷ fs) old new zero x t at texts g h =
+    let same : f ≡ x = cc in
+    let own : new f ≡ t = cc in
+    let others : map new fs ≡ map old fs = cc in
+    both_true (does_fit new f) (list_all (does_fit new) fs) (rw (own, same) g) (all_fit fs old new others (rest_true (does_fit old f) (list_all (does_fit old) fs) h))
+one_fits (f ∷ fs) old new (suc place) x t at texts g h =
+    let own : new f ≡ old f = cc in
+    let others : map new fs ≡ slice_set (map old fs) place t = cc in
+    both_true (does_fit new f) (list_all (does_fit new) fs) (rw own (first_true (does_fit old f) (list_all (does_fit old) fs) h))
+    (one_fits fs old new place x t at others g (rest_true (does_fit old f) (list_all (does_fit old) fs) h))
+
+-- an entry of which one property shows another text, that fits
+entry_stays : (j k : Kind) (old new : Field → List ℕ) (os ps : List (List ℕ)) (vs ws : List Limit) (place : ℕ) (x : Field) (t : List ℕ) → k ≡ j
+    → map new (fields_of k) ≡ slice_set (map old (fields_of j)) place t → ps ≡ os → ws ≡ vs → slice_get (fields_of j) place ≡ Some x → fits (field_rule x) t ≡ true
+    → entry_allowed j old os vs ≡ true → entry_allowed k new ps ws ≡ true
 unfolding fields_fit
-fs_fits f h =
-    let all = four (fits RootedPath (path_text f.dir)) (fits Simple f.special) (fits Simple f.raw) (fits TypeWord f.fstype) h in
-    record { dir = all.0; special = all.1; raw = all.2; form = all.3 }
-
-fs_fitting : (f : fs.Fs) → FsFits f → fields_fit kind.Fs (fs_shown f) ≡ true
-unfolding fields_fit
-fs_fitting f p = rw (p.dir, p.special, p.raw, p.form) refl
-
-fs_with_fits : (x : Field) (t : List ℕ) (f : fs.Fs) → fits (field_rule x) t ≡ true → fields_fit kind.Fs (fs_shown f) ≡ true → fields_fit kind.Fs (fs_shown (fs_with x t f)) ≡ true
-fs_with_fits FsDir t f g h =
-    let p = fs_fits f h in
-    fs_fitting (record f { dir = kept_path t }) (record { dir = rw (shown_path t) g; special = p.special; raw = p.raw; form = p.form })
-fs_with_fits FsSpecial t f g h = let p = fs_fits f h in fs_fitting (record f { special = t }) (record { dir = p.dir; special = g; raw = p.raw; form = p.form })
-fs_with_fits FsRaw t f g h = let p = fs_fits f h in fs_fitting (record f { raw = t }) (record { dir = p.dir; special = p.special; raw = g; form = p.form })
-fs_with_fits FsType t f g h = let p = fs_fits f h in fs_fitting (record f { fstype = t }) (record { dir = p.dir; special = p.special; raw = p.raw; form = g })
-fs_with_fits _ t f g h = h
-
-fs_with_kept : (x : Field) (t : List ℕ) (f : fs.Fs) → is_kept_path f.dir ≡ true → is_kept_path (fs_with x t f).dir ≡ true
-fs_with_kept FsDir t f h = kept_path_kept t
-fs_with_kept FsSpecial t f h = h
-fs_with_kept FsRaw t f h = h
-fs_with_kept FsType t f h = h
-fs_with_kept _ t f h = h
-
-fs_with_options : (x : Field) (t : List ℕ) (f : fs.Fs) → (fs_with x t f).options ≡ f.options
-fs_with_options FsDir t f = refl
-fs_with_options FsSpecial t f = refl
-fs_with_options FsRaw t f = refl
-fs_with_options FsType t f = refl
-fs_with_options _ t f = refl
-
-record NetFits (n : net.Net) : Type 0 where
-  address : fits Simple n.address ≡ true
-  allowed : fits Simple n.allowed ≡ true
-  physical : fits Simple n.physical ≡ true
-  defrouter : fits Simple n.defrouter ≡ true
-
-net_fits : (n : net.Net) → fields_fit kind.Net (net_shown n) ≡ true → NetFits n
-unfolding fields_fit
-net_fits n h =
-    let all = four (fits Simple n.address) (fits Simple n.allowed) (fits Simple n.physical) (fits Simple n.defrouter) h in
-    record { address = all.0; allowed = all.1; physical = all.2; defrouter = all.3 }
-
-net_fitting : (n : net.Net) → NetFits n → fields_fit kind.Net (net_shown n) ≡ true
-unfolding fields_fit
-net_fitting n p = rw (p.address, p.allowed, p.physical, p.defrouter) refl
-
-net_with_fits : (x : Field) (t : List ℕ) (n : net.Net) → fits (field_rule x) t ≡ true → fields_fit kind.Net (net_shown n) ≡ true → fields_fit kind.Net (net_shown (net_with x t n)) ≡ true
-net_with_fits NetAddress t n g h = let p = net_fits n h in net_fitting (record n { address = t }) (record { address = g; allowed = p.allowed; physical = p.physical; defrouter = p.defrouter })
-net_with_fits NetAllowed t n g h = let p = net_fits n h in net_fitting (record n { allowed = t }) (record { address = p.address; allowed = g; physical = p.physical; defrouter = p.defrouter })
-net_with_fits NetPhysical t n g h = let p = net_fits n h in net_fitting (record n { physical = t }) (record { address = p.address; allowed = p.allowed; physical = g; defrouter = p.defrouter })
-net_with_fits NetDefrouter t n g h = let p = net_fits n h in net_fitting (record n { defrouter = t }) (record { address = p.address; allowed = p.allowed; physical = p.physical; defrouter = g })
-net_with_fits _ t n g h = h
-
-device_with_fits : (x : Field) (t m : List ℕ) → fits (field_rule x) t ≡ true → fields_fit kind.Device (text_shown m) ≡ true → fields_fit kind.Device (text_shown (device_with x t m)) ≡ true
-unfolding fields_fit
-device_with_fits DeviceMatch t m g h = both_true (fits Simple t) true g refl
-device_with_fits _ t m g h = h
-
-dataset_with_fits : (x : Field) (t m : List ℕ) → fits (field_rule x) t ≡ true → fields_fit kind.Dataset (text_shown m) ≡ true → fields_fit kind.Dataset (text_shown (dataset_with x t m)) ≡ true
-unfolding fields_fit
-dataset_with_fits DatasetName t m g h = both_true (fits Simple t) true g refl
-dataset_with_fits _ t m g h = h
-
-rctl_with_fits : (x : Field) (t : List ℕ) (r : rctl.Rctl) → fits (field_rule x) t ≡ true → fields_fit kind.Rctl (rctl_shown r) ≡ true → fields_fit kind.Rctl (rctl_shown (rctl_with x t r)) ≡ true
-unfolding fields_fit
-rctl_with_fits RctlName t r g h = both_true (fits ControlName t) true g refl
-rctl_with_fits _ t r g h = h
-
-rctl_with_values : (x : Field) (t : List ℕ) (r : rctl.Rctl) → (rctl_with x t r).values ≡ r.values
-rctl_with_values RctlName t r = refl
-rctl_with_values _ t r = refl
-
-attr_with_fits : (x : Field) (t : List ℕ) (a : attr.Attr) → fits (field_rule x) t ≡ true → fields_fit kind.Attr (attr_shown a) ≡ true → fields_fit kind.Attr (attr_shown (attr_with x t a)) ≡ true
-unfolding fields_fit
-attr_with_fits AttrName t a g h =
-    both_true (fits AttributeName t) (fits AttributeForm a.form && (fits Simple a.value && true)) g (rest_true (fits AttributeName a.name) (fits AttributeForm a.form && (fits Simple a.value && true)) h)
-attr_with_fits AttrType t a g h =
-    let rest = rest_true (fits AttributeName a.name) (fits AttributeForm a.form && (fits Simple a.value && true)) h in
-    both_true (fits AttributeName a.name) (fits AttributeForm t && (fits Simple a.value && true)) (first_true (fits AttributeName a.name) (fits AttributeForm a.form && (fits Simple a.value && true)) h)
-    (both_true (fits AttributeForm t) (fits Simple a.value && true) g (rest_true (fits AttributeForm a.form) (fits Simple a.value && true) rest))
-attr_with_fits AttrValue t a g h =
-    let rest = rest_true (fits AttributeName a.name) (fits AttributeForm a.form && (fits Simple a.value && true)) h in
-    both_true (fits AttributeName a.name) (fits AttributeForm a.form && (fits Simple t && true)) (first_true (fits AttributeName a.name) (fits AttributeForm a.form && (fits Simple a.value && true)) h)
-    (both_true (fits AttributeForm a.form) (fits Simple t && true) (first_true (fits AttributeForm a.form) (fits Simple a.value && true) rest) (both_true (fits Simple t) true g refl))
-attr_with_fits _ t a g h = h
+entry_stays j k old new os ps vs ws place x t same texts options values at g h =
+    let p = parts j old os vs h in
+    let texts : map new (fields_of j) ≡ slice_set (map old (fields_of j)) place t = rw same at texts in
+    rw (same, options, values) (whole j new os vs (one_fits (fields_of j) old new place x t at texts g p.fields) p.options p.values)
 
 -- a text that fits, in the place of a property of an allowed resource
 field_stays : (x : Field) (t : List ℕ) (r : Resource) → fits (field_rule x) t ≡ true → is_allowed r ≡ true → is_allowed (with_field x t r) ≡ true
-field_stays x t (Fs f) g h =
-    let p = parts kind.Fs (fs_shown f) f.options [] (rest_true (is_kept_path f.dir) (entry_allowed kind.Fs (fs_shown f) f.options []) h) in
-    both_true (is_kept_path (fs_with x t f).dir) (entry_allowed kind.Fs (fs_shown (fs_with x t f)) (fs_with x t f).options [])
-    (fs_with_kept x t f (first_true (is_kept_path f.dir) (entry_allowed kind.Fs (fs_shown f) f.options []) h))
-    (rw (fs_with_options x t f) (whole kind.Fs (fs_shown (fs_with x t f)) f.options [] (fs_with_fits x t f g p.fields) p.options refl))
-field_stays x t (Net n) g h = whole kind.Net (net_shown (net_with x t n)) [] [] (net_with_fits x t n g (parts kind.Net (net_shown n) [] [] h).fields) refl refl
-field_stays x t (Device m) g h = whole kind.Device (text_shown (device_with x t m)) [] [] (device_with_fits x t m g (parts kind.Device (text_shown m) [] [] h).fields) refl refl
-field_stays x t (Rctl r) g h =
-    let p = parts kind.Rctl (rctl_shown r) [] r.values h in
-    rw (rctl_with_values x t r) (whole kind.Rctl (rctl_shown (rctl_with x t r)) [] r.values (rctl_with_fits x t r g p.fields) refl p.values)
-field_stays x t (Attr a) g h = whole kind.Attr (attr_shown (attr_with x t a)) [] [] (attr_with_fits x t a g (parts kind.Attr (attr_shown a) [] [] h).fields) refl refl
-field_stays x t (Dataset d) g h = whole kind.Dataset (text_shown (dataset_with x t d)) [] [] (dataset_with_fits x t d g (parts kind.Dataset (text_shown d) [] [] h).fields) refl refl
+field_stays x t r g h =
+    let rest = entry_allowed (kind_of r) (resource_shown r) (resource_options r) (resource_values r) in
+    let new = with_field x t r in
+    elim (placed r x) [
+      | inl at ↦
+          let puts = puts_at r t at.0 x at.1 in
+          both_true (is_whole new) (entry_allowed (kind_of new) (resource_shown new) (resource_options new) (resource_values new))
+          (puts.4 (first_true (is_whole r) rest h))
+          (entry_stays (kind_of r) (kind_of new) (resource_shown r) (resource_shown new) (resource_options r) (resource_options new) (resource_values r) (resource_values new)
+          at.0 x t puts.0 puts.1 puts.2 puts.3 at.1 g (rest_true (is_whole r) rest h))
+      | inr same ↦ let P : Resource → Type 0 = λ k. is_allowed k ≡ true in subst P (sym (same t)) h
+    ]
 
 options_stay : (f : fs.Fs) (os : List (List ℕ)) → list_all (obeys OptionWord) os ≡ true → is_allowed (Fs f) ≡ true → is_allowed (Fs (record f { options = os })) ≡ true
 options_stay f os g h =
@@ -341,18 +259,12 @@ list_edit_stays edit v (Rctl r) s h e =
     let same : Rctl made.0 ≡ s = cc in
     let P : Resource → Type 0 = λ k. is_allowed k ≡ true in
     subst P same (rctl_edit_stays edit v r made.0 h made.1.0)
-list_edit_stays edit v (Net n) s h e = absurd (cc)
-list_edit_stays edit v (Device m) s h e = absurd (cc)
-list_edit_stays edit v (Attr a) s h e = absurd (cc)
-list_edit_stays edit v (Dataset d) s h e = absurd (cc)
+list_edit_stays edit v r s h e = absurd (cc)
 
 without_list_stays : (r : Resource) → is_allowed r ≡ true → is_allowed (without_list r) ≡ true
 without_list_stays (Fs f) h = options_stay f [] refl h
-without_list_stays (Net n) h = h
-without_list_stays (Device m) h = h
 without_list_stays (Rctl r) h = values_stay r [] refl h
-without_list_stays (Attr a) h = h
-without_list_stays (Dataset d) h = h
+without_list_stays r h = h
 
 field_set_stays : (x : Field) (v : Value) (r s : Resource) → is_allowed r ≡ true → field_set x v r ≡ Ok s → is_allowed s ≡ true
 field_set_stays x (Text t) r s h e =

@@ -10,12 +10,11 @@ use Rattle.config_terms.specs.declared.terms.Limit.{Limit}
 use Rattle.config_terms.specs.declared.terms.Net as net
 use Rattle.config_terms.specs.declared.terms.Rctl as rctl
 use Rattle.config_terms.specs.declared.terms.Kind.{Kind}
-use Rattle.config_terms.specs.declared.terms.Kind.TheVariants as kind
 use Rattle.config_terms.specs.declared.terms.Resource.{Resource}
 use Rattle.config_terms.specs.declared.terms.Resource.TheVariants.{Fs, Net, Device, Rctl, Attr, Dataset}
 use Rattle.config_terms.specs.Numbers.{is_limit}
 use Rattle.config_terms.specs.Rules.{obeys, fits}
-use Rattle.config_terms.specs.Fields.{fields_of, field_rule, key_field, fs_shown, net_shown, text_shown, rctl_shown, attr_shown}
+use Rattle.config_terms.specs.Fields.{fields_of, field_rule, key_field, kind_of, resource_options, resource_shown, resource_values}
 
 abbrev pub is_allowed_limit : Limit → Bool
 is_allowed_limit v = is_limit v.limit
@@ -33,31 +32,33 @@ abbrev pub is_kept_path : Option (List ℕ) → Bool
 is_kept_path None = true
 is_kept_path (Some path) = not (length path == 0)
 
+-- whether the path of a file system, if it is set, isn't empty
+abbrev pub is_whole : Resource → Bool
+is_whole (Fs f) = is_kept_path f.dir
+is_whole _ = true
+
+-- whether a resource may stand in a configuration
+abbrev pub is_allowed : Resource → Bool
+is_allowed r = is_whole r && entry_allowed (kind_of r) (resource_shown r) (resource_options r) (resource_values r)
+
+-- the same by the type of its kind
 abbrev pub fs_allowed : fs.Fs → Bool
-fs_allowed f = is_kept_path f.dir && entry_allowed kind.Fs (fs_shown f) f.options []
+fs_allowed f = is_allowed (Fs f)
 
 abbrev pub net_allowed : net.Net → Bool
-net_allowed n = entry_allowed kind.Net (net_shown n) [] []
+net_allowed n = is_allowed (Net n)
 
 abbrev pub device_allowed : List ℕ → Bool
-device_allowed m = entry_allowed kind.Device (text_shown m) [] []
+device_allowed m = is_allowed (Device m)
 
 abbrev pub rctl_allowed : rctl.Rctl → Bool
-rctl_allowed r = entry_allowed kind.Rctl (rctl_shown r) [] r.values
+rctl_allowed r = is_allowed (Rctl r)
 
 abbrev pub attr_allowed : attr.Attr → Bool
-attr_allowed a = entry_allowed kind.Attr (attr_shown a) [] []
+attr_allowed a = is_allowed (Attr a)
 
 abbrev pub dataset_allowed : List ℕ → Bool
-dataset_allowed d = entry_allowed kind.Dataset (text_shown d) [] []
-
-abbrev pub is_allowed : Resource → Bool
-is_allowed (Fs f) = fs_allowed f
-is_allowed (Net n) = net_allowed n
-is_allowed (Device m) = device_allowed m
-is_allowed (Rctl r) = rctl_allowed r
-is_allowed (Attr a) = attr_allowed a
-is_allowed (Dataset d) = dataset_allowed d
+dataset_allowed d = is_allowed (Dataset d)
 
 -- the options of one fs are at most 32
 abbrev pub few_options : fs.Fs → Bool

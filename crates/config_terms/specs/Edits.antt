@@ -11,22 +11,20 @@ use Rattle.config_terms.specs.declared.lists.ListEdit.TheVariants.{Put, Add, Rem
 use Rattle.config_terms.specs.declared.fault.ConfigFault.{ConfigFault}
 use Rattle.config_terms.specs.declared.fault.ConfigFault.TheVariants.{Memory, UnknownProperty, BadValue, NoMatch, TooMany}
 use Rattle.config_terms.specs.declared.fields.Field.{Field}
-use Rattle.config_terms.specs.declared.fields.Field.TheVariants.{FsDir, FsSpecial, FsRaw, FsType, NetAddress, NetAllowed, NetPhysical, NetDefrouter, DeviceMatch, RctlName, AttrName, AttrType, AttrValue, DatasetName}
 use Rattle.config_terms.specs.declared.fields.Named.{Named}
 use Rattle.config_terms.specs.declared.fields.Named.TheVariants.{One, Many}
 use Rattle.config_terms.specs.declared.rules.Rule.TheVariants.{OptionWord}
-use Rattle.config_terms.specs.declared.terms.Attr as attr
 use Rattle.config_terms.specs.declared.terms.Fs as fs
 use Rattle.config_terms.specs.declared.terms.Limit.{Limit}
-use Rattle.config_terms.specs.declared.terms.Net as net
 use Rattle.config_terms.specs.declared.terms.Rctl as rctl
 use Rattle.config_terms.specs.declared.terms.Kind.{Kind}
-use Rattle.config_terms.specs.declared.terms.Kind.TheVariants as kind
 use Rattle.config_terms.specs.declared.terms.Resource.{Resource}
-use Rattle.config_terms.specs.declared.terms.Resource.TheVariants.{Fs, Net, Device, Rctl, Attr, Dataset}
+use Rattle.config_terms.specs.declared.terms.Resource.TheVariants.{Fs, Rctl}
 use Rattle.config_terms.specs.Numbers.{number_of}
 use Rattle.config_terms.specs.Rules.{obeys, is_one_of}
 use Rattle.config_terms.specs.Fields.{field_rule, named, kind_of}
+use Rattle.config_terms.specs.Kinds.{by_kind, by_resource}
+pub use Rattle.config_terms.specs.Entries.{attr_with, dataset_with, device_with, fs_with, kept_path, net_with, rctl_with}
 
 -- what was said came to be, or memory ran out, or it was refused; after a fault all is as before
 abbrev pub Changes : {A : Type 0} → A → A → Result (Unit {0}) ConfigFault → Result A ConfigFault → Type 0
@@ -41,66 +39,15 @@ ChangesSurely old new (Err e) said = (said ≡ Err e) × (new ≡ old)
 
 -- a resource of which nothing is set
 abbrev pub empty : Kind → Resource
-empty kind.Fs = Fs (record { dir = None; special = []; raw = []; fstype = []; options = [] })
-empty kind.Net = Net (record { address = []; allowed = []; physical = []; defrouter = [] })
-empty kind.Device = Device []
-empty kind.Rctl = Rctl (record { name = []; values = [] })
-empty kind.Attr = Attr (record { name = []; form = []; value = [] })
-empty kind.Dataset = Dataset []
-
--- the path that a text is, if it isn't empty
-abbrev pub kept_path : List ℕ → Option (List ℕ)
-kept_path [] = None
-kept_path (b ∷ path) = Some (b ∷ path)
+empty k = by_kind k (λ A row. row.make row.empty)
 
 -- a text put in the place of a property; an empty one unsets it
-abbrev pub fs_with : Field → List ℕ → fs.Fs → fs.Fs
-fs_with FsDir text f = record f { dir = kept_path text }
-fs_with FsSpecial text f = record f { special = text }
-fs_with FsRaw text f = record f { raw = text }
-fs_with FsType text f = record f { fstype = text }
-fs_with _ text f = f
-
-abbrev pub net_with : Field → List ℕ → net.Net → net.Net
-net_with NetAddress text n = record n { address = text }
-net_with NetAllowed text n = record n { allowed = text }
-net_with NetPhysical text n = record n { physical = text }
-net_with NetDefrouter text n = record n { defrouter = text }
-net_with _ text n = n
-
-abbrev pub device_with : Field → List ℕ → List ℕ → List ℕ
-device_with DeviceMatch text m = text
-device_with _ text m = m
-
-abbrev pub rctl_with : Field → List ℕ → rctl.Rctl → rctl.Rctl
-rctl_with RctlName text r = record r { name = text }
-rctl_with _ text r = r
-
-abbrev pub attr_with : Field → List ℕ → attr.Attr → attr.Attr
-attr_with AttrName text a = record a { name = text }
-attr_with AttrType text a = record a { form = text }
-attr_with AttrValue text a = record a { value = text }
-attr_with _ text a = a
-
-abbrev pub dataset_with : Field → List ℕ → List ℕ → List ℕ
-dataset_with DatasetName text d = text
-dataset_with _ text d = d
-
 abbrev pub with_field : Field → List ℕ → Resource → Resource
-with_field field text (Fs f) = Fs (fs_with field text f)
-with_field field text (Net n) = Net (net_with field text n)
-with_field field text (Device m) = Device (device_with field text m)
-with_field field text (Rctl r) = Rctl (rctl_with field text r)
-with_field field text (Attr a) = Attr (attr_with field text a)
-with_field field text (Dataset d) = Dataset (dataset_with field text d)
+with_field field text r = by_resource r (λ A row a. row.make (row.put field text a))
 
 abbrev pub with_dir : Option (List ℕ) → Resource → Resource
 with_dir dir (Fs f) = Fs (record f { dir = dir })
-with_dir dir (Net n) = Net n
-with_dir dir (Device m) = Device m
-with_dir dir (Rctl r) = Rctl r
-with_dir dir (Attr a) = Attr a
-with_dir dir (Dataset d) = Dataset d
+with_dir dir r = r
 
 -- a simple value put in the place of a property, where its rule allows the value
 abbrev pub field_set : Field → Value → Resource → Result Resource ConfigFault
@@ -190,10 +137,7 @@ list_edited edit v _ = Err UnknownProperty
 abbrev pub without_list : Resource → Resource
 without_list (Fs f) = Fs (record f { options = [] })
 without_list (Rctl r) = Rctl (record r { values = [] })
-without_list (Net n) = Net n
-without_list (Device m) = Device m
-without_list (Attr a) = Attr a
-without_list (Dataset d) = Dataset d
+without_list r = r
 
 abbrev pub put_in : Option Named → Value → Resource → Result Resource ConfigFault
 put_in None v r = Err UnknownProperty

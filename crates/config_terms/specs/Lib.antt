@@ -1,5 +1,7 @@
 pub mod Numbers
 pub mod Rules
+pub mod Entries
+pub mod Kinds
 pub mod Fields
 pub mod Texts
 pub mod Allowed

@@ -8,10 +8,10 @@ use Rattle.config_terms.specs.declared.terms.Limit.{Limit}
 use Rattle.config_terms.specs.declared.terms.Net as net
 use Rattle.config_terms.specs.declared.terms.Rctl as rctl
 use Rattle.config_terms.specs.declared.terms.Kind.{Kind}
-use Rattle.config_terms.specs.declared.terms.Kind.TheVariants as kind
 use Rattle.config_terms.specs.declared.terms.Resource.{Resource}
+use Rattle.config_terms.specs.declared.terms.Resource.TheVariants.{Fs, Net, Device, Rctl, Attr, Dataset}
 use Rattle.config_terms.specs.Rules.{is_alphanumeric}
-use Rattle.config_terms.specs.Fields.{kind_name, field_name, fields_of, fs_shown, net_shown, text_shown, rctl_shown, attr_shown, kind_of, resource_shown, resource_options, resource_values}
+use Rattle.config_terms.specs.Fields.{kind_name, field_name, fields_of, kind_of, resource_shown, resource_options, resource_values}
 
 -- letters, digits and `_-./:,*?!@+%`
 abbrev pub is_bare_byte : ℕ → Bool
@@ -69,23 +69,25 @@ unfoldable pub entry_text : Kind → (Field → List ℕ) → List (List ℕ) �
 entry_text k shown options values =
     joined (codes "add " ∷ kind_name k ∷ codes "\n" ∷ settings k shown ∷ options_line options ∷ limit_lines values ∷ codes "end\n" ∷ [])
 
-abbrev pub fs_text : fs.Fs → List ℕ
-fs_text f = entry_text kind.Fs (fs_shown f) f.options []
-
-abbrev pub net_text : net.Net → List ℕ
-net_text n = entry_text kind.Net (net_shown n) [] []
-
-abbrev pub device_text : List ℕ → List ℕ
-device_text m = entry_text kind.Device (text_shown m) [] []
-
-abbrev pub rctl_text : rctl.Rctl → List ℕ
-rctl_text r = entry_text kind.Rctl (rctl_shown r) [] r.values
-
-abbrev pub attr_text : attr.Attr → List ℕ
-attr_text a = entry_text kind.Attr (attr_shown a) [] []
-
-abbrev pub dataset_text : List ℕ → List ℕ
-dataset_text d = entry_text kind.Dataset (text_shown d) [] []
-
+-- the text of a resource
 abbrev pub resource_text : Resource → List ℕ
 resource_text r = entry_text (kind_of r) (resource_shown r) (resource_options r) (resource_values r)
+
+-- the same by the type of its kind
+abbrev pub fs_text : fs.Fs → List ℕ
+fs_text f = resource_text (Fs f)
+
+abbrev pub net_text : net.Net → List ℕ
+net_text n = resource_text (Net n)
+
+abbrev pub device_text : List ℕ → List ℕ
+device_text m = resource_text (Device m)
+
+abbrev pub rctl_text : rctl.Rctl → List ℕ
+rctl_text r = resource_text (Rctl r)
+
+abbrev pub attr_text : attr.Attr → List ℕ
+attr_text a = resource_text (Attr a)
+
+abbrev pub dataset_text : List ℕ → List ℕ
+dataset_text d = resource_text (Dataset d)

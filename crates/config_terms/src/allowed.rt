@@ -3,7 +3,7 @@ ghost use Rattle.std.specs.Prelude.{◌≡◌};
 ghost use Rattle.std.specs.List.{list_all};
 ghost use Rattle.config_terms.specs.declared.rules.Rule.TheVariants.{OptionWord};
 ghost use Rattle.config_terms.specs.Rules.{obeys};
-ghost use Rattle.config_terms.specs.Allowed.{fields_fit, is_allowed_limit, entry_allowed, is_kept_path, is_allowed, options_passed};
+ghost use Rattle.config_terms.specs.Allowed.{fields_fit, is_allowed_limit, entry_allowed, is_kept_path, is_whole, is_allowed, options_passed};
 
 use crate::{Entry, Kind, Limit, Resource, Rule};
 use zn_base::{AbsPath, Text};
@@ -54,19 +54,21 @@ fn is_kept_path(path: &Option<AbsPath>) -> bool
 }
 
 impl Resource {
+    fn is_whole(&self) -> bool
+        ensures { result ≡ is_whole self.now }
+    {
+        match self {
+            Resource::Fs(fs) => is_kept_path(&fs.dir),
+            _ => true,
+        }
+    }
+
     /// Whether the resource may stand in a configuration: each property is unset or has a value that its
     /// rule allows. It takes no memory.
     pub fn is_allowed(&self) -> bool
         ensures { result ≡ is_allowed self.now }
     {
-        match self {
-            Resource::Fs(fs) => is_kept_path(&fs.dir) && entry_allowed(Kind::Fs, fs),
-            Resource::Net(net) => entry_allowed(Kind::Net, net),
-            Resource::Device(device) => entry_allowed(Kind::Device, device),
-            Resource::Rctl(rctl) => entry_allowed(Kind::Rctl, rctl),
-            Resource::Attr(attr) => entry_allowed(Kind::Attr, attr),
-            Resource::Dataset(dataset) => entry_allowed(Kind::Dataset, dataset),
-        }
+        self.is_whole() && entry_allowed(self.kind(), self)
     }
 
     /// The limit that the resource's options pass, if they do.

@@ -4,6 +4,7 @@ ghost use Rattle.config_terms.specs.declared.fields.Field.{Field};
 ghost use Rattle.config_terms.specs.declared.terms.Limit.{Limit};
 ghost use Rattle.config_terms.specs.Fields.{path_text, fs_shown, net_shown, text_shown, rctl_shown, attr_shown, resource_shown, resource_options, resource_values};
 
+use crate::kinds::each_kind;
 use crate::texts::bytes_of;
 use crate::{Attr, Field, Fs, Limit, Net, Rctl, Resource};
 use zn_base::{AbsPath, Text};
@@ -165,6 +166,14 @@ impl Entry for Attr {
     }
 }
 
+macro_rules! shown_arms {
+    (($resource:expr, $field:expr), $($name:ident $type:ident $put:ident),*) => {
+        match $resource {
+            $(Resource::$name(entry) => entry.shown($field),)*
+        }
+    };
+}
+
 impl Entry for Resource {
     ghost shown = { resource_shown };
 
@@ -173,14 +182,7 @@ impl Entry for Resource {
     ghost values = { resource_values };
 
     fn shown(&self, field: Field) -> &[u8] {
-        match self {
-            Resource::Fs(fs) => fs.shown(field),
-            Resource::Net(net) => net.shown(field),
-            Resource::Device(device) => device.shown(field),
-            Resource::Rctl(rctl) => rctl.shown(field),
-            Resource::Attr(attr) => attr.shown(field),
-            Resource::Dataset(dataset) => dataset.shown(field),
-        }
+        each_kind!(shown_arms, (self, field))
     }
 
     fn options(&self) -> &[Text] {

@@ -86,20 +86,76 @@ pub const KINDS: [Kind; 6] = [
     Kind::Dataset,
 ];
 
+// What the tables say of a kind.
+#[derive(Clone, Copy)]
+struct KindRow {
+    name: &'static [u8],
+    fields: &'static [Field],
+    key: Option<Field>,
+    list_name: Option<&'static [u8]>,
+}
+
 impl Kind {
+    #[inline(always)]
+    fn row(self) -> KindRow
+        ensures name { result.name.now ≡ kind_name self }
+        ensures short { length result.name.now ≤ 7 }
+        ensures fields { result.fields.now ≡ fields_of self }
+        ensures few { length result.fields.now ≤ 4 }
+        ensures key { result.key ≡ key_field self }
+        ensures list_name { option_map (λ name. name.now) result.list_name ≡ list_name self }
+    {
+        match self {
+            Kind::Fs => KindRow {
+                name: b"fs",
+                fields: &[Field::FsDir, Field::FsSpecial, Field::FsRaw, Field::FsType],
+                key: None,
+                list_name: Some(b"options"),
+            },
+            Kind::Net => KindRow {
+                name: b"net",
+                fields: &[
+                    Field::NetAddress,
+                    Field::NetAllowed,
+                    Field::NetPhysical,
+                    Field::NetDefrouter,
+                ],
+                key: None,
+                list_name: None,
+            },
+            Kind::Device => KindRow {
+                name: b"device",
+                fields: &[Field::DeviceMatch],
+                key: Some(Field::DeviceMatch),
+                list_name: None,
+            },
+            Kind::Rctl => KindRow {
+                name: b"rctl",
+                fields: &[Field::RctlName],
+                key: Some(Field::RctlName),
+                list_name: Some(b"value"),
+            },
+            Kind::Attr => KindRow {
+                name: b"attr",
+                fields: &[Field::AttrName, Field::AttrType, Field::AttrValue],
+                key: Some(Field::AttrName),
+                list_name: None,
+            },
+            Kind::Dataset => KindRow {
+                name: b"dataset",
+                fields: &[Field::DatasetName],
+                key: Some(Field::DatasetName),
+                list_name: None,
+            },
+        }
+    }
+
     /// The kind's name.
     pub fn name(self) -> &'static [u8]
         ensures same { result.now ≡ kind_name self }
         ensures short { length result.now ≤ 7 }
     {
-        match self {
-            Kind::Fs => b"fs",
-            Kind::Net => b"net",
-            Kind::Device => b"device",
-            Kind::Rctl => b"rctl",
-            Kind::Attr => b"attr",
-            Kind::Dataset => b"dataset",
-        }
+        self.row().name
     }
 
     /// The kind that has a name.
@@ -114,43 +170,21 @@ impl Kind {
         ensures same { result.now ≡ fields_of self }
         ensures few { length result.now ≤ 4 }
     {
-        match self {
-            Kind::Fs => &[Field::FsDir, Field::FsSpecial, Field::FsRaw, Field::FsType],
-            Kind::Net => &[
-                Field::NetAddress,
-                Field::NetAllowed,
-                Field::NetPhysical,
-                Field::NetDefrouter,
-            ],
-            Kind::Device => &[Field::DeviceMatch],
-            Kind::Rctl => &[Field::RctlName],
-            Kind::Attr => &[Field::AttrName, Field::AttrType, Field::AttrValue],
-            Kind::Dataset => &[Field::DatasetName],
-        }
+        self.row().fields
     }
 
     /// The property by which two resources of the kind are told apart, if there is one.
     pub fn key(self) -> Option<Field>
         ensures { result ≡ key_field self }
     {
-        match self {
-            Kind::Fs | Kind::Net => None,
-            Kind::Device => Some(Field::DeviceMatch),
-            Kind::Rctl => Some(Field::RctlName),
-            Kind::Attr => Some(Field::AttrName),
-            Kind::Dataset => Some(Field::DatasetName),
-        }
+        self.row().key
     }
 
     /// The name of the property that is a list, if the kind has one.
     pub fn list_name(self) -> Option<&'static [u8]>
         ensures { option_map (λ name. name.now) result ≡ list_name self }
     {
-        match self {
-            Kind::Fs => Some(b"options"),
-            Kind::Rctl => Some(b"value"),
-            Kind::Net | Kind::Device | Kind::Attr | Kind::Dataset => None,
-        }
+        self.row().list_name
     }
 
     /// The simple property of the kind that has a name.

@@ -8,6 +8,7 @@ mod entry;
 mod fault;
 mod fields;
 mod given;
+mod kinds;
 mod laws;
 mod lines;
 mod lists;

@@ -2,83 +2,39 @@
 ghost use Rattle.std.specs.Prelude.{◌≡◌, []};
 ghost use Rattle.config_terms.specs.declared.fields.Field.TheVariants.{FsDir};
 ghost use Rattle.config_terms.specs.Fields.{kind_of};
+ghost use Rattle.config_terms.specs.Kinds.{attr_row, fs_row, net_row, rctl_row};
 ghost use Rattle.config_terms.specs.Edits.{Changes, ChangesSurely, empty, kept_path, fs_with, net_with, device_with, rctl_with, attr_with, dataset_with, with_dir, with_field, field_set, fs_edited, rctl_edited, list_edited, without_list, put_in, cleared_in, edited_in, with_property, without_property, with_value, without_value};
 
 use crate::given::{limit_given, options_given, path_kept};
+use crate::kinds::each_kind;
 use crate::lists::{ListEdit, edit_list, edit_options};
 use crate::{Attr, ConfigFault, Field, Fs, Kind, Named, Net, Rctl, Resource};
 use std::alloc::Global;
 use zn_base::{AbsPath, Listing, Text, Value};
 
 // A text in the place of a simple property. A dir has a place of its own: here it can be unset alone.
-impl Fs {
-    fn put(&mut self, field: Field, text: Text)
-        requires { field ≡ FsDir → text ≡ [] }
-        ensures { self.new ≡ fs_with field text self.old }
-    {
-        match field {
-            Field::FsDir => self.dir = None,
-            Field::FsSpecial => self.special = text,
-            Field::FsRaw => self.raw = text,
-            Field::FsType => self.fstype = text,
-            _ => {}
-        }
-    }
-
-    fn edit(&mut self, alloc: Global, edit: ListEdit, value: &Value) -> Result<(), ConfigFault>
-        ensures { Changes self.old self.new result (fs_edited edit value.now self.old) }
-    {
-        match options_given(edit, value) {
-            None => Err(ConfigFault::BadValue),
-            Some(given) => edit_options(alloc, edit, &mut self.options, given),
-        }
+fn put_fs(fs: &mut Fs, field: Field, text: Text)
+    requires { field ≡ FsDir → text ≡ [] }
+    ensures { fs.new ≡ fs_with field text fs.old }
+{
+    match field {
+        Field::FsDir => fs.dir = None,
+        Field::FsSpecial => fs.special = text,
+        Field::FsRaw => fs.raw = text,
+        Field::FsType => fs.fstype = text,
+        _ => {}
     }
 }
 
-impl Net {
-    fn put(&mut self, field: Field, text: Text)
-        ensures { self.new ≡ net_with field text self.old }
-    {
-        match field {
-            Field::NetAddress => self.address = text,
-            Field::NetAllowed => self.allowed = text,
-            Field::NetPhysical => self.physical = text,
-            Field::NetDefrouter => self.defrouter = text,
-            _ => {}
-        }
-    }
-}
-
-impl Rctl {
-    fn put(&mut self, field: Field, text: Text)
-        ensures { self.new ≡ rctl_with field text self.old }
-    {
-        match field {
-            Field::RctlName => self.name = text,
-            _ => {}
-        }
-    }
-
-    fn edit(&mut self, alloc: Global, edit: ListEdit, value: &Value) -> Result<(), ConfigFault>
-        ensures { Changes self.old self.new result (rctl_edited edit value.now self.old) }
-    {
-        match limit_given(value) {
-            None => Err(ConfigFault::BadValue),
-            Some(given) => edit_list(alloc, edit, &mut self.values, &[given]),
-        }
-    }
-}
-
-impl Attr {
-    fn put(&mut self, field: Field, text: Text)
-        ensures { self.new ≡ attr_with field text self.old }
-    {
-        match field {
-            Field::AttrName => self.name = text,
-            Field::AttrType => self.form = text,
-            Field::AttrValue => self.value = text,
-            _ => {}
-        }
+fn put_net(net: &mut Net, field: Field, text: Text)
+    ensures { net.new ≡ net_with field text net.old }
+{
+    match field {
+        Field::NetAddress => net.address = text,
+        Field::NetAllowed => net.allowed = text,
+        Field::NetPhysical => net.physical = text,
+        Field::NetDefrouter => net.defrouter = text,
+        _ => {}
     }
 }
 
@@ -90,6 +46,25 @@ fn put_device(device: &mut Text, field: Field, text: Text)
     }
 }
 
+fn put_rctl(rctl: &mut Rctl, field: Field, text: Text)
+    ensures { rctl.new ≡ rctl_with field text rctl.old }
+{
+    if let Field::RctlName = field {
+        rctl.name = text;
+    }
+}
+
+fn put_attr(attr: &mut Attr, field: Field, text: Text)
+    ensures { attr.new ≡ attr_with field text attr.old }
+{
+    match field {
+        Field::AttrName => attr.name = text,
+        Field::AttrType => attr.form = text,
+        Field::AttrValue => attr.value = text,
+        _ => {}
+    }
+}
+
 fn put_dataset(dataset: &mut Text, field: Field, text: Text)
     ensures { dataset.new ≡ dataset_with field text dataset.old }
 {
@@ -98,65 +73,124 @@ fn put_dataset(dataset: &mut Text, field: Field, text: Text)
     }
 }
 
+macro_rules! put_arms {
+    (($resource:expr, $field:expr, $text:expr), $($name:ident $type:ident $put:ident),*) => {
+        match $resource {
+            $(Resource::$name(entry) => $put(entry, $field, $text),)*
+        }
+    };
+}
+
+// The edits of a list, of which the fs and the rctl alone have one.
+impl Fs {
+    fn edit(&mut self, alloc: Global, edit: ListEdit, value: &Value) -> Result<(), ConfigFault>
+        ensures { Changes self.old self.new result (fs_edited edit value.now self.old) }
+    {
+        match options_given(edit, value) {
+            None => Err(ConfigFault::BadValue),
+            Some(given) => edit_options(alloc, edit, &mut self.options, given),
+        }
+    }
+}
+
+impl Rctl {
+    fn edit(&mut self, alloc: Global, edit: ListEdit, value: &Value) -> Result<(), ConfigFault>
+        ensures { Changes self.old self.new result (rctl_edited edit value.now self.old) }
+    {
+        match limit_given(value) {
+            None => Err(ConfigFault::BadValue),
+            Some(given) => edit_list(alloc, edit, &mut self.values, &[given]),
+        }
+    }
+}
+
+// Of what nothing is set.
+impl Fs {
+    fn empty(alloc: Global) -> Fs
+        ensures { result ≡ fs_row.empty }
+    {
+        Fs {
+            dir: None,
+            special: Text::empty(alloc),
+            raw: Text::empty(alloc),
+            fstype: Text::empty(alloc),
+            options: Listing::new(alloc),
+        }
+    }
+}
+
+impl Net {
+    fn empty(alloc: Global) -> Net
+        ensures { result ≡ net_row.empty }
+    {
+        Net {
+            address: Text::empty(alloc),
+            allowed: Text::empty(alloc),
+            physical: Text::empty(alloc),
+            defrouter: Text::empty(alloc),
+        }
+    }
+}
+
+impl Rctl {
+    fn empty(alloc: Global) -> Rctl
+        ensures { result ≡ rctl_row.empty }
+    {
+        Rctl {
+            name: Text::empty(alloc),
+            values: Listing::new(alloc),
+        }
+    }
+}
+
+impl Attr {
+    fn empty(alloc: Global) -> Attr
+        ensures { result ≡ attr_row.empty }
+    {
+        Attr {
+            name: Text::empty(alloc),
+            form: Text::empty(alloc),
+            value: Text::empty(alloc),
+        }
+    }
+}
+
+macro_rules! empty_arms {
+    (($kind:expr, $alloc:expr), $($name:ident $type:ident $put:ident),*) => {
+        match $kind {
+            $(Kind::$name => Resource::$name($type::empty($alloc)),)*
+        }
+    };
+}
+
+macro_rules! kind_arms {
+    ($resource:expr, $($name:ident $type:ident $put:ident),*) => {
+        match $resource {
+            $(Resource::$name(_) => Kind::$name,)*
+        }
+    };
+}
+
 impl Resource {
     /// A resource of a kind of which nothing is set. It takes no memory.
     pub fn empty(alloc: Global, kind: Kind) -> Resource
         ensures { result ≡ empty kind }
     {
-        match kind {
-            Kind::Fs => Resource::Fs(Fs {
-                dir: None,
-                special: Text::empty(alloc),
-                raw: Text::empty(alloc),
-                fstype: Text::empty(alloc),
-                options: Listing::new(alloc),
-            }),
-            Kind::Net => Resource::Net(Net {
-                address: Text::empty(alloc),
-                allowed: Text::empty(alloc),
-                physical: Text::empty(alloc),
-                defrouter: Text::empty(alloc),
-            }),
-            Kind::Device => Resource::Device(Text::empty(alloc)),
-            Kind::Rctl => Resource::Rctl(Rctl {
-                name: Text::empty(alloc),
-                values: Listing::new(alloc),
-            }),
-            Kind::Attr => Resource::Attr(Attr {
-                name: Text::empty(alloc),
-                form: Text::empty(alloc),
-                value: Text::empty(alloc),
-            }),
-            Kind::Dataset => Resource::Dataset(Text::empty(alloc)),
-        }
+        each_kind!(empty_arms, (kind, alloc))
     }
 
     /// The kind.
     pub fn kind(&self) -> Kind
         ensures { result ≡ kind_of self.now }
     {
-        match self {
-            Resource::Fs(_) => Kind::Fs,
-            Resource::Net(_) => Kind::Net,
-            Resource::Device(_) => Kind::Device,
-            Resource::Rctl(_) => Kind::Rctl,
-            Resource::Attr(_) => Kind::Attr,
-            Resource::Dataset(_) => Kind::Dataset,
-        }
+        each_kind!(kind_arms, self)
     }
 
     fn put(&mut self, field: Field, text: Text)
         requires { field ≡ FsDir → text ≡ [] }
         ensures { self.new ≡ with_field field text self.old }
     {
-        match self {
-            Resource::Fs(fs) => fs.put(field, text),
-            Resource::Net(net) => net.put(field, text),
-            Resource::Device(device) => put_device(device, field, text),
-            Resource::Rctl(rctl) => rctl.put(field, text),
-            Resource::Attr(attr) => attr.put(field, text),
-            Resource::Dataset(dataset) => put_dataset(dataset, field, text),
-        }
+        each_kind!(put_arms, (self, field, text))
     }
 
     fn put_dir(&mut self, dir: Option<AbsPath>)

@@ -1,6 +1,7 @@
 //! What a configuration consists of.
 ghost use Rattle.std.specs.Prelude.{◌≡◌, IfOk};
 
+use crate::kinds::each_kind;
 use std::alloc::{AllocError, Global};
 use zn_base::{AbsPath, Listing, Text, TryClone};
 
@@ -127,16 +128,17 @@ impl TryClone for Attr {
     }
 }
 
+macro_rules! clone_arms {
+    (($resource:expr, $alloc:expr), $($name:ident $type:ident $put:ident),*) => {
+        match $resource {
+            $(Resource::$name(entry) => Ok(Resource::$name(entry.try_clone($alloc)?)),)*
+        }
+    };
+}
+
 impl TryClone for Resource {
     fn try_clone(&self, alloc: Global) -> Result<Self, AllocError> {
-        match self {
-            Resource::Fs(fs) => Ok(Resource::Fs(fs.try_clone(alloc)?)),
-            Resource::Net(net) => Ok(Resource::Net(net.try_clone(alloc)?)),
-            Resource::Device(device) => Ok(Resource::Device(device.copy(alloc)?)),
-            Resource::Rctl(rctl) => Ok(Resource::Rctl(rctl.try_clone(alloc)?)),
-            Resource::Attr(attr) => Ok(Resource::Attr(attr.try_clone(alloc)?)),
-            Resource::Dataset(dataset) => Ok(Resource::Dataset(dataset.copy(alloc)?)),
-        }
+        each_kind!(clone_arms, (self, alloc))
     }
 }
 
