@@ -273,18 +273,13 @@ module _ (c : Contents) (sound : IsSound c) where
   -- all resources of a configuration are walked, kind by kind
   pub walk_resources : Walks H (closed (without_resources c)) (F ++ (N ++ (D ++ (R ++ (A ++ S))))) (closed c)
   walk_resources =
-      let fs_sound = sound.resources.kinds kind.Fs in
-      let fs = walk_kind kind.Fs Fs fs_shown fs_options fs_values fs_with fs_whole no_fs fs_form c now_fs H (N ++ (D ++ (R ++ (A ++ S)))) c.fs fs_place fs_sound.each fs_sound.once fs_sound.few_options in
-      let net_sound = sound.resources.kinds kind.Net in
-      let net = walk_kind kind.Net Net net_shown no_options no_values net_with always_whole no_net net_form c now_net (H ++ F) (D ++ (R ++ (A ++ S))) c.net net_place net_sound.each net_sound.once net_sound.few_options in
-      let device_sound = sound.resources.kinds kind.Device in
-      let device = walk_kind kind.Device Device device_shown no_options no_values device_with always_whole [] device_form c now_device ((H ++ F) ++ N) (R ++ (A ++ S)) c.device device_place device_sound.each device_sound.once device_sound.few_options in
-      let rctl_sound = sound.resources.kinds kind.Rctl in
-      let rctl = walk_kind kind.Rctl Rctl rctl_shown no_options rctl_values rctl_with always_whole no_rctl rctl_form c now_rctl (((H ++ F) ++ N) ++ D) (A ++ S) c.rctl rctl_place rctl_sound.each rctl_sound.once rctl_sound.few_options in
-      let attr_sound = sound.resources.kinds kind.Attr in
-      let attr = walk_kind kind.Attr Attr attr_shown no_options no_values attr_with always_whole no_attr attr_form c now_attr ((((H ++ F) ++ N) ++ D) ++ R) S c.attr attr_place attr_sound.each attr_sound.once attr_sound.few_options in
-      let dataset_sound = sound.resources.kinds kind.Dataset in
-      let dataset = walk_kind kind.Dataset Dataset dataset_shown no_options no_values dataset_with always_whole [] dataset_form c now_dataset (((((H ++ F) ++ N) ++ D) ++ R) ++ A) [] c.dataset dataset_place dataset_sound.each dataset_sound.once dataset_sound.few_options in
+      let each = sound.resources.kinds in
+      let fs = walk_kind kind.Fs Fs fs_shown fs_options fs_values fs_with fs_whole no_fs fs_form c now_fs H (N ++ (D ++ (R ++ (A ++ S)))) c.fs fs_place (each kind.Fs).each (each kind.Fs).once (each kind.Fs).few_options in
+      let net = walk_kind kind.Net Net net_shown no_options no_values net_with always_whole no_net net_form c now_net (H ++ F) (D ++ (R ++ (A ++ S))) c.net net_place (each kind.Net).each (each kind.Net).once (each kind.Net).few_options in
+      let device = walk_kind kind.Device Device device_shown no_options no_values device_with always_whole [] device_form c now_device ((H ++ F) ++ N) (R ++ (A ++ S)) c.device device_place (each kind.Device).each (each kind.Device).once (each kind.Device).few_options in
+      let rctl = walk_kind kind.Rctl Rctl rctl_shown no_options rctl_values rctl_with always_whole no_rctl rctl_form c now_rctl (((H ++ F) ++ N) ++ D) (A ++ S) c.rctl rctl_place (each kind.Rctl).each (each kind.Rctl).once (each kind.Rctl).few_options in
+      let attr = walk_kind kind.Attr Attr attr_shown no_options no_values attr_with always_whole no_attr attr_form c now_attr ((((H ++ F) ++ N) ++ D) ++ R) S c.attr attr_place (each kind.Attr).each (each kind.Attr).once (each kind.Attr).few_options in
+      let dataset = walk_kind kind.Dataset Dataset dataset_shown no_options no_values dataset_with always_whole [] dataset_form c now_dataset (((((H ++ F) ++ N) ++ D) ++ R) ++ A) [] c.dataset dataset_place (each kind.Dataset).each (each kind.Dataset).once (each kind.Dataset).few_options in
       walk-then F (N ++ (D ++ (R ++ (A ++ S)))) H (closed (without_resources c)) (closed (now_fs c.fs)) (closed c) fs
       (walk-then N (D ++ (R ++ (A ++ S))) (H ++ F) (closed (now_fs c.fs)) (closed (now_net c.net)) (closed c) net
       (walk-then D (R ++ (A ++ S)) ((H ++ F) ++ N) (closed (now_net c.net)) (closed (now_device c.device)) (closed c) device

@@ -268,12 +268,12 @@ plain-script c s =
     let r = s.resources in (
       tt,
       plain-append _ _ (all_properties properties)
-          (plain-append _ _ (plain-each fs_commands fs_allowed (λ f h. plain-entry _ _ _ _ (let g : (is_kept_path f.dir ≡ true) × (entry_allowed kind.Fs (fs_shown f) f.options [] ≡ true) = and_parts _ _ h in g.1)) c.fs r.fs.each)
-          (plain-append _ _ (plain-each net_commands net_allowed (λ n h. plain-entry _ _ _ _ h) c.net r.net.each)
-          (plain-append _ _ (plain-each device_commands device_allowed (λ m h. plain-entry _ _ _ _ h) c.device r.device.each)
-          (plain-append _ _ (plain-each rctl_commands rctl_allowed (λ r h. plain-entry _ _ _ _ h) c.rctl r.rctl.each)
-          (plain-append _ _ (plain-each attr_commands attr_allowed (λ a h. plain-entry _ _ _ _ h) c.attr r.attr.each)
-          (plain-each dataset_commands dataset_allowed (λ d h. plain-entry _ _ _ _ h) c.dataset r.dataset.each)))))),
+          (plain-append _ _ (plain-each fs_commands fs_allowed (λ f h. plain-entry _ _ _ _ (let g : (is_kept_path f.dir ≡ true) × (entry_allowed kind.Fs (fs_shown f) f.options [] ≡ true) = and_parts _ _ h in g.1)) c.fs (r.kinds kind.Fs).each)
+          (plain-append _ _ (plain-each net_commands net_allowed (λ n h. plain-entry _ _ _ _ h) c.net (r.kinds kind.Net).each)
+          (plain-append _ _ (plain-each device_commands device_allowed (λ m h. plain-entry _ _ _ _ h) c.device (r.kinds kind.Device).each)
+          (plain-append _ _ (plain-each rctl_commands rctl_allowed (λ r h. plain-entry _ _ _ _ h) c.rctl (r.kinds kind.Rctl).each)
+          (plain-append _ _ (plain-each attr_commands attr_allowed (λ a h. plain-entry _ _ _ _ h) c.attr (r.kinds kind.Attr).each)
+          (plain-each dataset_commands dataset_allowed (λ d h. plain-entry _ _ _ _ h) c.dataset (r.kinds kind.Dataset).each)))))),
     )
   where
     all_properties : (ps : List Property) → ArePlain (flat_map (property_commands c) ps)

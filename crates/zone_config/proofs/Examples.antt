@@ -4,7 +4,6 @@ use Rattle.zn_base.specs.declared.values.Value.TheVariants.{Simple, List as Item
 use Rattle.config_terms.specs.declared.fault.ConfigFault.TheVariants.{UnknownProperty, BadValue, AliasHeld, TooLarge}
 use Rattle.config_terms.specs.declared.terms.Fs as fs
 use Rattle.config_terms.specs.declared.terms.Resource.TheVariants.{Fs, Dataset}
-use Rattle.config_terms.specs.Numbers.{number_of}
 use Rattle.zn_base.specs.Decimals.{decimal_of}
 use Rattle.config_terms.specs.Rules.{obeys}
 use Rattle.config_terms.specs.Texts.{setting}

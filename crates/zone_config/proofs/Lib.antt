@@ -1,5 +1,6 @@
 mod Examples
 pub mod Lists
+pub mod SameEntries
 pub mod Rows
 pub mod SameResources
 pub mod PropertyEdits

@@ -73,6 +73,10 @@ all-at p [] i x h g = absurd (cc)
 all-at p (y ∷ ys) zero x h g = let same : y ≡ x = cc in ap p (sym same) ∙ first_true _ _ h
 all-at p (y ∷ ys) (suc i) x h g = all-at p ys i x (rest_true (p y) _ h) g
 
+pub all-each : {A : Type 0} (p : A → Bool) (xs : List A) → ((x : A) → p x ≡ true) → list_all p xs ≡ true
+all-each p [] h = refl
+all-each p (x ∷ xs) h = both_true _ _ (h x) (all-each p xs h)
+
 -- no two of a list have one key
 has-push : {A : Type 0} (key : A → List ℕ) (k : List ℕ) (xs : List A) (x : A) → has_key key k xs ≡ false → bytes_eq (key x) k ≡ false → has_key key k (xs ++ x ∷ []) ≡ false
 has-push key k xs x h e = list_any-append (λ y. bytes_eq (key y) k) xs (x ∷ []) ∙ both_false _ _ h (both_false _ _ e refl)

@@ -13,7 +13,7 @@ use Rattle.config_terms.specs.Texts.{resource_text}
 use Rattle.zone_config.specs.declared.terms.Contents.{Contents}
 use Rattle.zone_config.specs.Export.{export_text, sized}
 use Rattle.zone_config.specs.Kinds.{Row}
-use Rattle.zone_config.specs.Sound.{AreSound, HasSoundResources, IsKept, IsSound, IsWithin, count, has_few_options}
+use Rattle.zone_config.specs.Sound.{HasSoundResources, IsKept, IsSound, IsWithin, count, has_few_options}
 use Rattle.zone_config.specs.Resources.{added, are_apart, count_of, has_taken, has_taken_but, kind_passed, length_of, limit_passed, most_passed, removed, replaced, text_at, unless_passed, with_replaced, IsLengthOf}
 use Rattle.zone_config.proofs.Lists.{length-remove_one, length-slice_set, sound-push, sound-remove, sound-set, text-push, text-remove, text-set, text_within}
 use Rattle.zone_config.proofs.PropertyEdits.{Measures}

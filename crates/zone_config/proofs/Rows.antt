@@ -1,8 +1,9 @@
 -- What each kind's row keeps to, and how what holds of each row holds of each kind and each resource.
-use Rattle.std.proofs.Common.{◌≡◌, ◌+◌, ℕ, Bool, List, [], ◌∷◌, ◌++◌, length, Option, Result, codes, refl, ap, ◌∙◌, arith, length-append}
+use Rattle.std.proofs.Common.{◌≡◌, ◌+◌, ℕ, Bool, List, [], ◌∷◌, ◌++◌, length, Option, Some, Result, true, codes, refl, ap, ◌∙◌, arith, length-append}
 use Rattle.std.specs.Prelude.{option_map, remove, slice_get, slice_set, unwrap_or}
-use Rattle.std.specs.List.{flat_map, sum_by}
+use Rattle.std.specs.List.{flat_map, list_all, sum_by}
 use Rattle.std.proofs.lemmas.List.Concat.{length-flat_map}
+use Rattle.std.proofs.lemmas.Slice.Eq.{bytes_eq-Decides}
 use Rattle.config_terms.specs.declared.fault.ConfigFault.{ConfigFault}
 use Rattle.config_terms.specs.declared.fields.Field.{Field}
 use Rattle.config_terms.specs.declared.terms.Attr.{Attr}
@@ -28,6 +29,8 @@ use Rattle.zone_config.specs.Property.{properties, shown}
 use Rattle.zone_config.specs.Removal.{resource_at}
 use Rattle.zone_config.specs.Resources.{added, count_of, found, has_taken, has_taken_but, kind_passed, most_passed, removed, replaced, text_at}
 use Rattle.zone_config.specs.Sound.{AreSound, HasSoundResources, count}
+use Rattle.zone_config.proofs.Lists.{all-at}
+use Rattle.zone_config.proofs.SameEntries.{Tells, attr-Decides, fs-Decides, net-Decides, rctl-Decides}
 
 -- the properties of the one are those of the other
 pub record SameProperties (c d : Contents) : Type 0 where
@@ -78,6 +81,8 @@ pub record IsKnown {A : Type 0} (row : Row A) : Type 1 where
   pub kind : (x : A) → kind_of (row.make x) ≡ row.kind
   pub shown : (x : A) → resource_shown (row.make x) ≡ row.shown x
   pub text : (x : A) → resource_text (row.make x) ≡ row.text x
+  pub tells : Tells row.same
+  pub place : (i : ℕ) × (slice_get kinds i ≡ Some row.kind)
   pub nothing : kind_of (empty row.kind) ≡ row.kind
   pub edited : (f : Field) (text : List ℕ) (x : A) → kind_of (with_field f text (row.make x)) ≡ row.kind
   pub unlisted : (x : A) → kind_of (without_list (row.make x)) ≡ row.kind
@@ -107,7 +112,7 @@ fs-put_sound xs c s own k = s.kinds k
 fs_lawful : IsLawful fs_row
 unfolding count
 fs_lawful = record {
-  known = record { of_kind = λ B make. refl; of_resource = λ B make x. refl; says = λ F own. own; kind = λ x. refl; shown = λ x. refl; text = λ x. refl; nothing = refl; edited = λ f text x. refl; unlisted = λ x. refl };
+  known = record { of_kind = λ B make. refl; of_resource = λ B make x. refl; says = λ F own. own; kind = λ x. refl; shown = λ x. refl; text = λ x. refl; tells = fs-Decides; place = (0, refl); nothing = refl; edited = λ f text x. refl; unlisted = λ x. refl };
   part = record { listed = λ xs c. refl; again = λ xs ys c. refl; unchanged = λ c. refl; apart = λ c d. refl };
   counted = λ xs c. omega arith;
   measured = λ xs c. omega (arith, texts-length c, texts-length (record c { fs = xs }));
@@ -122,7 +127,7 @@ net-put_sound xs c s own k = s.kinds k
 net_lawful : IsLawful net_row
 unfolding count
 net_lawful = record {
-  known = record { of_kind = λ B make. refl; of_resource = λ B make x. refl; says = λ F own. own; kind = λ x. refl; shown = λ x. refl; text = λ x. refl; nothing = refl; edited = λ f text x. refl; unlisted = λ x. refl };
+  known = record { of_kind = λ B make. refl; of_resource = λ B make x. refl; says = λ F own. own; kind = λ x. refl; shown = λ x. refl; text = λ x. refl; tells = net-Decides; place = (1, refl); nothing = refl; edited = λ f text x. refl; unlisted = λ x. refl };
   part = record { listed = λ xs c. refl; again = λ xs ys c. refl; unchanged = λ c. refl; apart = λ c d. refl };
   counted = λ xs c. omega arith;
   measured = λ xs c. omega (arith, texts-length c, texts-length (record c { net = xs }));
@@ -137,7 +142,7 @@ device-put_sound xs c s own k = s.kinds k
 device_lawful : IsLawful device_row
 unfolding count
 device_lawful = record {
-  known = record { of_kind = λ B make. refl; of_resource = λ B make x. refl; says = λ F own. own; kind = λ x. refl; shown = λ x. refl; text = λ x. refl; nothing = refl; edited = λ f text x. refl; unlisted = λ x. refl };
+  known = record { of_kind = λ B make. refl; of_resource = λ B make x. refl; says = λ F own. own; kind = λ x. refl; shown = λ x. refl; text = λ x. refl; tells = bytes_eq-Decides; place = (2, refl); nothing = refl; edited = λ f text x. refl; unlisted = λ x. refl };
   part = record { listed = λ xs c. refl; again = λ xs ys c. refl; unchanged = λ c. refl; apart = λ c d. refl };
   counted = λ xs c. omega arith;
   measured = λ xs c. omega (arith, texts-length c, texts-length (record c { device = xs }));
@@ -152,7 +157,7 @@ rctl-put_sound xs c s own k = s.kinds k
 rctl_lawful : IsLawful rctl_row
 unfolding count
 rctl_lawful = record {
-  known = record { of_kind = λ B make. refl; of_resource = λ B make x. refl; says = λ F own. own; kind = λ x. refl; shown = λ x. refl; text = λ x. refl; nothing = refl; edited = λ f text x. refl; unlisted = λ x. refl };
+  known = record { of_kind = λ B make. refl; of_resource = λ B make x. refl; says = λ F own. own; kind = λ x. refl; shown = λ x. refl; text = λ x. refl; tells = rctl-Decides; place = (3, refl); nothing = refl; edited = λ f text x. refl; unlisted = λ x. refl };
   part = record { listed = λ xs c. refl; again = λ xs ys c. refl; unchanged = λ c. refl; apart = λ c d. refl };
   counted = λ xs c. omega arith;
   measured = λ xs c. omega (arith, texts-length c, texts-length (record c { rctl = xs }));
@@ -167,7 +172,7 @@ attr-put_sound xs c s own k = s.kinds k
 attr_lawful : IsLawful attr_row
 unfolding count
 attr_lawful = record {
-  known = record { of_kind = λ B make. refl; of_resource = λ B make x. refl; says = λ F own. own; kind = λ x. refl; shown = λ x. refl; text = λ x. refl; nothing = refl; edited = λ f text x. refl; unlisted = λ x. refl };
+  known = record { of_kind = λ B make. refl; of_resource = λ B make x. refl; says = λ F own. own; kind = λ x. refl; shown = λ x. refl; text = λ x. refl; tells = attr-Decides; place = (4, refl); nothing = refl; edited = λ f text x. refl; unlisted = λ x. refl };
   part = record { listed = λ xs c. refl; again = λ xs ys c. refl; unchanged = λ c. refl; apart = λ c d. refl };
   counted = λ xs c. omega arith;
   measured = λ xs c. omega (arith, texts-length c, texts-length (record c { attr = xs }));
@@ -182,7 +187,7 @@ dataset-put_sound xs c s own k = s.kinds k
 dataset_lawful : IsLawful dataset_row
 unfolding count
 dataset_lawful = record {
-  known = record { of_kind = λ B make. refl; of_resource = λ B make x. refl; says = λ F own. own; kind = λ x. refl; shown = λ x. refl; text = λ x. refl; nothing = refl; edited = λ f text x. refl; unlisted = λ x. refl };
+  known = record { of_kind = λ B make. refl; of_resource = λ B make x. refl; says = λ F own. own; kind = λ x. refl; shown = λ x. refl; text = λ x. refl; tells = bytes_eq-Decides; place = (5, refl); nothing = refl; edited = λ f text x. refl; unlisted = λ x. refl };
   part = record { listed = λ xs c. refl; again = λ xs ys c. refl; unchanged = λ c. refl; apart = λ c d. refl };
   counted = λ xs c. omega arith;
   measured = λ xs c. omega (arith, texts-length c, texts-length (record c { dataset = xs }));
@@ -216,6 +221,10 @@ all_kinds F each kind.Device = each (List ℕ) device_row device_lawful
 all_kinds F each kind.Rctl = each Rctl rctl_row rctl_lawful
 all_kinds F each kind.Attr = each Attr attr_row attr_lawful
 all_kinds F each kind.Dataset = each (List ℕ) dataset_row dataset_lawful
+
+-- what is true of all that are listed is true of each kind
+pub all_of_kinds : (test : Kind → Bool) → list_all test kinds ≡ true → (k : Kind) → test k ≡ true
+all_of_kinds test h = each_kind (λ k. test k ≡ true) (λ A row law. all-at test kinds law.known.place.0 row.kind h law.known.place.1)
 
 -- what is said of a kind, and of a resource of it, by its row
 module _ {A : Type 0} (row : Row A) (law : IsLawful row) (c : Contents) where

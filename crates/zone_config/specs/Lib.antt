@@ -3,6 +3,7 @@ pub mod Parts
 pub mod Export
 pub mod Sound
 pub mod Edits
+pub mod SameEntries
 pub mod Kinds
 pub mod Resources
 pub mod Settable

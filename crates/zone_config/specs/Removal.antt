@@ -1,5 +1,5 @@
 -- The removal of resources that match.
-use Rattle.std.specs.Prelude.{ℕ, List, Bool, not, Option, Result, Ok, Err, filter, option_map, slice_get, unwrap_or, if◌then◌else◌}
+use Rattle.std.specs.Prelude.{ℕ, List, Bool, not, Result, Ok, Err, filter, option_map, slice_get, unwrap_or, if◌then◌else◌}
 use Rattle.zn_base.specs.declared.values.Pair.{Pair}
 use Rattle.config_terms.specs.declared.fault.ConfigFault.{ConfigFault}
 use Rattle.config_terms.specs.declared.fault.ConfigFault.TheVariants.{NoMatch}

@@ -6,7 +6,8 @@ use Rattle.std.proofs.lemmas.Bool.Decides.{Decides-and, Decides-not}
 use Rattle.zonecfg_scopes.specs.Edited.{Edited, IsChanged, base_config, is_changed}
 use Rattle.zonecfg_scopes.specs.OpenOf.{config_of}
 use Rattle.zone_config.specs.Same.{same_contents}
-use Rattle.zone_config.proofs.Sameness.{contents-Decides, option-Decides}
+use Rattle.zone_config.proofs.SameEntries.{option-Decides}
+use Rattle.zone_config.proofs.Sameness.{contents-Decides}
 
 some-Decides : {A : Type 0} (o : Option A) → Decides (is_some o) (IsSome o)
 some-Decides o = (λ h. h, λ h. h)
