@@ -6,7 +6,7 @@ ghost use Rattle.config_terms.specs.Fields.{kind_name, kind_named, field_name, f
 use crate::{Kind, Rule};
 
 /// The simple properties of resources (zonecfg(8), PROPERTIES), by kind.
-#[derive(Clone, Copy, Debug, PartialEq, Eq)]
+#[derive(Clone, Copy, PartialEq, Eq)]
 pub enum Field {
     FsDir,
     FsSpecial,
@@ -26,7 +26,7 @@ pub enum Field {
 
 /// What a name stands for in a resource: one simple property, or the list of many items, which are the
 /// options of an fs or the values of an rctl.
-#[derive(Clone, Copy, Debug, PartialEq, Eq)]
+#[derive(Clone, Copy)]
 pub enum Named {
     One(Field),
     Many,

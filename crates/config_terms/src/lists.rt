@@ -8,7 +8,7 @@ use std::alloc::{AllocError, Global};
 use zn_base::{Listing, Text, TryClone, try_clone_all};
 
 /// An edit of a list by the items given: they take its place, follow it, or are taken out of it.
-#[derive(Clone, Copy, Debug, PartialEq, Eq)]
+#[derive(Clone, Copy)]
 pub enum ListEdit {
     Put,
     Add,

@@ -8,7 +8,7 @@ use zn_base::{is_name_byte, is_path, is_text_byte, read_decimal};
 
 /// What a value of a property may be (zonecfg(8), PROPERTIES). An empty value is a value of no property:
 /// where the rule takes it, setting it unsets the property.
-#[derive(Clone, Copy, Debug, PartialEq, Eq)]
+#[derive(Clone, Copy)]
 pub enum Rule {
     /// An absolute path.
     RootedPath,

@@ -6,7 +6,7 @@ use std::alloc::{AllocError, Global};
 use zn_base::{AbsPath, Listing, Text, TryClone};
 
 /// How a zone reaches its network (zones(7), ip-type).
-#[derive(Clone, Copy, Debug, PartialEq, Eq)]
+#[derive(Clone, Copy, PartialEq, Eq)]
 pub enum IpType {
     Shared,
     Exclusive,
@@ -46,7 +46,7 @@ pub struct Net {
 }
 
 /// One value of a resource control (resource_controls(7)): `(priv=privileged,limit=N,action=A)`.
-#[derive(Clone, Copy, Debug, PartialEq, Eq)]
+#[derive(Clone, Copy, PartialEq, Eq)]
 pub struct Limit {
     pub limit: u64,
     /// The action: `deny`, and else `none`.
@@ -89,10 +89,10 @@ impl TryClone for Limit {
 impl TryClone for Fs {
     fn try_clone(&self, alloc: Global) -> Result<Self, AllocError> {
         Ok(Fs {
-            dir: self.dir.try_clone(alloc)?,
             special: self.special.copy(alloc)?,
             raw: self.raw.copy(alloc)?,
             fstype: self.fstype.copy(alloc)?,
+            dir: self.dir.try_clone(alloc)?,
             options: self.options.try_clone(alloc)?,
         })
     }
@@ -131,7 +131,7 @@ impl TryClone for Attr {
 macro_rules! clone_arms {
     (($resource:expr, $alloc:expr), $($name:ident $type:ident $put:ident),*) => {
         match $resource {
-            $(Resource::$name(entry) => Ok(Resource::$name(entry.try_clone($alloc)?)),)*
+            $(Resource::$name(entry) => entry.try_clone($alloc).map(Resource::$name),)*
         }
     };
 }

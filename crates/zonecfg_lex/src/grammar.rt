@@ -11,7 +11,7 @@ use zn_base::{Listing, Pair, Text, Value};
 
 /// What may stand next in a value: its beginning, the parts of a pair and what is behind it, the first
 /// item of a list or its end, an item and what is behind it, or nothing.
-#[derive(Clone, Copy, Debug, PartialEq, Eq)]
+#[derive(Clone, Copy)]
 pub enum Stage {
     Start,
     Name,

@@ -9,7 +9,7 @@ use crate::{LexFault, TokenKind};
 
 /// Where a byte outside quotes stands: outside brackets, between words or inside one, or inside the round
 /// or the square bracket that opens at a place.
-#[derive(Clone, Copy, Debug, PartialEq, Eq)]
+#[derive(Clone, Copy)]
 pub enum Scope {
     Between,
     InWord,
@@ -18,7 +18,7 @@ pub enum Scope {
 }
 
 /// What a byte outside quotes is.
-#[derive(Clone, Copy, Debug, PartialEq, Eq)]
+#[derive(Clone, Copy)]
 pub enum Role {
     Blank,
     Letter,

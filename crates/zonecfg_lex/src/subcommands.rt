@@ -10,7 +10,7 @@ use crate::lexer::cut;
 use crate::{LexFault, Token};
 
 /// Some text of a line, and its tokens. Each counts from the begin of its part.
-#[derive(Clone, Copy, Debug)]
+#[derive(Clone, Copy)]
 pub struct Part<'a> {
     pub text: &'a [u8],
     pub tokens: &'a [Token],

@@ -5,7 +5,7 @@ ghost use Rattle.zonecfg_lex.specs.Tokens.{is_equals, is_word, text_of, IsWithin
 ghost use Rattle.zonecfg_lex.specs.Value.{gives_text};
 
 /// What a token is. `Open` and `Close` are round brackets, `ListOpen` and `ListClose` square ones.
-#[derive(Clone, Copy, Debug, PartialEq, Eq)]
+#[derive(Clone, Copy, PartialEq, Eq)]
 pub enum TokenKind {
     Word,
     Quoted,
@@ -20,7 +20,7 @@ pub enum TokenKind {
 
 /// A part of a line, from the place `start` up to the place `end`, which it leaves out. A quoted token
 /// begins with its opening quote and ends before the closing one.
-#[derive(Clone, Copy, Debug, PartialEq, Eq)]
+#[derive(Clone, Copy)]
 pub struct Token {
     pub kind: TokenKind,
     pub start: u32,
@@ -66,7 +66,7 @@ impl Token {
 }
 
 /// What stands between two semicolons of a line, or between one and an end of the line.
-#[derive(Clone, Copy, Debug, PartialEq, Eq)]
+#[derive(Clone, Copy)]
 pub struct Span {
     pub start: u32,
     pub end: u32,
