@@ -2,6 +2,7 @@ mod Examples
 pub mod Lists
 pub mod PropertyEdits
 pub mod ResourceEdits
+pub mod Adding
 pub mod Aliases
 pub mod Settings
 pub mod Clearing

@@ -34,7 +34,7 @@ macro_rules! kind_arms {
     };
 }
 
-// By the kind: a resource of what is made of its list.
+// By the kind: a resource of what is made of its list, where memory lasts.
 macro_rules! resource_by_kind {
     ($kind:expr, $contents:expr, |$list:ident| $body:expr) => {
         $crate::kinds::each_kind!(resource_arms, ($kind, $contents, $list, $body))
@@ -46,13 +46,13 @@ macro_rules! resource_arms {
         match $kind {
             $(Kind::$name => {
                 let $list = &$contents.$field;
-                Resource::$name($body)
+                $body.map(Resource::$name)
             })*
         }
     };
 }
 
-// The same, where the list may change.
+// By the kind: a resource of what is made of its list, which may change.
 macro_rules! resource_by_kind_mut {
     ($kind:expr, $contents:expr, |$list:ident| $body:expr) => {
         $crate::kinds::each_kind!(resource_arms_mut, ($kind, $contents, $list, $body))
@@ -113,6 +113,33 @@ macro_rules! entry_arms_mut {
     };
 }
 
+// The same, where what finds no memory comes back as a resource.
+macro_rules! resource_or_back {
+    ($resource:expr, $contents:expr, |$entry:ident, $list:ident| $body:expr) => {
+        $crate::kinds::each_kind!(arms_or_back, ($resource, $contents, $entry, $list, $body))
+    };
+}
+
+macro_rules! arms_or_back {
+    (
+        ($resource:expr, $contents:expr, $entry:ident, $list:ident, $body:expr),
+        $($name:ident $field:ident),*
+    ) => {
+        match $resource {
+            $(Resource::$name($entry) => {
+                let $list = &mut $contents.$field;
+                match $body {
+                    Ok(()) => Ok(()),
+                    Err(failed) => Err(AllocFailed {
+                        value: Resource::$name(failed.value),
+                    }),
+                }
+            })*
+        }
+    };
+}
+
+pub(crate) use arms_or_back;
 pub(crate) use by_kind;
 pub(crate) use by_resource;
 pub(crate) use by_resource_mut;
@@ -124,3 +151,4 @@ pub(crate) use resource_arms;
 pub(crate) use resource_arms_mut;
 pub(crate) use resource_by_kind;
 pub(crate) use resource_by_kind_mut;
+pub(crate) use resource_or_back;

@@ -28,6 +28,17 @@ fn push_properties(out: &mut Vec<u8>, contents: &Contents) -> Result<(), AllocEr
     push_lines(out, contents, &PROPERTIES)
 }
 
+fn push_resources(out: &mut Vec<u8>, contents: &Contents) -> Result<(), AllocError>
+    ensures { OnOk result (out.new.items ≡ out.old.items ++ flat_map fs_text contents.now.fs ++ flat_map net_text contents.now.net ++ flat_map device_text contents.now.device ++ flat_map rctl_text contents.now.rctl ++ flat_map attr_text contents.now.attr ++ flat_map dataset_text contents.now.dataset) }
+{
+    push_entries(out, Kind::Fs, contents.fs.as_slice())?;
+    push_entries(out, Kind::Net, contents.net.as_slice())?;
+    push_entries(out, Kind::Device, contents.device.as_slice())?;
+    push_entries(out, Kind::Rctl, contents.rctl.as_slice())?;
+    push_entries(out, Kind::Attr, contents.attr.as_slice())?;
+    push_entries(out, Kind::Dataset, contents.dataset.as_slice())
+}
+
 /// The export text of a configuration, which zonecfg(8) reads back.
 #[tactic(auto, unfolding(crate::specs::Export::export_text))]
 pub fn export(alloc: Global, config: &ZoneConfig) -> Result<Vec<u8>, ConfigFault>
@@ -38,11 +49,6 @@ pub fn export(alloc: Global, config: &ZoneConfig) -> Result<Vec<u8>, ConfigFault
     let mut out = Vec::new(alloc);
     out.extend_from_slice(b"create -b\n")?;
     push_properties(&mut out, contents)?;
-    push_entries(&mut out, Kind::Fs, contents.fs.as_slice())?;
-    push_entries(&mut out, Kind::Net, contents.net.as_slice())?;
-    push_entries(&mut out, Kind::Device, contents.device.as_slice())?;
-    push_entries(&mut out, Kind::Rctl, contents.rctl.as_slice())?;
-    push_entries(&mut out, Kind::Attr, contents.attr.as_slice())?;
-    push_entries(&mut out, Kind::Dataset, contents.dataset.as_slice())?;
+    push_resources(&mut out, contents)?;
     Ok(out)
 }
