@@ -14,8 +14,7 @@ fn set(
     name: &[u8],
     text: &[u8],
 ) -> Result<(), ConfigFault> {
-    let value = simple(alloc, text)?;
-    config.set_property(alloc, name, &value)
+    config.set_property(alloc, name, simple(alloc, text)?)
 }
 
 // What a configuration prints, in the length that is told.
@@ -148,11 +147,9 @@ fn rctl(alloc: Global, limit: u64, deny: bool) -> Result<Resource, ConfigFault> 
 }
 
 fn no_list_is_set(alloc: Global, config: &mut ZoneConfig) -> Result<bool, ConfigFault> {
-    let items = list(alloc, &[])?;
-    Ok(
-        config.set_property(alloc, b"dir", &items) == Err(ConfigFault::UnknownProperty)
-            && config.set_property(alloc, b"pool", &items) == Err(ConfigFault::BadValue),
-    )
+    let unknown = config.set_property(alloc, b"dir", list(alloc, &[])?);
+    let bad = config.set_property(alloc, b"pool", list(alloc, &[])?);
+    Ok(unknown == Err(ConfigFault::UnknownProperty) && bad == Err(ConfigFault::BadValue))
 }
 
 #[test]

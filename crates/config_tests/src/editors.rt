@@ -156,8 +156,7 @@ fn set(
     name: &[u8],
     text: &[u8],
 ) -> Result<(), ConfigFault> {
-    let value = simple(alloc, text)?;
-    config.set_property(alloc, name, &value)
+    config.set_property(alloc, name, simple(alloc, text)?)
 }
 
 fn set_web(alloc: Global, config: &mut ZoneConfig) -> Result<(), ConfigFault> {

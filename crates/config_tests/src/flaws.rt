@@ -14,7 +14,7 @@ const SHARED: &str = "zonepath=/z brand=ipkg";
 const EXCLUSIVE: &str = "zonepath=/z brand=lx ip-type=exclusive";
 
 fn set(alloc: Global, config: &mut ZoneConfig, name: &str, value: &str) -> Result<(), ConfigFault> {
-    config.set_property(alloc, name.as_bytes(), &simple(alloc, value.as_bytes())?)
+    config.set_property(alloc, name.as_bytes(), simple(alloc, value.as_bytes())?)
 }
 
 fn set_own(

@@ -31,7 +31,7 @@ pub fn with_property(
 ) -> Result<ZoneConfig, Halt>
     ensures { Puts (result_ok (with_property name.now (Simple value) config)) result }
 {
-    config.set_property(alloc, name, &Value::Simple(value))?;
+    config.set_property(alloc, name, Value::Simple(value))?;
     Ok(config)
 }
 

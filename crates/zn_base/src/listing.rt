@@ -1,9 +1,9 @@
 //! Lists of a bounded length.
-ghost use Rattle.std.specs.Prelude.{◌≡◌, ◌<◌, ◌≤◌, ◌++◌, [], ◌∷◌, length, is_ok, if◌then◌else◌, remove, slice_set, slice_index_or, slice_get, Some, IfOk};
+ghost use Rattle.std.specs.Prelude.{◌≡◌, ◌<◌, ◌≤◌, ◌++◌, [], ◌∷◌, length, is_ok, if◌then◌else◌, remove, slice_set, slice_index_or, slice_get, Some, IfErr, IfOk};
 ghost use Rattle.std.specs.Cmp.Lexicographic.{lists_equiv, lists_per, pointwise};
 
 use crate::TryClone;
-use std::alloc::{AllocError, Global};
+use std::alloc::{AllocError, AllocFailed, Global};
 use std::marker::Model;
 
 // The greatest length of a list, so that a place in it is a `u32`. No input of the program fills one.
@@ -75,6 +75,17 @@ impl<T> Listing<T> {
         &self.items[place]
     }
 
+    /// Puts an item last. Where memory runs out the list is as before, and the item comes back.
+    pub fn try_push(&mut self, item: T) -> Result<(), AllocFailed<T>>
+        ensures items { self.new ≡ (if is_ok result then self.old ++ item ∷ [] else self.old) }
+        ensures back { IfErr result (λ failed. failed.value ≡ item) }
+    {
+        if self.items.len() >= LISTING_MAX {
+            return Err(AllocFailed { value: item });
+        }
+        self.items.push(item)
+    }
+
     /// Takes the item at a place out.
     pub fn remove(&mut self, place: usize) -> T
         requires { place < length self.old }
@@ -90,10 +101,7 @@ impl<T: Drop> Listing<T> {
     pub fn push(&mut self, item: T) -> Result<(), AllocError>
         ensures { self.new ≡ (if is_ok result then self.old ++ item ∷ [] else self.old) }
     {
-        if self.items.len() >= LISTING_MAX {
-            return Err(AllocError);
-        }
-        self.items.push(item)?;
+        self.try_push(item)?;
         Ok(())
     }
 

@@ -19,9 +19,10 @@ use Rattle.zone_config.specs.declared.terms.Alias.{Alias}
 use Rattle.zone_config.specs.declared.terms.Alias.TheVariants.{CpuShares, MaxLwps, MaxProcesses}
 use Rattle.zone_config.specs.declared.terms.Contents.{Contents}
 use Rattle.zone_config.specs.Property.{rctl_name}
-use Rattle.zone_config.specs.Resources.{has_taken, has_taken_but}
-use Rattle.zone_config.specs.Edits.{alias_rctl, is_named_for, place_of}
+use Rattle.zone_config.specs.Resources.{has_taken, has_taken_but, with_resource}
+use Rattle.zone_config.specs.Edits.{alias_rctl, alias_set, is_held, is_named_for, place_of}
 use Rattle.zone_config.specs.Sound.{IsKept}
+use Rattle.zone_config.proofs.Adding.{free_added}
 use Rattle.zone_config.proofs.Lists.{both_false, both_true, false_if_not, first_true, rest_true}
 
 -- a list parted at the first of its items that passes a test
@@ -138,3 +139,10 @@ limit_if_number text n h =
 pub rctl_fits : (a : Alias) (text : List ℕ) (n : ℕ) → number_of text ≡ Some n → is_allowed (resource.Rctl (alias_rctl a n)) ≡ true
 unfolding entry_allowed
 rctl_fits a text n h = both_true _ _ (both_true _ _ (fits_name a) refl) (both_true _ _ (limit_if_number text n h) refl)
+
+-- an alias that has no rctl yet is set as its rctl is added
+pub set_anew : (a : Alias) (text : List ℕ) (n : ℕ) (c : Contents) → number_of text ≡ Some n → is_held a c.rctl ≡ false → place_of a c.rctl ≡ None
+    → alias_set a text c ≡ with_resource (resource.Rctl (alias_rctl a n)) c
+unfolding alias_set
+set_anew a text n c number held none =
+    rw (number, held, none) (sym (free_added (resource.Rctl (alias_rctl a n)) c (rctl_fits a text n number) (free_anew a n c none)))

@@ -5,6 +5,7 @@ pub mod Rows
 pub mod SameResources
 pub mod PropertyEdits
 pub mod ResourceEdits
+pub mod Adding
 pub mod Aliases
 pub mod Settings
 pub mod Clearing

@@ -235,7 +235,7 @@ sized_short d n h =
       | false ↦ λ e g. let same : length (export_text d) ≡ n = cc in (sym same, (grind (arith, nat_tests), refl))
     ] refl h
 
-checked_by : (a t : Bool) (o : Option ℕ) (d : Contents) (n : ℕ) → length_of (cond (not a) (Err BadValue) (cond t (Err Duplicate) (unless_passed o d))) ≡ Ok n
+pub checked_by : (a t : Bool) (o : Option ℕ) (d : Contents) (n : ℕ) → length_of (cond (not a) (Err BadValue) (cond t (Err Duplicate) (unless_passed o d))) ≡ Ok n
     → (a ≡ true) × ((t ≡ false) × ((o ≡ None) × ((n ≡ length (export_text d)) × ((n ≤ 32768) × (cond (not a) (Err BadValue) (cond t (Err Duplicate) (unless_passed o d)) ≡ Ok d)))))
 checked_by false t o d n h = absurd (cc)
 checked_by true true o d n h = absurd (cc)

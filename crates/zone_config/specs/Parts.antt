@@ -1,14 +1,15 @@
--- The parts of a configuration in which it is copied.
-use Rattle.zone_config.specs.declared.contents.Boot.{Boot}
-use Rattle.zone_config.specs.declared.contents.Lists.{Lists}
-use Rattle.zone_config.specs.declared.contents.Rights.{Rights}
+-- The parts in which a configuration is copied.
 use Rattle.zone_config.specs.declared.terms.Contents.{Contents}
 
-abbrev pub boot_of : Contents → Boot
-boot_of c = record { zonepath = c.zonepath; brand = c.brand; bootargs = c.bootargs; pool = c.pool }
+-- a configuration with a part of another one
+abbrev pub with_boot : Contents → Contents → Contents
+with_boot from c = record c { zonepath = from.zonepath; brand = from.brand; autoboot = from.autoboot; bootargs = from.bootargs; pool = from.pool }
 
-abbrev pub rights_of : Contents → Rights
-rights_of c = record { limitpriv = c.limitpriv; class = c.class; hostid = c.hostid; fs_allowed = c.fs_allowed }
+abbrev pub with_rights : Contents → Contents → Contents
+with_rights from c = record c { limitpriv = from.limitpriv; class = from.class; ip = from.ip; hostid = from.hostid; fs_allowed = from.fs_allowed }
 
-abbrev pub lists_of : Contents → Lists
-lists_of c = record { fs = c.fs; net = c.net; device = c.device; rctl = c.rctl; attr = c.attr; dataset = c.dataset }
+abbrev pub with_devices : Contents → Contents → Contents
+with_devices from c = record c { fs = from.fs; net = from.net; device = from.device }
+
+abbrev pub with_controls : Contents → Contents → Contents
+with_controls from c = record c { rctl = from.rctl; attr = from.attr; dataset = from.dataset }

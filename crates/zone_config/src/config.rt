@@ -1,5 +1,5 @@
 //! Configurations that are sound.
-ghost use Rattle.std.specs.Prelude.{◌≡◌, ◌<◌, ◌≤◌, Err, IfOk, IsTrue, None, Ok, OnErr, Some, false, length};
+ghost use Rattle.std.specs.Prelude.{◌≡◌, ◌<◌, ◌≤◌, Err, IfErr, IfOk, IsTrue, None, Ok, OnErr, OnOk, Some, false, length};
 ghost use Rattle.config_terms.specs.Allowed.{is_allowed, options_passed};
 ghost use Rattle.config_terms.specs.Edits.{Changes, ChangesSurely};
 ghost use Rattle.config_terms.specs.Fields.{kind_of};
@@ -7,7 +7,7 @@ ghost use Rattle.config_terms.specs.declared.fault.ConfigFault.TheVariants.{Memo
 ghost use Rattle.zone_config.specs.Edits.{alias_cleared, alias_set, property_set, with_property, without_property};
 ghost use Rattle.zone_config.specs.Export.{export_text, sized};
 ghost use Rattle.zone_config.specs.Property.{blank, without_value};
-ghost use Rattle.zone_config.specs.Resources.{added, count_of, found, has_taken, has_taken_but, length_of, limit_passed, removed, replaced, unless_passed, with_replaced, with_resource};
+ghost use Rattle.zone_config.specs.Resources.{count_of, found, has_taken_but, length_of, removed, replaced, with_replaced, with_resource};
 ghost use Rattle.zone_config.specs.Sound.{IsSound};
 ghost use Rattle.zone_config.specs.declared.limits.TheConstants.{TEXT_MAX};
 
@@ -15,7 +15,7 @@ use crate::limits::TEXT_MAX;
 use crate::sizes::{size_added, size_replaced, size_with};
 use crate::{Alias, Contents, Property, Setting};
 use config_terms::{ConfigFault, Entry, Kind, Resource, entry_length};
-use std::alloc::Global;
+use std::alloc::{AllocFailed, Global};
 use std::marker::Model;
 use std::ops::Deref;
 use zn_base::{Pair, Text, TryClone, Value, read_decimal};
@@ -99,9 +99,9 @@ impl ZoneConfig {
         &mut self,
         alloc: Global,
         name: &[u8],
-        value: &Value,
+        value: Value,
     ) -> Result<(), ConfigFault>
-        ensures { Changes self.old self.new result (with_property name.now value.now self.old) }
+        ensures { Changes self.old self.new result (with_property name.now value self.old) }
     {
         let Some(setting) = Setting::named(name) else {
             return Err(ConfigFault::UnknownProperty);
@@ -111,7 +111,7 @@ impl ZoneConfig {
         };
         match setting {
             Setting::Kept(property) => self.set_kept(alloc, property, text),
-            Setting::Aliased(alias) => self.set_alias(alloc, alias, text),
+            Setting::Aliased(alias) => self.set_alias(alloc, alias, &text),
         }
     }
 
@@ -131,17 +131,51 @@ impl ZoneConfig {
 
     /// Puts a resource last in its kind. Faults come in the order 23, 24, 27, 29, and after each all is as
     /// before.
-    #[tactic(auto, unfolding(crate::specs::Resources::with_resource))]
     pub fn add_resource(&mut self, resource: Resource) -> Result<(), ConfigFault>
         ensures { Changes self.old self.new result (with_resource resource self.old) }
+    {
+        let size = self.check_added(&resource)?;
+        self.put_added(resource, size)?;
+        Ok(())
+    }
+
+    /// How many bytes the export text has once a resource is last in its kind, or why it may not be. It
+    /// takes no memory.
+    #[tactic(auto, unfolding(crate::specs::Resources::with_resource))]
+    pub fn check_added(&self, resource: &Resource) -> Result<usize, ConfigFault>
+        ensures { result ≡ length_of (with_resource resource.now self.now) }
     {
         if !resource.is_allowed() {
             return Err(ConfigFault::BadValue);
         }
-        if self.contents.has_taken(&resource) {
+        if self.contents.has_taken(resource) {
             return Err(ConfigFault::Duplicate);
         }
-        self.put_last(resource)
+        if let Some(limit) = self.contents.limit_passed(resource) {
+            return Err(ConfigFault::TooMany(limit));
+        }
+        let size = size_added(&self.contents, self.size, resource);
+        if size > TEXT_MAX {
+            return Err(ConfigFault::TooLarge(size));
+        }
+        Ok(size)
+    }
+
+    /// Puts a resource last in its kind, which `check_added` answers the length for. Where memory runs out
+    /// all is as before, and the resource comes back.
+    pub fn put_added(
+        &mut self,
+        resource: Resource,
+        size: usize,
+    ) -> Result<(), AllocFailed<Resource>>
+        requires { length_of (with_resource resource self.old) ≡ Ok size }
+        ensures ok { OnOk result (with_resource resource self.old ≡ Ok self.new) }
+        ensures err { OnErr result (self.new ≡ self.old) }
+        ensures back { IfErr result (λ failed. failed.value ≡ resource) }
+    {
+        self.contents.add(resource)?;
+        self.size = size;
+        Ok(())
     }
 
     /// Puts a resource in the place of another of its kind. It takes no memory. Faults come in the order
@@ -151,7 +185,7 @@ impl ZoneConfig {
         ensures { ChangesSurely self.old self.new result (with_replaced place resource self.old) }
     {
         let size = self.check_replaced(place, &resource)?;
-        self.put_checked(place, resource, size);
+        self.put_replaced(place, resource, size);
         Ok(())
     }
 
@@ -180,7 +214,7 @@ impl ZoneConfig {
     }
 
     /// Puts a resource in the place of another of its kind, which `check_replaced` answers the length for.
-    pub fn put_checked(&mut self, place: u32, resource: Resource, size: usize)
+    pub fn put_replaced(&mut self, place: u32, resource: Resource, size: usize)
         requires place { place < count_of (kind_of resource) self.old }
         requires checked { length_of (with_replaced place resource self.old) ≡ Ok size }
         ensures { with_replaced place resource self.old ≡ Ok self.new }
@@ -211,9 +245,9 @@ impl ZoneConfig {
         &mut self,
         alloc: Global,
         property: Property,
-        value: &Text,
+        value: Text,
     ) -> Result<(), ConfigFault>
-        ensures { Changes self.old self.new result (property_set property value.now self.old) }
+        ensures { Changes self.old self.new result (property_set property value self.old) }
     {
         if !property.rule().allows(value.bytes()) {
             return Err(ConfigFault::BadValue);
@@ -235,23 +269,6 @@ impl ZoneConfig {
             return Err(ConfigFault::TooLarge(size));
         }
         self.contents.unset(alloc, property);
-        self.size = size;
-        Ok(())
-    }
-
-    fn put_last(&mut self, resource: Resource) -> Result<(), ConfigFault>
-        requires allowed { IsTrue (is_allowed resource) }
-        requires free { has_taken resource self.old ≡ false }
-        ensures { Changes self.old self.new result (unless_passed (limit_passed resource self.old) (added resource self.old)) }
-    {
-        if let Some(limit) = self.contents.limit_passed(&resource) {
-            return Err(ConfigFault::TooMany(limit));
-        }
-        let size = size_added(&self.contents, self.size, &resource);
-        if size > TEXT_MAX {
-            return Err(ConfigFault::TooLarge(size));
-        }
-        self.contents.add(resource)?;
         self.size = size;
         Ok(())
     }
@@ -285,7 +302,7 @@ impl ZoneConfig {
         let rctl = Resource::Rctl(alias.rctl(alloc, limit)?);
         match alias.place(self.contents.rctl.as_slice()) {
             Some(place) => self.put_in_place(place, rctl),
-            None => self.put_last(rctl),
+            None => self.add_resource(rctl),
         }
     }
 

@@ -1,13 +1,14 @@
 //! The properties of a configuration: what each shows, and how it is given a value.
-ghost use Rattle.std.specs.Prelude.{◌≡◌, ◌≤◌, IfOk, IsTrue, OnErr, OnOk, length};
+ghost use Rattle.std.specs.Prelude.{◌≡◌, ◌≢◌, ◌≤◌, IsTrue, OnErr, OnOk, length};
 ghost use Rattle.config_terms.specs.Rules.{obeys};
-ghost use Rattle.zone_config.specs.Parts.{boot_of, lists_of, rights_of};
+ghost use Rattle.zone_config.specs.declared.terms.Property.TheVariants.{Zonepath};
+ghost use Rattle.zone_config.specs.Parts.{with_boot, with_controls, with_devices, with_rights};
 ghost use Rattle.zone_config.specs.Property.{blank, bool_text, ip_text, ip_type, property_rule, shown, with_value, without_value};
 
 use crate::{Contents, Property};
-use config_terms::{Attr, Fs, IpType, Net, Rctl, path_kept, path_text};
+use config_terms::{IpType, path_kept, path_text};
 use std::alloc::{AllocError, Global};
-use zn_base::{AbsPath, Listing, Text, TryClone};
+use zn_base::{Listing, Text, TryClone};
 
 fn bool_text(value: bool) -> &'static [u8]
     ensures { result.now ≡ bool_text value }
@@ -83,25 +84,36 @@ impl Contents {
         &mut self,
         alloc: Global,
         property: Property,
-        value: &Text,
+        value: Text,
     ) -> Result<(), AllocError>
-        requires { IsTrue (obeys (property_rule property) value.now) }
-        ensures ok { OnOk result (self.new ≡ with_value property value.now self.old) }
+        requires { IsTrue (obeys (property_rule property) value) }
+        ensures ok { OnOk result (self.new ≡ with_value property value self.old) }
         ensures err { OnErr result (self.new ≡ self.old) }
     {
         match property {
             Property::Zonepath => self.zonepath = path_kept(alloc, value.bytes())?,
-            Property::Brand => self.brand = value.copy(alloc)?,
-            Property::Autoboot => self.autoboot = value.bytes() == b"true".as_slice(),
-            Property::Bootargs => self.bootargs = value.copy(alloc)?,
-            Property::Pool => self.pool = value.copy(alloc)?,
-            Property::Limitpriv => self.limitpriv = value.copy(alloc)?,
-            Property::SchedulingClass => self.class = value.copy(alloc)?,
-            Property::IpType => self.ip = ip_type(value.bytes()),
-            Property::Hostid => self.hostid = value.copy(alloc)?,
-            Property::FsAllowed => self.fs_allowed = value.copy(alloc)?,
+            _ => self.put_text(property, value),
         }
         Ok(())
+    }
+
+    // Gives any other property than zonepath a value.
+    fn put_text(&mut self, property: Property, value: Text)
+        requires { property ≢ Zonepath }
+        ensures { self.new ≡ with_value property value self.old }
+    {
+        match property {
+            Property::Zonepath => unreachable!(),
+            Property::Brand => self.brand = value,
+            Property::Autoboot => self.autoboot = value.bytes() == b"true".as_slice(),
+            Property::Bootargs => self.bootargs = value,
+            Property::Pool => self.pool = value,
+            Property::Limitpriv => self.limitpriv = value,
+            Property::SchedulingClass => self.class = value,
+            Property::IpType => self.ip = ip_type(value.bytes()),
+            Property::Hostid => self.hostid = value,
+            Property::FsAllowed => self.fs_allowed = value,
+        }
     }
 
     /// Makes a property as it is in a blank configuration. It takes no memory.
@@ -123,91 +135,57 @@ impl Contents {
     }
 }
 
-// Parts of a copy, each made by a function of its own: what has made few values has few to let go where memory
-// runs out.
-#[derive(Drop)]
-struct Boot {
-    zonepath: Option<AbsPath>,
-    brand: Text,
-    bootargs: Text,
-    pool: Text,
-}
+// A copy takes one part after another, each by a function of its own: what owns no part of it has none to let go
+// where memory runs out.
+impl Contents {
+    fn copy_boot(&mut self, alloc: Global, other: &Contents) -> Result<(), AllocError>
+        ensures { OnOk result (self.new ≡ with_boot other.now self.old) }
+    {
+        self.zonepath = other.zonepath.try_clone(alloc)?;
+        self.brand = other.brand.copy(alloc)?;
+        self.autoboot = other.autoboot;
+        self.bootargs = other.bootargs.copy(alloc)?;
+        self.pool = other.pool.copy(alloc)?;
+        Ok(())
+    }
 
-#[derive(Drop)]
-struct Rights {
-    limitpriv: Text,
-    class: Text,
-    hostid: Text,
-    fs_allowed: Text,
-}
+    fn copy_rights(&mut self, alloc: Global, other: &Contents) -> Result<(), AllocError>
+        ensures { OnOk result (self.new ≡ with_rights other.now self.old) }
+    {
+        self.limitpriv = other.limitpriv.copy(alloc)?;
+        self.class = other.class.copy(alloc)?;
+        self.ip = other.ip;
+        self.hostid = other.hostid.copy(alloc)?;
+        self.fs_allowed = other.fs_allowed.copy(alloc)?;
+        Ok(())
+    }
 
-#[derive(Drop)]
-struct Lists {
-    fs: Listing<Fs>,
-    net: Listing<Net>,
-    device: Listing<Text>,
-    rctl: Listing<Rctl>,
-    attr: Listing<Attr>,
-    dataset: Listing<Text>,
-}
+    fn copy_devices(&mut self, alloc: Global, other: &Contents) -> Result<(), AllocError>
+        ensures { OnOk result (self.new ≡ with_devices other.now self.old) }
+    {
+        self.fs = other.fs.try_clone(alloc)?;
+        self.net = other.net.try_clone(alloc)?;
+        self.device = other.device.try_clone(alloc)?;
+        Ok(())
+    }
 
-fn copy_boot(contents: &Contents, alloc: Global) -> Result<Boot, AllocError>
-    ensures { IfOk result (λ boot. boot ≡ boot_of contents.now) }
-{
-    Ok(Boot {
-        zonepath: contents.zonepath.try_clone(alloc)?,
-        brand: contents.brand.copy(alloc)?,
-        bootargs: contents.bootargs.copy(alloc)?,
-        pool: contents.pool.copy(alloc)?,
-    })
-}
-
-fn copy_rights(contents: &Contents, alloc: Global) -> Result<Rights, AllocError>
-    ensures { IfOk result (λ rights. rights ≡ rights_of contents.now) }
-{
-    Ok(Rights {
-        limitpriv: contents.limitpriv.copy(alloc)?,
-        class: contents.class.copy(alloc)?,
-        hostid: contents.hostid.copy(alloc)?,
-        fs_allowed: contents.fs_allowed.copy(alloc)?,
-    })
-}
-
-fn copy_lists(contents: &Contents, alloc: Global) -> Result<Lists, AllocError>
-    ensures { IfOk result (λ lists. lists ≡ lists_of contents.now) }
-{
-    Ok(Lists {
-        fs: contents.fs.try_clone(alloc)?,
-        net: contents.net.try_clone(alloc)?,
-        device: contents.device.try_clone(alloc)?,
-        rctl: contents.rctl.try_clone(alloc)?,
-        attr: contents.attr.try_clone(alloc)?,
-        dataset: contents.dataset.try_clone(alloc)?,
-    })
+    fn copy_controls(&mut self, alloc: Global, other: &Contents) -> Result<(), AllocError>
+        ensures { OnOk result (self.new ≡ with_controls other.now self.old) }
+    {
+        self.rctl = other.rctl.try_clone(alloc)?;
+        self.attr = other.attr.try_clone(alloc)?;
+        self.dataset = other.dataset.try_clone(alloc)?;
+        Ok(())
+    }
 }
 
 impl TryClone for Contents {
     fn try_clone(&self, alloc: Global) -> Result<Self, AllocError> {
-        let boot = copy_boot(self, alloc)?;
-        let rights = copy_rights(self, alloc)?;
-        let lists = copy_lists(self, alloc)?;
-        Ok(Contents {
-            zonepath: boot.zonepath,
-            brand: boot.brand,
-            autoboot: self.autoboot,
-            bootargs: boot.bootargs,
-            pool: boot.pool,
-            limitpriv: rights.limitpriv,
-            class: rights.class,
-            ip: self.ip,
-            hostid: rights.hostid,
-            fs_allowed: rights.fs_allowed,
-            fs: lists.fs,
-            net: lists.net,
-            device: lists.device,
-            rctl: lists.rctl,
-            attr: lists.attr,
-            dataset: lists.dataset,
-        })
+        let mut copy = Contents::blank(alloc);
+        copy.copy_boot(alloc, self)?;
+        copy.copy_rights(alloc, self)?;
+        copy.copy_devices(alloc, self)?;
+        copy.copy_controls(alloc, self)?;
+        Ok(copy)
     }
 }

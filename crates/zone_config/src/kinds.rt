@@ -54,7 +54,7 @@ macro_rules! kind_sum {
     };
 }
 
-// By the kind: a resource of what is made of its list.
+// By the kind: a resource of what is made of its list, where memory lasts.
 macro_rules! resource_by_kind {
     ($kind:expr, $contents:expr, |$list:ident| $body:expr) => {
         $crate::each_kind!(resource_arms, ($kind, $contents, $list, $body))
@@ -66,13 +66,13 @@ macro_rules! resource_arms {
         match $kind {
             $(Kind::$name => {
                 let $list = &$contents.$field;
-                Resource::$name($body)
+                $body.map(Resource::$name)
             })*
         }
     };
 }
 
-// The same, where the list may change.
+// By the kind: a resource of what is made of its list, which may change.
 macro_rules! resource_by_kind_mut {
     ($kind:expr, $contents:expr, |$list:ident| $body:expr) => {
         $crate::each_kind!(resource_arms_mut, ($kind, $contents, $list, $body))
@@ -133,6 +133,33 @@ macro_rules! entry_arms_mut {
     };
 }
 
+// The same, where what finds no memory comes back as a resource.
+macro_rules! resource_or_back {
+    ($resource:expr, $contents:expr, |$entry:ident, $list:ident| $body:expr) => {
+        $crate::each_kind!(arms_or_back, ($resource, $contents, $entry, $list, $body))
+    };
+}
+
+macro_rules! arms_or_back {
+    (
+        ($resource:expr, $contents:expr, $entry:ident, $list:ident, $body:expr),
+        $($name:ident $field:ident),*
+    ) => {
+        match $resource {
+            $(Resource::$name($entry) => {
+                let $list = &mut $contents.$field;
+                match $body {
+                    Ok(()) => Ok(()),
+                    Err(failed) => Err(AllocFailed {
+                        value: Resource::$name(failed.value),
+                    }),
+                }
+            })*
+        }
+    };
+}
+
+pub(crate) use arms_or_back;
 pub(crate) use by_resource;
 pub(crate) use by_resource_mut;
 pub(crate) use entry_arms;
@@ -142,4 +169,5 @@ pub(crate) use resource_arms;
 pub(crate) use resource_arms_mut;
 pub(crate) use resource_by_kind;
 pub(crate) use resource_by_kind_mut;
+pub(crate) use resource_or_back;
 pub(crate) use sum_of_kinds;

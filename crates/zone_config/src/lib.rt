@@ -19,7 +19,7 @@ mod terms;
 
 pub use config::{ZoneConfig, blank};
 pub use config_terms::{Attr, ConfigFault, Fs, IpType, Kind, Limit, Net, Rctl, Resource};
-use kinds::{entry_arms, entry_arms_mut, kind_sum, resource_arms, resource_arms_mut};
+use kinds::{arms_or_back, entry_arms, entry_arms_mut, kind_sum, resource_arms, resource_arms_mut};
 pub use laws::{clears_where_named, sets_where_allowed};
 pub use printing::export;
 pub use property::PROPERTIES;

@@ -24,7 +24,7 @@ impl Contents {
         requires { place < count_of kind self.now }
         ensures { IfOk result (λ r. r ≡ resource_at kind place self.now) }
     {
-        Ok(resource_by_kind!(kind, self, |list| list.at(place).try_clone(alloc)?))
+        resource_by_kind!(kind, self, |list| list.at(place).try_clone(alloc))
     }
 
     fn matches_at(&self, kind: Kind, wanted: &[Pair], place: usize) -> bool

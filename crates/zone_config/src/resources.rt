@@ -1,18 +1,20 @@
 //! The resources of a configuration, kind by kind.
-ghost use Rattle.std.specs.Prelude.{◌≡◌, ◌<◌, ◌≤◌, IfOk, IsTrue, OnErr, OnOk, Some, length, remove};
+ghost use Rattle.std.specs.Prelude.{◌≡◌, ◌<◌, ◌≤◌, IfErr, IfOk, IsTrue, OnErr, OnOk, Some, length, remove};
 ghost use Rattle.config_terms.specs.Allowed.{are_told_apart, is_taken};
 ghost use Rattle.config_terms.specs.Fields.{kind_of};
 ghost use Rattle.zone_config.specs.Resources.{IsLengthOf, added, are_apart, count_of, found, has_taken, has_taken_but, kind_passed, limit_passed, removed, replaced, text_at};
 ghost use Rattle.zone_config.specs.declared.limits.TheConstants.{RESOURCES_MAX};
 ghost use Rattle.zone_config.specs.Sound.{count};
 
-use crate::kinds::{by_resource, by_resource_mut, resource_by_kind_mut, sum_of_kinds};
+use crate::kinds::{
+    by_resource, by_resource_mut, resource_by_kind_mut, resource_or_back, sum_of_kinds,
+};
 use crate::limits::{FS_MAX, RESOURCES_MAX};
 use crate::{Contents, by_kind};
 use config_terms::{
     ConfigFault, Entry, Kind, Resource, entry_length, find_apart, is_taken, is_taken_but, keeps_key,
 };
-use std::alloc::AllocError;
+use std::alloc::AllocFailed;
 use zn_base::{Listing, Pair};
 
 // Whether another resource of a kind than the one at a place has a resource's key. Where the key is that one's,
@@ -77,12 +79,13 @@ impl Contents {
         })
     }
 
-    /// Puts a resource last in its kind. After a fault all is as before.
-    pub(crate) fn add(&mut self, resource: Resource) -> Result<(), AllocError>
+    /// Puts a resource last in its kind. Where memory runs out all is as before, and the resource comes back.
+    pub(crate) fn add(&mut self, resource: Resource) -> Result<(), AllocFailed<Resource>>
         ensures ok { OnOk result (self.new ≡ added resource self.old) }
         ensures err { OnErr result (self.new ≡ self.old) }
+        ensures back { IfErr result (λ failed. failed.value ≡ resource) }
     {
-        by_resource_mut!(resource, self, |entry, list| list.push(entry))
+        resource_or_back!(resource, self, |entry, list| list.try_push(entry))
     }
 
     /// Puts a resource in the place of another of its kind.

@@ -1,7 +1,7 @@
 use Rattle.std.proofs.Common.{◌≡◌, Ok}
 use Rattle.zone_config.specs.Resources.{length_of, with_replaced}
 use Rattle.zone_config.proofs.ResourceEdits.{is_checked, kept_checked}
-use Rattle.zone_config.proofs.config.ZoneConfig.put_checked.Goals as goal
+use Rattle.zone_config.proofs.config.ZoneConfig.put_replaced.Goals as goal
 
 pub invariant_of-self : goal.invariant_of-self
 invariant_of-self c =
