@@ -81,30 +81,7 @@ macro_rules! put_arms {
     };
 }
 
-// The edits of a list, of which the fs and the rctl alone have one.
-impl Fs {
-    fn edit(&mut self, alloc: Global, edit: ListEdit, value: &Value) -> Result<(), ConfigFault>
-        ensures { Changes self.old self.new result (fs_edited edit value.now self.old) }
-    {
-        match options_given(edit, value) {
-            None => Err(ConfigFault::BadValue),
-            Some(given) => edit_options(alloc, edit, &mut self.options, given),
-        }
-    }
-}
-
-impl Rctl {
-    fn edit(&mut self, alloc: Global, edit: ListEdit, value: &Value) -> Result<(), ConfigFault>
-        ensures { Changes self.old self.new result (rctl_edited edit value.now self.old) }
-    {
-        match limit_given(value) {
-            None => Err(ConfigFault::BadValue),
-            Some(given) => edit_list(alloc, edit, &mut self.values, &[given]),
-        }
-    }
-}
-
-// Of what nothing is set.
+// One of which nothing is set, and the edits of its list; a device or a dataset is then the empty text.
 impl Fs {
     fn empty(alloc: Global) -> Fs
         ensures { result ≡ fs_row.empty }
@@ -115,6 +92,15 @@ impl Fs {
             raw: Text::empty(alloc),
             fstype: Text::empty(alloc),
             options: Listing::new(alloc),
+        }
+    }
+
+    fn edit(&mut self, alloc: Global, edit: ListEdit, value: &Value) -> Result<(), ConfigFault>
+        ensures { Changes self.old self.new result (fs_edited edit value.now self.old) }
+    {
+        match options_given(edit, value) {
+            None => Err(ConfigFault::BadValue),
+            Some(given) => edit_options(alloc, edit, &mut self.options, given),
         }
     }
 }
@@ -139,6 +125,15 @@ impl Rctl {
         Rctl {
             name: Text::empty(alloc),
             values: Listing::new(alloc),
+        }
+    }
+
+    fn edit(&mut self, alloc: Global, edit: ListEdit, value: &Value) -> Result<(), ConfigFault>
+        ensures { Changes self.old self.new result (rctl_edited edit value.now self.old) }
+    {
+        match limit_given(value) {
+            None => Err(ConfigFault::BadValue),
+            Some(given) => edit_list(alloc, edit, &mut self.values, &[given]),
         }
     }
 }
