@@ -6,7 +6,7 @@ use Rattle.std.proofs.lemmas.Bool.{and_parts}
 use Rattle.std.proofs.lemmas.Bool.Decides.{nat_tests}
 use Rattle.std.proofs.lemmas.List.Folds.{list_all-append}
 use Rattle.config_terms.specs.Allowed.{has_key, is_allowed, is_taken, is_taken_by}
-use Rattle.config_terms.specs.Fields.{attr_shown, fs_shown, key_field, net_shown, rctl_shown}
+use Rattle.config_terms.specs.Fields.{attr_shown, fs_shown, key_field, kinds, net_shown, rctl_shown}
 use Rattle.config_terms.specs.declared.fields.Field.{Field}
 use Rattle.config_terms.specs.declared.fields.Field.TheVariants.{DeviceMatch, RctlName, AttrName, DatasetName}
 use Rattle.config_terms.specs.declared.terms.Attr as attr
@@ -20,7 +20,7 @@ use Rattle.config_terms.specs.declared.terms.Resource.{Resource}
 use Rattle.config_terms.specs.declared.terms.Resource.TheVariants.{Fs, Net, Device, Rctl, Attr, Dataset}
 use Rattle.config_terms.specs.Edits.{attr_with, dataset_with, device_with, fs_with, net_with, rctl_with}
 use Rattle.export_read.proofs.Texts.{text-script, text_of}
-use Rattle.export_read.specs.Commands.{attr_commands, dataset_commands, device_commands, entry_commands, fs_commands, net_commands, property_commands, rctl_commands, script}
+use Rattle.export_read.specs.Commands.{entry_commands, kind_commands, property_commands, resource_commands, script}
 use Rattle.export_read.specs.declared.command.Command.{Command}
 use Rattle.export_read.specs.declared.command.Command.TheVariants.{Create}
 use Rattle.zone_config.specs.Export.{export_text}
@@ -70,6 +70,10 @@ module _ {A : Type 0} (k : Kind) (wrap : A → Resource) (shown : A → Field �
 length_at : {A : Type 0} (pre post all : List A) (x : A) → pre ++ x ∷ post ≡ all → length all ≡ length pre + suc (length post)
 length_at pre post all x at = ap length (sym at) ∙ length-append pre (x ∷ post)
 
+-- the commands of resources that are made of a list
+abbrev commands_of : {A : Type 0} → (A → Resource) → List A → List Command
+commands_of wrap xs = flat_map (λ x. resource_commands (wrap x)) xs
+
 module _ (c : Contents) (sound : IsSound c) where
   abbrev now_fs : List fs.Fs → Contents
   now_fs xs = record (without_resources c) { fs = xs }
@@ -93,55 +97,55 @@ module _ (c : Contents) (sound : IsSound c) where
   H = Create ∷ flat_map (property_commands c) properties
 
   abbrev F : List Command
-  F = flat_map fs_commands c.fs
+  F = commands_of Fs c.fs
 
   abbrev N : List Command
-  N = flat_map net_commands c.net
+  N = commands_of Net c.net
 
   abbrev D : List Command
-  D = flat_map device_commands c.device
+  D = commands_of Device c.device
 
   abbrev R : List Command
-  R = flat_map rctl_commands c.rctl
+  R = commands_of Rctl c.rctl
 
   abbrev A : List Command
-  A = flat_map attr_commands c.attr
+  A = commands_of Attr c.attr
 
   abbrev S : List Command
-  S = flat_map dataset_commands c.dataset
+  S = commands_of Dataset c.dataset
 
   all_commands : script c ≡ H ++ (F ++ (N ++ (D ++ (R ++ (A ++ S)))))
   unfolding script
-  all_commands = refl
+  all_commands = ap (λ l. H ++ (F ++ (N ++ (D ++ (R ++ (A ++ l)))))) (append-nil S)
 
   whole_text : (q : List Command) → script c ≡ q → export_text c ≡ text_of q
   whole_text q e = sym (text-script c) ∙ ap text_of e
 
-  fs_script : (xs : List fs.Fs) → script (now_fs xs) ≡ H ++ flat_map fs_commands xs
+  fs_script : (xs : List fs.Fs) → script (now_fs xs) ≡ H ++ commands_of Fs xs
   unfolding script
-  fs_script xs = ap (λ l. H ++ l) (append-nil (flat_map fs_commands xs))
+  fs_script xs = ap (λ l. H ++ l) (append-nil (commands_of Fs xs))
 
-  net_script : (xs : List net.Net) → script (now_net xs) ≡ (H ++ F) ++ flat_map net_commands xs
+  net_script : (xs : List net.Net) → script (now_net xs) ≡ (H ++ F) ++ commands_of Net xs
   unfolding script
-  net_script xs = ap (λ l. H ++ (F ++ l)) (append-nil (flat_map net_commands xs)) ∙ sym (append_assoc H F (flat_map net_commands xs))
+  net_script xs = ap (λ l. H ++ (F ++ l)) (append-nil (commands_of Net xs)) ∙ sym (append_assoc H F (commands_of Net xs))
 
-  device_script : (xs : List (List ℕ)) → script (now_device xs) ≡ ((H ++ F) ++ N) ++ flat_map device_commands xs
+  device_script : (xs : List (List ℕ)) → script (now_device xs) ≡ ((H ++ F) ++ N) ++ commands_of Device xs
   unfolding script
-  device_script xs = ap (λ l. H ++ (F ++ (N ++ l))) (append-nil (flat_map device_commands xs)) ∙ four H F N (flat_map device_commands xs)
+  device_script xs = ap (λ l. H ++ (F ++ (N ++ l))) (append-nil (commands_of Device xs)) ∙ four H F N (commands_of Device xs)
     where
       four : (a b c d : List Command) → a ++ (b ++ (c ++ d)) ≡ ((a ++ b) ++ c) ++ d
       four a b c d = simp append_assoc refl
 
-  rctl_script : (xs : List rctl.Rctl) → script (now_rctl xs) ≡ (((H ++ F) ++ N) ++ D) ++ flat_map rctl_commands xs
+  rctl_script : (xs : List rctl.Rctl) → script (now_rctl xs) ≡ (((H ++ F) ++ N) ++ D) ++ commands_of Rctl xs
   unfolding script
-  rctl_script xs = ap (λ l. H ++ (F ++ (N ++ (D ++ l)))) (append-nil (flat_map rctl_commands xs)) ∙ five H F N D (flat_map rctl_commands xs)
+  rctl_script xs = ap (λ l. H ++ (F ++ (N ++ (D ++ l)))) (append-nil (commands_of Rctl xs)) ∙ five H F N D (commands_of Rctl xs)
     where
       five : (a b c d e : List Command) → a ++ (b ++ (c ++ (d ++ e))) ≡ (((a ++ b) ++ c) ++ d) ++ e
       five a b c d e = simp append_assoc refl
 
-  attr_script : (xs : List attr.Attr) → script (now_attr xs) ≡ ((((H ++ F) ++ N) ++ D) ++ R) ++ flat_map attr_commands xs
+  attr_script : (xs : List attr.Attr) → script (now_attr xs) ≡ ((((H ++ F) ++ N) ++ D) ++ R) ++ commands_of Attr xs
   unfolding script
-  attr_script xs = ap (λ l. H ++ (F ++ (N ++ (D ++ (R ++ l))))) (append-nil (flat_map attr_commands xs)) ∙ six H F N D R (flat_map attr_commands xs)
+  attr_script xs = ap (λ l. H ++ (F ++ (N ++ (D ++ (R ++ l))))) (append-nil (commands_of Attr xs)) ∙ six H F N D R (commands_of Attr xs)
     where
       six : (a b c d e f : List Command) → a ++ (b ++ (c ++ (d ++ (e ++ f)))) ≡ ((((a ++ b) ++ c) ++ d) ++ e) ++ f
       six a b c d e f = simp append_assoc refl
@@ -149,15 +153,15 @@ module _ (c : Contents) (sound : IsSound c) where
   seven : (a b c d e f g : List Command) → a ++ (b ++ (c ++ (d ++ (e ++ (f ++ g))))) ≡ (((((a ++ b) ++ c) ++ d) ++ e) ++ f) ++ g
   seven a b c d e f g = simp append_assoc refl
 
-  dataset_script : (xs : List (List ℕ)) → script (now_dataset xs) ≡ (((((H ++ F) ++ N) ++ D) ++ R) ++ A) ++ flat_map dataset_commands xs
+  dataset_script : (xs : List (List ℕ)) → script (now_dataset xs) ≡ (((((H ++ F) ++ N) ++ D) ++ R) ++ A) ++ commands_of Dataset xs
   unfolding script
-  dataset_script xs = seven H F N D R A (flat_map dataset_commands xs)
+  dataset_script xs = ap (λ l. H ++ (F ++ (N ++ (D ++ (R ++ (A ++ l)))))) (append-nil (commands_of Dataset xs)) ∙ seven H F N D R A (commands_of Dataset xs)
 
   few : length c.fs + length c.net + length c.device + length c.rctl + length c.attr + length c.dataset ≤ 256
   unfolding count
   few = omega (arith, sound.resources.few)
 
-  fs_place : IsPlace kind.Fs Fs fs_shown fs_options fs_commands c now_fs H (N ++ (D ++ (R ++ (A ++ S)))) c.fs
+  fs_place : IsPlace kind.Fs Fs fs_shown fs_options (λ x. resource_commands (Fs x)) c now_fs H (N ++ (D ++ (R ++ (A ++ S)))) c.fs
   unfolding count
   fs_place = record {
     text = λ xs. sym (text-script (now_fs xs)) ∙ ap text_of (fs_script xs);
@@ -176,7 +180,7 @@ module _ (c : Contents) (sound : IsSound c) where
         rw (all, own, less) refl;
   }
 
-  net_place : IsPlace kind.Net Net net_shown no_options net_commands c now_net (H ++ F) (D ++ (R ++ (A ++ S))) c.net
+  net_place : IsPlace kind.Net Net net_shown no_options (λ x. resource_commands (Net x)) c now_net (H ++ F) (D ++ (R ++ (A ++ S))) c.net
   unfolding count
   net_place = record {
     text = λ xs. sym (text-script (now_net xs)) ∙ ap text_of (net_script xs);
@@ -193,7 +197,7 @@ module _ (c : Contents) (sound : IsSound c) where
         rw all refl;
   }
 
-  device_place : IsPlace kind.Device Device device_shown no_options device_commands c now_device ((H ++ F) ++ N) (R ++ (A ++ S)) c.device
+  device_place : IsPlace kind.Device Device device_shown no_options (λ x. resource_commands (Device x)) c now_device ((H ++ F) ++ N) (R ++ (A ++ S)) c.device
   unfolding count
   device_place = record {
     text = λ xs. sym (text-script (now_device xs)) ∙ ap text_of (device_script xs);
@@ -213,7 +217,7 @@ module _ (c : Contents) (sound : IsSound c) where
       four : (a b c d : List Command) → a ++ (b ++ (c ++ d)) ≡ ((a ++ b) ++ c) ++ d
       four a b c d = simp append_assoc refl
 
-  rctl_place : IsPlace kind.Rctl Rctl rctl_shown no_options rctl_commands c now_rctl (((H ++ F) ++ N) ++ D) (A ++ S) c.rctl
+  rctl_place : IsPlace kind.Rctl Rctl rctl_shown no_options (λ x. resource_commands (Rctl x)) c now_rctl (((H ++ F) ++ N) ++ D) (A ++ S) c.rctl
   unfolding count
   rctl_place = record {
     text = λ xs. sym (text-script (now_rctl xs)) ∙ ap text_of (rctl_script xs);
@@ -233,7 +237,7 @@ module _ (c : Contents) (sound : IsSound c) where
       five : (a b c d e : List Command) → a ++ (b ++ (c ++ (d ++ e))) ≡ (((a ++ b) ++ c) ++ d) ++ e
       five a b c d e = simp append_assoc refl
 
-  attr_place : IsPlace kind.Attr Attr attr_shown no_options attr_commands c now_attr ((((H ++ F) ++ N) ++ D) ++ R) S c.attr
+  attr_place : IsPlace kind.Attr Attr attr_shown no_options (λ x. resource_commands (Attr x)) c now_attr ((((H ++ F) ++ N) ++ D) ++ R) S c.attr
   unfolding count
   attr_place = record {
     text = λ xs. sym (text-script (now_attr xs)) ∙ ap text_of (attr_script xs);
@@ -253,7 +257,7 @@ module _ (c : Contents) (sound : IsSound c) where
       six : (a b c d e f : List Command) → a ++ (b ++ (c ++ (d ++ (e ++ f)))) ≡ ((((a ++ b) ++ c) ++ d) ++ e) ++ f
       six a b c d e f = simp append_assoc refl
 
-  dataset_place : IsPlace kind.Dataset Dataset dataset_shown no_options dataset_commands c now_dataset (((((H ++ F) ++ N) ++ D) ++ R) ++ A) [] c.dataset
+  dataset_place : IsPlace kind.Dataset Dataset dataset_shown no_options (λ x. resource_commands (Dataset x)) c now_dataset (((((H ++ F) ++ N) ++ D) ++ R) ++ A) [] c.dataset
   unfolding count
   dataset_place = record {
     text = λ xs. sym (text-script (now_dataset xs)) ∙ ap text_of (dataset_script xs);
@@ -271,7 +275,7 @@ module _ (c : Contents) (sound : IsSound c) where
   }
 
   -- all resources of a configuration are walked, kind by kind
-  pub walk_resources : Walks H (closed (without_resources c)) (F ++ (N ++ (D ++ (R ++ (A ++ S))))) (closed c)
+  pub walk_resources : Walks H (closed (without_resources c)) (flat_map (kind_commands c) kinds) (closed c)
   walk_resources =
       let each = sound.resources.kinds in
       let fs = walk_kind kind.Fs Fs fs_shown fs_options fs_values fs_with fs_whole no_fs fs_form c now_fs H (N ++ (D ++ (R ++ (A ++ S)))) c.fs fs_place (each kind.Fs).each (each kind.Fs).once (each kind.Fs).few_options in
@@ -280,8 +284,10 @@ module _ (c : Contents) (sound : IsSound c) where
       let rctl = walk_kind kind.Rctl Rctl rctl_shown no_options rctl_values rctl_with always_whole no_rctl rctl_form c now_rctl (((H ++ F) ++ N) ++ D) (A ++ S) c.rctl rctl_place (each kind.Rctl).each (each kind.Rctl).once (each kind.Rctl).few_options in
       let attr = walk_kind kind.Attr Attr attr_shown no_options no_values attr_with always_whole no_attr attr_form c now_attr ((((H ++ F) ++ N) ++ D) ++ R) S c.attr attr_place (each kind.Attr).each (each kind.Attr).once (each kind.Attr).few_options in
       let dataset = walk_kind kind.Dataset Dataset dataset_shown no_options no_values dataset_with always_whole [] dataset_form c now_dataset (((((H ++ F) ++ N) ++ D) ++ R) ++ A) [] c.dataset dataset_place (each kind.Dataset).each (each kind.Dataset).once (each kind.Dataset).few_options in
-      walk-then F (N ++ (D ++ (R ++ (A ++ S)))) H (closed (without_resources c)) (closed (now_fs c.fs)) (closed c) fs
+      let W : List Command → Type 0 = λ l. Walks H (closed (without_resources c)) (F ++ (N ++ (D ++ (R ++ (A ++ l))))) (closed c) in
+      subst W (sym (append-nil S))
+      (walk-then F (N ++ (D ++ (R ++ (A ++ S)))) H (closed (without_resources c)) (closed (now_fs c.fs)) (closed c) fs
       (walk-then N (D ++ (R ++ (A ++ S))) (H ++ F) (closed (now_fs c.fs)) (closed (now_net c.net)) (closed c) net
       (walk-then D (R ++ (A ++ S)) ((H ++ F) ++ N) (closed (now_net c.net)) (closed (now_device c.device)) (closed c) device
       (walk-then R (A ++ S) (((H ++ F) ++ N) ++ D) (closed (now_device c.device)) (closed (now_rctl c.rctl)) (closed c) rctl
-      (walk-then A S ((((H ++ F) ++ N) ++ D) ++ R) (closed (now_rctl c.rctl)) (closed (now_attr c.attr)) (closed c) attr dataset))))
+      (walk-then A S ((((H ++ F) ++ N) ++ D) ++ R) (closed (now_rctl c.rctl)) (closed (now_attr c.attr)) (closed c) attr dataset)))))

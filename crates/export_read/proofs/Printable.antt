@@ -1,5 +1,5 @@
 -- What a rule allows is printable, and so is each line of a sound configuration.
-use Rattle.std.proofs.Common.{◌≡◌, ◌≤◌, ◌+◌, ℕ, suc, Bool, true, false, cond, not, ◌&&◌, List, [], ◌∷◌, ◌++◌, length, Option, Some, None, Err, refl, ap, ◌∙◌, arith, nat_lt, codes, inl, inr}
+use Rattle.std.proofs.Common.{◌≡◌, ◌≤◌, ◌+◌, ℕ, suc, Bool, true, false, cond, not, ◌&&◌, List, [], ◌∷◌, ◌++◌, length, Option, Some, None, Err, refl, ap, sym, subst, ◌∙◌, arith, nat_lt, codes, inl, inr}
 use Rattle.std.specs.Prelude.{◌==◌, nat_le, is_ok, map}
 use Rattle.std.specs.List.{flat_map, list_all, list_any, position_or_len, slice_split, onto_first}
 use Rattle.std.specs.Str.{bytes_eq}
@@ -10,21 +10,25 @@ use Rattle.zn_base.specs.declared.path.PathFault.TheVariants.{NotAbsolute, PathL
 use Rattle.zn_base.specs.Names.{is_name_byte}
 use Rattle.zn_base.specs.Path.{first_bad, first_bad_below_root, is_component, is_component_byte, is_path, is_slash, path_from_root, path_unless}
 use Rattle.zn_base.specs.Text.{is_text, is_text_byte}
-use Rattle.config_terms.specs.Allowed.{attr_allowed, dataset_allowed, device_allowed, entry_allowed, fields_fit, fs_allowed, is_allowed_limit, is_kept_path, net_allowed, rctl_allowed}
-use Rattle.config_terms.specs.Fields.{field_name, field_rule, fields_of, fs_shown}
+use Rattle.config_terms.specs.Allowed.{entry_allowed, fields_fit, is_allowed, is_allowed_limit, is_kept_path}
+use Rattle.config_terms.specs.Fields.{field_name, field_rule, fields_of, fs_shown, kind_of, kinds, resource_options, resource_shown, resource_values}
 use Rattle.config_terms.specs.Numbers.{is_limit}
 use Rattle.config_terms.specs.declared.fields.Field.{Field}
 use Rattle.config_terms.specs.declared.fields.Field.TheVariants.{FsDir, FsSpecial, FsRaw, FsType, NetAddress, NetAllowed, NetPhysical, NetDefrouter, DeviceMatch, RctlName, AttrName, AttrType, AttrValue, DatasetName}
 use Rattle.config_terms.specs.declared.terms.Kind.{Kind}
 use Rattle.config_terms.specs.declared.terms.Kind.TheVariants as kind
 use Rattle.config_terms.specs.declared.terms.Limit.{Limit}
+use Rattle.config_terms.specs.declared.terms.Resource.{Resource}
+use Rattle.config_terms.specs.declared.terms.Resource.TheVariants.{Fs}
 use Rattle.export_read.proofs.Again.{IsPlain, none_of}
-use Rattle.export_read.specs.Commands.{attr_commands, dataset_commands, device_commands, entry_commands, fs_commands, net_commands, property_commands, rctl_commands, script, where_any, where_set}
+use Rattle.export_read.specs.Commands.{entry_commands, kind_commands, property_commands, resource_commands, script, where_any, where_set}
 use Rattle.export_read.specs.Reading.{is_comma, is_equals}
 use Rattle.export_read.specs.declared.command.Command.{Command}
 use Rattle.export_read.specs.declared.command.Command.TheVariants.{End, Value}
+use Rattle.zone_config.proofs.Rows.{IsLawful, each_kind, sound-row}
+use Rattle.zone_config.specs.Kinds.{Row}
 use Rattle.zone_config.specs.Property.{properties, property_name, property_rule, shown}
-use Rattle.zone_config.specs.Sound.{IsSound}
+use Rattle.zone_config.specs.Sound.{HasSoundResources, IsSound}
 use Rattle.zone_config.specs.declared.terms.Contents.{Contents}
 use Rattle.zone_config.specs.declared.terms.Property.{Property}
 use Rattle.zone_config.specs.declared.terms.Property.TheVariants.{Zonepath, Brand, Autoboot, Bootargs, Pool, Limitpriv, SchedulingClass, IpType, Hostid, FsAllowed}
@@ -261,21 +265,25 @@ plain-entry k shown options values h =
           (plain-append (where_any options) (map (λ v. Value v) values ++ End ∷ []) (any_plain options g.1) (plain-append (map (λ v. Value v) values) (End ∷ []) (values_plain values h.1) (tt, tt))),
     )
 
+plain-resource : (r : Resource) → is_allowed r ≡ true → ArePlain (resource_commands r)
+plain-resource (Fs f) h = plain-entry _ _ _ _ (let g : (is_kept_path f.dir ≡ true) × (entry_allowed kind.Fs (fs_shown f) f.options [] ≡ true) = and_parts _ _ h in g.1)
+plain-resource r h = plain-entry (kind_of r) (resource_shown r) (resource_options r) (resource_values r) h
+
+plain-row : (A : Type 0) (row : Row A) → IsLawful row → (c : Contents) → HasSoundResources c → ArePlain (kind_commands c row.kind)
+plain-row A row law c s =
+    let plain = plain-each (λ x. resource_commands (row.make x)) (λ x. is_allowed (row.make x)) (λ x. plain-resource (row.make x)) (row.list c) (sound-row row law c s).each in
+    subst ArePlain (sym (law.known.of_kind (List Command) (λ B other. flat_map (λ x. resource_commands (other.make x)) (other.list c)))) plain
+
 -- each line of a sound configuration says its command
 pub plain-script : (c : Contents) → IsSound c → ArePlain (script c)
 unfolding script
 plain-script c s =
-    let r = s.resources in (
-      tt,
-      plain-append _ _ (all_properties properties)
-          (plain-append _ _ (plain-each fs_commands fs_allowed (λ f h. plain-entry _ _ _ _ (let g : (is_kept_path f.dir ≡ true) × (entry_allowed kind.Fs (fs_shown f) f.options [] ≡ true) = and_parts _ _ h in g.1)) c.fs (r.kinds kind.Fs).each)
-          (plain-append _ _ (plain-each net_commands net_allowed (λ n h. plain-entry _ _ _ _ h) c.net (r.kinds kind.Net).each)
-          (plain-append _ _ (plain-each device_commands device_allowed (λ m h. plain-entry _ _ _ _ h) c.device (r.kinds kind.Device).each)
-          (plain-append _ _ (plain-each rctl_commands rctl_allowed (λ r h. plain-entry _ _ _ _ h) c.rctl (r.kinds kind.Rctl).each)
-          (plain-append _ _ (plain-each attr_commands attr_allowed (λ a h. plain-entry _ _ _ _ h) c.attr (r.kinds kind.Attr).each)
-          (plain-each dataset_commands dataset_allowed (λ d h. plain-entry _ _ _ _ h) c.dataset (r.kinds kind.Dataset).each)))))),
-    )
+    (tt, plain-append _ _ (all_properties properties) (all_kinds kinds))
   where
     all_properties : (ps : List Property) → ArePlain (flat_map (property_commands c) ps)
     all_properties [] = tt
     all_properties (p ∷ ps) = plain-append (property_commands c p) (flat_map (property_commands c) ps) (row_plain (property_name p) (property_rule p) (shown p c) (property_row p) (s.properties.values p)) (all_properties ps)
+
+    all_kinds : (ks : List Kind) → ArePlain (flat_map (kind_commands c) ks)
+    all_kinds [] = tt
+    all_kinds (k ∷ ks) = plain-append (kind_commands c k) (flat_map (kind_commands c) ks) (each_kind (λ k. ArePlain (kind_commands c k)) (λ A row law. plain-row A row law c s.resources) k) (all_kinds ks)

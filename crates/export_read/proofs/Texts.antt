@@ -1,17 +1,19 @@
 -- An export text is its script.
-use Rattle.std.proofs.Common.{◌≡◌, ℕ, List, [], ◌∷◌, ◌++◌, refl, ap, ◌∙◌, append_assoc, append-nil, codes}
+use Rattle.std.proofs.Common.{◌≡◌, ℕ, List, [], ◌∷◌, ◌++◌, refl, ap, sym, ◌∙◌, append_assoc, append-nil, codes}
 use Rattle.std.specs.Prelude.{map}
 use Rattle.std.specs.List.{flat_map}
 use Rattle.std.proofs.lemmas.List.Concat.{flat_map-append}
-use Rattle.config_terms.specs.Fields.{field_name, fields_of, kind_name}
-use Rattle.config_terms.specs.Texts.{attr_text, dataset_text, device_text, entry_text, fs_text, limit_line, limit_lines, limit_text, net_text, options_line, options_text, rctl_text, setting, settings}
+use Rattle.config_terms.specs.Fields.{field_name, fields_of, kind_name, kinds}
+use Rattle.config_terms.specs.Texts.{entry_text, limit_line, limit_lines, limit_text, options_line, options_text, setting, settings}
 use Rattle.config_terms.specs.declared.fields.Field.{Field}
 use Rattle.config_terms.specs.declared.terms.Kind.{Kind}
 use Rattle.config_terms.specs.declared.terms.Limit.{Limit}
-use Rattle.export_read.specs.Commands.{attr_commands, dataset_commands, device_commands, entry_commands, fs_commands, line_of, net_commands, property_commands, rctl_commands, script, where_any, where_set}
+use Rattle.export_read.specs.Commands.{entry_commands, kind_commands, line_of, property_commands, resource_commands, script, where_any, where_set}
 use Rattle.export_read.specs.declared.command.Command.{Command}
 use Rattle.export_read.specs.declared.command.Command.TheVariants.{Value, End}
-use Rattle.zone_config.specs.Export.{export_text, property_line}
+use Rattle.zone_config.proofs.Rows.{IsLawful, each_kind}
+use Rattle.zone_config.specs.Export.{export_text, kind_text, property_line}
+use Rattle.zone_config.specs.Kinds.{Row}
 use Rattle.zone_config.specs.Property.{properties}
 use Rattle.zone_config.specs.declared.terms.Contents.{Contents}
 
@@ -56,8 +58,11 @@ text-entry k shown options values =
     (text-both (map (λ v. Value v) values) (End ∷ []) _ (codes "end\n") (text-values values) refl)) in
     ap (λ l. codes "add " ++ l) (append_assoc (kind_name k) (10 ∷ []) _ ∙ ap (λ l. kind_name k ++ 10 ∷ l) body)
 
-regroup : (a b c d e f g h : List ℕ) → a ++ (b ++ (c ++ (d ++ (e ++ (f ++ (g ++ h)))))) ≡ a ++ b ++ (c ++ (d ++ (e ++ (f ++ (g ++ (h ++ []))))))
-regroup a b c d e f g h = simp (append_assoc, append-nil) refl
+text-row : (A : Type 0) (row : Row A) → IsLawful row → (c : Contents) → text_of (kind_commands c row.kind) ≡ kind_text c row.kind
+text-row A row law c =
+    ap text_of (law.known.of_kind (List Command) (λ B other. flat_map (λ x. resource_commands (other.make x)) (other.list c)))
+    ∙ text-each (λ x. resource_commands (row.make x)) row.text (λ x. text-entry _ _ _ _ ∙ law.known.text x) (row.list c)
+    ∙ sym (law.known.of_kind (List ℕ) (λ B other. flat_map other.text (other.list c)))
 
 -- the text is the script's
 pub text-script : (c : Contents) → text_of (script c) ≡ export_text c
@@ -65,11 +70,5 @@ unfolding script export_text
 text-script c =
     ap (λ l. codes "create -b\n" ++ l)
     (text-both _ _ _ _ (text-each (property_commands c) (property_line c) (λ p. text-where_set _ _) properties)
-    (text-both _ _ _ _ (text-each fs_commands fs_text (λ f. text-entry _ _ _ _) c.fs)
-    (text-both _ _ _ _ (text-each net_commands net_text (λ n. text-entry _ _ _ _) c.net)
-    (text-both _ _ _ _ (text-each device_commands device_text (λ m. text-entry _ _ _ _) c.device)
-    (text-both _ _ _ _ (text-each rctl_commands rctl_text (λ r. text-entry _ _ _ _) c.rctl)
-    (text-both _ _ _ _ (text-each attr_commands attr_text (λ a. text-entry _ _ _ _) c.attr)
-    (text-each dataset_commands dataset_text (λ d. text-entry _ _ _ _) c.dataset)))))))
-    ∙ regroup (codes "create -b\n") (flat_map (property_line c) properties) (flat_map fs_text c.fs) (flat_map net_text c.net) (flat_map device_text c.device)
-    (flat_map rctl_text c.rctl) (flat_map attr_text c.attr) (flat_map dataset_text c.dataset)
+    (text-each (kind_commands c) (kind_text c) (each_kind (λ k. text_of (kind_commands c k) ≡ kind_text c k) (λ A row law. text-row A row law c)) kinds))
+    ∙ sym (append_assoc (codes "create -b\n") (flat_map (property_line c) properties) (flat_map (kind_text c) kinds))

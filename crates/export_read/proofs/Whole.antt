@@ -5,13 +5,14 @@ use Rattle.std.specs.List.{flat_map, starts_with}
 use Rattle.std.specs.Str.{bytes_eq}
 use Rattle.std.proofs.lemmas.List.{take-append-drop, take-take, take_at}
 use Rattle.std.proofs.lemmas.Slice.Eq.{bytes_eq-Decides}
+use Rattle.config_terms.specs.Fields.{kinds}
 use Rattle.config_terms.specs.declared.terms.Resource.{Resource}
 use Rattle.export_read.proofs.Again.{command_again}
 use Rattle.export_read.proofs.Cuts.{AreLines, lines_are, lines_of-ended}
 use Rattle.export_read.proofs.Printable.{ArePlain, plain-script}
 use Rattle.export_read.proofs.Rows.{ended-map, lines-script, plain_lines}
 use Rattle.export_read.proofs.Texts.{text_of}
-use Rattle.export_read.specs.Commands.{attr_commands, dataset_commands, device_commands, fs_commands, line_of, net_commands, property_commands, rctl_commands, script}
+use Rattle.export_read.specs.Commands.{kind_commands, line_of, property_commands, script}
 use Rattle.zn_base.specs.Lines.{lines_of}
 use Rattle.export_read.specs.Lines.{ended}
 use Rattle.export_read.specs.declared.command.Command.{Command}
@@ -38,7 +39,7 @@ pub walk : (c : Contents) → IsSound c → Walks [] start (script c) (closed c)
 unfolding script
 walk c sound =
     let P = flat_map (property_commands c) properties in
-    let R = flat_map fs_commands c.fs ++ (flat_map net_commands c.net ++ (flat_map device_commands c.device ++ (flat_map rctl_commands c.rctl ++ (flat_map attr_commands c.attr ++ flat_map dataset_commands c.dataset)))) in
+    let R = flat_map (kind_commands c) kinds in
     let globals = walk_properties c sound in
     let bare = same_properties c globals.end sound.properties.zonepath globals.kept globals.all.given in
     let W : Contents → Type 0 = λ s. Walks (Create ∷ []) start P (closed s) in

@@ -1,18 +1,15 @@
 -- The commands of an export text, and the lines that say them (zonecfg(8), export).
 use Rattle.std.specs.Prelude.{ℕ, List, [], ◌∷◌, ◌++◌, map, codes}
 use Rattle.std.specs.List.{flat_map}
-use Rattle.config_terms.specs.Fields.{attr_shown, field_name, fields_of, fs_shown, kind_name, net_shown, rctl_shown, text_shown}
+use Rattle.config_terms.specs.Fields.{field_name, fields_of, kind_name, kind_of, kinds, resource_options, resource_shown, resource_values}
 use Rattle.config_terms.specs.Texts.{limit_text, options_text, value_text}
 use Rattle.config_terms.specs.declared.fields.Field.{Field}
-use Rattle.config_terms.specs.declared.terms.Attr.{Attr}
-use Rattle.config_terms.specs.declared.terms.Fs.{Fs}
 use Rattle.config_terms.specs.declared.terms.Kind.{Kind}
-use Rattle.config_terms.specs.declared.terms.Kind.TheVariants as kind
 use Rattle.config_terms.specs.declared.terms.Limit.{Limit}
-use Rattle.config_terms.specs.declared.terms.Net.{Net}
-use Rattle.config_terms.specs.declared.terms.Rctl.{Rctl}
+use Rattle.config_terms.specs.declared.terms.Resource.{Resource}
 use Rattle.export_read.specs.declared.command.Command.{Command}
 use Rattle.export_read.specs.declared.command.Command.TheVariants.{Create, Set, Open, Options, Value, End}
+use Rattle.zone_config.specs.Kinds.{by_kind}
 use Rattle.zone_config.specs.Property.{properties, property_name, shown}
 use Rattle.zone_config.specs.declared.terms.Contents.{Contents}
 use Rattle.zone_config.specs.declared.terms.Property.{Property}
@@ -40,29 +37,16 @@ abbrev pub entry_commands : Kind → (Field → List ℕ) → List (List ℕ) �
 entry_commands k shown options values =
     Open k ∷ (flat_map (λ f. where_set (field_name f) (shown f)) (fields_of k) ++ (where_any options ++ (map (λ v. Value v) values ++ End ∷ [])))
 
-abbrev pub fs_commands : Fs → List Command
-fs_commands f = entry_commands kind.Fs (fs_shown f) f.options []
+abbrev pub resource_commands : Resource → List Command
+resource_commands r = entry_commands (kind_of r) (resource_shown r) (resource_options r) (resource_values r)
 
-abbrev pub net_commands : Net → List Command
-net_commands n = entry_commands kind.Net (net_shown n) [] []
-
-abbrev pub device_commands : List ℕ → List Command
-device_commands m = entry_commands kind.Device (text_shown m) [] []
-
-abbrev pub rctl_commands : Rctl → List Command
-rctl_commands r = entry_commands kind.Rctl (rctl_shown r) [] r.values
-
-abbrev pub attr_commands : Attr → List Command
-attr_commands a = entry_commands kind.Attr (attr_shown a) [] []
-
-abbrev pub dataset_commands : List ℕ → List Command
-dataset_commands d = entry_commands kind.Dataset (text_shown d) [] []
+-- the commands of the resources of a kind
+abbrev pub kind_commands : Contents → Kind → List Command
+kind_commands c k = by_kind k (λ A row. flat_map (λ x. resource_commands (row.make x)) (row.list c))
 
 abbrev pub property_commands : Contents → Property → List Command
 property_commands c p = where_set (property_name p) (shown p c)
 
 -- the commands of an export text, in order
 unfoldable pub script : Contents → List Command
-script c =
-    Create ∷ (flat_map (property_commands c) properties ++ (flat_map fs_commands c.fs ++ (flat_map net_commands c.net
-    ++ (flat_map device_commands c.device ++ (flat_map rctl_commands c.rctl ++ (flat_map attr_commands c.attr ++ flat_map dataset_commands c.dataset))))))
+script c = Create ∷ (flat_map (property_commands c) properties ++ flat_map (kind_commands c) kinds)

@@ -13,11 +13,11 @@ use Rattle.config_terms.specs.Texts.{resource_text}
 use Rattle.zone_config.specs.declared.terms.Contents.{Contents}
 use Rattle.zone_config.specs.Export.{export_text, sized}
 use Rattle.zone_config.specs.Kinds.{Row}
-use Rattle.zone_config.specs.Sound.{HasSoundResources, IsKept, IsSound, IsWithin, count, has_few_options}
+use Rattle.zone_config.specs.Sound.{AreSound, IsKept, IsSound, IsWithin, count, has_few_options}
 use Rattle.zone_config.specs.Resources.{added, are_apart, count_of, has_taken, has_taken_but, kind_passed, length_of, limit_passed, most_passed, removed, replaced, text_at, unless_passed, with_replaced, IsLengthOf}
 use Rattle.zone_config.proofs.Lists.{length-remove_one, length-slice_set, sound-push, sound-remove, sound-set, text-push, text-remove, text-set, text_within}
 use Rattle.zone_config.proofs.PropertyEdits.{Measures}
-use Rattle.zone_config.proofs.Rows.{IsLawful, SameProperties, added-row, count_of-row, each_kind, each_resource, has_taken-row, has_taken_but-row, kind_passed-row, removed-row, replaced-row, sound-row, text_at-row}
+use Rattle.zone_config.proofs.Rows.{IsLawful, added-row, count_of-row, each_kind, each_resource, has_taken-row, has_taken_but-row, kind_passed-row, removed-row, replaced-row, sound-row, text_at-row}
 
 no_limit : (n : ℕ) (o : Option ℕ) → cond (nat_le 256 n) (Some 256) o ≡ None → (n < 256) × (o ≡ None)
 no_limit n o h =
@@ -45,20 +45,6 @@ within_if_not_passed (Some most) n further h =
       | false ↦ λ e g. (grind (arith, nat_tests), g)
     ] refl h
 
--- properties as before, resources that are sound, and a short text
-pub kept-same : (c d : Contents) (n : ℕ) → IsSound c → SameProperties c d → HasSoundResources d → n ≡ length (export_text d) → n ≤ 32768 → IsKept d n
-kept-same c d n s same resources measured short = record {
-  measured = measured;
-  sound = record {
-    properties = record {
-      values = λ q. rw (same.shown q) (s.properties.values q);
-      zonepath = rw same.zonepath s.properties.zonepath;
-    };
-    resources = resources;
-    short = omega arith;
-  };
-}
-
 some_image : {A : Type 0} (f : A → List ℕ) (o : Option A) (t : List ℕ) → option_map f o ≡ Some t → (x : A) × ((o ≡ Some x) × (f x ≡ t))
 some_image f None t h = absurd (cc)
 some_image f (Some x) t h = (x, (refl, cc))
@@ -70,36 +56,44 @@ text-replaced f xs i x t h =
     let at = some_image f (slice_get xs i) t h in
     rw (← at.1.1) (text_within f xs i at.0 at.1.0, text-set f xs i x at.0 at.1.0)
 
+-- another list of a kind
+module _ {A : Type 0} (row : Row A) (law : IsLawful row) (c : Contents) (s : IsSound c) where
+  kept-put : (xs : List A) (n : ℕ) → AreSound row xs → count (row.put xs c) ≤ 256 → n ≡ length (export_text (row.put xs c)) → n ≤ 32768 → IsKept (row.put xs c) n
+  kept-put xs n own few measured short = record {
+    measured = measured;
+    sound = record {
+      properties = record {
+        values = λ q. rw ((law.properties xs c).shown q) (s.properties.values q);
+        zonepath = rw (law.properties xs c).zonepath s.properties.zonepath;
+      };
+      resources = record { kinds = law.put_sound xs c s.resources own; few = few };
+      short = omega arith;
+    };
+  }
+
 -- one more resource, and one in the place of another, by the row of their kind
 module _ (A : Type 0) (row : Row A) (law : IsLawful row) (c : Contents) (x : A) where
-  row_count-added : count (added (row.make x) c) ≡ count c + 1
-  row_count-added = rw (added-row row law c x) (omega (arith, law.counted (row.list c ++ x ∷ []) c, length-append (row.list c) (x ∷ [])))
-
-  row_sound-added : HasSoundResources c → is_allowed (row.make x) ≡ true → has_taken (row.make x) c ≡ false → count (added (row.make x) c) ≤ 256 → kind_passed (row.make x) c ≡ None
-      → HasSoundResources (added (row.make x) c)
-  row_sound-added s allowed free few room =
-      let within = within_if_not_passed row.most (length (row.list c)) (options_passed (row.make x)) (sym (kind_passed-row row law c x) ∙ room) in
-      let own = sound-push row (row.list c) (sound-row row law c s) x allowed (few_if_not_passed (row.make x) within.1) (sym (has_taken-row row law c x) ∙ free) within.0 in
-      record { kinds = rw (added-row row law c x) (law.put_sound (row.list c ++ x ∷ []) c s own); few = few }
-
-  row_same-added : SameProperties c (added (row.make x) c)
-  row_same-added = rw (added-row row law c x) (law.properties (row.list c ++ x ∷ []) c)
+  row_kept_added : (size n : ℕ) → IsKept c size → is_allowed (row.make x) ≡ true → has_taken (row.make x) c ≡ false → limit_passed (row.make x) c ≡ None
+      → n ≡ length (export_text (added (row.make x) c)) → n ≤ 32768 → IsKept (added (row.make x) c) n
+  row_kept_added size n k allowed free few measured short =
+      let xs = row.list c ++ x ∷ [] in
+      let same = added-row row law c x in
+      let room : (count c < 256) × (kind_passed (row.make x) c ≡ None) = no_limit (count c) (kind_passed (row.make x) c) few in
+      let within = within_if_not_passed row.most (length (row.list c)) (options_passed (row.make x)) (sym (kind_passed-row row law c x) ∙ room.1) in
+      let own = sound-push row (row.list c) (sound-row row law c k.sound.resources) x allowed (few_if_not_passed (row.make x) within.1) (sym (has_taken-row row law c x) ∙ free) within.0 in
+      rw same (kept-put row law c k.sound xs n own (omega (arith, room.0, law.counted xs c, length-append (row.list c) (x ∷ []))) (rw (← same) measured) short)
 
   row_size_added : (size : ℕ) → IsKept c size → size + length (resource_text (row.make x)) ≡ length (export_text (added (row.make x) c))
   row_size_added size k =
       rw (added-row row law c x, law.known.text x) (omega (arith, k.measured, law.measured (row.list c ++ x ∷ []) c, text-push row.text (row.list c) x))
 
-  row_sound-replaced : (place : ℕ) → HasSoundResources c → is_allowed (row.make x) ≡ true → has_taken_but place (row.make x) c ≡ false → options_passed (row.make x) ≡ None
-      → HasSoundResources (replaced place (row.make x) c)
-  row_sound-replaced place s allowed free few =
-      let own = sound-set row (row.list c) (sound-row row law c s) place x allowed (few_if_not_passed (row.make x) few) (sym (has_taken_but-row row law c place x) ∙ free) in
-      rw (replaced-row row law c place x) (record {
-        kinds = law.put_sound (slice_set (row.list c) place x) c s own;
-        few = omega (arith, s.few, law.counted (slice_set (row.list c) place x) c, length-slice_set (row.list c) place x);
-      })
-
-  row_same-replaced : (place : ℕ) → SameProperties c (replaced place (row.make x) c)
-  row_same-replaced place = rw (replaced-row row law c place x) (law.properties (slice_set (row.list c) place x) c)
+  row_kept_replaced : (place size n : ℕ) → IsKept c size → is_allowed (row.make x) ≡ true → has_taken_but place (row.make x) c ≡ false → options_passed (row.make x) ≡ None
+      → n ≡ length (export_text (replaced place (row.make x) c)) → n ≤ 32768 → IsKept (replaced place (row.make x) c) n
+  row_kept_replaced place size n k allowed free few measured short =
+      let xs = slice_set (row.list c) place x in
+      let same = replaced-row row law c place x in
+      let own = sound-set row (row.list c) (sound-row row law c k.sound.resources) place x allowed (few_if_not_passed (row.make x) few) (sym (has_taken_but-row row law c place x) ∙ free) in
+      rw same (kept-put row law c k.sound xs n own (omega (arith, k.sound.resources.few, law.counted xs c, length-slice_set (row.list c) place x)) (rw (← same) measured) short)
 
   row_size-set : (place : ℕ) (t : List ℕ) (size : ℕ) → IsKept c size → text_at place (kind_of (row.make x)) c ≡ Some t
       → Measures (length t) (length (resource_text (row.make x))) size (length (export_text (replaced place (row.make x) c)))
@@ -111,42 +105,21 @@ module _ (A : Type 0) (row : Row A) (law : IsLawful row) (c : Contents) (x : A) 
       rw (replaced-row row law c place x, law.known.text x) (record { within = omega (arith, k.measured); now = omega (arith, k.measured) })
 
 -- one more resource
-count-added : (r : Resource) (c : Contents) → count (added r c) ≡ count c + 1
-count-added r c = each_resource (λ r. count (added r c) ≡ count c + 1) (λ A row law. row_count-added A row law c) r
-
-sound-added : (r : Resource) (c : Contents) → HasSoundResources c → is_allowed r ≡ true → has_taken r c ≡ false → count (added r c) ≤ 256 → kind_passed r c ≡ None
-    → HasSoundResources (added r c)
-sound-added r c =
-    each_resource (λ r. HasSoundResources c → is_allowed r ≡ true → has_taken r c ≡ false → count (added r c) ≤ 256 → kind_passed r c ≡ None → HasSoundResources (added r c))
-    (λ A row law. row_sound-added A row law c) r
-
-same-added : (r : Resource) (c : Contents) → SameProperties c (added r c)
-same-added r c = each_resource (λ r. SameProperties c (added r c)) (λ A row law. row_same-added A row law c) r
-
 pub kept_added : (r : Resource) (c : Contents) (size n : ℕ) → IsKept c size → is_allowed r ≡ true → has_taken r c ≡ false → limit_passed r c ≡ None
     → n ≡ length (export_text (added r c)) → n ≤ 32768 → IsKept (added r c) n
-kept_added r c size n k a t l e short =
-    let room : (count c < 256) × (kind_passed r c ≡ None) = no_limit (count c) (kind_passed r c) l in
-    kept-same c (added r c) n k.sound (same-added r c) (sound-added r c k.sound.resources a t (omega (arith, count-added r c, room.0)) room.1) e short
+kept_added r c size n k =
+    each_resource (λ r. is_allowed r ≡ true → has_taken r c ≡ false → limit_passed r c ≡ None → n ≡ length (export_text (added r c)) → n ≤ 32768 → IsKept (added r c) n)
+    (λ A row law x. row_kept_added A row law c x size n k) r
 
 pub size_added : (r : Resource) (c : Contents) (size : ℕ) → IsKept c size → size + length (resource_text r) ≡ length (export_text (added r c))
-size_added r c =
-    each_resource (λ r. (size : ℕ) → IsKept c size → size + length (resource_text r) ≡ length (export_text (added r c))) (λ A row law. row_size_added A row law c) r
+size_added r c size k = each_resource (λ r. size + length (resource_text r) ≡ length (export_text (added r c))) (λ A row law x. row_size_added A row law c x size k) r
 
 -- a resource in the place of another
-sound-replaced : (r : Resource) (place : ℕ) (c : Contents) → HasSoundResources c → is_allowed r ≡ true → has_taken_but place r c ≡ false → options_passed r ≡ None
-    → HasSoundResources (replaced place r c)
-sound-replaced r place c =
-    each_resource (λ r. HasSoundResources c → is_allowed r ≡ true → has_taken_but place r c ≡ false → options_passed r ≡ None → HasSoundResources (replaced place r c))
-    (λ A row law x. row_sound-replaced A row law c x place) r
-
-same-replaced : (r : Resource) (place : ℕ) (c : Contents) → SameProperties c (replaced place r c)
-same-replaced r place c = each_resource (λ r. SameProperties c (replaced place r c)) (λ A row law x. row_same-replaced A row law c x place) r
-
 pub kept_replaced : (r : Resource) (place : ℕ) (c : Contents) (size n : ℕ) → IsKept c size → is_allowed r ≡ true → has_taken_but place r c ≡ false
     → options_passed r ≡ None → n ≡ length (export_text (replaced place r c)) → n ≤ 32768 → IsKept (replaced place r c) n
-kept_replaced r place c size n k a t l e short =
-    kept-same c (replaced place r c) n k.sound (same-replaced r place c) (sound-replaced r place c k.sound.resources a t l) e short
+kept_replaced r place c size n k =
+    each_resource (λ r. is_allowed r ≡ true → has_taken_but place r c ≡ false → options_passed r ≡ None → n ≡ length (export_text (replaced place r c)) → n ≤ 32768 → IsKept (replaced place r c) n)
+    (λ A row law x. row_kept_replaced A row law c x place size n k) r
 
 size-set : (r : Resource) (place : ℕ) (c : Contents) (t : List ℕ) (size : ℕ) → IsKept c size → text_at place (kind_of r) c ≡ Some t
     → Measures (length t) (length (resource_text r)) size (length (export_text (replaced place r c)))
@@ -178,24 +151,19 @@ image_case (Some x) make r d size each h =
     let Q : Contents → Type 0 = λ d. Leaves (make x).0 d size in
     subst P first (subst Q second (each x refl))
 
--- the rest of a configuration, where a part of its text is gone
-leaves_rest : (c d : Contents) (r : Resource) (size : ℕ) → IsKept c size → length (export_text d) + length (resource_text r) ≡ length (export_text c)
-    → SameProperties c d → HasSoundResources d → Leaves r d size
-leaves_rest c d r size k e same resources = record {
-  within = omega (arith, k.measured);
-  kept = kept-same c d (size - length (resource_text r)) k.sound same resources (omega (arith, k.measured)) (omega (arith, k.measured, k.sound.short));
-}
-
 module _ (A : Type 0) (row : Row A) (law : IsLawful row) (c : Contents) (size : ℕ) (k : IsKept c size) where
   row_leaves-at : (place : ℕ) (x : A) → slice_get (row.list c) place ≡ Some x → Leaves (row.make x) (row.put (remove (row.list c) place) c) size
   row_leaves-at place x at =
       let rest = remove (row.list c) place in
       let one = length-remove_one (row.list c) place x at in
       let text = text-remove row.text (row.list c) place x at in
-      leaves_rest c (row.put rest c) (row.make x) size k (rw (law.known.text x) (omega (arith, law.measured rest c))) (law.properties rest c) (record {
-        kinds = law.put_sound rest c k.sound.resources (sound-remove row (row.list c) (sound-row row law c k.sound.resources) place);
-        few = omega (arith, k.sound.resources.few, law.counted rest c);
-      })
+      let measured = law.measured rest c in
+      record {
+        within = rw (law.known.text x) (omega (arith, k.measured));
+        kept = rw (law.known.text x)
+            (kept-put row law c k.sound rest (size - length (row.text x)) (sound-remove row (row.list c) (sound-row row law c k.sound.resources) place)
+            (omega (arith, k.sound.resources.few, law.counted rest c)) (omega (arith, k.measured)) (omega (arith, k.measured, k.sound.short)));
+      }
 
   row_leaves : (place : ℕ) (d : Contents) (r : Resource) → removed row.kind place c ≡ Some (r, d) → Leaves r d size
   row_leaves place d r h =

@@ -19,6 +19,7 @@ mod terms;
 
 pub use config::{ZoneConfig, blank};
 pub use config_terms::{Attr, ConfigFault, Fs, IpType, Kind, Limit, Net, Rctl, Resource};
+// Here `each_kind!` looks for what it is given.
 use kinds::{arms_or_back, entry_arms, entry_arms_mut, kind_sum, resource_arms, resource_arms_mut};
 pub use laws::{clears_where_named, sets_where_allowed};
 pub use printing::export;
