@@ -4,6 +4,7 @@ pub mod Steps
 pub mod Branded
 pub mod SameKind
 pub mod InPlace
+pub mod Ending
 pub mod Followed
 pub mod Changed
 pub mod Ran

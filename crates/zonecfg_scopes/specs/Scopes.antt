@@ -11,7 +11,7 @@ use Rattle.zone_config.specs.declared.terms.Contents.{Contents}
 use Rattle.zone_config.specs.Edits.{with_property, without_property}
 use Rattle.zone_config.specs.Property.{blank}
 use Rattle.zone_config.specs.Removal.{given, resource_at, without_all, without_found}
-use Rattle.zone_config.specs.Resources.{count_of, found, with_replaced, with_resource}
+use Rattle.zone_config.specs.Resources.{count_of, found, length_of, with_replaced, with_resource}
 use Rattle.zonecfg_scopes.specs.declared.command.Command.{Command}
 use Rattle.zonecfg_scopes.specs.declared.command.Command.TheVariants.{Blank, Add, Append, Cancel, Clear, Create, Delete, End, Exit, Help, Info, Remove, RemoveItem, Revert, Select, Set}
 use Rattle.zonecfg_scopes.specs.declared.command.Matching.{Matching}
@@ -42,6 +42,17 @@ selection m c = given (λ place. record { resource = resource_at m.kind place c;
 abbrev pub put_back : Option ℕ → Resource → Contents → Result Contents ConfigFault
 put_back None r c = with_resource r c
 put_back (Some place) r c = with_replaced place r c
+
+-- an answer about a configuration, as the editor gives it
+abbrev pub lifted : {A : Type 0} → Result A ConfigFault → Result A EditFault
+lifted (Ok x) = Ok x
+lifted (Err fault) = Err (passed_on fault)
+
+-- how long the export text is once the scope that is open has ended, or why it may not end
+abbrev pub ended_length : Open → Result ℕ EditFault
+ended_length Nothing = Err NothingOpen
+ended_length (Whole c) = Err (WrongScope Global)
+ended_length (Inside c r at) = lifted (length_of (put_back at r c))
 
 -- what a change leaves open, or its refusal
 abbrev pub leaves : {A : Type 0} → (A → Open) → Result A ConfigFault → Result Open EditFault

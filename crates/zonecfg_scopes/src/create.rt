@@ -20,7 +20,7 @@ fn branded(alloc: Global) -> Result<ZoneConfig, EditFault>
 {
     let mut config = blank(alloc);
     let brand = ipkg(alloc)?;
-    match config.set_property(alloc, b"brand", &brand) {
+    match config.set_property(alloc, b"brand", brand) {
         Ok(()) => Ok(config),
         // The brand is allowed, so only memory can be wanting.
         Err(_) => Err(EditFault::Memory),

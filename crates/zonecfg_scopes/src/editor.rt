@@ -62,19 +62,19 @@ impl Editor {
         ensures stands { (lines : List (List ℕ)) → IsAfter lines self.old → IsAfter (lines_after lines line.now result) self.new }
     {
         let command = read_command(alloc, line)?;
-        self.obey(alloc, &command)
+        self.obey(alloc, command)
     }
 
     /// The same of a subcommand that was read.
-    pub fn obey(&mut self, alloc: Global, command: &Command) -> Result<EditReply, EditFault>
-        ensures answer { AnswersUnless EditFault.Memory (answer_of command.now self.old) result }
-        ensures ok { OnOk result (self.new ≡ after_command command.now self.old) }
+    pub fn obey(&mut self, alloc: Global, command: Command) -> Result<EditReply, EditFault>
+        ensures answer { AnswersUnless EditFault.Memory (answer_of command self.old) result }
+        ensures ok { OnOk result (self.new ≡ after_command command self.old) }
         ensures err { OnErr result (self.new ≡ self.old) }
         ensures held { self.new ≡ record self.old { opened = self.new.opened } }
-        ensures stands { GoesOn command.now self.old.opened self.new.opened result }
+        ensures stands { GoesOn command self.old.opened self.new.opened result }
     {
         // The lines come first: should memory run out over them, nothing was done.
-        let reply = self.reply(alloc, command)?;
+        let reply = self.reply(alloc, &command)?;
         self.opened.obey(alloc, command)?;
         Ok(reply)
     }

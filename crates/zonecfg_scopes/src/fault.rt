@@ -23,7 +23,7 @@ pub enum EditFault {
     Memory,
     /// The line can't be cut into tokens, or tokens are no value where the form has one. Places count from
     /// the subcommand's first byte.
-    #[error("{0}")]
+    #[error(transparent)]
     Lex(LexFault),
     #[error("no subcommand has this name")]
     UnknownCommand,
@@ -39,7 +39,7 @@ pub enum EditFault {
     #[error("only with -F")]
     NeedForce,
     /// What the configuration, or the open resource, refuses.
-    #[error("{0}")]
+    #[error(transparent)]
     Config(ConfigFault),
 }
 

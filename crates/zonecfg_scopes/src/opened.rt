@@ -1,12 +1,11 @@
 //! What is open, and what subcommands make of it.
-ghost use Rattle.std.specs.Prelude.{◌≡◌, IfOk, IsTrue, OnErr, Err, option_copied};
+ghost use Rattle.std.specs.Prelude.{◌≡◌, IfOk, IsTrue, OnErr, OnOk, Err, Ok, option_copied};
 ghost use Rattle.config_terms.specs.Edits.{Changes};
 ghost use Rattle.zonecfg_scopes.specs.Denotes.{Follows};
 ghost use Rattle.zonecfg_scopes.specs.Info.{export_lines, info_lines};
 ghost use Rattle.zonecfg_scopes.specs.Open.{Nothing, Whole};
 ghost use Rattle.zonecfg_scopes.specs.OpenOf.{config_of};
-ghost use Rattle.zonecfg_scopes.specs.Scopes.{is_in_place, without_matching};
-ghost use Rattle.zone_config.specs.Resources.{with_resource};
+ghost use Rattle.zonecfg_scopes.specs.Scopes.{ended_length, is_in_place, made, without_matching};
 
 use crate::command::{Command, ListProperty, Matching, Topic};
 use crate::create::created;
@@ -22,10 +21,18 @@ use zone_config::ZoneConfig;
 
 /// What is open: nothing, a configuration in the global scope, or a resource of one, which is as before
 /// the scope. Contracts see these three.
-#[derive(Drop)]
 pub struct Opened {
     config: Option<ZoneConfig>,
     scope: Option<ResourceScope>,
+}
+
+impl Drop for Opened {
+    fn drop(self) {
+        let Opened {
+            config: _,
+            scope: _,
+        } = self;
+    }
 }
 
 impl Model for Opened {
@@ -52,13 +59,6 @@ fn remove_matching(
     } else {
         config.remove_found(matching.kind, wanted)
     }
-}
-
-// Puts a copy of a new resource last in its kind.
-fn put_last(alloc: Global, config: &mut ZoneConfig, resource: &Resource) -> Result<(), ConfigFault>
-    ensures { Changes config.old config.new result (with_resource resource.now config.old) }
-{
-    config.add_resource(resource.try_clone(alloc)?)
 }
 
 impl Opened {
@@ -152,13 +152,13 @@ impl Opened {
         Ok(())
     }
 
-    fn set(&mut self, alloc: Global, name: &Text, value: &Value) -> Result<(), EditFault>
-        ensures { Follows (Command.Set name.now value.now) self.old self.new result }
+    fn set(&mut self, alloc: Global, name: &Text, value: Value) -> Result<(), EditFault>
+        ensures { Follows (Command.Set name.now value) self.old self.new result }
     {
         match (&mut self.config, &mut self.scope) {
             (None, _) => return Err(EditFault::NothingOpen),
             (Some(config), None) => config.set_property(alloc, name.bytes(), value)?,
-            (Some(_), Some(scope)) => scope.resource.set_property(alloc, name.bytes(), value)?,
+            (Some(_), Some(scope)) => scope.resource.set_property(alloc, name.bytes(), &value)?,
         }
         Ok(())
     }
@@ -240,24 +240,43 @@ impl Opened {
         Ok(())
     }
 
-    fn end(&mut self, alloc: Global) -> Result<(), EditFault>
+    // How long the export text is once the scope has ended, or why it may not end.
+    fn check_end(&self) -> Result<usize, EditFault>
+        requires { IsTrue (is_in_place self.now) }
+        ensures { result ≡ ended_length self.now }
+    {
+        match (&self.config, &self.scope) {
+            (None, _) => Err(EditFault::NothingOpen),
+            (Some(_), None) => Err(EditFault::WrongScope(Scope::Global)),
+            (Some(config), Some(scope)) => Ok(scope.check_back(config)?),
+        }
+    }
+
+    // Ends the scope, which `check_end` answers the length for. After want of memory all is as before.
+    #[tactic(auto, unfolding(crate::specs::Scopes::made), using(crate::proofs::Ending::lifted_ok))]
+    fn close(&mut self, size: usize) -> Result<(), AllocError>
+        requires inside { IsTrue (is_in_place self.old) }
+        requires checked { ended_length self.old ≡ Ok size }
+        ensures ok { OnOk result (made Command.End self.old ≡ Ok self.new) }
+        ensures err { OnErr result (self.new ≡ self.old) }
+    {
+        if let Some(config) = &mut self.config {
+            if let Some(scope) = self.scope.take() {
+                if let Err(failed) = scope.put_back(config, size) {
+                    self.scope = Some(failed.value);
+                    return Err(AllocError);
+                }
+            }
+        }
+        Ok(())
+    }
+
+    fn end(&mut self) -> Result<(), EditFault>
         requires { IsTrue (is_in_place self.old) }
         ensures { Follows Command.End self.old self.new result }
     {
-        match (&mut self.config, &self.scope) {
-            (None, _) => return Err(EditFault::NothingOpen),
-            (Some(_), None) => return Err(EditFault::WrongScope(Scope::Global)),
-            (Some(config), Some(scope)) => match scope.place {
-                None => put_last(alloc, config, &scope.resource)?,
-                Some(place) => {
-                    let size = config.check_replaced(place, &scope.resource)?;
-                    if let Some(scope) = self.scope.take() {
-                        config.put_checked(place, scope.resource, size);
-                    }
-                }
-            },
-        }
-        self.scope = None;
+        let size = self.check_end()?;
+        self.close(size)?;
         Ok(())
     }
 
@@ -322,26 +341,26 @@ impl Opened {
     }
 
     /// Does what a subcommand says. A refused one leaves all as it was, and so does want of memory.
-    pub(crate) fn obey(&mut self, alloc: Global, command: &Command) -> Result<(), EditFault>
+    pub(crate) fn obey(&mut self, alloc: Global, command: Command) -> Result<(), EditFault>
         requires { IsTrue (is_in_place self.old) }
-        ensures { Follows command.now self.old self.new result }
+        ensures { Follows command self.old self.new result }
     {
         match command {
             Command::Blank | Command::Help => Ok(()),
-            Command::Add(kind) => self.add(alloc, *kind),
-            Command::Append(list, value) => self.append(alloc, *list, value),
+            Command::Add(kind) => self.add(alloc, kind),
+            Command::Append(list, value) => self.append(alloc, list, &value),
             Command::Cancel => self.cancel(),
-            Command::Clear(name) => self.clear(alloc, name),
+            Command::Clear(name) => self.clear(alloc, &name),
             Command::Commit | Command::Export | Command::Verify => self.look(),
-            Command::Create { force, bare } => self.create(alloc, *force, *bare),
-            Command::Delete { force } | Command::Revert { force } => self.look_forced(*force),
-            Command::End => self.end(alloc),
-            Command::Exit { force } => self.exit(*force),
-            Command::Info(topic) => self.inform(*topic),
-            Command::Remove { force, matching } => self.remove(*force, matching),
-            Command::RemoveItem(list, value) => self.remove_item(alloc, *list, value),
-            Command::Select(matching) => self.select(alloc, matching),
-            Command::Set(name, value) => self.set(alloc, name, value),
+            Command::Create { force, bare } => self.create(alloc, force, bare),
+            Command::Delete { force } | Command::Revert { force } => self.look_forced(force),
+            Command::End => self.end(),
+            Command::Exit { force } => self.exit(force),
+            Command::Info(topic) => self.inform(topic),
+            Command::Remove { force, matching } => self.remove(force, &matching),
+            Command::RemoveItem(list, value) => self.remove_item(alloc, list, &value),
+            Command::Select(matching) => self.select(alloc, &matching),
+            Command::Set(name, value) => self.set(alloc, &name, value),
         }
     }
 }
