@@ -1,5 +1,5 @@
 //! Tests of `zn_base` and `priv_sets` over their public calls: texts, paths, names, patterns and states, and the
-//! limit sets that zones have. What they expect is worked out from docs/FORMATS.md by hand.
+//! limit sets that zones have. What they expect is worked out from docs/PRIVILEGES.md by hand.
 #![tactic(auto)]
 
 #[cfg(test)]

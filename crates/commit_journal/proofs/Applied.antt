@@ -72,7 +72,7 @@ last_more : (row : Record) (z : Name) (commits : List Commit) (c : Commit)
 last_more row z [] c = refl
 last_more row z (d ∷ commits) c = last_more (if bytes_eq z d.zone then unwrap_or d.stored row else row) z commits c
 
--- behind a first commit of a zone that stays
+-- after a first commit of a zone that stays
 module _ (row : Record) (y : Name) (commits : List Commit) (rows : Rows) where
   first_kept : (z : Name) (said : Option Record) → is_removed y commits ≡ false
       → from_first (Some row) y (commits ++ record { zone = z; stored = said } ∷ []) (with_stored z said rows) ≡ with_stored z said (tag y (last_record row y commits) ∷ without y rows)
@@ -113,7 +113,7 @@ first_commit : (z : Name) (said : Option Record) → from_first said z [] [] ≡
 first_commit z None = refl
 first_commit z (Some row) = refl
 
--- the zones behind one commit more
+-- the zones after one commit more
 pub stored-push : (commits : List Commit) (c : Commit) → stored (commits ++ c ∷ []) ≡ with_commit c (stored commits)
 stored-push [] c = first_commit c.zone c.stored
 stored-push (d ∷ commits) c =

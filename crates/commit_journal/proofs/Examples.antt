@@ -49,7 +49,7 @@ commit zone = record { zone = zone; stored = Some web_1 }
 removed : List ℕ → Commit
 removed zone = record { zone = zone; stored = None }
 
--- a zone that is removed and made again stands behind those made in between
+-- a zone that is removed and made again stands after those made in between
 made_again : stored (commit (codes "a") ∷ commit (codes "b") ∷ removed (codes "a") ∷ commit (codes "c") ∷ commit (codes "a") ∷ commit (codes "b") ∷ [])
     ≡ tag (codes "b") web_1 ∷ tag (codes "c") web_1 ∷ tag (codes "a") web_1 ∷ []
 unfolding commit removed
@@ -77,7 +77,7 @@ change_of_a_full_store : may_stand (codes "a") (Some web_1) (zones 256) ≡ true
 unfolding zones
 change_of_a_full_store = refl
 
--- the first record in a new store, with its header and the closed gate behind it
+-- the first record in a new store, with its header and the closed gate after it
 new_store : length (header 65 ++ blocks (body_text web_made ∷ []) ++ 0 ∷ []) ≡ 197
 unfolding body_text record_text padded by_index export_text setting web_made web_1
 new_store = refl

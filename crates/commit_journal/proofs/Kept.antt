@@ -29,7 +29,7 @@ blocks_long (body ∷ bodies) = let more = blocks_long bodies in omega (arith, m
 pub few_records : (bodies : List (List ℕ)) (used : ℕ) → used ≡ used_by bodies → used ≤ BANK_BYTES → length bodies < 8388608
 few_records bodies used counted within = let long = blocks_long bodies in omega (arith, long, counted, within)
 
--- how many zones there are behind one record more
+-- how many zones there are after one record more
 fewer_kept : {A : Type 0} (p : A → Bool) (xs : List A) → length (filter p xs) ≤ length xs
 fewer_kept p [] = omega arith
 fewer_kept p (x ∷ xs) =

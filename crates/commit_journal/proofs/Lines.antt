@@ -1,4 +1,4 @@
--- Lines that tell something, cut off the front of a text.
+-- Lines that say something, cut off the front of a text.
 use Rattle.std.proofs.Common.{◌≡◌, ◌≤◌, ◌+◌, ◌-◌, ◌/◌, ◌%◌, ℕ, zero, suc, true, List, [], ◌∷◌, ◌++◌, length, take, drop, Some, refl, ap, sym, ◌∙◌, arith, append_assoc, length-append}
 use Rattle.std.proofs.lemmas.Bool.Decides.{nat_tests}
 use Rattle.std.proofs.lemmas.List.{append_cancel_left, take_all}
@@ -10,7 +10,7 @@ use Rattle.zn_base.specs.Lines.{newline}
 use Rattle.zn_base.proofs.First_byte.{after_first, before_first, cut_alike, lacks_by, lacks-append}
 use Rattle.commit_journal.specs.Bodies.{padded, told}
 
--- what lines tell has no newline
+-- what lines say has no newline
 pub uuid_lacks : (uuid : List ℕ) → lacks newline (uuid_text uuid) ≡ true
 uuid_lacks uuid = lacks_by is_uuid_byte newline refl (uuid_text uuid) (uuid_text-bytes uuid)
 
@@ -39,7 +39,7 @@ told_alike word a b x y w f g e =
     let tails = append_cancel_left word (32 ∷ a) (32 ∷ b) cut.0 in
     (ap (λ (l : List ℕ). drop 1 l) tails, cut.1)
 
--- what a line tells behind its word, and what is behind the line
+-- what a line says after its word, and what follows the line
 pub line_cut : (bytes word value rest : List ℕ) → lacks newline word ≡ true → lacks newline value ≡ true → bytes ≡ told word value ++ rest → (before_byte newline bytes ≡ word ++ 32 ∷ value) × (after_byte newline bytes ≡ Some rest)
 line_cut bytes word value rest w f is =
     let lacked = head_lacks word value w f in

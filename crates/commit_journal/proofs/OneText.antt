@@ -35,7 +35,7 @@ number_of_text (suc k) m n f g same =
 pub ten_digits : (n : ℕ) → n < 2 ^ 32 → HasDigits 10 n
 ten_digits n small = omega arith
 
--- a record's lines, one behind the other
+-- a record's lines, one after the other
 pub record_lines : (row : Record) → record_text row ≡ told (codes "state") (state_text row.state) ++ (told (codes "uuid") (uuid_text row.uuid) ++ (told (codes "revision") (padded 10 row.revision) ++ export_text row.config))
 unfolding record_text
 record_lines row =
@@ -83,7 +83,7 @@ one_stored None (Some b) f g same = absurd (no_record b g same)
 one_stored (Some a) None f g same = absurd (no_record a f (sym same))
 one_stored (Some a) (Some b) f g same = ap Some (one_record a b f g same)
 
--- what the line of the state tells, and what is behind it
+-- what the line of the state says, and what follows it
 abbrev pub word_of : Option Record → List ℕ
 word_of None = codes "none"
 word_of (Some row) = state_text row.state
@@ -104,7 +104,7 @@ pub none_word : (said : Option Record) → IfSome said IsRecord → codes "none"
 none_word None is e = refl
 none_word (Some row) is e = absurd (none_no_state row.state is.state e)
 
--- behind another word than that of a removal there is a record
+-- after another word than that of a removal there is a record
 pub other_word : (said : Option Record) (word : List ℕ) → word ≡ word_of said → bytes_eq word (codes "none") ≡ false → said ≡ None → ⊥
 other_word None word is other e = true≢false (sym (ap (λ (w : List ℕ). bytes_eq w (codes "none")) is) ∙ other)
 other_word (Some row) word is other e = cc

@@ -35,7 +35,7 @@ say_more bodies commits body c say is text may = record {
   ];
 }
 
--- a front of the bodies, and what is said behind it
+-- a front of the bodies, and what is said after it
 pub record SaysFront (xs ys : List (List ℕ)) (said : List Commit) : Type 0 where
   pub front : List Commit
   pub behind : List Commit

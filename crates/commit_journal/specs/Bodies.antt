@@ -9,7 +9,7 @@ use Rattle.zone_config.specs.Sound.{IsSound}
 use Rattle.commit_journal.specs.declared.records.Commit.{Commit}
 use Rattle.commit_journal.specs.declared.records.Record.{Record}
 
--- a word, a space, what it tells and a newline
+-- a word, a space, what it says and a newline
 abbrev pub told : List ℕ → List ℕ → List ℕ
 told word value = word ++ 32 ∷ value ++ newline ∷ []
 

@@ -1,4 +1,4 @@
--- A bank's faults, as a store tells them.
+-- A bank's faults, as a store reports them.
 use Rattle.zone_disk.specs.declared.fault.BankFault.{BankFault}
 use Rattle.zone_disk.specs.declared.fault.BankFault.TheVariants as bank
 use Rattle.commit_journal.specs.declared.fault.StoreFault.{StoreFault}

@@ -25,6 +25,6 @@ pub record IsFirstBad (bodies : List (List ℕ)) (serial : ℕ) : Type 0 where
   pub before : Say (take (serial - 1) bodies) commits
   pub bad : (said : List Commit) → Say (take serial bodies) said → ⊥
 
--- a body and the next gate fit into the bank behind the bytes in use
+-- a body and the next gate fit into the bank after the bytes in use
 abbrev pub has_room : ℕ → List ℕ → Bool
 has_room used body = nat_le (used + 5 + length body) BANK_BYTES

@@ -26,12 +26,12 @@ abbrev pub last_record : Record → Name → List Commit → Record
 last_record row z [] = row
 last_record row z (c ∷ commits) = last_record (if bytes_eq z c.zone then unwrap_or c.stored row else row) z commits
 
--- a commit that stores a zone, and behind which none removes it, is the zone's first one: the zone stands before those of later commits
+-- a commit that stores a zone, and after which none removes it, is the zone's first one: the zone stands before those of later commits
 abbrev pub from_first : Option Record → Name → List Commit → Rows → Rows
 from_first None z later rows = rows
 from_first (Some row) z later rows = if is_removed z later then rows else tag z (last_record row z later) ∷ without z rows
 
--- each zone by its last commit, unless that one removes it; zones in the order of the first commits behind their last removals
+-- each zone by its last commit, unless that one removes it; zones in the order of the first commits after their last removals
 abbrev pub stored : List Commit → Rows
 stored [] = []
 stored (c ∷ commits) = from_first c.stored c.zone commits (stored commits)
@@ -55,6 +55,6 @@ may_stand z (Some row) rows = holds z rows || nat_lt (length rows) ZONES_MAX
 abbrev pub may_follow : List Commit → Commit → Bool
 may_follow commits c = may_stand c.zone c.stored (stored commits)
 
--- a law: the zones behind one commit more are those before with the commit applied
+-- a law: the zones after one commit more are those before with the commit applied
 abbrev pub AppliesOneByOne : Type 0
 AppliesOneByOne = (commits : List Commit) (c : Commit) → stored (commits ++ c ∷ []) ≡ with_commit c (stored commits)

@@ -11,7 +11,7 @@ pub enum StoreFault {
     /// The first offset whose byte is wrong, or the disk's length where it is too short.
     #[error("not a store: wrong at {0}")]
     NotAStore(u64),
-    /// The offset of an open gate with no whole record behind it.
+    /// The offset of an open gate with no whole record after it.
     #[error("bad record at {0}")]
     BadRecord(u64),
     #[error("the disk has failed")]

@@ -22,14 +22,14 @@ use uuid_text::read_uuid;
 use zn_base::{ZoneName, ZoneState, split_at_byte};
 use zone_config::{ConfigFault, ZoneConfig};
 
-// What a line tells, and what is behind it.
+// What a line says, and what follows it.
 #[derive(Clone, Copy)]
 struct Line<'a> {
     value: &'a [u8],
     rest: &'a [u8],
 }
 
-// The value behind the word of the first line. Whether the word is there isn't looked at.
+// The value after the word of the first line. Whether the word is there isn't looked at.
 fn cut_line<'a>(bytes: &'a [u8], word: &[u8]) -> Option<Line<'a>>
     requires word { IsTrue (lacks newline word.now) }
     requires short { length word.now ≤ 100 }
@@ -92,7 +92,7 @@ fn read_config(alloc: Global, text: &[u8]) -> Result<Option<ZoneConfig>, AllocEr
     }
 }
 
-// What the lines behind a state's tell of a zone, read with some leniency.
+// What the lines after a state's say of a zone, read with some leniency.
 fn guess_record(alloc: Global, state: &[u8], rest: &[u8]) -> Result<Option<Record>, AllocError>
     ensures { (row : Record) → IsRecord row → state.now ≡ state_text row.state → rest.now ≡ told (codes "uuid") (uuid_text row.uuid) ++ (told (codes "revision") (padded 10 row.revision) ++ export_text row.config) → IfOk result (λ guess. guess ≡ Some row) }
 {

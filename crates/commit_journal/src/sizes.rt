@@ -1,4 +1,4 @@
-//! How long a body will be, told without writing it.
+//! How long a body will be, without writing it.
 ghost use Rattle.std.specs.Prelude.{◌≡◌, ◌≤◌, length, option_map};
 ghost use Rattle.commit_journal.specs.Bodies.{record_text, stored_text};
 ghost use Rattle.commit_journal.specs.Store.{change_text};

@@ -54,7 +54,7 @@ fn count_of<D: Disk>(bank: &Bank<D>) -> usize
     bank.records().len()
 }
 
-// Whether a body and the next gate fit behind the bytes in use.
+// Whether a body and the next gate fit after the bytes in use.
 fn has_room<D: Disk>(bank: &Bank<D>, zone: &ZoneName, stored: Option<&Record>) -> bool
     ensures { result ≡ has_room bank.now.used (change_text zone.now (option_map (λ row. row.now) stored.entry)) }
 {
@@ -160,7 +160,7 @@ impl<D: Disk> Store<D> {
         ensures lasts { (D.view disk).Keeps → IfOk result (λ store. (image : List ℕ) → (D.view store.bank.disk).Now image → Stores store.bank.records store.rows image) }
 
         // What is unformatted becomes a new store, which takes no memory, and every other disk stays as it is. After a
-        // fault other than that of the disk, want of memory included, each disk is as it was.
+        // fault other than that of the disk, running out of memory included, each disk is as it was.
         ensures formats { (D.view disk).Keeps → IfOk result (λ store. Formats (D.view disk).reads (D.view store.bank.disk).reads) }
         ensures refused_same { (D.view disk).Keeps → IfErr result (λ e. e.0 ≢ StoreFault.DiskFault → (D.view e.1).reads ≡ (D.view disk).reads) }
         ensures unformatted { (D.view disk).Keeps → IsUnformatted (D.view disk).reads → IfErr result (λ e. e.0 ≡ StoreFault.DiskFault) }

@@ -113,7 +113,7 @@ Shows None name v old new = ⊥
 Shows (Some (One f)) name v old new = (allows f v ≡ true) × ShowsText name (text_in v) old new
 Shows (Some Many) name v old new = ShowsList Put v old new
 
--- why setting it may be refused, but for want of memory
+-- why setting it may be refused, but for running out of memory
 abbrev pub MayRefuseSet : Option Named → Value → Resource → ConfigFault → Type 0
 MayRefuseSet None v old UnknownProperty = Unit {0}
 MayRefuseSet (Some (One f)) v old BadValue = allows f v ≡ false

@@ -15,7 +15,7 @@ fn action(deny: bool) -> &'static [u8]
     if deny { b"deny" } else { b"none" }
 }
 
-/// Puts a value of an rctl behind `out`: `(priv=privileged,limit=N,action=A)`. After want of memory `out` has
+/// Puts a value of an rctl at the end of `out`: `(priv=privileged,limit=N,action=A)`. Where memory runs out, `out` has
 /// what it had, and perhaps a front of the text.
 #[tactic(auto, unfolding(crate::specs::Texts::limit_text))]
 pub fn push_limit(out: &mut Vec<u8>, value: Limit) -> Result<(), AllocError>
@@ -119,7 +119,7 @@ fn push_bracketed(out: &mut Vec<u8>, first: &[u8], more: &[Text]) -> Result<(), 
     Ok(())
 }
 
-/// Puts options behind `out`: `[a,b]`. After want of memory `out` has what it had, and perhaps a front of the
+/// Puts options at the end of `out`: `[a,b]`. Where memory runs out, `out` has what it had, and perhaps a front of the
 /// text.
 #[tactic(auto, unfolding(crate::specs::Texts::options_text))]
 pub fn push_options(out: &mut Vec<u8>, options: &[Text]) -> Result<(), AllocError>

@@ -31,8 +31,8 @@ fn settings_length<T: Entry>(kind: Kind, entry: &T) -> usize
     total
 }
 
-/// Puts the text of a resource behind `out`: `add KIND`, the properties that are set, `end` (zonecfg(8)). After
-/// want of memory `out` has what it had, and perhaps a front of the text.
+/// Puts the text of a resource at the end of `out`: `add KIND`, the properties that are set, `end` (zonecfg(8)). Where
+/// memory runs out, `out` has what it had, and perhaps a front of the text.
 #[tactic(auto, unfolding(crate::specs::Texts::entry_text))]
 pub fn push_entry<T: Entry>(out: &mut Vec<u8>, kind: Kind, entry: &T) -> Result<(), AllocError>
     ensures { OnOk result (out.new.items ≡ out.old.items ++ entry_text kind (T.shown entry.now) (T.options entry.now) (T.values entry.now)) }
@@ -58,7 +58,7 @@ pub fn entry_length<T: Entry>(kind: Kind, entry: &T) -> usize
         + limit_lines_length(entry.values())
 }
 
-/// Puts the texts of resources of one kind behind `out`. After want of memory `out` has what it had, and perhaps
+/// Puts the texts of resources of one kind at the end of `out`. Where memory runs out, `out` has what it had, and perhaps
 /// a front of the text.
 pub fn push_entries<T: Entry>(
     out: &mut Vec<u8>,

@@ -267,7 +267,7 @@ impl Resource {
         Ok(())
     }
 
-    /// Puts items behind those of a list, as `add options VALUE` and `add value VALUE` do: 22 where the
+    /// Puts items after those of a list, as `add options VALUE` and `add value VALUE` do: 22 where the
     /// kind has no list of this name, 23, 27 as in `set_property`. After a fault all is as before.
     #[tactic(auto, unfolding(crate::specs::Edits::with_value))]
     pub fn add_value(

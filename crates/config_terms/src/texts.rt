@@ -56,9 +56,9 @@ fn value_length(value: &[u8]) -> usize
     }
 }
 
-/// Puts the line `set NAME=VALUE` behind `out`, where the value is not empty: an empty one is a property
-/// that is not set. A value prints bare where each of its bytes may stand so, and else in double quotes. After
-/// want of memory `out` has what it had, and perhaps a front of the text.
+/// Puts the line `set NAME=VALUE` at the end of `out`, where the value is not empty: an empty one is a property
+/// that is not set. A value prints bare where each of its bytes may stand so, and else in double quotes. Where
+/// memory runs out, `out` has what it had, and perhaps a front of the text.
 #[tactic(auto, unfolding(crate::specs::Texts::setting))]
 pub fn push_setting(out: &mut Vec<u8>, name: &[u8], value: &[u8]) -> Result<(), AllocError>
     ensures { OnOk result (out.new.items ≡ out.old.items ++ setting name.now value.now) }

@@ -17,7 +17,7 @@ fn set(
     config.set_property(alloc, name, simple(alloc, text)?)
 }
 
-// What a configuration prints, in the length that is told.
+// What a configuration prints, in the length that is reported.
 fn shows(alloc: Global, config: &ZoneConfig, wanted: &[u8]) -> Result<bool, ConfigFault> {
     let text = export(alloc, config)?;
     Ok(text.as_slice() == wanted && config.text_length() == wanted.len())

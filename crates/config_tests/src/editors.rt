@@ -427,7 +427,7 @@ const SHOWN: &[(&[u8], &[u8])] = &[
     ),
 ];
 
-// The lines of an answer behind one another, each with a newline.
+// The lines of an answer one after another, each with a newline.
 fn joined_lines(alloc: Global, lines: &[Bytes]) -> Result<Vec<u8>, Fail> {
     let mut text = Vec::new(alloc);
     for line in lines {

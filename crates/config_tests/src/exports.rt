@@ -97,7 +97,7 @@ fn line_of_fault(alloc: Global, text: &[u8]) -> Result<usize, ConfigFault> {
     }
 }
 
-// What is to be told of a text's first lines: nothing where they are a whole text, and else the next line.
+// What is to be reported of a text's first lines: nothing where they are a whole text, and else the next line.
 fn line_wanted(lines: usize) -> usize {
     if WHOLE.contains(&lines) {
         0
@@ -106,7 +106,7 @@ fn line_wanted(lines: usize) -> usize {
     }
 }
 
-// Whether the first lines of a text, however many, are all told to be well begun, or read.
+// Whether the first lines of a text, however many, are all reported to be well begun, or read.
 fn fronts_are_told(alloc: Global, text: &[u8]) -> Result<bool, ConfigFault> {
     let mut told = true;
     let mut lines: usize = 0;
@@ -120,7 +120,7 @@ fn fronts_are_told(alloc: Global, text: &[u8]) -> Result<bool, ConfigFault> {
     Ok(told)
 }
 
-// Whether a blank at the end of a line, whichever it is, is told.
+// Whether a blank at the end of a line, whichever it is, is reported.
 fn blanks_are_told(alloc: Global, text: &[u8]) -> Result<bool, ConfigFault> {
     let mut told = true;
     let mut lines: usize = 0;
@@ -171,7 +171,7 @@ fn a_fault_has_its_line(rt: HostRuntime) -> Result<(), Fail> {
     Ok(())
 }
 
-// What is to be told of these lines behind those of the two properties that every text has; 0 where all is read.
+// What is to be reported of these lines after those of the two properties that every text has; 0 where all is read.
 const BEHIND: &[(&[u8], usize)] = &[
     (b"end\n", 4),
     (b"add zone\n", 4),

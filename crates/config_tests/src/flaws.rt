@@ -8,7 +8,7 @@ use std::test::Fail;
 use zn_base::{Text, TextFault};
 use zone_config::{ZoneConfig, blank};
 
-// What is set of a zone, and of a resource after its kind, is told in words `NAME=VALUE`.
+// What is set of a zone, and of a resource after its kind, is given in words `NAME=VALUE`.
 const SHARED: &str = "zonepath=/z brand=ipkg";
 
 const EXCLUSIVE: &str = "zonepath=/z brand=lx ip-type=exclusive";
@@ -92,7 +92,7 @@ fn code(answer: &Result<(), Flaw>) -> &'static [u8] {
     }
 }
 
-// What a flaw tells.
+// What a flaw says.
 fn what(answer: &Result<(), Flaw>) -> &[u8] {
     match answer {
         Ok(()) | Err(Flaw::Memory | Flaw::NoZonepath) => b"",

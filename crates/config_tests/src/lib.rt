@@ -1,5 +1,5 @@
 //! Tests of a zone's configuration over public calls: lines and values, resources, configurations, their export
-//! texts, flaws, and the editor. What they expect is worked out from docs/FORMATS.md by hand.
+//! texts, flaws, and the editor. What they expect is worked out from docs/ZONECFG.md by hand.
 #![tactic(auto)]
 
 #[cfg(test)]

@@ -167,7 +167,7 @@ fn push_item(out: &mut Vec<u8>, text: &Text) -> Result<(), AllocError> {
     Ok(())
 }
 
-// A text as it is, pairs as `(a=b)` and items as `[a]`, one behind the other.
+// A text as it is, pairs as `(a=b)` and items as `[a]`, one after the other.
 fn push_value(out: &mut Vec<u8>, value: &Value) -> Result<(), AllocError> {
     match value {
         Value::Simple(text) => out.extend_from_slice(text.bytes())?,

@@ -63,7 +63,7 @@ fn make(
     }
 }
 
-// What a resource prints, in the length that is told.
+// What a resource prints, in the length that is reported.
 fn shows(alloc: Global, resource: &Resource, wanted: &[u8]) -> Result<bool, ConfigFault> {
     let mut out = Vec::new(alloc);
     push_entry(&mut out, resource.kind(), resource)?;

@@ -47,7 +47,7 @@ pub fn limit<'x>(alloc: Global, number: &'x [u8], action: &'x [u8]) -> Result<Va
     Ok(Value::Complex(pairs(alloc, &items)?))
 }
 
-/// Texts behind one another.
+/// Texts one after another.
 pub fn joined(alloc: Global, parts: &[&[u8]]) -> Result<Vec<u8>, AllocError> {
     let mut all = Vec::new(alloc);
     for part in parts {

@@ -129,6 +129,6 @@ abbrev pub first : List Flaw → Result (Unit {0}) Flaw
 first [] = Ok tt
 first (flaw ∷ flaws) = Err flaw
 
--- an answer is the first of some flaws, or Ok where there is none, or want of memory
+-- an answer is the first of some flaws, or Ok where there is none, or that memory ran out
 pub record Finds (flaws : List Flaw) (answer : Result (Unit {0}) Flaw) : Type 0 where
   pub answers : AnswersUnless Memory (first flaws) answer

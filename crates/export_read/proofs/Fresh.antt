@@ -26,7 +26,7 @@ short_names = [] ∷ (one_byte ++ (two_bytes 97 ++ (two_bytes 98 ++ (two_bytes 9
 abbrev first_of : (List ℕ → Bool) → List (List ℕ) → List ℕ
 first_of p names = unwrap_or (find p names) []
 
--- the first of some names that are made of bytes, or the first behind them
+-- the first of some names that are made of bytes, or the first after them
 first_made : (p : List ℕ → Bool) (f : ℕ → List ℕ) (bs : List ℕ) (names : List (List ℕ)) → first_of p (map f bs ++ names) ≡ elim (find (λ b. p (f b)) bs) as (λ _. List ℕ) [ Some b ↦ f b | None ↦ first_of p names ]
 first_made p f [] names = refl
 first_made p f (b ∷ bs) names =

@@ -1,4 +1,4 @@
--- The first line of some bytes, and those behind it.
+-- The first line of some bytes, and those after it.
 use Rattle.std.proofs.Common.{◌≡◌, ◌≤◌, ◌<◌, ◌+◌, ◌-◌, zero, suc, ℕ, true, false, cond, List, [], ◌∷◌, ◌++◌, length, length-drop, take, drop, Option, Some, Result, Err, refl, ap, sym, subst, ◌∙◌, arith, append_assoc}
 use Rattle.std.specs.Prelude.{not, option_and_then}
 use Rattle.std.specs.List.{after_first, before_first, position_or_len}

@@ -33,7 +33,7 @@ apart_before key (y ∷ pre) post x h =
     let c : (bytes_eq (key x) (key y) ≡ false) × (has_key key (key y) post ≡ false) = or_parts _ _ b.1 in
     or_from _ _ (eq_turned (key x) (key y) c.0) (apart_before key pre post x h.1)
 
--- nor among those behind it
+-- nor among those after it
 pub apart_behind : {A : Type 0} (key : A → List ℕ) (pre post : List A) (x : A) → are_distinct key (pre ++ x ∷ post) ≡ true → has_key key (key x) post ≡ false
 apart_behind key [] post x h =
     let h : (not (has_key key (key x) post) ≡ true) × (are_distinct key post ≡ true) = and_parts _ _ h in not-true _ h.0

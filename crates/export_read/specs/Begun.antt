@@ -20,7 +20,7 @@ pub record IsAstray (text : List ℕ) (n : ℕ) : Type 0 where
   pub before : (m : ℕ) × (n ≡ m + 1) × BeginsSome text m
   pub greatest : (m : ℕ) → BeginsSome text m → m < n
 
--- why a text is not read: the line, or want of memory
+-- why a text is not read: the line, or that memory ran out
 abbrev pub IsFaultOf : List ℕ → ConfigFault → Type 0
 IsFaultOf text Memory = Unit {0}
 IsFaultOf text (NotExport n) = IsAstray text n

@@ -16,7 +16,7 @@ is_equals b = b == 61
 abbrev pub is_comma : ℕ → Bool
 is_comma b = b == 44
 
--- what stands behind a front
+-- what follows a front
 abbrev pub behind : List ℕ → List ℕ → Option (List ℕ)
 behind front bytes = if bytes_eq (take (length front) bytes) front then Some (drop (length front) bytes) else None
 

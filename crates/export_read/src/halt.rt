@@ -6,7 +6,7 @@ ghost use Rattle.export_read.specs.Halts.{halt_of};
 use config_terms::ConfigFault;
 use std::alloc::AllocError;
 
-/// Why a line is not put into a draft: memory is wanting, or no export text has the line there.
+/// Why a line is not put into a draft: memory runs out, or no export text has the line there.
 #[derive(Clone, Copy, Debug, PartialEq, Eq)]
 pub enum Halt {
     Memory,

@@ -22,7 +22,7 @@ pub fn first_line(bytes: &[u8]) -> &[u8]
     }
 }
 
-/// What stands behind the first line.
+/// What follows the first line.
 pub fn behind_line(bytes: &[u8]) -> &[u8]
     ensures { result.now ≡ after_first is_newline bytes.now }
 {

@@ -8,7 +8,7 @@ abbrev pub unescaped : Bool → List ℕ → List ℕ
 unescaped held [] = []
 unescaped held (b ∷ bytes) = if (b == backslash) && not held then unescaped true bytes else b ∷ unescaped false bytes
 
--- a byte behind a backslash is taken as it is
+-- a byte after a backslash is taken as it is
 behind : (b : ℕ) (bytes : List ℕ) → unescaped true (b ∷ bytes) ≡ b ∷ unescaped false bytes
 behind b bytes = elim (b == backslash) as (λ v. (if v && false then unescaped true bytes else b ∷ unescaped false bytes) ≡ b ∷ unescaped false bytes) [ true ↦ refl | false ↦ refl ]
 

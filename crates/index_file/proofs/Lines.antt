@@ -58,7 +58,7 @@ last_fields path uuid rest len is =
       rw (start, size, is, drop-append-add path (colon ∷ (uuid ++ newline ∷ [])) 1) (take_at uuid (newline ∷ []) 36 len),
     )
 
--- what stands behind the name of a line and its colon, and behind the state and its colon
+-- what stands after the name of a line and its colon, and after the state and its colon
 abbrev pub behind_state : IndexRow → List ℕ
 behind_state row = escaped row.path ++ colon ∷ (uuid_text row.uuid ++ newline ∷ [])
 

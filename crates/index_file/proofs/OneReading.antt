@@ -43,7 +43,7 @@ one_row a b f g same =
     row_is a b names.0 (state_of_text a.state b.state f.state g.state states.0) (path_of_text a.path b.path (sym of_a.1 ∙ of_b.1))
     (uuid_of_text a.uuid b.uuid f.uuid g.uuid (sym of_a.2 ∙ of_b.2))
 
--- texts that begin with a line each are cut behind one row
+-- texts that begin with a line each are cut after one row
 line_cut : (a b : IndexRow) (x y : List ℕ) → IsIndexRow a → IsIndexRow b → line_text a ++ x ≡ line_text b ++ y → (a ≡ b) × (x ≡ y)
 line_cut a b x y f g same =
     let cut = cut_alike newline (front a) x (front b) y (front_lacks_newline a f) (front_lacks_newline b g) (sym (line_ends a x) ∙ same ∙ line_ends b y) in
@@ -52,7 +52,7 @@ line_cut a b x y f g same =
 line_not_empty : (row : IndexRow) (more : List ℕ) → [] ≡ line_text row ++ more → ⊥
 line_not_empty row more e = let len : length (line_text row ++ more) ≡ length (front row) + length (newline ∷ more) = ap length (line_ends row more) ∙ length-append (front row) (newline ∷ more) in omega (arith, len, ap length e)
 
--- one list of rows goes on behind the other
+-- one list of rows goes on after the other
 pub record Further (a b : List IndexRow) (x y : List ℕ) : Type 0 where
   pub row : IndexRow
   pub more : List IndexRow
@@ -63,7 +63,7 @@ pub record Further (a b : List IndexRow) (x y : List ℕ) : Type 0 where
 further_cons : (row : IndexRow) (a b : List IndexRow) (x y : List ℕ) → Further a b x y → Further (row ∷ a) (row ∷ b) x y
 further_cons row a b x y h = record { row = h.row; more = h.more; longer = ap (λ l. row ∷ l) h.longer; is_row = h.is_row; line = h.line }
 
--- two ways to cut a text into lines of rows and what is behind
+-- two ways to cut a text into lines of rows and what follows
 abbrev Fork : List IndexRow → List IndexRow → List ℕ → List ℕ → Type 0
 Fork a b x y = ((a ≡ b) × (x ≡ y)) ⊎ (Further a b x y ⊎ Further b a y x)
 
@@ -100,14 +100,14 @@ no_name_twice a more row index earlier =
     let there : get_or (a ++ row ∷ more) at row ≡ earlier.1 = get_or_append_left a (row ∷ more) row at earlier.2 ∙ get_or_default a at row earlier.1 earlier.2 ∙ earlier.3 in
     index.names at (length a) row earlier.2 (omega (arith, length-append a (row ∷ more))) (rw (here, there) earlier.4)
 
--- how a reading ends behind its rows
+-- how a reading ends after its rows
 abbrev pub Ending : Result (List IndexRow) IndexFault → List IndexRow → List ℕ → Type 0
 Ending (Ok rows) a x = (rows ≡ a) × (x ≡ [])
 Ending (Err (IndexLine number)) a x = (number ≡ length a + 1) × (x ≢ []) × ((row : IndexRow) → IsIndexRow row → BeginsWithLine x row → ⊥)
 Ending (Err (SameName number)) a x = (number ≡ length a + 1) × ((row : IndexRow) × IsIndexRow row × BeginsWithLine x row × Any (λ r. r.name ≡ row.name) a)
 Ending (Err Memory) a x = ⊥
 
--- a reading, by its rows and what is behind them
+-- a reading, by its rows and what follows them
 pub record Reading (text : List ℕ) (answer : Result (List IndexRow) IndexFault) : Type 0 where
   pub rows : List IndexRow
   pub rest : List ℕ
@@ -121,7 +121,7 @@ reading text (Err (IndexLine number)) h = record { rows = h.rows; rest = h.rest;
 reading text (Err (SameName number)) h = record { rows = h.rows; rest = h.rest; index = h.goes_on.before; lines = h.goes_on.lines; ending = (h.goes_on.counted, (h.row, h.is_row, h.line, h.earlier)) }
 reading text (Err Memory) h = absurd h
 
--- behind rows that go on no reading ends
+-- after rows that go on no reading ends
 no_end : (answer : Result (List IndexRow) IndexFault) (a b : List IndexRow) (x y : List ℕ) → Ending answer a x → IsIndex b → Further a b x y → ⊥
 no_end (Ok rows) a b x y end index further = line_not_empty further.row further.line.0 (sym end.1 ∙ further.line.1)
 no_end (Err (IndexLine number)) a b x y end index further = end.2 further.row further.is_row further.line
@@ -131,7 +131,7 @@ no_end (Err (SameName number)) a b x y end index further =
     no_name_twice a further.more further.row (subst IsIndex further.longer index) (subst (λ (r : IndexRow). Any (λ s. s.name ≡ r.name) a) cut.0 found.3)
 no_end (Err Memory) a b x y end index further = end
 
--- behind the same rows a reading ends in one way
+-- after the same rows a reading ends in one way
 one_end : (a b : Result (List IndexRow) IndexFault) (rows : List IndexRow) (rest : List ℕ) → Ending a rows rest → Ending b rows rest → a ≡ b
 one_end (Ok r) (Ok s) rows rest f g = ap Ok (f.0 ∙ sym g.0)
 one_end (Ok r) (Err (IndexLine n)) rows rest f g = absurd (g.1 f.1)

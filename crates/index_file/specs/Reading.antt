@@ -10,7 +10,7 @@ use Rattle.index_file.specs.Index.{index_text, line_text, IsIndex, IsIndexRow}
 abbrev pub BeginsWithLine : List ℕ → IndexRow → Type 0
 BeginsWithLine text row = (more : List ℕ) × (text ≡ line_text row ++ more)
 
--- the text goes on behind the lines of an index, in the line of this number
+-- the text goes on after the lines of an index, in the line of this number
 pub record GoesOn (text : List ℕ) (rows : List IndexRow) (rest : List ℕ) (number : ℕ) : Type 0 where
   pub before : IsIndex rows
   pub lines : text ≡ index_text rows ++ rest

@@ -5,7 +5,7 @@ ghost use Rattle.index_file.specs.declared.fault.IndexFault.TheVariants.{Memory}
 use std::alloc::{AllocError, AllocFailed};
 use thiserror::Error;
 
-/// Why bytes are no index text. The first wrong line is told, and of one line that it is no row's line
+/// Why bytes are no index text. The first wrong line is reported, and of one line that it is no row's line
 /// before that its name stands in an earlier one. Lines count from 1.
 #[derive(Clone, Copy, Debug, PartialEq, Eq, Error)]
 pub enum IndexFault {

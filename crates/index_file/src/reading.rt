@@ -26,7 +26,7 @@ struct Fields<'a> {
     uuid: &'a [u8],
 }
 
-// A UUID's text is as long as all others, so it is cut off the end of a line, with the newline behind it and
+// A UUID's text is as long as all others, so it is cut off the end of a line, with the newline after it and
 // the colon before it.
 fn cut_fields(line: &[u8]) -> Option<Fields<'_>>
     ensures { (row : IndexRow) → IsIndexRow row → line.now ≡ line_text row → IsSomeAnd result (λ fields. (fields.name.now ≡ row.name) × (fields.state.now ≡ state_text row.state) × (fields.path.now ≡ escaped row.path) × (fields.uuid.now ≡ uuid_text row.uuid)) }
@@ -123,7 +123,7 @@ fn read_line(alloc: Global, line: &[u8]) -> Result<Option<IndexRow>, IndexFault>
     }
 }
 
-// The first line with its newline, or all where there is none, and what is behind it.
+// The first line with its newline, or all where there is none, and what follows it.
 fn cut_line(text: &[u8]) -> (&[u8], &[u8])
     ensures whole { text.now ≡ result.0.now ++ result.1.now }
     ensures some { text.now ≢ [] → result.0.now ≢ [] }

@@ -61,7 +61,7 @@ pub after_bad : (place : ℕ) (set : List ℕ) (rest : Result (List Rule) PrivFa
 unfolding after
 after_bad place set rest = refl
 
--- `&text[place..]` is what stands behind a place
+-- `&text[place..]` is what stands from a place on
 pub comma_behind : (text : List ℕ) (place : ℕ) → position is_comma (drop place text) ≡ position is_comma (take (length text - place) (drop place text))
 comma_behind text place = ap (position is_comma) (sym (take_all (length text - place) (drop place text) (omega (arith, length-drop place text))))
 
@@ -84,7 +84,7 @@ words_from-last text place within none =
     let whole : take (length text - place) (drop place text) ≡ drop place text = take_all (length text - place) (drop place text) (omega (arith, length-drop place text)) in
     rw (le-ltb (length text) (length text) (omega arith), whole) (split_none is_comma (drop place text) none)
 
--- the place behind a token is that behind its bytes
+-- the place after a token is that after its bytes
 behind_token : (text : List ℕ) (place end : ℕ) → place ≤ end → end ≤ length text → place + length (slice_range text place end) + 1 ≡ end + 1
 behind_token text place end after within =
     let size : length (slice_range text place end) ≡ end - place = length-take-le (end - place) (drop place text) (omega (arith, length-drop place text)) in

@@ -63,7 +63,7 @@ set_of_words words = set_of_rules (rules_from 0 words)
 unfoldable pub words_from : List ℕ → ℕ → List (List ℕ)
 words_from text place = slice_split is_comma (drop place text)
 
--- the tokens behind one that ends at a place
+-- the tokens after one that ends at a place
 unfoldable pub words_behind : List ℕ → ℕ → List (List ℕ)
 words_behind text end = if nat_lt end (length text) then words_from text (end + 1) else []
 

@@ -50,7 +50,7 @@ print_of set = join_with_byte 44 (map name_of set)
 unfoldable pub set_of_bits : ℕ → List ℕ
 set_of_bits bits = set_of (λ n. bit_at bits n == 1)
 
--- a text with a name behind it, and a comma between the two where there is a text
+-- a text with a name after it, and a comma between the two where there is a text
 abbrev pub with_name : List ℕ → List ℕ → List ℕ
 with_name [] name = name
 with_name (b ∷ text) name = (b ∷ text) ++ (44 ∷ name)

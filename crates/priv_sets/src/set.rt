@@ -32,7 +32,7 @@ fn is_set(bits: u64, number: u8) -> bool
     number < COUNT && bits >> number & 1 == 1
 }
 
-// Appends a name, behind a comma where others stand before it.
+// Appends a name, after a comma where others stand before it.
 fn push_name(text: &mut Vec<u8>, name: &[u8]) -> Result<(), AllocError>
     ensures { OnOk result (text.new.items ≡ with_name text.old.items name.now) }
 {

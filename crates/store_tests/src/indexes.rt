@@ -14,7 +14,7 @@ const BOTH: &[u8] = b"web:installed:/zones/web:8a2e61b6-8ea3-5b49-9719-c91d461d9
 db:configured:/a\\:b\\\\c:3edb1a40-dd1b-5520-a4de-4684d80f8b22
 ";
 
-// How many rows a text has, or its fault. Want of memory ends the test.
+// How many rows a text has, or its fault. Running out of memory ends the test.
 fn count_rows(alloc: Global, text: &[u8]) -> Result<Result<usize, IndexFault>, IndexFault> {
     match read_index(alloc, text) {
         Ok(rows) => Ok(Ok(rows.len())),

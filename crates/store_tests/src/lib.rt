@@ -1,5 +1,5 @@
 //! Tests of what zones are stored with, over public calls: sources, sinks and disks, banks, stores, indexes and UUIDs.
-//! What they expect comes from docs/FORMATS.md, from a plain script, and from another implementation of UUIDs.
+//! What they expect comes from docs/STORE.md, from a plain script, and from another implementation of UUIDs.
 #![tactic(auto)]
 
 #[cfg(test)]

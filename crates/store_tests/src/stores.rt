@@ -24,7 +24,7 @@ set ip-type=shared
 
 const FILLS: [Fill; 3] = [Fill::Old, Fill::New, Fill::Byte(1)];
 
-// A store of one zone, as a plain script writes it from docs/FORMATS.md (examples/store_of_web.py).
+// A store of one zone, as a plain script writes it from docs/STORE.md (tools/store_of_web.py).
 const STORE: &[u8] = b"\x01ZNSTORE1A\0\0\0\0\0\0\x01\0\0\0\xafzone web
 state configured
 uuid 8a2e61b6-8ea3-5b49-9719-c91d461d9a87
@@ -238,7 +238,7 @@ fn a_revision_is_a_number_of_32_bits(rt: HostRuntime) -> Result<(), Fail> {
     Ok(())
 }
 
-// A record that is not whole is told before one that is out of form, and no length is too large to be looked at.
+// A record that is not whole is reported before one that is out of form, and no length is too large to be looked at.
 #[test]
 fn a_record_is_whole_before_it_is_read(rt: HostRuntime) -> Result<(), Fail> {
     let cases = [
@@ -283,7 +283,7 @@ fn a_removal_byte_by_byte(rt: HostRuntime) -> Result<(), Fail> {
     Ok(())
 }
 
-// Puts a record behind the last one of a store: a zone made or changed, or a removal.
+// Puts a record after the last one of a store: a zone made or changed, or a removal.
 fn push_record(
     alloc: Global,
     bytes: &mut Vec<u8>,
@@ -320,7 +320,7 @@ fn store_of(alloc: Global, records: &str) -> Result<Vec<u8>, AllocError> {
     Ok(bytes)
 }
 
-// The names of the zones in their order, with a space behind each.
+// The names of the zones in their order, with a space after each.
 fn names_of(alloc: Global, store: &Store<MemDisk>) -> Result<Vec<u8>, AllocError> {
     let mut names = Vec::new(alloc);
     for place in 0..store.count() {
@@ -365,7 +365,7 @@ fn no_zone_is_removed_that_is_not_stored(rt: HostRuntime) -> Result<(), Fail> {
     Ok(())
 }
 
-// The name of three digits behind a letter.
+// The name of three digits after a letter.
 fn numbered(number: u8) -> [u8; 4] {
     [
         b'z',

@@ -1,4 +1,4 @@
--- The text of a UUID: its length, what stands in it, and that it tells its UUID.
+-- The text of a UUID: its length, what stands in it, and that it says its UUID.
 use Rattle.std.proofs.Common.{◌≡◌, inl, ℕ, ◌/◌, ◌%◌, ◌<◌, true, false, List, length, slice_index, Some, if◌then◌else◌, refl, ap, sym, ◌∙◌, arith}
 use Rattle.std.specs.Prelude.{◌==◌}
 use Rattle.std.specs.List.{list_all}

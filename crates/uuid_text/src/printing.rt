@@ -5,7 +5,7 @@ ghost use Rattle.uuid_text.specs.Text.{uuid_text, IsUuid};
 use std::alloc::AllocError;
 use uuid::Uuid;
 
-/// Appends the text of a UUID. After want of memory the bytes are as they were, or have a front of it behind
+/// Appends the text of a UUID. Where memory runs out, the bytes are as they were, or have a front of it after
 /// them.
 #[tactic(auto, using(crate::proofs::Parsed::parsed_is_uuid))]
 pub fn push_uuid(out: &mut Vec<u8>, uuid: Uuid) -> Result<(), AllocError>

@@ -4,7 +4,7 @@ ghost use Rattle.uuid_text.specs.Text.{uuid_text, IsUuid};
 
 use uuid::Uuid;
 
-// The UUID that the bytes tell, in any spelling.
+// The UUID that the bytes say, in any spelling.
 fn parse(text: &[u8]) -> Option<Uuid>
     ensures { (uuid : List ℕ) → IsUuid uuid → text.now ≡ uuid_text uuid → result ≡ Some uuid }
 {

@@ -39,7 +39,7 @@ first_behind c xs ys f =
     let inside : nat_lt (length xs) (length (xs ++ c ∷ ys)) ≡ true = let more = length-append xs (c ∷ ys) in grind (arith, nat_tests) in
     rw (reached c xs ys f, inside) refl
 
--- the first such byte stands behind the bytes that lack it
+-- the first such byte stands after the bytes that lack it
 pub place_found : (c : ℕ) (bytes xs ys : List ℕ) → lacks c xs ≡ true → bytes ≡ xs ++ c ∷ ys → None ≡ position (λ b. b == c) bytes → ⊥
 place_found c bytes xs ys f is none = let at : position (λ b. b == c) bytes ≡ Some (length xs) = rw is (first_behind c xs ys f) in cc
 

@@ -10,13 +10,13 @@ use Rattle.zn_base.specs.Path.{is_slash}
 use Rattle.zn_base.specs.Glob.{Part, Star, One, fits, parts, parts_behind, rests, bracket_end, bracket_size, stands_for, is_listed, is_close}
 use Rattle.zn_base.specs.Runs.{IsBehindCloses, PassesPart, fits_from, star_fits_from}
 
--- behind n bytes stand the parts of what is left there
+-- after n bytes stand the parts of what is left there
 pub parts_behind-drop : (n : ℕ) (bytes : List ℕ) → parts_behind n bytes ≡ parts (drop n bytes)
 parts_behind-drop zero bytes = refl
 parts_behind-drop (suc n) [] = refl
 parts_behind-drop (suc n) (b ∷ bytes) = parts_behind-drop n bytes
 
--- what a star with parts behind it fits
+-- what a star with parts after it fits
 abbrev pub starred : List Part → List ℕ → Bool
 starred ps path = fits (Star ∷ ps) path
 
@@ -119,7 +119,7 @@ passed_none p (x ∷ xs) h =
     let both = or_parts (p x) (list_any p xs) h in
     rw both.0 (omega (arith, passed_none p xs both.1))
 
--- behind the last `]` no bracket begins
+-- after the last `]` no bracket begins
 pub no_bracket : (pattern : List ℕ) (behind k b : ℕ) → IsBehindCloses behind pattern → behind ≤ k → bracket_end b (drop k pattern) ≡ None
 no_bracket pattern behind k b h past =
     let none : list_any is_close (drop k pattern) ≡ false = h k ∙ le-ltb k behind past in
@@ -142,7 +142,7 @@ parts_from-one pattern at behind inside other ends =
     let rest : drop size bytes ≡ drop behind pattern = drop-drop size (at + 1) pattern ∙ ap (λ k. drop k pattern) (omega (arith, ends)) in
     ap parts (drop_more pattern at 0 inside) ∙ parts-one b bytes other ∙ ap (λ xs. One (stands_for (bracket_end b bytes) b bytes) ∷ parts xs) rest
 
--- from a place on: behind a byte that its part stands for
+-- from a place on: after a byte that its part stands for
 pub fits_from-one : (pattern : List ℕ) (at : ℕ) (path : List ℕ) (place behind : ℕ) → at < length pattern → get_or pattern at 0 ≢ 42 → place < length path
     → PassesPart (get_or pattern at 0) (drop (at + 1) pattern) (get_or path place 0) (at + 1) (length pattern) (Some behind)
     → (fits_from pattern at path place ≡ fits_from pattern behind path (place + 1)) × (star_fits_from pattern at path place ≡ true → star_fits_from pattern behind path (place + 1) ≡ true)
@@ -187,7 +187,7 @@ fits_from-star pattern at path place inside star =
     let first : parts (drop at pattern) ≡ Star ∷ parts (drop (at + 1) pattern) = rw (drop_more pattern at 0 inside, star) refl in
     (rw first refl, rw first (star_star (parts (drop (at + 1) pattern)) (drop place path)))
 
--- what fits fits behind a star too
+-- what fits fits after a star too
 pub star_fits_from-here : (pattern : List ℕ) (at : ℕ) (path : List ℕ) (place : ℕ) → fits_from pattern at path place ≡ true → star_fits_from pattern at path place ≡ true
 unfolding fits_from star_fits_from
 star_fits_from-here pattern at path place = star_here (parts (drop at pattern)) (drop place path)

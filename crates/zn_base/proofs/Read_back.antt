@@ -13,7 +13,7 @@ use Rattle.zn_base.specs.declared.state.ZoneState.{ZoneState}
 use Rattle.zn_base.specs.declared.state.ZoneState.TheVariants.{Configured, Incomplete, Installed, Ready, Running, ShuttingDown, Down}
 use Rattle.zn_base.proofs.First_byte.{lacks_by}
 
--- behind tests that refuse, an answer is what it is without them
+-- after tests that refuse, an answer is what it is without them
 passed : {T E : Type 0} (b : Bool) (fault : E) (r : Result T E) → is_ok (if b then Err fault else r) ≡ true → ((if b then Err fault else r) ≡ r) × (is_ok r ≡ true)
 passed true fault r ok = absurd (cc)
 passed false fault r ok = (refl, ok)
@@ -113,7 +113,7 @@ stored_state_text Down h = absurd (cc)
 same_some : {X : Type 0} (a b : X) → Some a ≡ Some b → a ≡ b
 same_some a b e = cc
 
--- a stored state's name tells it
+-- a stored state's name says it
 pub state_of_text : (a b : ZoneState) → IsTrue (is_stored a) → IsTrue (is_stored b) → state_text a ≡ state_text b → a ≡ b
 state_of_text a b f g same = same_some a b (sym (stored_state_text a f) ∙ ap stored_state same ∙ stored_state_text b g)
 

@@ -1,4 +1,4 @@
--- The tests of `Same` tell what is one.
+-- The tests of `Same` say what is one.
 use Rattle.std.proofs.Common.{◌≡◌, ◌==◌, ℕ, Bool, true, refl, ap}
 use Rattle.std.specs.Bool.{Decides}
 use Rattle.std.proofs.lemmas.Bool.{eq-eqb, eqb-true, false≢true}

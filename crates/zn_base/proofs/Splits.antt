@@ -30,7 +30,7 @@ split_none p xs h = split_whole p xs (elim (nat_lt (position_or_len p xs) (lengt
   | false ↦ λ e g. grind (arith, nat_tests)
 ] refl h)
 
--- past a good component the search goes on behind its slash
+-- past a good component the search goes on after its slash
 pub first_bad_more : (place at : ℕ) (xs : List ℕ) → position is_slash xs ≡ Some at → is_component (take at xs) ≡ true → first_bad (place + (at + 1)) (slice_split is_slash (drop (at + 1) xs)) ≡ first_bad place (slice_split is_slash xs)
 first_bad_more place at xs h good =
     let cut = split_some is_slash xs at h in

@@ -25,21 +25,21 @@ is_chosen (x ∷ items) c = if x == 33 then not (is_listed items c) else is_list
 abbrev pub is_close : ℕ → Bool
 is_close b = b == 93
 
--- where the bracket ends that a byte begins: at the next `]` behind a `[`, and without one there is none
+-- where the bracket ends that a byte begins: at the next `]` after a `[`, and without one there is none
 abbrev pub bracket_end : ℕ → List ℕ → Option ℕ
 bracket_end b bytes = if b == 91 then position is_close bytes else None
 
--- what a byte other than a star, with what stands behind it, stands for
+-- what a byte other than a star, with what follows it, stands for
 abbrev pub stands_for : Option ℕ → ℕ → List ℕ → ℕ → Bool
 stands_for (Some end) b bytes c = not (is_slash c) && is_chosen (take end bytes) c
 stands_for None b bytes c = if b == 63 then not (is_slash c) else c == b
 
--- how many bytes behind the `[` belong to a bracket
+-- how many bytes after the `[` belong to a bracket
 abbrev pub bracket_size : Option ℕ → ℕ
 bracket_size (Some end) = end + 1
 bracket_size None = 0
 
--- the parts of a pattern behind its first bytes, so many
+-- the parts of a pattern after its first bytes, so many
 abbrev pub parts_behind : ℕ → List ℕ → List Part
 parts_behind n [] = []
 parts_behind (suc n) (b ∷ bytes) = parts_behind n bytes
@@ -50,7 +50,7 @@ parts_behind zero (b ∷ bytes) =
 abbrev pub parts : List ℕ → List Part
 parts pattern = parts_behind 0 pattern
 
--- what is left of a path behind each of its fronts without a slash
+-- what is left of a path after each of its fronts without a slash
 abbrev pub rests : List ℕ → List (List ℕ)
 rests [] = [] ∷ []
 rests (c ∷ path) = (c ∷ path) ∷ (if is_slash c then [] else rests path)

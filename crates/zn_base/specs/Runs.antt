@@ -9,7 +9,7 @@ use Rattle.zn_base.specs.Glob.{Star, bracket_end, bracket_size, fits, is_close, 
 abbrev pub IsBehindCloses : ℕ → List ℕ → Type 0
 IsBehindCloses behind pattern = (k : ℕ) → list_any is_close (drop k pattern) ≡ nat_lt k behind
 
--- whether a part stands for a byte, and then the place behind it, given its first byte, what stands behind
+-- whether a part stands for a byte, and then the place after it, given its first byte, what follows
 -- that, and where
 abbrev pub PassesPart : ℕ → List ℕ → ℕ → ℕ → ℕ → Option ℕ → Type 0
 PassesPart b bytes c place length None = stands_for (bracket_end b bytes) b bytes c ≡ false
@@ -20,12 +20,12 @@ PassesPart b bytes c place length (Some behind) =
 unfoldable pub fits_from : List ℕ → ℕ → List ℕ → ℕ → Bool
 fits_from pattern at path place = fits (parts (drop at pattern)) (drop place path)
 
--- the same behind a star
+-- the same after a star
 unfoldable pub star_fits_from : List ℕ → ℕ → List ℕ → ℕ → Bool
 star_fits_from pattern at path place = fits (Star ∷ parts (drop at pattern)) (drop place path)
 
--- what a run along the parts before the next star tells: at a star, what stands there fits as what stood at
--- the start, and so it does behind an earlier star
+-- what a run along the parts before the next star says: at a star, what stands there fits as what stood at
+-- the start, and so it does after an earlier star
 abbrev pub RunTells : List ℕ → ℕ → List ℕ → ℕ → Run → Type 0
 RunTells pattern at path place ToEnd = fits_from pattern at path place ≡ true
 RunTells pattern at path place Differs = fits_from pattern at path place ≡ false

@@ -9,7 +9,7 @@ use std::marker::Model;
 // The greatest length of a list, so that a place in it is a `u32`. No input of the program fills one.
 const LISTING_MAX: usize = 4_294_967_295;
 
-/// At most 4,294,967,295 items in order. Contracts see their list. Memory counts as wanting for one more.
+/// At most 4,294,967,295 items in order. Contracts see their list. For one more, memory counts as run out.
 #[derive(Drop)]
 pub struct Listing<T> {
     items: Vec<T>,

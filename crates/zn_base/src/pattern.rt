@@ -54,7 +54,7 @@ fn next_close(bytes: &[u8]) -> Option<usize>
     bytes.iter().position(|byte| *byte == b']')
 }
 
-// The place behind the last `]` of a pattern, or 0: no bracket begins at it or later.
+// The place after the last `]` of a pattern, or 0: no bracket begins at it or later.
 fn behind_closes(pattern: &[u8]) -> usize
     ensures { IsBehindCloses result pattern.now }
 {
@@ -84,7 +84,7 @@ fn bracket_end(pattern: &[u8], behind_closes: usize, at: usize) -> Option<usize>
     next_close(&pattern[at + 1..])
 }
 
-// What a part that is no star stands for, given where its bracket ends, its first byte and what stands behind.
+// What a part that is no star stands for, given where its bracket ends, its first byte and what follows.
 fn stands_for(end: Option<usize>, first: u8, behind: &[u8], byte: u8) -> bool
     requires { ForSome end (λ end. end ≤ length behind.now) }
     ensures { result ≡ stands_for end first behind.now byte }
@@ -96,7 +96,7 @@ fn stands_for(end: Option<usize>, first: u8, behind: &[u8], byte: u8) -> bool
     }
 }
 
-// The place behind the part at a place, if that is no star and stands for a byte.
+// The place after the part at a place, if that is no star and stands for a byte.
 fn behind_part(pattern: &[u8], behind_closes: usize, at: usize, byte: u8) -> Option<usize>
     requires inside { at < length pattern.now }
     requires no_star { slice_index pattern.now at ≢ 42 }
@@ -117,7 +117,7 @@ fn behind_part(pattern: &[u8], behind_closes: usize, at: usize, byte: u8) -> Opt
 enum Run {
     // To the end of both.
     ToEnd,
-    // To a star: the place behind it, and how far the path is passed.
+    // To a star: the place after it, and how far the path is passed.
     ToStar(usize, usize),
     Differs,
 }

@@ -1,4 +1,4 @@
-//! Text that is put together from pieces, numbers among them. After want of memory a text has what it had, and
+//! Text that is put together from pieces, numbers among them. Where memory runs out, a text has what it had, and
 //! perhaps a front of what was to follow.
 ghost use Rattle.std.specs.Prelude.{◌≡◌, ◌++◌, OnOk, decimal};
 ghost use Rattle.std.specs.List.{flat_map};

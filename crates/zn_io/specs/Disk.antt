@@ -34,7 +34,7 @@ pub record GoesOn {T E : Type 0} (old new : View) (result : Result T E) : Type 0
   pub adds_now : (t : ℕ) (image : List ℕ) → t ≤ old.moment → new.Since t image → old.Since t image ⊎ new.Now image
   pub cause : HasCause old.faults new.faults result
 
--- the bytes put at an offset, behind zeros where there is a gap
+-- the bytes put at an offset, after zeros where there is a gap
 abbrev pub patched : List ℕ → ℕ → List ℕ → List ℕ
 patched image at bytes = take at image ++ replicate (at - length image) 0 ++ bytes ++ drop (at + length bytes) image
 

@@ -1,4 +1,4 @@
--- A disk that tells nothing but its faults.
+-- A disk that says nothing but its faults.
 use Rattle.std.specs.Prelude.{ℕ, []}
 use Rattle.zn_io.specs.Disk.{View, IsSound}
 

@@ -59,7 +59,7 @@ fn overfill(disk: &mut [u8], at: usize, size: usize, byte: u8)
     disk[at..at + size].fill(byte);
 }
 
-// Puts bytes at an offset, behind zeros where there is a gap.
+// Puts bytes at an offset, after zeros where there is a gap.
 pub fn put(disk: &mut Vec<u8>, at: usize, bytes: &[u8])
     requires { at + length bytes.now ≤ vec_capacity disk.old }
     ensures bytes { disk.new.items ≡ patched disk.old.items at bytes.now }
@@ -69,7 +69,7 @@ pub fn put(disk: &mut Vec<u8>, at: usize, bytes: &[u8])
     overwrite(disk, at, bytes);
 }
 
-// Puts a byte throughout a range, behind zeros where there is a gap.
+// Puts a byte throughout a range, after zeros where there is a gap.
 fn fill(disk: &mut Vec<u8>, range: Extent, byte: u8) -> Result<(), AllocError>
     requires { range.at + range.size < 2 ^ 64 }
     ensures { OnOk result (disk.new.items ≡ patched disk.old.items range.at (replicate range.size byte)) }

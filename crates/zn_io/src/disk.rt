@@ -11,7 +11,7 @@ use crate::Failed;
 /// that fails counts as none, and no failed call does more.
 pub trait Disk {
     /// What it reads as, what a crash may leave, and how often it has failed. What it keeps to is said
-    /// under `Keeps`, which a disk that tells nothing never grants.
+    /// under `Keeps`, which a disk that says nothing never grants.
     ghost view: { Self → View };
 
     /// The number of its bytes.

@@ -1,4 +1,4 @@
-//! A disk over a file of the system. It is the trusted edge of the program, and tells nothing of content.
+//! A disk over a file of the system. It is the trusted edge of the program, and says nothing of content.
 ghost use Rattle.std.specs.Prelude.{◌≡◌, ◌+◌, ◌<◌, ◌^◌, ◌≤◌, ℕ, length, IfOk};
 ghost use Rattle.zn_io.specs.FileDisk.{untold, untold_is_sound};
 ghost use Rattle.zn_io.specs.Streams.{one_more, Rose};
@@ -11,7 +11,7 @@ use std::path::Path;
 use std::rt::Files;
 
 /// The file of a given name, which is opened at the first call and made where it is missing. A sync is
-/// the system's. What the file holds, it doesn't tell: its view grants no `Keeps` and no image.
+/// the system's. What the file holds, it doesn't say: its view grants no `Keeps` and no image.
 #[derive(Drop)]
 pub struct FileDisk<'a, R: Files<File = File>> {
     files: &'a R,

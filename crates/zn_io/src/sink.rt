@@ -6,7 +6,7 @@ use crate::Failed;
 
 /// Bytes that are written in pieces.
 pub trait Sink {
-    /// The bytes that the sink has taken, where it tells them.
+    /// The bytes that the sink has taken, where it shows them.
     ghost holds: { Self → Option (List ℕ) };
 
     /// How often the sink has failed. The count stands still at 2^64 - 1.

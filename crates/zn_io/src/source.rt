@@ -12,7 +12,7 @@ pub struct Failed;
 
 /// Bytes that are read in pieces.
 pub trait Source {
-    /// The bytes that are left, where the source tells them.
+    /// The bytes that are left, where the source shows them.
     ghost left: { Self → Option (List ℕ) };
 
     /// How often the source has failed. The count stands still at 2^64 - 1.

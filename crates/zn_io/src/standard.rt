@@ -1,5 +1,5 @@
 //! Any reader as a source and any writer as a sink, with a count of its errors. They are the trusted
-//! edge of the program, and tell nothing of content.
+//! edge of the program, and say nothing of content.
 ghost use Rattle.std.specs.Prelude.{None};
 
 use crate::{Failed, Sink, Source};

@@ -89,7 +89,7 @@ distinct-behind : {A : Type 0} (key : A → List ℕ) (front back : List A) → 
 distinct-behind key [] back h = h
 distinct-behind key (y ∷ front) back h = distinct-behind key front back (rest_true (not (has_key key (key y) (front ++ back))) _ h)
 
--- in a list whose keys are distinct, none behind the first of a key has it
+-- in a list whose keys are distinct, none after the first of a key has it
 pub none_behind : {A : Type 0} (key : A → List ℕ) (k : List ℕ) (xs : List A) (i : ℕ) → are_distinct key xs ≡ true → (s : Parts (λ x. bytes_eq (key x) k) xs i)
     → has_key key k s.back ≡ false
 none_behind key k xs i h s =

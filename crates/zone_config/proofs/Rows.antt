@@ -52,7 +52,7 @@ with_properties c d = record d {
   fs_allowed = c.fs_allowed;
 }
 
--- what a configuration shows is told by its properties alone
+-- what a configuration shows depends on its properties alone
 shown-alone : (q : Property) (c d : Contents) → shown q (with_properties c d) ≡ shown q c
 shown-alone Zonepath c d = refl
 shown-alone Brand c d = refl

@@ -1,4 +1,4 @@
--- The tests of `Same` tell what is one.
+-- The tests of `Same` say what is one.
 use Rattle.std.proofs.Common.{◌≡◌, Bool, true, ap}
 use Rattle.std.specs.Bool.{Decides}
 use Rattle.std.specs.Cmp.{booleans_Decides}

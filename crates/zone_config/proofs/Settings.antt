@@ -207,7 +207,7 @@ put : (name : List ℕ) (value : Value) (old new : Contents) → IsSound old →
 unfolding with_property
 put name value old new s h = named-put (setting_named name) value old new s h
 
--- memory may always be wanting where there is such a property
+-- memory may always run out where there is such a property
 memory : (o : Option Setting) (value : Value) (old : Contents) → allows_value o value ≡ true → MayRefuseSet o old fault.Memory
 memory None value old h = absurd (cc)
 memory (Some t) value old h = tt

@@ -61,7 +61,7 @@ pub record HasNoPlace (a : Alias) (limit : ℕ) (old : Contents) : Type 0 where
   pub told : limit ≡ RESOURCES_MAX
   pub full : RESOURCES_MAX ≤ count old
 
--- how setting an allowed value may fail: for want of memory, or the text is too long; and of an alias, an rctl of another
+-- how setting an allowed value may fail: memory runs out, or the text is too long; and of an alias, an rctl of another
 -- form holds it, or there is no place for its rctl
 abbrev pub MayRefuseSet : Option Setting → Contents → ConfigFault → Type 0
 MayRefuseSet None old fault = ⊥

@@ -2,7 +2,7 @@
 ghost use Rattle.zone_config.specs.Settable.{ClearsWhereNamed, SetsWhereAllowed};
 
 /// A law: by its clause, `set_property` succeeds only where there is a property of that name and its rule
-/// allows the value. There it fails only for want of memory, where the text would be too long, and of an
+/// allows the value. There it fails only where memory runs out, where the text would be too long, and of an
 /// alias where an rctl of another form holds it, or where it has no rctl yet and there are 256 resources.
 /// Else the property shows the value, or the alias is one rctl with that limit, and everything else is as
 /// it was.

@@ -53,13 +53,13 @@ laid_out image bodies f =
 
 -- the closed gate's place
 module _ (image : List ℕ) (bodies : List (List ℕ)) (selector gate : ℕ) (rest : List ℕ) (laid : IsLaidOut image bodies selector gate rest) (p : ℕ) (at : p ≡ length (front selector bodies)) where
-  -- a torn write behind the closed gate leaves the bodies
+  -- a torn write after the closed gate leaves the bodies
   pub torn_behind : (n : ℕ) (c : List ℕ) → Torn (p + 1) n image c → Stands c bodies
   torn_behind n c torn =
       let is = behind (front selector bodies) gate rest p at n c (subst (λ (l : List ℕ). Torn (p + 1) n l c) laid.is torn) in
       formatted (is_formatted c bodies selector gate (drop (p + 1) c) (record { is = is; bank = laid.bank; closed = laid.closed; inside = laid.inside }))
 
-  -- a body and a closed gate behind the closed gate
+  -- a body and a closed gate after the closed gate
   abbrev pub staged : List ℕ → List ℕ
   staged body = front selector bodies ++ gate ∷ (four (length body) ++ (body ++ 0 ∷ drop (length body + 5) rest))
 
@@ -70,7 +70,7 @@ module _ (image : List ℕ) (bodies : List (List ℕ)) (selector gate : ℕ) (re
       ∙ ap (λ (k : ℕ). front selector bodies ++ gate ∷ (four (length body) ++ (body ++ 0 ∷ []) ++ drop k rest)) n
       ∙ ap (λ (l : List ℕ). front selector bodies ++ gate ∷ (four (length body) ++ l)) (append_assoc body (0 ∷ []) (drop (length body + 5) rest))
 
-  -- behind an open gate they are one body more
+  -- after an open gate they are one body more
   opened : (body : List ℕ) → length (blocks bodies) + 6 + length body ≤ BANK_BYTES → IsLaidOut (front selector bodies ++ 1 ∷ (four (length body) ++ (body ++ 0 ∷ drop (length body + 5) rest))) (bodies ++ body ∷ []) selector 0 (drop (length body + 5) rest)
   opened body fits = record {
     is = sym (front-push selector bodies body (0 ∷ drop (length body + 5) rest));

@@ -16,7 +16,7 @@ use Rattle.zone_disk.proofs.Unique.{IsStop, shut_stops, unique, stands_unique, f
 cut_stops : (rest : List ℕ) → IsCut rest → IsStop (1 ∷ rest)
 cut_stops rest cut body gate more e = let same : rest ≡ four (length body) ++ (body ++ gate ∷ more) = cc in cut body gate more same
 
--- a bad record's image: the bank's end cuts off what is behind
+-- a bad record's image: the bank's end cuts off what follows
 bad_is : (image : List ℕ) (place : ℕ) (b : IsBadRecord image place) → image ≡ front b.selector b.bodies ++ 1 ∷ (b.rest ++ drop (16 + BANK_BYTES) image)
 bad_is image place b =
     sym (take-append-drop (16 + BANK_BYTES) image) ∙ ap (λ (l : List ℕ). l ++ drop (16 + BANK_BYTES) image) b.is ∙ append_assoc (front b.selector b.bodies) (1 ∷ b.rest) (drop (16 + BANK_BYTES) image)

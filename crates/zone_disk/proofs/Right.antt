@@ -28,7 +28,7 @@ header_may s k lt bank = elim (cases_eq k 9) [
 abbrev tail : List ℕ
 tail = 90 ∷ 78 ∷ 83 ∷ 84 ∷ 79 ∷ 82 ∷ 69 ∷ 49 ∷ 65 ∷ 0 ∷ 0 ∷ 0 ∷ 0 ∷ 0 ∷ 0 ∷ 0 ∷ []
 
--- behind the head gate
+-- after the head gate
 tail_at : (k : ℕ) → 0 < k → k < 16 → get_or tail (k - 1) 0 ≡ get_or (header 65) k 0
 tail_at zero more less = absurd (omega arith)
 tail_at (suc k) more less =

@@ -17,7 +17,7 @@ module _ (F : List ℕ) (g : ℕ) (rest : List ℕ) (p : ℕ) (at : p ≡ length
   back : drop (p + 1) (F ++ g ∷ rest) ≡ rest
   back = ap (λ (l : List ℕ). drop (p + 1) l) split ∙ drop_at (F ++ g ∷ []) rest (p + 1) size
 
-  -- a write behind the byte leaves it and what stands before it
+  -- a write after the byte leaves it and what stands before it
   pub behind : (n : ℕ) (c : List ℕ) → Torn (p + 1) n (F ++ g ∷ rest) c → c ≡ F ++ g ∷ drop (p + 1) c
   behind n c torn =
       let fore : take (p + 1) c ≡ F ++ g ∷ [] = torn.before (p + 1) (omega arith) (omega (arith, whole)) ∙ ap (λ (l : List ℕ). take (p + 1) l) split ∙ take_at (F ++ g ∷ []) rest (p + 1) size in

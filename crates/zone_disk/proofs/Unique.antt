@@ -12,7 +12,7 @@ use Rattle.zone_disk.proofs.Blocks.{laid_out, length-front}
 pub four_same : (m n : ℕ) → m / 256 / 256 / 256 ≡ n / 256 / 256 / 256 → m / 256 / 256 % 256 ≡ n / 256 / 256 % 256 → m / 256 % 256 ≡ n / 256 % 256 → m % 256 ≡ n % 256 → m ≡ n
 four_same m n a b c d = omega arith
 
--- no whole block with a gate behind it stands at the front
+-- no whole block with a gate after it stands at the front
 abbrev pub IsStop : List ℕ → Type 0
 IsStop bytes = (body : List ℕ) (g : ℕ) (rest : List ℕ) → bytes ≡ 1 ∷ (four (length body) ++ (body ++ g ∷ rest)) → ⊥
 
@@ -66,7 +66,7 @@ stands_unique image a b (unformatted u e) (formatted f) = absurd (not_both image
 stands_unique image a b (formatted f) (unformatted u e) = absurd (not_both image a u f)
 stands_unique image a b (formatted f) (formatted f') = formatted_unique image a b f f'
 
--- behind a front and a gate, each offset up to the gate is right
+-- after a front and a gate, each offset up to the gate is right
 pub front_right : (image : List ℕ) (s g : ℕ) (bodies : List (List ℕ)) (rest : List ℕ) → image ≡ front s bodies ++ g ∷ rest → s ≢ 66 → (k : ℕ) → k < 17 → is_right image k ≡ true
 front_right image s g bodies rest is bank k lt =
     let all : image ≡ header s ++ (blocks bodies ++ g ∷ rest) = is ∙ append_assoc (header s) (blocks bodies) (g ∷ rest) in

@@ -8,7 +8,7 @@ use Rattle.zone_disk.specs.declared.fault.BankFault.TheVariants.{NotAStore, BadR
 abbrev pub four : ℕ → List ℕ
 four n = (n / 256 / 256 / 256) ∷ (n / 256 / 256 % 256) ∷ (n / 256 % 256) ∷ (n % 256) ∷ []
 
--- bodies behind open gates, each after its length
+-- bodies after open gates, each after its length
 abbrev pub blocks : List (List ℕ) → List ℕ
 blocks [] = []
 blocks (body ∷ bodies) = 1 ∷ (four (length body) ++ (body ++ blocks bodies))
@@ -24,7 +24,7 @@ front selector bodies = header selector ++ blocks bodies
 abbrev pub used_by : List (List ℕ) → ℕ
 used_by bodies = length (blocks bodies) + 1
 
--- a header, the bodies behind open gates, one closed gate inside the bank, and then anything
+-- a header, the bodies after open gates, one closed gate inside the bank, and then anything
 pub record IsFormatted (image : List ℕ) (bodies : List (List ℕ)) : Type 0 where
   pub fore : take (16 + length (blocks bodies)) image ≡ front (get_or image 9 0) bodies
   -- 0x42 selects a bank that this form doesn't have
@@ -63,11 +63,11 @@ pub record IsFirstWrong (image : List ℕ) (place : ℕ) : Type 0 where
   pub wrong : is_right image place ≡ false
   pub before : (k : ℕ) → k < place → is_right image k ≡ true
 
--- there is no whole record with a gate behind it
+-- there is no whole record with a gate after it
 abbrev pub IsCut : List ℕ → Type 0
 IsCut bytes = (body : List ℕ) (gate : ℕ) (rest : List ℕ) → bytes ≡ four (length body) ++ (body ++ gate ∷ rest) → ⊥
 
--- within the header and the bank: whole records, and then an open gate with no whole record behind it
+-- within the header and the bank: whole records, and then an open gate with no whole record after it
 pub record IsBadRecord (image : List ℕ) (place : ℕ) : Type 0 where
   pub selector : ℕ
   pub bodies : List (List ℕ)

@@ -19,7 +19,7 @@ pub record HasRecords (bytes : List ℕ) (bodies : List (List ℕ)) (place : ℕ
   pub bank : get_or bytes 9 0 ≢ 66
   pub inside : place < length bytes
 
--- behind an open gate at a place there is no whole record
+-- after an open gate at a place there is no whole record
 abbrev pub IsCutAt : List ℕ → ℕ → Type 0
 IsCutAt bytes place = (get_or bytes place 1 ≡ 1) × IsCut (drop (place + 1) bytes)
 

@@ -1,4 +1,4 @@
-//! A list of bodies on a disk, each behind a gate byte that is opened once the body is on the disk.
+//! A list of bodies on a disk, each after a gate byte that is opened once the body is on the disk.
 ghost use Rattle.std.specs.Prelude.{◌≡◌, ◌≢◌, ◌⊎◌, ◌*◌, ◌+◌, ◌<◌, ◌≤◌, ◌-◌, ◌^◌, ◌++◌, ◌↔◌, [], ◌∷◌, List, ℕ, length, IfOk, IfErr, OnOk, OnErr, IsErrOf, IsTrue, Bool, true, false, Result, vec_capacity};
 ghost use Rattle.zn_io.specs.Disk.{View, Leaves, IsDurable};
 ghost use Rattle.zn_io.specs.Streams.{HasCause, Rose};
@@ -12,7 +12,7 @@ use std::alloc::{AllocError, Global};
 use std::marker::Model;
 use zn_io::{Disk, Failed, put_durably};
 
-/// How many bytes of a store a bank has behind the header: gates, lengths and bodies.
+/// How many bytes of a store a bank has after the header: gates, lengths and bodies.
 pub const BANK_BYTES: usize = 33_554_432;
 
 /// A list of bodies on a disk. Contracts see an `Account`: the disk, the bodies, the bytes of the bank in
@@ -81,7 +81,7 @@ fn prepared(alloc: Global, bodies: &mut Vec<Body>, body: &[u8]) -> Result<Body, 
     Ok(kept)
 }
 
-// Puts a body behind the closed gate, and then opens the gate.
+// Puts a body after the closed gate, and then opens the gate.
 fn put_body<D: Disk>(disk: &mut D, used: u32, body: &Body) -> Result<(), Failed>
     requires { used + 5 + length body.now ≤ BANK_BYTES }
     ensures any_moment { (D.view disk.old).Keeps → (bodies : List (List ℕ)) → IsSettled (D.view disk.old) bodies → used ≡ used_by bodies → Leaves (D.view disk.old) (D.view disk.new) (IsBeforeOrAfter bodies body.now) }
@@ -94,7 +94,7 @@ fn put_body<D: Disk>(disk: &mut D, used: u32, body: &Body) -> Result<(), Failed>
     put_durably(disk, gate, &[1])
 }
 
-// There is no room behind the closed gate for a length, a body and the next gate.
+// There is no room after the closed gate for a length, a body and the next gate.
 fn is_full(used: u32, body: &[u8]) -> bool
     requires { used ≤ BANK_BYTES }
     ensures { IsTrue result ↔ (BANK_BYTES < used + 5 + length body.now) }
@@ -114,7 +114,7 @@ impl<D: Disk> Bank<D> {
         ensures lasts { (D.view disk).Keeps → IfOk result (λ bank. (image : List ℕ) → (D.view bank.disk).Now image → Stands image bank.records) }
 
         // What is unformatted becomes a new store, which takes no memory, and every other disk stays as it is. After a
-        // fault other than that of the disk, want of memory included, each disk is as it was.
+        // fault other than that of the disk, running out of memory included, each disk is as it was.
         ensures formats { (D.view disk).Keeps → IfOk result (λ bank. Formats (D.view disk).reads (D.view bank.disk).reads) }
         ensures empty { (D.view disk).Keeps → IsUnformatted (D.view disk).reads → IfOk result (λ bank. bank.records ≡ []) }
         ensures refused_same { (D.view disk).Keeps → IfErr result (λ e. e.0 ≢ BankFault.DiskFault → (D.view e.1).reads ≡ (D.view disk).reads) }

@@ -57,7 +57,7 @@ fn put_header<D: Disk>(disk: &mut D) -> Result<(), Failed>
     put_durably(disk, 0, &[1])
 }
 
-// Writes a closed head gate first, so that a crash leaves no open one before what belongs behind it.
+// Writes a closed head gate first, so that a crash leaves no open one before what belongs after it.
 fn format_blank<D: Disk>(disk: &mut D) -> Result<(), Failed>
     ensures any_moment { (D.view disk.old).Keeps → IsDurable (D.view disk.old) → length (D.view disk.old).reads ≤ 1 → Leaves (D.view disk.old) (D.view disk.new) (λ image. Stands image []) }
     ensures done { (D.view disk.old).Keeps → length (D.view disk.old).reads ≤ 1 → OnOk result ((D.view disk.new).reads ≡ new_store) }

@@ -2,7 +2,7 @@
 ghost use Rattle.std.specs.Prelude.{◌≡◌, ◌<◌, ◌≤◌, IsTrue, IsNone, IfSome, length, get_or, true, false, ℕ};
 ghost use Rattle.zone_disk.specs.Image.{may_stand, is_right, IsFirstWrong};
 
-/// What stands behind the head gate: the form's name, the selector, six zeros and a closed first gate.
+/// What follows the head gate: the form's name, the selector, six zeros and a closed first gate.
 pub const TAIL: [u8; 16] = *b"ZNSTORE1A\0\0\0\0\0\0\0";
 
 fn may_stand(place: usize, byte: u8) -> bool

@@ -51,7 +51,7 @@ fn read_piece<D: Disk>(
     Ok(count > 0)
 }
 
-// The body behind an open gate, and what begins with the next gate.
+// The body after an open gate, and what begins with the next gate.
 fn split_body(rest: &[u8]) -> Option<(&[u8], &[u8])>
     ensures split { MatchOption result (IsCut rest.now) (λ r. rest.now ≡ four (length r.0.now) ++ (r.0.now ++ r.1.now)) }
     ensures next { MatchOption result (IsCut rest.now) (λ r. 0 < length r.1.now) }
@@ -70,7 +70,7 @@ fn split_body(rest: &[u8]) -> Option<(&[u8], &[u8])>
     }
 }
 
-// Takes whole records off the front, and says how many bytes they had. A gate stands behind them.
+// Takes whole records off the front, and says how many bytes they had. A gate stands after them.
 fn take_records(alloc: Global, bytes: &[u8], bodies: &mut Vec<Body>) -> Result<usize, AllocError>
     requires gate { 0 < length bytes.now }
     requires short { length bytes.now ≤ END }
@@ -90,7 +90,7 @@ fn take_records(alloc: Global, bytes: &[u8], bodies: &mut Vec<Body>) -> Result<u
     Ok(bytes.len() - rest.len())
 }
 
-// Takes the whole records behind a place, and says whether a closed gate stands behind them.
+// Takes the whole records after a place, and says whether a closed gate stands after them.
 fn advance(
     alloc: Global,
     bytes: &[u8],

@@ -1,4 +1,4 @@
--- What the tables tell of the states that they stand for.
+-- What the tables say of the states that they stand for.
 use Rattle.std.proofs.Common.{◌≡◌, ◌⊎◌, inl, inr, List, [], Option, ap, sym, ◌∙◌}
 use Rattle.zn_base.specs.Names.{Name}
 use Rattle.zone_pools.specs.declared.grant.Grant.{Grant}

@@ -1,4 +1,4 @@
--- What stands for a state after an act of one zone, and what the tables tell of the state.
+-- What stands for a state after an act of one zone, and what the tables say of the state.
 use Rattle.std.proofs.Common.{◌≡◌, ◌+◌, ◌∷◌, ◌++◌, [], ℕ, List, Bool, Option, Some, None, true, false, length, refl, ap, sym, subst, ◌∙◌, length-append}
 use Rattle.std.specs.Prelude.{◌≢◌, bytes_eq}
 use Rattle.std.specs.List.{list_any}

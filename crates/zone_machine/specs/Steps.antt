@@ -49,11 +49,11 @@ IsFittingStep t e g entry u = (S : State) → Stands S t → (fits S e g ≡ tru
 abbrev pub IsMisfit : Tables → Event → Grant → Tables → Type 0
 IsMisfit t e g u = ((S : State) → Stands S t → fits S e g ≡ false) × (u ≡ t)
 
--- a grant that doesn't fit is told to be so, or memory is wanting
+-- a grant that doesn't fit is reported as such, or memory runs out
 abbrev pub IsRefusedIfUnfit : Tables → Event → Grant → Result Entry StepFault → Type 0
 IsRefusedIfUnfit t e g result = (S : State) → Stands S t → fits S e g ≡ false → IsErrOf result BadGrant ⊎ IsErrOf result Memory
 
--- what the tables tell of every state that they stand for
+-- what the tables say of every state that they stand for
 abbrev pub IsSubject : Tables → Event → Subject → Type 0
 IsSubject t e s = (S : State) → Stands S t → s ≡ subject S e
 

@@ -61,7 +61,7 @@ pub record Sees (w : World) (s : Seen) : Type 0 where
 abbrev pub FollowsView : Seen → (View → Decision) → Grant → state.Desk → Work → Type 0
 FollowsView s decision g d w = (v : View) → Sees v.world s → act_of (decision v) g ≡ work_act w d
 
--- the steps behind the next one
+-- the steps after the next one
 abbrev pub rest_of : Job → List Step
 rest_of j = drop (j.at + 1) j.steps.items
 

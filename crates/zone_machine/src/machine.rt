@@ -80,7 +80,7 @@ impl Machine {
         }
     }
 
-    /// An event is answered under the grant that the pools give it. After want of memory nothing is said of
+    /// An event is answered under the grant that the pools give it. Where memory runs out, nothing is said of
     /// the machine.
     pub fn step(&mut self, alloc: Global, event: Event) -> Result<Entry, StepFault>
         ensures ok { IfOk result (λ entry. IsAllowedStep self.old event entry self.new) }
@@ -90,8 +90,8 @@ impl Machine {
         Ok(self.tables.answer(alloc, event, subject, grant)?)
     }
 
-    /// An event is answered under a stated grant, where it fits, as when a recorded trace is run again. After
-    /// want of memory nothing is said of the machine.
+    /// An event is answered under a stated grant, where it fits, as when a recorded trace is run again. Where
+    /// memory runs out, nothing is said of the machine.
     pub fn step_given(
         &mut self,
         alloc: Global,

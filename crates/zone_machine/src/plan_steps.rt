@@ -22,7 +22,7 @@ use std::alloc::{AllocError, Global};
 use zn_base::{AbsPath, Text, ZoneState};
 use zone_pools::{Grant, number_in};
 
-// A step is done, with what came and what it did to the objects, and the plan goes on behind it.
+// A step is done, with what came and what it did to the objects, and the plan goes on after it.
 fn passed(
     job: &mut Job,
     came: Option<Came>,
@@ -255,7 +255,7 @@ fn is_unmount(step: &Step) -> bool
     matches!(step, Step::Unmount(_))
 }
 
-/// The place behind the unmounts that stand at a place.
+/// The place after the unmounts that stand at a place.
 pub(crate) fn skip_unmounts(steps: &[Step], from: usize) -> usize
     ensures { drop result steps.now ≡ without_unmounts (drop from steps.now) }
 {

@@ -1,5 +1,5 @@
 -- What a case decides: it is done, or it asks pools for something that comes with the grant. E is what a case does and
--- tells, C what comes and takes its number from the grant, and A what came, with its number.
+-- says, C what comes and takes its number from the grant, and A what came, with its number.
 use Rattle.std.specs.Prelude.{ℕ, List, [], Option, Some, None, Result, Ok as Right, Err}
 use Rattle.zone_pools.specs.Asked.{Asked}
 use Rattle.zone_pools.specs.declared.grant.Grant.{Grant}

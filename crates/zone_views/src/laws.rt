@@ -27,7 +27,7 @@ pub fn others_change_nothing()
         → world z (one S e g).state ≡ world z S }
 {}
 
-/// What a zone is told, what it asks, and what it becomes are functions of its world, the event and the
+/// What a zone is answered, what it asks, and what it becomes are functions of its world, the event and the
 /// grant.
 pub fn own_world_decides()
     ensures reply { (z : Name) (S T : State) (e : Event) (g : Grant) → subject S e ≡ Zone z → subject T e ≡ Zone z

@@ -1,4 +1,4 @@
--- What stands before the first semicolon, and what stands behind it, is read alone as it is read in its line.
+-- What stands before the first semicolon, and what follows it, is read alone as it is read in its line.
 use Rattle.std.proofs.Common.{◌≡◌, ◌<◌, ◌+◌, ◌⊎◌, inl, inr, ℕ, suc, Bool, true, false, cond, List, [], ◌∷◌, Option, Some, None, Result, Ok, Err, take, drop, length, nat_lt, nat_le, ◌&&◌, refl, ap, sym, subst, arith, ◌∙◌}
 use Rattle.std.specs.Prelude.{◌==◌}
 use Rattle.zn_base.specs.Text.{is_text_byte}
@@ -14,7 +14,7 @@ use Rattle.zonecfg_lex.specs.declared.token.TokenKind.TheVariants.{Word, Quoted,
 use Rattle.zonecfg_lex.specs.Parts.{is_semi}
 use Rattle.zonecfg_lex.specs.Tokens.{behind, before_read, is_blank, is_mark, is_word, nothing_unless, open_at_end, or_stray, place_of, printable_role, quote_behind, result_map, role_in_bracket, role_of, token, tokens_from, with_word_byte, word}
 
--- the tokens before the first semicolon, those behind it, and itself
+-- the tokens before the first semicolon, those after it, and itself
 abbrev pub front : List Token → List Token
 front [] = []
 front (t ∷ ts) = cond (is_semi t.kind) [] (t ∷ front ts)
@@ -27,7 +27,7 @@ abbrev pub first_semi : List Token → Option Token
 first_semi [] = None
 first_semi (t ∷ ts) = cond (is_semi t.kind) (Some t) (first_semi ts)
 
--- the bytes before a semicolon give the tokens before it, and those behind it the others
+-- the bytes before a semicolon give the tokens before it, and those after it the others
 pub record IsCut (quote : Option ℕ) (scope : Scope) (p : ℕ) (xs : List ℕ) (ts : List Token) (t : Token) : Type 0 where
   pub n : ℕ
   pub at : t ≡ token Semi (p + n) (p + n + 1)
@@ -137,7 +137,7 @@ later quote inner scope within p b xs ts us t cut before after =
       after = ap (λ k. tokens_from None Between (k + 1) (drop (suc cut.n) xs)) (sym there) ∙ cut.after ∙ ap Ok (sym after);
     }
 
--- what is read behind a byte that adds to the tokens is cut where it was
+-- what is read after a byte that adds to the tokens is cut where it was
 passes : (f : List Token → List Token) (quote inner : Option ℕ) (scope within : Scope) (p b : ℕ) (xs : List ℕ) (read : Result (List Token) LexFault) → Adds f
     → ((ys : List ℕ) (us : List Token) → tokens_from inner within (p + 1) ys ≡ Ok us → tokens_from quote scope p (b ∷ ys) ≡ Ok (f us))
     → Cuts inner within (p + 1) xs read → Cuts quote scope p (b ∷ xs) (result_map f read)

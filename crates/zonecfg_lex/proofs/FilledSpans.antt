@@ -31,7 +31,7 @@ end_push : (p : ℕ) (ts : List Token) (t : Token) → EndBy p ts → t.start < 
 end_push p [] t h l u = (l, u, tt)
 end_push p (s ∷ ts) t h l u = (h.0, h.1, end_push p ts t h.2 l u)
 
--- a token begins at a place or behind it
+-- a token begins at a place or after it
 abbrev begins_behind : ℕ → Token → Bool
 begins_behind start t = nat_le start t.start
 

@@ -41,7 +41,7 @@ are_read : (part : List ℕ) (ts : List Token) → part_tokens_of part ≡ Ok ts
 are_read part [] h = tt
 are_read part (t ∷ ts) h = h
 
--- a semicolon ends the part before it, and what is behind is read alone
+-- a semicolon ends the part before it, and what follows is read alone
 record Ended (k : ℕ) (xs : List ℕ) (us ts : List Token) (t : Token) : Type 0 where
   ends : EndsPart xs (map (counted_from k) us) (counted_from k t)
   rest : tokens_from None Between t.end (drop (t.end - k) xs) ≡ Ok ts
@@ -130,7 +130,7 @@ texts_whole held text (t ∷ ts) e =
 pub one_text : (text : List ℕ) (ts : List Token) → drop (before_semi ts) ts ≡ [] → texts_from false text ts ≡ part_text text ts
 one_text text ts e = texts_whole false text ts e
 
--- the first part, where a semicolon ends it, and what is behind
+-- the first part, where a semicolon ends it, and what follows
 pub record ReadsFirst (text : List ℕ) (us : List Token) (s : Token) (ts : List Token) : Type 0 where
   pub ends : EndsPart text us s
   pub rest : ReadsInParts (drop s.end text) [] ts

@@ -100,7 +100,7 @@ nothing_sound : (line : List ℕ) (p : ℕ) (fault : Option LexFault) → ReadsS
 nothing_sound line p None = tt
 nothing_sound line p (Some fault) = tt
 
--- a byte of some role at a place, before what was read behind it
+-- a byte of some role at a place, before what was read after it
 role_sound : (line : List ℕ) (p : ℕ) (role : Role) (read : Result (List Token) LexFault) → p < length line → (role ≢ Blank → role ≢ Stray → is_text_byte (get_or line p 0) ≡ true) → ReadsSoundly line (from (quote_behind role p) (p + 1)) read → ReadsSoundly line p (before_read role p read)
 role_sound line p Blank read l b h = sound_before line p (p + 1) read (omega arith) h
 role_sound line p Letter read l b h = sound_letter line p read l (b (λ e. absurd (cc)) (λ e. absurd (cc))) h
@@ -115,7 +115,7 @@ quote_sound line p (Sign kind) b = tt
 quote_sound line p Quote b = (omega arith, one_byte line p (b (λ e. absurd (cc)) (λ e. absurd (cc))))
 quote_sound line p Stray b = tt
 
--- what stands behind a place begins with the byte there
+-- what stands from a place on begins with the byte there
 pub first_of_rest : (line : List ℕ) (p b : ℕ) (xs : List ℕ) → drop p line ≡ b ∷ xs → (p < length line) × (get_or line p 0 ≡ b) × (drop (p + 1) line ≡ xs)
 first_of_rest line p b xs e =
     let l : p < length line = omega (arith, ap length e, length-drop p line) in

@@ -79,7 +79,7 @@ same_between b h =
       ] refl
     ] refl
 
--- a byte that does not go on with a word is the same behind it as between words
+-- a byte that does not go on with a word is the same after it as between words
 pub behind_word : (b : ℕ) → role_of InWord b ≢ Letter → role_of InWord b ≡ role_of Between b
 unfolding role_of
 behind_word b =

@@ -13,7 +13,7 @@ use Rattle.zonecfg_lex.specs.Grammar.IsItems.{last_item, item_before}
 use Rattle.zonecfg_lex.specs.Grammar.IsValue.{simple, complex, empty_list, list}
 use Rattle.zonecfg_lex.specs.Value.{first_misfit, misfit_at_end, stage_behind}
 
--- how a value goes on behind some kinds, where they may stand there
+-- how a value goes on after some kinds, where they may stand there
 abbrev behind_all : Option Stage → List TokenKind → Option Stage
 behind_all None ks = None
 behind_all (Some stage) [] = Some stage
@@ -31,7 +31,7 @@ Completes Item ks = (items : List TokenKind) × IsItems items × (ks ≡ items +
 Completes Listed ks = (k : TokenKind) → IsText k → (items : List TokenKind) × IsItems items × (k ∷ ks ≡ items ++ ListClose ∷ [])
 Completes Done ks = ks ≡ []
 
--- a kind goes before what completes the value behind it
+-- a kind goes before what completes the value after it
 abbrev GoesBefore : Option Stage → Stage → TokenKind → List TokenKind → Type 0
 GoesBefore None stage k ks = Unit {0}
 GoesBefore (Some next) stage k ks = Completes next ks → Completes stage (k ∷ ks)
@@ -201,7 +201,7 @@ misfit_behind end (t ∷ before) ts from stage h =
       | Some next ↦ λ e. misfit_behind end before ts next stage e
     ] h
 
--- the first token behind a beginning of a value misfits where no value goes on with it
+-- the first token after a beginning of a value misfits where no value goes on with it
 misfits_here : (end : ℕ) (before ts : List Token) (t : Token) (stage : Stage) → behind_all (Some Start) (kinds before) ≡ Some stage → (BeginsValue (kinds (before ++ t ∷ [])) → ⊥) → first_misfit end stage (t ∷ ts) ≡ Some t.start
 misfits_here end before ts t stage h none =
     elim (stage_behind stage t.kind) as (λ o. behind_all (Some Start) (kinds (before ++ t ∷ [])) ≡ behind_all o [] → elim o as (λ _. Option ℕ) [ None ↦ Some t.start | Some next ↦ first_misfit end next ts ] ≡ Some t.start) [
@@ -209,7 +209,7 @@ misfits_here end before ts t stage h none =
       | Some next ↦ λ m. absurd (none (begins (kinds (before ++ t ∷ [])) next m))
     ] (behind_one_more before t stage h)
 
--- the stage behind what begins a value
+-- the stage after what begins a value
 record Reaches (ks : List TokenKind) : Type 0 where
   pub stage : Stage
   pub is : behind_all (Some Start) ks ≡ Some stage

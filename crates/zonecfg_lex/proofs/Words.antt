@@ -86,18 +86,18 @@ apart p (Ok []) h = refl
 apart p (Ok (t ∷ ts)) h = ap (λ v. Ok (cond v (word p t.end ∷ ts) (word p (p + 1) ∷ t ∷ ts))) h
 apart p (Err fault) h = refl
 
--- a word byte joins the word behind it
+-- a word byte joins the word after it
 joins : (p e : ℕ) (read : Result (List Token) LexFault) → result_map (with_word_byte p) (with_token (word (p + 1) e) read) ≡ with_token (word p e) read
 joins p e (Ok ts) =
     let f : (p + 1 == p + 1) ≡ true = grind (arith, nat_tests) in
     ap (λ v. Ok (cond v (word p e ∷ ts) (word p (p + 1) ∷ word (p + 1) e ∷ ts))) f
 joins p e (Err fault) = refl
 
--- a word byte is taken onto the tokens behind it
+-- a word byte is taken onto the tokens after it
 first_byte : (p x : ℕ) (scope : Scope) (xs : List ℕ) → role_of scope x ≡ Letter → tokens_from None scope p (x ∷ xs) ≡ result_map (with_word_byte p) (tokens_from None (in_word scope) (p + 1) xs)
 first_byte p x scope xs h = ap (λ role. before_read role p (tokens_from (quote_behind role p) (behind scope role p) (p + 1) xs)) h
 
--- the bytes behind a word byte are inside its word
+-- the bytes after a word byte are inside its word
 twice : (scope : Scope) → in_word (in_word scope) ≡ in_word scope
 twice Between = refl
 twice InWord = refl

@@ -53,17 +53,17 @@ role_of scope b =
     else (if b == 61 then Sign Equals
     else (if nat_le 33 b && nat_le b 126 then printable_role scope b else Stray)))
 
--- where what stands behind a word byte stands
+-- where what follows a word byte stands
 abbrev pub in_word : Scope → Scope
 in_word Between = InWord
 in_word scope = scope
 
--- where what stands behind any other byte stands, but for brackets
+-- where what follows any other byte stands, but for brackets
 abbrev pub out_of_word : Scope → Scope
 out_of_word InWord = Between
 out_of_word scope = scope
 
--- where what stands behind a sign at a place stands: brackets open and close
+-- where what follows a sign at a place stands: brackets open and close
 abbrev pub behind_sign : Scope → TokenKind → ℕ → Scope
 behind_sign scope Open place = Round place
 behind_sign scope ListOpen place = Square place
@@ -71,13 +71,13 @@ behind_sign scope Close place = Between
 behind_sign scope ListClose place = Between
 behind_sign scope kind place = out_of_word scope
 
--- where what stands behind a byte of this role at a place stands
+-- where what follows a byte of this role at a place stands
 abbrev pub behind : Scope → Role → ℕ → Scope
 behind scope Letter place = in_word scope
 behind scope (Sign kind) place = behind_sign scope kind place
 behind scope role place = out_of_word scope
 
--- the place of the quote that is open behind a byte of this role
+-- the place of the quote that is open after a byte of this role
 abbrev pub quote_behind : Role → ℕ → Option ℕ
 quote_behind Quote place = Some place
 quote_behind role place = None
@@ -96,7 +96,7 @@ abbrev pub is_equals : TokenKind → Bool
 is_equals Equals = true
 is_equals kind = false
 
--- a word byte at a place joins the word that begins right behind it, or is a word of its own
+-- a word byte at a place joins the word that begins right after it, or is a word of its own
 abbrev pub with_word_byte : ℕ → List Token → List Token
 with_word_byte place [] = word place (place + 1) ∷ []
 with_word_byte place (t ∷ ts) =
@@ -115,13 +115,13 @@ place_of (StrayByte place) = place
 place_of (OpenBracket place) = place
 place_of (NoValue place) = place
 
--- the stray byte at a place, if there is one, unless what was read behind it has a fault that counts before it
+-- the stray byte at a place, if there is one, unless what was read after it has a fault that counts before it
 abbrev pub or_stray : Option ℕ → Result (List Token) LexFault → Result (List Token) LexFault
 or_stray None read = read
 or_stray (Some place) (Ok ts) = Err (StrayByte place)
 or_stray (Some place) (Err fault) = if nat_lt (place_of fault) place then Err fault else Err (StrayByte place)
 
--- a byte of this role at a place, before what was read behind it
+-- a byte of this role at a place, before what was read after it
 abbrev pub before_read : Role → ℕ → Result (List Token) LexFault → Result (List Token) LexFault
 before_read Blank place read = read
 before_read Letter place read = result_map (with_word_byte place) read

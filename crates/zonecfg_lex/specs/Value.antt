@@ -51,7 +51,7 @@ is_quoted kind = false
 abbrev pub gives_text : Token → Bool
 gives_text t = elim t.kind [ Word ↦ true | Quoted ↦ true | _ ↦ false ]
 
--- where the text of a token begins: behind its quote, if it has one
+-- where the text of a token begins: after its quote, if it has one
 abbrev pub text_start : Token → ℕ
 text_start t = if is_quoted t.kind then t.start + 1 else t.start
 

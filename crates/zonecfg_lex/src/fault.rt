@@ -44,7 +44,7 @@ impl<T: Drop> From<AllocFailed<T>> for LexFault {
 impl LexFault {
     ghost use Rattle.zonecfg_lex.specs.Tokens.{place_of};
 
-    /// Where the fault counts. Want of memory counts at 0.
+    /// Where the fault counts. Running out of memory counts at 0.
     pub fn place(self) -> usize
         ensures { result ≡ place_of self }
     {

@@ -9,8 +9,8 @@ use crate::{LexFault, Token, TokenKind};
 use std::alloc::Global;
 use zn_base::{Listing, Pair, Text, Value};
 
-/// What may stand next in a value: its beginning, the parts of a pair and what is behind it, the first
-/// item of a list or its end, an item and what is behind it, or nothing.
+/// What may stand next in a value: its beginning, the parts of a pair and what follows it, the first
+/// item of a list or its end, an item and what follows it, or nothing.
 #[derive(Clone, Copy)]
 pub enum Stage {
     Start,
@@ -25,7 +25,7 @@ pub enum Stage {
 }
 
 impl Stage {
-    /// How a value goes on behind a token of a kind, where one may stand here.
+    /// How a value goes on after a token of a kind, where one may stand here.
     pub fn behind(self, kind: TokenKind) -> Option<Stage>
         ensures { result ≡ stage_behind self kind }
     {
@@ -97,7 +97,7 @@ fn texts(alloc: Global, line: &[u8], tokens: &[Token]) -> Result<Listing<Text>, 
     Ok(texts)
 }
 
-/// The pairs that the words and quoted tokens of a line give, each name with the text behind it.
+/// The pairs that the words and quoted tokens of a line give, each name with the text after it.
 pub fn pairs(alloc: Global, line: &[u8], tokens: &[Token]) -> Result<Listing<Pair>, LexFault>
     requires { All (IsReadable line.now) tokens.now }
     ensures { AnswersUnless LexFault.Memory (Ok (paired (given_texts line.now tokens.now))) result }

@@ -26,7 +26,7 @@ fn make_token(kind: TokenKind, start: usize, end: usize) -> Token
     }
 }
 
-// Where the word ends that begins at a place, and behind whose bytes a scope holds.
+// Where the word ends that begins at a place, and after whose bytes a scope holds.
 fn word_end(line: &[u8], scope: Scope, start: usize) -> usize
     requires inside { start < length line.now }
     requires begins { role_of scope (slice_index line.now start) ≡ Letter }

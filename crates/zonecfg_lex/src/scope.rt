@@ -111,7 +111,7 @@ impl Scope {
         }
     }
 
-    /// Where the byte behind a word byte stands.
+    /// Where the byte after a word byte stands.
     pub fn in_word(self) -> Scope
         ensures { result ≡ in_word self }
     {
@@ -121,7 +121,7 @@ impl Scope {
         }
     }
 
-    /// Where the byte behind a sign at a place stands.
+    /// Where the byte after a sign at a place stands.
     pub fn behind_sign(self, kind: TokenKind, place: usize) -> Scope
         ensures { result ≡ behind_sign self kind place }
     {

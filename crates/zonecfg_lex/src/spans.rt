@@ -42,7 +42,7 @@ fn filled_spans(alloc: Global, tokens: &[Token], end: u32) -> Result<Vec<Span>, 
 }
 
 /// The spans of a line between its semicolons that hold a token, in order, or the line's first fault. A
-/// span begins right behind its semicolon, blanks included. A semicolon in quotes is none.
+/// span begins right after its semicolon, blanks included. A semicolon in quotes is none.
 pub fn parts(alloc: Global, line: &[u8]) -> Result<Vec<Span>, LexFault>
     requires { length line.now ≤ 4200 }
     ensures parts { AnswersUnless LexFault.Memory (parts_of line.now) (result_map (λ ss. ss.items) result) }

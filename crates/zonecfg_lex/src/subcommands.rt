@@ -62,7 +62,7 @@ pub fn line_tokens(mut tokens: Vec<Token>, line: &[u8]) -> Result<Vec<Token>, Le
 }
 
 impl<'a> Part<'a> {
-    /// The first part, and what is behind its semicolon.
+    /// The first part, and what follows its semicolon.
     pub fn split(self) -> (Part<'a>, Part<'a>)
         requires short { length self.text.now ≤ 4200 }
         requires reads { ReadsInParts self.text.now [] self.tokens.now }

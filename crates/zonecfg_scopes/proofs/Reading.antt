@@ -11,7 +11,7 @@ skipped end ts us t e missed =
     let here : value_missed end (t ∷ us) ≡ None = ap (value_missed end) (sym e) ∙ missed in
     sym (ap (first_value_missed end) e ∙ ap (λ o. or_else o (first_value_missed end us)) here)
 
--- where nothing is missed at a token, what is missed first is missed behind it
+-- where nothing is missed at a token, what is missed first is missed after it
 pub first_value_missed-skipped : (end : ℕ) (ts : List Token) (at : ℕ) → at < length ts → value_missed end (drop at ts) ≡ None → first_value_missed end (drop (at + 1) ts) ≡ first_value_missed end (drop at ts)
 first_value_missed-skipped end ts at inside missed =
     let e = drop-cons ts at (word 0 0) inside in

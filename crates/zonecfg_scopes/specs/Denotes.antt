@@ -96,7 +96,7 @@ Follows command old new (Ok _) = made command old ≡ Ok new
 Follows command old new (Err Memory) = new ≡ old
 Follows command old new (Err fault) = (made command old ≡ Err fault) × (new ≡ old)
 
--- the list that is stood for after a subcommand: after want of memory the list before
+-- the list that is stood for after a subcommand: where memory runs out, the list before
 abbrev pub list_after : {A : Type 0} → List Command → Command → Result A EditFault → List Command
 list_after cs command (Err Memory) = cs
 list_after cs command result = cs ++ command ∷ []

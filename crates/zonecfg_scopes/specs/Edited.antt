@@ -110,7 +110,7 @@ commands_of (line ∷ lines) = with_command (command_of line) (commands_of lines
 abbrev pub IsAfter : List (List ℕ) → Edited → Type 0
 IsAfter lines e = Stands (base_config e.base) (commands_of lines) e.opened
 
--- the lines that an editor stands for after one more: after want of memory those before
+-- the lines that an editor stands for after one more: where memory runs out, those before
 abbrev pub lines_after : List (List ℕ) → List ℕ → Result EditReply EditFault → List (List ℕ)
 lines_after lines line (Err Memory) = lines
 lines_after lines line result = lines ++ line ∷ []

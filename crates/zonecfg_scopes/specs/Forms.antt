@@ -24,7 +24,7 @@ use Rattle.zonecfg_scopes.specs.Commands.{list_named, topic_named, verb_named}
 use Rattle.zonecfg_scopes.specs.Faults.{lexed}
 use Rattle.zonecfg_scopes.specs.Words.{are_pairs, behind_flag, first_value_missed, has_flag, said}
 
--- what stands with nothing behind it
+-- what stands with nothing after it
 abbrev pub alone : {A : Type 0} → List Token → A → Result A EditFault
 alone [] it = Ok it
 alone ts it = Err Usage

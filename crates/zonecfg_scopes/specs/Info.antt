@@ -31,7 +31,7 @@ help_line = join_with_byte 32 (map verb_name verbs)
 abbrev pub named_line : List ℕ → List ℕ → List ℕ
 named_line name value = joined (name ∷ codes ": " ∷ value ∷ [])
 
--- the line of a property of the global scope: nothing stands behind the colon and the space where it is unset
+-- the line of a property of the global scope: nothing stands after the colon and the space where it is unset
 abbrev pub property_line : Contents → Property → List ℕ
 property_line c p = named_line (property_name p) (shown p c)
 

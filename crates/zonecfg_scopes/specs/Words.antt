@@ -14,12 +14,12 @@ abbrev pub has_flag : List ℕ → List ℕ → List Token → Bool
 has_flag flag line [] = false
 has_flag flag line (t ∷ ts) = bytes_eq (said line t) flag
 
--- what stands behind a flag, where it stands first
+-- what follows a flag, where it stands first
 abbrev pub behind_flag : List ℕ → List ℕ → List Token → List Token
 behind_flag flag line [] = []
 behind_flag flag line (t ∷ ts) = if bytes_eq (said line t) flag then ts else t ∷ ts
 
--- a word with an equals sign behind it
+-- a word with an equals sign after it
 abbrev pub begins_pair : List Token → Bool
 begins_pair (name ∷ sign ∷ ts) = is_word name.kind && is_equals sign.kind
 begins_pair ts = false
@@ -36,7 +36,7 @@ abbrev pub or_else : Option ℕ → Option ℕ → Option ℕ
 or_else (Some place) other = Some place
 or_else None other = other
 
--- the first place where a word and an equals sign have no text behind them
+-- the first place where a word and an equals sign have no text after them
 abbrev pub first_value_missed : ℕ → List Token → Option ℕ
 first_value_missed end [] = None
 first_value_missed end (t ∷ ts) = or_else (value_missed end (t ∷ ts)) (first_value_missed end ts)

@@ -22,7 +22,7 @@ fn branded(alloc: Global) -> Result<ZoneConfig, EditFault>
     let brand = ipkg(alloc)?;
     match config.set_property(alloc, b"brand", brand) {
         Ok(()) => Ok(config),
-        // The brand is allowed, so only memory can be wanting.
+        // The brand is allowed, so only memory can run out.
         Err(_) => Err(EditFault::Memory),
     }
 }

@@ -53,7 +53,7 @@ impl Editor {
 
     /// Does what one subcommand says (zonecfg(8), SUBCOMMANDS): a typed line without its newline, or a part of
     /// it between semicolons. A `#` begins a word here. A refused one leaves the editor as it was, and so does
-    /// want of memory.
+    /// running out of memory.
     pub fn command(&mut self, alloc: Global, line: &[u8]) -> Result<EditReply, EditFault>
         requires { length line.now ≤ 4200 }
         ensures answer { AnswersUnless EditFault.Memory (line_answer line.now self.old) result }
@@ -102,7 +102,7 @@ impl Editor {
         self.opened.info(alloc, self.name.bytes(), topic)
     }
 
-    /// Takes a new base: its configuration is open, in the global scope. After want of memory all is as
+    /// Takes a new base: its configuration is open, in the global scope. Where memory runs out, all is as
     /// before.
     pub fn rebase(&mut self, alloc: Global, base: Base) -> Result<(), EditFault>
         ensures ok { OnOk result (self.new ≡ opened_on self.old.name (Some base)) }

@@ -120,7 +120,7 @@ fn name_a_list(pairs: &[Pair]) -> bool
     pairs.iter().any(names_list)
 }
 
-// What stands behind the word of a kind, or behind another word, in a matching.
+// What follows the word of a kind, or another word, in a matching.
 fn matching_by(
     alloc: Global,
     kind: Option<Kind>,

@@ -252,7 +252,7 @@ impl Opened {
         }
     }
 
-    // Ends the scope, which `check_end` answers the length for. After want of memory all is as before.
+    // Ends the scope, which `check_end` answers the length for. Where memory runs out, all is as before.
     #[tactic(auto, unfolding(crate::specs::Scopes::made), using(crate::proofs::Ending::lifted_ok))]
     fn close(&mut self, size: usize) -> Result<(), AllocError>
         requires inside { IsTrue (is_in_place self.old) }
@@ -340,7 +340,7 @@ impl Opened {
         }
     }
 
-    /// Does what a subcommand says. A refused one leaves all as it was, and so does want of memory.
+    /// Does what a subcommand says. A refused one leaves all as it was, and so does running out of memory.
     pub(crate) fn obey(&mut self, alloc: Global, command: Command) -> Result<(), EditFault>
         requires { IsTrue (is_in_place self.old) }
         ensures { Follows command self.old self.new result }

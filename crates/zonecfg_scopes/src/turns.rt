@@ -9,7 +9,7 @@ use crate::forms::read_tokens;
 use std::alloc::Global;
 use zonecfg_lex::Part;
 
-/// The next subcommand of what is left of a line, which is then what is behind it. Its tokens count from
+/// The next subcommand of what is left of a line, which is then what follows it. Its tokens count from
 /// the begins of their parts, as `line_tokens` gives them.
 pub fn next_command(alloc: Global, left: &mut Part) -> Result<Option<Command>, EditFault>
     requires short { length left.old.text.now ≤ 4200 }

@@ -28,7 +28,7 @@ pub(crate) fn has_flag(line: &[u8], tokens: &[Token], flag: &[u8]) -> bool
     }
 }
 
-/// What stands behind a flag, where it stands first.
+/// What follows a flag, where it stands first.
 pub(crate) fn behind_flag<'a>(line: &[u8], tokens: &'a [Token], flag: &[u8]) -> &'a [Token]
     requires { All (IsReadable line.now) tokens.now }
     ensures behind { result.now ≡ behind_flag flag.now line.now tokens.now }
@@ -62,7 +62,7 @@ fn value_missed(end: usize, tokens: &[Token]) -> Option<usize>
     }
 }
 
-/// The first place where a word and an equals sign have no text behind them, in a line that ends at a
+/// The first place where a word and an equals sign have no text after them, in a line that ends at a
 /// place.
 pub(crate) fn first_value_missed(end: usize, tokens: &[Token]) -> Option<usize>
     ensures { result ≡ first_value_missed end tokens.now }

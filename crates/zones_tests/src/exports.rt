@@ -143,7 +143,7 @@ const REFUSED: &[(&[u8], &[u8])] = &[
     ),
 ];
 
-// Configurations with a flaw, which the end of the input tells.
+// Configurations with a flaw, which the end of the input reports.
 const FLAWED: &[(&[u8], &[u8])] = &[
     (b"create -b; set zonepath=/z\n", b"end: 46 UnknownBrand \n"),
     (
@@ -193,7 +193,7 @@ fn scripts_are_refused(rt: HostRuntime) -> Result<(), Fail> {
 }
 
 // `create -b`, and then resources, one a line: each with a number between two texts, from 10 on, and so many `x`
-// behind them.
+// after them.
 fn resources(
     alloc: Global,
     before: &[u8],

@@ -1,5 +1,6 @@
 //! Tests of the zone machine, of the text of traces and of whole runs of the program, over public calls, with
-//! sources and sinks in memory. What they expect is worked out from docs/FORMATS.md by hand.
+//! sources and sinks in memory. What they expect is worked out by hand from docs/COMMANDS.md, docs/ZONECFG.md and
+//! docs/TRACES.md.
 #![tactic(auto)]
 
 #[cfg(test)]

@@ -17,7 +17,7 @@ fn input(alloc: Global, comment: usize, newlines: usize) -> Result<Vec<u8>, Allo
     Ok(input)
 }
 
-// How long the comment is, how many newlines there are, and the limit that is told, if one is.
+// How long the comment is, how many newlines there are, and the limit that is reported, if one is.
 const LIMITS: &[(usize, usize, &[u8])] = &[
     (4096, 1, b""),
     (4096, 0, b""),
