@@ -1,29 +1,58 @@
--- What was taken of a source that failed: whole lines, and the beginning of one.
-use Rattle.std.proofs.Common.{◌≡◌, ◌++◌, ◌⊎◌, ℕ, List, [], ◌∷◌, Option, Some, None, refl, ap, sym, inl, inr, ◌∙◌, append_assoc}
-use Rattle.std.specs.Io.KnownBytes.{IsAtEnd}
+-- What was taken of a source: lines, the beginning of one, and a piece.
+use Rattle.std.proofs.Common.{◌≡◌, ◌≤◌, ◌++◌, ℕ, List, [], false, length, Option, Some, None, refl, ap, sym, ◌∙◌, arith, append_assoc}
+use Rattle.std.proofs.lemmas.List.{append-nil}
 use Rattle.zn_io.specs.Streams.{before_known}
-use Rattle.zones_run.specs.Lines.{AreWhole}
-use Rattle.zones_run.specs.Reading.{BeginsLine}
+use Rattle.zones_run.specs.Lines.{has_newline}
+use Rattle.zones_run.specs.Taking.{BeginsLine, TakesPiece}
+
+pub before_known-nil : (known : Option (List ℕ)) → known ≡ before_known [] known
+before_known-nil None = refl
+before_known-nil (Some bs) = refl
 
 pub before_known-append : (known : Option (List ℕ)) (xs ys : List ℕ) → before_known (xs ++ ys) known ≡ before_known xs (before_known ys known)
 before_known-append None xs ys = refl
 before_known-append (Some bs) xs ys = ap Some (append_assoc xs ys bs)
 
-none_after : (begun : List ℕ) (left : Option (List ℕ)) → Some [] ≡ before_known begun left → (begun ≡ []) × IsAtEnd left
-none_after begun None e = absurd (cc)
-none_after [] (Some []) e = (refl, refl)
-none_after [] (Some (b ∷ bs)) e = absurd (cc)
-none_after (b ∷ begun) (Some bs) e = absurd (cc)
+-- what has come of a line, and what is ahead of it
+pub takes_ahead : (old left : Option (List ℕ)) (line ahead : List ℕ) → old ≡ before_known line (before_known ahead left) → has_newline line ≡ false → length line ≤ 4096 → length ahead ≤ 4096 → TakesPiece old left
+takes_ahead old left line ahead same clean short small = record {
+  begun = line;
+  clean = clean;
+  short = short;
+  piece = ahead;
+  small = small;
+  taken = same ∙ sym (before_known-append left line ahead);
+}
 
--- the lines taken are whole, or nothing is left
-pub taken_whole : (past to_come begun : List ℕ) (left : Option (List ℕ)) → AreWhole past ⊎ (to_come ≡ []) → Some to_come ≡ before_known begun left → AreWhole past ⊎ ((begun ≡ []) × IsAtEnd left)
-taken_whole past to_come begun left (inl whole) e = inl whole
-taken_whole past to_come begun left (inr none) e = inr (none_after begun left (ap Some (sym none) ∙ e))
+-- what has come of a line, where the source failed
+pub begins_line : (old left : Option (List ℕ)) (line : List ℕ) → old ≡ before_known line left → has_newline line ≡ false → length line ≤ 4096 → BeginsLine old left
+begins_line old left line same clean short = (
+  record {
+    begun = line;
+    clean = clean;
+    short = short;
+    piece = [];
+    small = omega arith;
+    taken = same ∙ ap (λ bytes. before_known bytes left) (sym (append-nil line));
+  },
+  refl,
+)
 
--- the source failed where nothing of a line was begun
-pub begins_nothing : (old new : Option (List ℕ)) → old ≡ new → BeginsLine old new
-begins_nothing old new same = record { begun = []; clean = refl; taken = same ∙ nothing_before new }
-  where
-    nothing_before : (known : Option (List ℕ)) → known ≡ before_known [] known
-    nothing_before None = refl
-    nothing_before (Some bs) = refl
+-- nothing of a line was begun
+pub takes_none : (old left : Option (List ℕ)) → old ≡ left → BeginsLine old left
+takes_none old left same = begins_line old left [] (same ∙ before_known-nil left) refl (omega arith)
+
+-- only what is ahead was taken
+pub takes_just : (ahead : List ℕ) (old left : Option (List ℕ)) → old ≡ before_known ahead left → length ahead ≤ 4096 → TakesPiece old left
+takes_just ahead old left same small = takes_ahead old left [] ahead (same ∙ before_known-nil (before_known ahead left)) refl (omega arith) small
+
+-- the same of bytes that are known
+abbrev pub takes_known : (old left : Option (List ℕ)) (to_come : List ℕ) → old ≡ Some to_come → TakesPiece old left → TakesPiece (Some to_come) left
+takes_known old left to_come here takes = record {
+  begun = takes.begun;
+  clean = takes.clean;
+  short = takes.short;
+  piece = takes.piece;
+  small = takes.small;
+  taken = sym here ∙ takes.taken;
+}

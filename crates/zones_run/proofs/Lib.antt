@@ -12,3 +12,4 @@ pub mod Obeying
 pub mod Turning
 pub mod Ending
 pub mod ExportRuns
+pub mod Complaining

@@ -16,10 +16,10 @@ use Rattle.zone_machine.specs.State.{State}
 use Rattle.zone_machine.specs.declared.events.Entry.{Entry}
 use Rattle.zone_machine.specs.declared.events.Event.{Event}
 use Rattle.zn_base.specs.Lines.{is_newline, lines_of, with_first}
-use Rattle.zones_run.specs.Lines.{AreWhole}
-use Rattle.zones_run.specs.Reading.{BeginsLine, FirstIsLong}
+use Rattle.zones_run.specs.Reading.{FirstIsLong}
+use Rattle.zones_run.specs.Taking.{BeginsLine, TakesPiece}
 use Rattle.zones_run.specs.Run.{HasFront, run_fault_of}
-use Rattle.zones_run.specs.Tracing.{AnswersRead, At_end, At_fault, Ending, HasReplies, HasWritten, Past_limit, Run, Stops, Tells, ends, entry_text, left_to_tell, replies_text, run_of, script_from, told, told_refusal, traced, with_line}
+use Rattle.zones_run.specs.Tracing.{AnswersAs, AnswersLines, AnswersRead, At_end, At_fault, Ending, HasReplies, HasWritten, Past_limit, Run, RunsLines, Stops, Tells, ends, entry_text, left_to_tell, replies_text, run_of, script_from, told, told_refusal, traced, with_line}
 use Rattle.zones_run.specs.declared.outcome.Complaint.{Complaint}
 use Rattle.zones_run.specs.declared.outcome.Complaint.TheVariants.{Grammar as Bad_line, Limit}
 use Rattle.zones_run.specs.declared.trace.Stop.{Stop}
@@ -28,9 +28,9 @@ use Rattle.zones_run.specs.declared.fault.RunFault.TheVariants.{Memory, Read, Wr
 use Rattle.zones_run.specs.declared.fault.RunFault.{RunFault}
 use Rattle.zones_run.specs.declared.lines.ReadFault.{ReadFault}
 use Rattle.zones_run.specs.declared.lines.ReadFault.TheVariants.{Failed, Memory as No_memory}
-use Rattle.zones_run.proofs.Begins.{before_known-append, taken_whole}
+use Rattle.zones_run.proofs.Begins.{takes_known}
 use Rattle.zones_run.proofs.Fronts.{after_known-append, after_known-nil}
-use Rattle.zones_run.proofs.TraceRuns.{RunsOn, known_run}
+use Rattle.zones_run.proofs.TraceRuns.{Knows, RunsOn, known_run}
 use Rattle.zones_run.proofs.Traces.{from_first_line, or_else-None, run_on, script_line, with_script}
 
 abbrev ended_run : List Entry → Option ℕ → Ending → Run
@@ -110,22 +110,73 @@ has_replies stands refused n held holds bytes (Some input) run =
       taken = run.text ∙ ap (λ entries. after_known held (replies_text entries)) (sym (take-append_seam run.done _));
     })
 
--- the source failed at the beginning of a line: the lines taken before were answered
-pub reads_up_to : (stands : State → Type 0) (refused : Option ℕ) (n : ℕ) (held holds bytes left input : Option (List ℕ)) → RunsOn stands refused n held holds bytes input → BeginsLine bytes left → IfSome input (λ _. AnswersRead input left held holds)
-reads_up_to stands refused n held holds bytes left None run begins = tt
-reads_up_to stands refused n held holds bytes left (Some input) run begins =
+-- the run over the lines taken has come to its entries, and goes on
+so_far : (refused : Option ℕ) (n : ℕ) (S : State) (done : List Entry) (bytes : Option (List ℕ)) (input : List ℕ) (known : Knows refused n S done bytes input) → run_of known.past ≡ run_on done refused n S []
+so_far refused n S done bytes input known =
+    from_first_line known.past ∙ ap (run_on [] None 1 (opening [])) (sym (append-nil (lines_of known.past))) ∙ known.leads []
+
+-- lines were taken, the beginning of one more, and a piece
+abbrev takes : (refused : Option ℕ) (n : ℕ) (S : State) (done : List Entry) (bytes left : Option (List ℕ)) (input : List ℕ) → Knows refused n S done bytes input → TakesPiece bytes left → RunsLines (Some input) left
+takes refused n S done bytes left input known piece = record {
+  lines = known.past;
+  to_come = known.to_come;
+  whole = known.fresh;
+  going = ap (λ r. r.ending) (so_far refused n S done bytes input known);
+  all = ap Some known.all;
+  taken = takes_known bytes left known.to_come known.here piece;
+}
+
+pub runs_lines : (stands : State → Type 0) (refused : Option ℕ) (n : ℕ) (held holds bytes left input : Option (List ℕ)) → RunsOn stands refused n held holds bytes input → TakesPiece bytes left → IfSome input (λ _. RunsLines input left)
+runs_lines stands refused n held holds bytes left None run piece = tt
+runs_lines stands refused n held holds bytes left (Some input) run piece = takes refused n run.state run.done bytes left input run.known piece
+
+-- and the lines were answered
+abbrev answers : (stands : State → Type 0) (refused : Option ℕ) (n : ℕ) (held holds bytes left : Option (List ℕ)) (input : List ℕ) → RunsOn stands refused n held holds bytes (Some input) → TakesPiece bytes left → AnswersLines (Some input) left held holds
+answers stands refused n held holds bytes left input run piece =
     let known = run.known in
-    let so_far : run_of known.past ≡ run_on run.done refused n run.state [] = from_first_line known.past ∙ ap (run_on [] None 1 (opening [])) (sym (append-nil (lines_of known.past))) ∙ known.leads [] in
-    let entries : (run_of known.past).entries ≡ run.done = ap (λ r. r.entries) so_far ∙ append-nil run.done in
+    let entries : (run_of known.past).entries ≡ run.done = ap (λ r. r.entries) (so_far refused n run.state run.done bytes input known) ∙ append-nil run.done in
     record {
-      taken = known.past;
-      begun = begins.begun;
-      clean = begins.clean;
-      ended = taken_whole known.past known.to_come begins.begun left known.fresh (sym known.here ∙ begins.taken);
-      read = ap Some known.all ∙ ap (before_known known.past) (sym known.here ∙ begins.taken) ∙ sym (before_known-append left known.past begins.begun);
-      going = ap (λ r. r.ending) so_far;
+      runs = takes refused n run.state run.done bytes left input known piece;
       text = run.text ∙ ap (λ entries. after_known held (replies_text entries)) (sym entries);
     }
+
+pub answers_lines : (stands : State → Type 0) (refused : Option ℕ) (n : ℕ) (held holds bytes left input : Option (List ℕ)) → RunsOn stands refused n held holds bytes input → TakesPiece bytes left → IfSome input (λ _. AnswersLines input left held holds)
+answers_lines stands refused n held holds bytes left None run piece = tt
+answers_lines stands refused n held holds bytes left (Some input) run piece = answers stands refused n held holds bytes left input run piece
+
+-- where the source failed
+pub answers_read : (stands : State → Type 0) (refused : Option ℕ) (n : ℕ) (held holds bytes left input : Option (List ℕ)) → RunsOn stands refused n held holds bytes input → BeginsLine bytes left → IfSome input (λ _. AnswersRead input left held holds)
+answers_read stands refused n held holds bytes left None run begins = tt
+answers_read stands refused n held holds bytes left (Some input) run begins =
+    (answers stands refused n held holds bytes left input run begins.0, begins.1)
+
+-- how a trace ended, where a call before it did
+pub ended_writing : (r : Result (Option Complaint) RunFault) (held holds left input : Option (List ℕ)) → r ≡ Err Write → IfSome input (λ _. RunsLines input left) → IfSome input (λ _. AnswersAs r input left held holds)
+ended_writing r held holds left input is runs = rw is runs
+
+pub ended_reading : (r : Result (Option Complaint) RunFault) (fault : ReadFault) (held holds left input : Option (List ℕ)) → IsErrAnd r (λ e. e ≡ run_fault_of fault) → IfSome input (λ _. AnswersLines input left held holds)
+    → (fault ≡ Failed → IfSome input (λ _. AnswersRead input left held holds)) → IfSome input (λ _. AnswersAs r input left held holds)
+ended_reading (Ok x) fault held holds left input is lines read = absurd is
+ended_reading (Err e) Failed held holds left input is lines read = rw is (read refl)
+ended_reading (Err e) No_memory held holds left input is lines read = rw is lines
+
+-- what was taken, however a trace ended
+pub lines_run : (held holds left input : Option (List ℕ)) → IfSome input (λ _. AnswersLines input left held holds) → IfSome input (λ _. RunsLines input left)
+lines_run held holds left None answers = tt
+lines_run held holds left (Some input) answers = answers.runs
+
+pub runs_anyway : (r : Result (Option Complaint) RunFault) (held holds left input : Option (List ℕ)) → IfSome input (λ _. AnswersAs r input left held holds) → IfSome input (λ _. RunsLines input left)
+runs_anyway r held holds left None ended = tt
+runs_anyway (Ok x) held holds left (Some input) ended = ended.runs
+runs_anyway (Err Write) held holds left (Some input) ended = ended
+runs_anyway (Err Read) held holds left (Some input) ended = ended.0.runs
+runs_anyway (Err Memory) held holds left (Some input) ended = ended.runs
+
+pub read_ended : (fault : RunFault) (held holds left input : Option (List ℕ)) → fault ≡ Read → IfSome input (λ _. AnswersAs (Err fault) input left held holds) → IfSome input (λ _. AnswersRead input left held holds)
+read_ended fault held holds left input is ended = subst (λ fault. IfSome input (λ _. AnswersAs (Err fault) input left held holds)) is ended
+
+pub memory_ended : (fault : RunFault) (held holds left input : Option (List ℕ)) → fault ≡ Memory → IfSome input (λ _. AnswersAs (Err fault) input left held holds) → IfSome input (λ _. AnswersLines input left held holds)
+memory_ended fault held holds left input is ended = subst (λ fault. IfSome input (λ _. AnswersAs (Err fault) input left held holds)) is ended
 
 -- a front of a text in the midst of a longer one
 front_within : (held between holds : Option (List ℕ)) (before text more : List ℕ) (count : ℕ) → between ≡ after_known held before → holds ≡ after_known between (take count text) → HasFront held holds (before ++ (text ++ more))

@@ -1,9 +1,8 @@
 -- The subcommands of a line, obeyed in turn.
-use Rattle.std.proofs.Common.{◌≡◌, ◌<◌, ℕ, List, [], ◌∷◌, Option, Some, None, Result, Ok, Err, length, refl, ap, sym, ◌∙◌, arith}
+use Rattle.std.proofs.Common.{◌≡◌, ◌<◌, ℕ, List, Some, None, Result, Ok, Err, length, ap, ◌∙◌, arith}
 use Rattle.zonecfg_scopes.specs.declared.command.Command.{Command}
 use Rattle.zonecfg_scopes.specs.declared.fault.EditFault.{EditFault}
 use Rattle.zonecfg_scopes.specs.declared.fault.EditFault.TheVariants.{Memory, Lex, UnknownCommand, Usage, NotHere, NothingOpen, WrongScope, NeedForce, Config}
-use Rattle.zonecfg_scopes.specs.Forms.{command_of}
 use Rattle.zonecfg_scopes.specs.Open.{Open}
 use Rattle.zonecfg_scopes.specs.Turns.{ReadsFirst, ReadsNext, goes_on, in_turn}
 use Rattle.zones_run.specs.declared.refusal.Refusal.{Refusal}

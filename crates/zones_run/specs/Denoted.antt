@@ -1,5 +1,5 @@
 -- What the input of `export` denotes, and how that bears on what is written.
-use Rattle.std.specs.Prelude.{◌≡◌, ◌+◌, ◌++◌, ◌⊎◌, ℕ, List, [], ◌∷◌, length, Some, None, Result, Ok, Err}
+use Rattle.std.specs.Prelude.{◌≡◌, ◌+◌, ◌++◌, ◌⊎◌, ℕ, List, [], ◌∷◌, length, Some, None, Ok, Err}
 use Rattle.std.specs.List.{flat_map}
 use Rattle.zonecfg_lex.specs.declared.fault.LexFault.{LexFault}
 use Rattle.zonecfg_lex.specs.Subcommands.{subcommands_of}

@@ -6,9 +6,9 @@ use Rattle.zones_run.specs.declared.words.Command.{Command}
 use Rattle.zones_run.specs.declared.words.Command.TheVariants.{Export, Trace, Help, Version}
 use Rattle.zones_run.specs.Fixed.{help_text, usage_text, version_text}
 use Rattle.zones_run.specs.Exporting.{exported}
-use Rattle.zones_run.specs.Obeyed.{ObeysRead}
+use Rattle.zones_run.specs.Obeyed.{ObeysLines, ObeysRead}
 use Rattle.zones_run.specs.Output.{Output, written}
-use Rattle.zones_run.specs.Tracing.{AnswersRead, HasReplies, run_of, traced}
+use Rattle.zones_run.specs.Tracing.{AnswersLines, AnswersRead, HasReplies, RunsLines, run_of, traced}
 use Rattle.zones_run.specs.Words.{command_of}
 
 abbrev pub output_for : Option Command → Option (List ℕ) → Option Output
@@ -28,12 +28,19 @@ ReadsNothing (Some Export) = ⊥
 ReadsNothing (Some Trace) = ⊥
 ReadsNothing command = Unit {0}
 
--- where the input was not read to its end, a trace has written whole replies, and every other command nothing
-abbrev pub HasAnswered : Option Command → Option (List ℕ) → (held holds : Option (List ℕ)) → Type 0
-HasAnswered (Some Trace) input held holds = IfSome input (λ bytes. HasReplies held holds (run_of bytes))
-HasAnswered command input held holds = holds ≡ held
+-- what a command has taken of its input, whatever its status
+abbrev pub HasTaken : Option Command → (input left : Option (List ℕ)) → Type 0
+HasTaken (Some Export) input left = IfSome input (λ _. ObeysLines input left)
+HasTaken (Some Trace) input left = IfSome input (λ _. RunsLines input left)
+HasTaken command input left = input ≡ left
 
--- the same where the source failed: a trace has answered just the lines that were taken whole, and `export` has obeyed them
+-- where memory ran out, a trace has written the replies of the lines taken, and every other command nothing
+abbrev pub HasAnswered : Option Command → (input left held holds : Option (List ℕ)) → Type 0
+HasAnswered (Some Trace) input left held holds =
+    IfSome input (λ bytes. HasReplies held holds (run_of bytes)) × IfSome input (λ _. AnswersLines input left held holds)
+HasAnswered command input left held holds = holds ≡ held
+
+-- the same where the source failed, and `export` has obeyed the lines taken
 abbrev pub HasAnsweredRead : Option Command → (input left held holds : Option (List ℕ)) → Type 0
 HasAnsweredRead (Some Trace) input left held holds =
     IfSome input (λ bytes. HasReplies held holds (run_of bytes)) × IfSome input (λ _. AnswersRead input left held holds)

@@ -36,12 +36,6 @@ TakesBytes Line line old new = TakesLine line old new
 TakesBytes End line old new = Unit {0}
 TakesBytes TooLong line old new = Unit {0}
 
--- no more than the beginning of a line was taken off some bytes
-pub record BeginsLine (old new : Option (List ℕ)) : Type 0 where
-  pub begun : List ℕ
-  pub clean : has_newline begun ≡ false
-  pub taken : old ≡ before_known begun new
-
 -- what stands before a newline was moved onto a line
 pub record MovesPart (line new_line ahead new_ahead : List ℕ) : Type 0 where
   pub joined : new_line ≡ line ++ before_first is_newline ahead

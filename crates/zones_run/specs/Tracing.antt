@@ -1,9 +1,8 @@
 -- What `trace` writes for the whole of its input: its lines are read, their events make a history of the zone machine
 -- from no record on, and the history's replies are printed.
-use Rattle.std.specs.Prelude.{ℕ, List, [], ◌∷◌, ◌++◌, ◌+◌, ◌≡◌, ◌⊎◌, map, take, Bool, true, false, Option, Some, None, Result, Ok, Err, if◌then◌else◌}
-use Rattle.std.specs.Io.KnownBytes.{IsAtEnd}
+use Rattle.std.specs.Prelude.{ℕ, List, [], ◌∷◌, ◌+◌, ◌≡◌, map, take, Bool, true, false, Option, Some, None, Result, Ok, Err, if◌then◌else◌}
 use Rattle.std.specs.List.{flat_map}
-use Rattle.zn_io.specs.Streams.{after_known, before_known}
+use Rattle.zn_io.specs.Streams.{after_known}
 use Rattle.trace_text.specs.Lines.{event_of}
 use Rattle.trace_text.specs.Replies.{reply_text}
 use Rattle.trace_text.specs.declared.fault.LineFault.{LineFault}
@@ -23,7 +22,9 @@ use Rattle.zone_machine.specs.declared.replies.Head.TheVariants.{Refused, Turned
 use Rattle.zones_run.specs.declared.trace.Stop.{Stop}
 use Rattle.zones_run.specs.declared.trace.Stop.TheVariants.{Memory as No_room, Grammar}
 use Rattle.zn_base.specs.Lines.{lines_of}
-use Rattle.zones_run.specs.Lines.{AreWhole, has_newline}
+use Rattle.zones_run.specs.declared.fault.RunFault.{RunFault}
+use Rattle.zones_run.specs.declared.fault.RunFault.TheVariants.{Read, Write}
+use Rattle.zones_run.specs.Taking.{TakesLines, TakesNoMore}
 use Rattle.zones_run.specs.Complaints.{complaint_output, limit_at}
 use Rattle.zones_run.specs.declared.outcome.Complaint.{Complaint}
 use Rattle.zones_run.specs.declared.outcome.Complaint.TheVariants.{FirstRefused, Grammar as Bad_line}
@@ -135,16 +136,24 @@ pub record HasReplies (held holds : Option (List ℕ)) (run : Run) : Type 0 wher
   pub count : ℕ
   pub taken : holds ≡ after_known held (replies_text (take count run.entries))
 
--- the source failed after some whole lines and the beginning of one: none of those lines ends the run, just they were
--- answered, and their replies written. Only a last line, with nothing behind it, may be answered without its newline
-pub record AnswersRead (input left held holds : Option (List ℕ)) : Type 0 where
-  pub taken : List ℕ
-  pub begun : List ℕ
-  pub clean : has_newline begun ≡ false
-  pub ended : AreWhole taken ⊎ ((begun ≡ []) × IsAtEnd left)
-  pub read : input ≡ before_known (taken ++ begun) left
-  pub going : (run_of taken).ending ≡ At_end
-  pub text : holds ≡ after_known held (replies_text (run_of taken).entries)
+-- `trace` has taken lines that don't end it, the beginning of one more, and at most one piece
+abbrev pub RunsLines : (input left : Option (List ℕ)) → Type 0
+RunsLines input left = TakesLines (λ bytes. (run_of bytes).ending ≡ At_end) input left
+
+-- and has written the replies of just those lines
+pub record AnswersLines (input left held holds : Option (List ℕ)) : Type 0 where
+  pub runs : RunsLines input left
+  pub text : holds ≡ after_known held (replies_text (run_of runs.lines).entries)
+
+-- the same where the source failed
+abbrev pub AnswersRead : (input left held holds : Option (List ℕ)) → Type 0
+AnswersRead input left held holds = (answers : AnswersLines input left held holds) × TakesNoMore answers.runs
+
+-- what a trace has taken and answered, by how it ended
+abbrev pub AnswersAs : Result (Option Complaint) RunFault → (input left held holds : Option (List ℕ)) → Type 0
+AnswersAs (Err Write) input left held holds = RunsLines input left
+AnswersAs (Err Read) input left held holds = AnswersRead input left held holds
+AnswersAs ended input left held holds = AnswersLines input left held holds
 
 -- what an event was answered, in the state that the machine stood for
 pub record IsAnswered (stands new_stands : State → Type 0) (e : Event) (refusal : Bool) (holds new_holds : Option (List ℕ)) : Type 0 where

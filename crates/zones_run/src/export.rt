@@ -4,7 +4,7 @@ ghost use Rattle.zn_io.specs.Streams.{Rose};
 ghost use Rattle.zonecfg_scopes.specs.Open.{Nothing};
 ghost use Rattle.zones_run.specs.Outcomes.{ended_by, outcome_of};
 ghost use Rattle.zones_run.specs.Exporting.{ended, exported};
-ghost use Rattle.zones_run.specs.Obeyed.{ObeysRead};
+ghost use Rattle.zones_run.specs.Obeyed.{ObeysLines, ObeysRead};
 ghost use Rattle.zones_run.specs.Subcommands.{known_brands};
 
 use crate::edit::{edit, known_brands, obey};
@@ -48,8 +48,9 @@ fn edit_lines<S: Source>(
     requires brands { brands.now ≡ known_brands }
     requires nothing { editor.old.opened ≡ Nothing }
     ensures whole { IfOk result (λ complaint. IfSome (S.left source.old) (λ bytes. ended_by complaint editor.new.opened ≡ exported bytes)) }
+    ensures taken { IfSome (S.left source.old) (λ _. ObeysLines (S.left source.old) (S.left source.new)) }
     ensures failed { IsErrOf result ReadFault.Failed → Rose (S.faults source.old) (S.faults source.new) }
-    ensures taken { IsErrOf result ReadFault.Failed → IfSome (S.left source.old) (λ _. ObeysRead (S.left source.old) (S.left source.new)) }
+    ensures read { IsErrOf result ReadFault.Failed → IfSome (S.left source.old) (λ _. ObeysRead (S.left source.old) (S.left source.new)) }
     ensures later { S.faults source.old ≤ S.faults source.new }
 {
     let mut ahead = Ahead::new();
@@ -99,8 +100,9 @@ fn edit_all<S: Source>(
     requires brands { brands.now ≡ known_brands }
     requires nothing { editor.old.opened ≡ Nothing }
     ensures whole { IfOk result (λ outcome. IfSome (S.left source.old) (λ bytes. outcome_of outcome ≡ exported bytes)) }
+    ensures taken { IfSome (S.left source.old) (λ _. ObeysLines (S.left source.old) (S.left source.new)) }
     ensures failed { IsErrOf result ReadFault.Failed → Rose (S.faults source.old) (S.faults source.new) }
-    ensures taken { IsErrOf result ReadFault.Failed → IfSome (S.left source.old) (λ _. ObeysRead (S.left source.old) (S.left source.new)) }
+    ensures read { IsErrOf result ReadFault.Failed → IfSome (S.left source.old) (λ _. ObeysRead (S.left source.old) (S.left source.new)) }
     ensures later { S.faults source.old ≤ S.faults source.new }
 {
     match edit_lines(alloc, editor, brands, source)? {
@@ -111,10 +113,12 @@ fn edit_all<S: Source>(
 
 /// Reads all lines, one at a time, up to the first that is refused or past a limit, and exports what is
 /// open at their end.
+#[tactic(auto, using(crate::proofs::ExportRuns::obeys_nothing))]
 pub fn export_all<S: Source>(alloc: Global, source: &mut S) -> Result<Outcome, ReadFault>
     ensures whole { IfOk result (λ outcome. IfSome (S.left source.old) (λ bytes. outcome_of outcome ≡ exported bytes)) }
+    ensures taken { IfSome (S.left source.old) (λ _. ObeysLines (S.left source.old) (S.left source.new)) }
     ensures failed { IsErrOf result ReadFault.Failed → Rose (S.faults source.old) (S.faults source.new) }
-    ensures taken { IsErrOf result ReadFault.Failed → IfSome (S.left source.old) (λ _. ObeysRead (S.left source.old) (S.left source.new)) }
+    ensures read { IsErrOf result ReadFault.Failed → IfSome (S.left source.old) (λ _. ObeysRead (S.left source.old) (S.left source.new)) }
     ensures later { S.faults source.old ≤ S.faults source.new }
 {
     let brands = known_brands(alloc)?;

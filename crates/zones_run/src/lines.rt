@@ -6,7 +6,8 @@ ghost use Rattle.std.specs.List.{after_first, before_first};
 ghost use Rattle.zn_io.specs.Streams.{Rose, before_known};
 ghost use Rattle.zn_base.specs.Lines.{is_newline};
 ghost use Rattle.zones_run.specs.Lines.{has_newline};
-ghost use Rattle.zones_run.specs.Reading.{BeginsLine, GivesLine, TakesBytes, TakesPart, lines_left};
+ghost use Rattle.zones_run.specs.Reading.{GivesLine, TakesBytes, TakesPart, lines_left};
+ghost use Rattle.zones_run.specs.Taking.{BeginsLine, TakesPiece};
 ghost use Rattle.zones_run.specs.declared.lines.ReadFault.TheVariants.{Memory};
 
 use std::alloc::{AllocError, Global};
@@ -112,7 +113,8 @@ impl Ahead {
 
     /// Whether all that was read is used.
     pub fn is_empty(&self) -> bool
-        ensures { result ≡ (length self.now == 0) }
+        ensures empty { result ≡ (length self.now == 0) }
+        ensures few { length self.now ≤ 4096 }
     {
         self.bytes().is_empty()
     }
@@ -151,6 +153,7 @@ impl Ahead {
         ensures more { IfOk result (λ more. more ≡ true → 0 < length self.new) }
         ensures end { IfOk result (λ more. more ≡ false → (self.new ≡ []) × IsAtEnd (S.left source.new)) }
         ensures kept { OnErr result (before_known self.old (S.left source.old) ≡ S.left source.new) }
+        ensures few { length self.new ≤ 4096 }
         ensures failed { OnErr result ((result ≡ Err ReadFault.Failed) × Rose (S.faults source.old) (S.faults source.new)) }
         ensures later { S.faults source.old ≤ S.faults source.new }
     {
@@ -195,7 +198,9 @@ pub fn next_line<S: Source>(
 ) -> Result<Got, ReadFault>
     ensures got { IfOk result (λ got. GivesLine got line.new.items (lines_left ahead.old (S.left source.old)) (lines_left ahead.new (S.left source.new))) }
     ensures took { IfOk result (λ got. TakesBytes got line.new.items (before_known ahead.old (S.left source.old)) (before_known ahead.new (S.left source.new))) }
+    ensures taken { TakesPiece (before_known ahead.old (S.left source.old)) (S.left source.new) }
     ensures begun { IsErrOf result ReadFault.Failed → BeginsLine (before_known ahead.old (S.left source.old)) (S.left source.new) }
+    ensures few { IfOk result (λ got. got ≡ Got.Line → length ahead.new ≤ 4096) }
     ensures failed { IsErrOf result ReadFault.Failed → Rose (S.faults source.old) (S.faults source.new) }
     ensures later { S.faults source.old ≤ S.faults source.new }
 {

@@ -2,10 +2,10 @@
 ghost use Rattle.std.specs.Prelude.{◌≡◌, ◌≢◌, ◌≤◌, ◌⊎◌, ◌↔◌, ◌++◌, ◌∷◌, [], map, string_bytes, IfSome, None};
 ghost use Rattle.zn_io.specs.Streams.{Rose, TakesFront, after_known};
 ghost use Rattle.zones_run.specs.Complaints.{complaint_status, complaint_text};
-ghost use Rattle.zones_run.specs.Program.{HasAnswered, HasAnsweredRead, ReadsNothing, output_of};
+ghost use Rattle.zones_run.specs.Program.{HasAnswered, HasAnsweredRead, HasTaken, ReadsNothing, output_of};
 ghost use Rattle.zones_run.specs.Run.{Agrees, HasFront, IsDecided, IsStatus, TakesFronts, fault_status, memory_line, read_fault_line, write_fault_line};
 ghost use Rattle.zones_run.specs.Words.{command_of};
-ghost use Rattle.zones_run.specs.Tracing.{AnswersRead, HasReplies, run_of, traced};
+ghost use Rattle.zones_run.specs.Tracing.{AnswersLines, AnswersRead, HasReplies, RunsLines, run_of, traced};
 
 use crate::export::export_all;
 use crate::fault::RunFault;
@@ -102,7 +102,9 @@ fn run_trace<S: Source, K: Sink, E: Sink>(
     ensures whole_line { result ≤ REFUSED → IfSome (S.left src.old) (λ bytes. E.holds err.new ≡ after_known (E.holds err.old) (traced bytes).err) }
     ensures usage { result ≢ USAGE }
     ensures read_fault { result ≡ READ_FAULT → Rose (S.faults src.old) (S.faults src.new) }
-    ensures taken { result ≡ READ_FAULT → IfSome (S.left src.old) (λ _. AnswersRead (S.left src.old) (S.left src.new) (K.holds out.old) (K.holds out.new)) }
+    ensures taken { IfSome (S.left src.old) (λ _. RunsLines (S.left src.old) (S.left src.new)) }
+    ensures read_taken { result ≡ READ_FAULT → IfSome (S.left src.old) (λ _. AnswersRead (S.left src.old) (S.left src.new) (K.holds out.old) (K.holds out.new)) }
+    ensures memory_taken { result ≡ NO_MEMORY → IfSome (S.left src.old) (λ _. AnswersLines (S.left src.old) (S.left src.new) (K.holds out.old) (K.holds out.new)) }
     ensures answered { (result ≡ READ_FAULT) ⊎ (result ≡ NO_MEMORY) → IfSome (S.left src.old) (λ bytes. HasReplies (K.holds out.old) (K.holds out.new) (run_of bytes)) }
     ensures read_line { result ≡ READ_FAULT → TakesFront (E.holds err.old) (E.holds err.new) (E.faults err.old) (E.faults err.new) read_fault_line }
     ensures write_fault { result ≡ WRITE_FAULT → Rose (K.faults out.old) (K.faults out.new) ⊎ Rose (E.faults err.old) (E.faults err.new) }
@@ -139,6 +141,9 @@ pub fn run_zones<S: Source, K: Sink, E: Sink>(
     ensures whole_line { result ≤ REFUSED → IfSome (output_of (map string_bytes words.now) (S.left src.old)) (λ o.
         E.holds err.new ≡ after_known (E.holds err.old) o.err) }
 
+    // What is taken of the input: lines that don't end the run, and less than a piece beyond the one that does.
+    ensures taken { HasTaken (command_of (map string_bytes words.now)) (S.left src.old) (S.left src.new) }
+
     // Where no command reads its input, none of it is taken.
     ensures unread { ReadsNothing (command_of (map string_bytes words.now)) → src.new ≡ src.old }
 
@@ -158,7 +163,7 @@ pub fn run_zones<S: Source, K: Sink, E: Sink>(
         TakesFronts (E.holds err.old) (E.holds err.new) (E.faults err.old) (E.faults err.new) o.err write_fault_line) }
 
     // Memory ran out.
-    ensures memory_text { result ≡ NO_MEMORY → HasAnswered (command_of (map string_bytes words.now)) (S.left src.old) (K.holds out.old) (K.holds out.new) }
+    ensures memory_text { result ≡ NO_MEMORY → HasAnswered (command_of (map string_bytes words.now)) (S.left src.old) (S.left src.new) (K.holds out.old) (K.holds out.new) }
     ensures memory_line { result ≡ NO_MEMORY → TakesFront (E.holds err.old) (E.holds err.new) (E.faults err.old) (E.faults err.new) memory_line }
 {
     match command_of(words) {

@@ -7,7 +7,7 @@ ghost use Rattle.zone_machine.specs.Machine.{opening};
 ghost use Rattle.zone_machine.specs.Tables.{Stands};
 ghost use Rattle.trace_text.specs.Lines.{event_of};
 ghost use Rattle.zones_run.specs.Run.{HasFront};
-ghost use Rattle.zones_run.specs.Tracing.{AnswersRead, HasReplies, HasWritten, IsAnswered, Stops, TakesEvent, Tells, is_refusal, is_refused_outcome, is_refused_turn, left_to_tell, run_of, told_refusal, traced};
+ghost use Rattle.zones_run.specs.Tracing.{AnswersAs, HasReplies, HasWritten, IsAnswered, Stops, TakesEvent, Tells, is_refusal, is_refused_outcome, is_refused_turn, left_to_tell, run_of, told_refusal, traced};
 
 use crate::fault::RunFault;
 use crate::lines::{Ahead, Got, LINES_MAX, next_line};
@@ -120,7 +120,7 @@ fn write_waiting<K: Sink>(waiting: &mut Vec<u8>, out: &mut K) -> Result<(), RunF
 // Writes the replies that wait, where there are many or nothing is ahead.
 fn write_some<K: Sink>(ahead: &Ahead, waiting: &mut Vec<u8>, out: &mut K) -> Result<(), RunFault>
     ensures same { OnOk result (after_known (K.holds out.new) waiting.new.items ≡ after_known (K.holds out.old) waiting.old.items) }
-    ensures few { OnOk result ((waiting.new.items ≡ []) ⊎ ((length ahead.now ≢ 0) × (length waiting.new.items < WAITING_MAX))) }
+    ensures few { OnOk result ((waiting.new.items ≡ []) ⊎ ((length ahead.now ≢ 0) × (length waiting.new.items < 16384))) }
     ensures written { HasWritten (K.holds out.old) (K.holds out.new) }
     ensures none { OnErr result (waiting.new.items ≡ []) }
     ensures front { OnErr result (HasFront (K.holds out.old) (K.holds out.new) waiting.old.items) }
@@ -150,7 +150,7 @@ fn take_lines<S: Source, K: Sink>(
     ensures write { IsErrOf result RunFault.Write → Rose (K.faults out.old) (K.faults out.new) }
     ensures front { IsErrOf result RunFault.Write → IfSome (S.left source.old) (λ bytes. HasFront (K.holds out.old) (K.holds out.new) (traced bytes).out) }
     ensures answered { IsErrOf result RunFault.Read ⊎ IsErrOf result RunFault.Memory → IfSome (S.left source.old) (λ bytes. HasReplies (K.holds out.old) (after_known (K.holds out.new) waiting.new.items) (run_of bytes)) }
-    ensures taken { IsErrOf result RunFault.Read → IfSome (S.left source.old) (λ _. AnswersRead (S.left source.old) (S.left source.new) (K.holds out.old) (after_known (K.holds out.new) waiting.new.items)) }
+    ensures taken { IfSome (S.left source.old) (λ _. AnswersAs result (S.left source.old) (S.left source.new) (K.holds out.old) (after_known (K.holds out.new) waiting.new.items)) }
     ensures written { HasWritten (K.holds out.old) (K.holds out.new) }
     ensures none { IsErrOf result RunFault.Write → waiting.new.items ≡ [] }
     ensures read_later { S.faults source.old ≤ S.faults source.new }
@@ -193,7 +193,7 @@ pub fn trace_all<S: Source, K: Sink>(
     ensures write { IsErrOf result RunFault.Write → Rose (K.faults out.old) (K.faults out.new) }
     ensures front { IsErrOf result RunFault.Write → IfSome (S.left source.old) (λ bytes. HasFront (K.holds out.old) (K.holds out.new) (traced bytes).out) }
     ensures answered { IsErrOf result RunFault.Read ⊎ IsErrOf result RunFault.Memory → IfSome (S.left source.old) (λ bytes. HasReplies (K.holds out.old) (K.holds out.new) (run_of bytes)) }
-    ensures taken { IsErrOf result RunFault.Read → IfSome (S.left source.old) (λ _. AnswersRead (S.left source.old) (S.left source.new) (K.holds out.old) (K.holds out.new)) }
+    ensures taken { IfSome (S.left source.old) (λ _. AnswersAs result (S.left source.old) (S.left source.new) (K.holds out.old) (K.holds out.new)) }
     ensures later { S.faults source.old ≤ S.faults source.new }
 {
     let mut waiting = Vec::new(alloc);

@@ -12,6 +12,6 @@ invariant-loop-before g l =
     let left = g.S.Source.left in
     record {
       same : option_map (edited (l.before + 1) l.editor.opened) (lines_left l.ahead (left l.source)) ≡ option_map exported (left l.fn.source);
-      obeyed : IfSome (left l.fn.source) (Obeys l.editor.opened (before_known l.ahead (left l.source)));
+      obeyed : IfSome (left l.fn.source) (Obeys l.before l.editor.opened (before_known l.ahead (left l.source)));
       later : g.S.Source.faults l.fn.source ≤ g.S.Source.faults l.source;
     }

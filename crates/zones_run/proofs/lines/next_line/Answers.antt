@@ -1,7 +1,12 @@
 use Rattle.std.proofs.Common.{◌∙◌, ap, arith}
 use Rattle.zn_io.specs.Streams.{before_known}
+use Rattle.zones_run.proofs.Begins.{begins_line}
 use Rattle.zones_run.proofs.Cuts.{last_line, whole_line, long_line, goes_on, clean_on, took_line}
 use Rattle.zones_run.proofs.lines.next_line.Goals as goal
+
+pub returns-in_err-refill-clause-begun : goal.returns-in_err-refill-clause-begun
+returns-in_err-refill-clause-begun g c = λ _.
+    begins_line _ _ c.loop-line.line.items (c.loop-line.invariant.same ∙ ap (before_known c.loop-line.line.items) c.in_err-refill.ensures.kept) c.loop-line.invariant.clean c.loop-line.invariant.short
 
 pub returns-else-is_empty-clause-got : goal.returns-else-is_empty-clause-got
 returns-else-is_empty-clause-got g c =

@@ -1,4 +1,4 @@
-use Rattle.std.proofs.Common.{◌+◌, ◌≤◌}
+use Rattle.std.proofs.Common.{◌+◌, ◌≤◌, length}
 use Rattle.zn_io.specs.Streams.{after_known, before_known}
 use Rattle.zone_machine.specs.Tables.{Stands}
 use Rattle.zones_run.specs.Tracing.{HasWritten}
@@ -12,6 +12,7 @@ invariant-loop-before g l =
     let holds = g.K.Sink.holds in
     record {
       run : RunsOn (λ S. Stands S l.machine) l.refused (l.before + 1) (holds l.fn.out) (after_known (holds l.out) l.waiting.items) (before_known l.ahead (left l.source)) (left l.fn.source);
+      few : length l.ahead ≤ 4096;
       written : HasWritten (holds l.fn.out) (holds l.out);
       read : g.S.Source.faults l.fn.source ≤ g.S.Source.faults l.source;
       write : g.K.Sink.faults l.fn.out ≤ g.K.Sink.faults l.out;
