@@ -24,7 +24,7 @@ behind_nothing held holds before now first line front = record {
   ];
 }
 
--- behind a front of a line that failed
+-- after a front of a line that failed
 pub behind_front : (held between holds : Option (List ℕ)) (before between_faults now : ℕ) (first second : List ℕ) → TakesFront held between before between_faults first → Rose before between_faults → TakesFront between holds between_faults now second → between_faults ≤ now → TakesFronts held holds before now first second
 behind_front held between holds before then now first second begun rose told later = record {
   begun = begun.count;

@@ -95,7 +95,7 @@ turn_more (first ∷ lines) line from o next done is =
       | Ok then ↦ λ e. turn_more lines line then o next e is
     ] done
 
--- the lines from one on, behind some that were obeyed
+-- the lines from one on, after some that were obeyed
 lines_refused : (lines : List (List ℕ)) (number : ℕ) (all before : List (List ℕ)) (o : Open)
     → all ≡ before ++ lines → number ≡ length before + 1 → Stands None (flat_map line_commands before) o → lines_in_turn before Nothing ≡ Ok o
     → (edited number o lines).status ≡ status_refused → RefusesLine all (edited number o lines) ⊎ RefusesEnd all (edited number o lines)

@@ -52,11 +52,11 @@ runs_from_start stands held input stood = record {
     at_input None = tt
     at_input (Some bytes) = record { past = []; to_come = bytes; here = refl; all = refl; fresh = inl (inl refl); leads = λ lines. refl }
 
--- what was told in another way
+-- what was reported in another way
 pub runs_told : (stands : State → Type 0) (refused : Option ℕ) (n : ℕ) (held holds now_holds bytes input : Option (List ℕ)) → now_holds ≡ holds → RunsOn stands refused n held holds bytes input → RunsOn stands refused n held now_holds bytes input
 runs_told stands refused n held holds now_holds bytes input same run = subst (λ known. RunsOn stands refused n held known bytes input) (sym same) run
 
--- lines that end in a newline are followed by those of the bytes behind them
+-- lines that end in a newline are followed by those of the bytes after them
 lines_of-onto : (front bytes : List ℕ) → lines_of ((front ++ 10 ∷ []) ++ bytes) ≡ lines_of (front ++ 10 ∷ []) ++ lines_of bytes
 lines_of-onto [] bytes = refl
 lines_of-onto (b ∷ front) bytes =
@@ -138,7 +138,7 @@ takes past line to_come new (inr none) took = elim took.ended as (λ _. Taken pa
   | inr last ↦ absurd (none_to_end line to_come new none last.0 last.1)
 ]
 
--- a line is taken, and the run goes on behind it
+-- a line is taken, and the run goes on after it
 one_line : (done now_done : List Entry) (refused now : Option ℕ) (n : ℕ) (S T : State) (line : List ℕ) (old new : Option (List ℕ)) (input : List ℕ)
     → ((lines : List (List ℕ)) → run_on done refused n S (line ∷ lines) ≡ run_on now_done now (n + 1) T lines) → Knows refused n S done old input → TakesLine line old new → Knows now (n + 1) T now_done new input
 one_line done now_done refused now n S T line old new input step known took =

@@ -71,7 +71,7 @@ pub record RefusesEnd (lines : List (List ℕ)) (output : Output) : Type 0 where
   pub stands : Stands None (flat_map line_commands lines) opened
   pub told : output ≡ ended opened
 
--- a law: where the status is 1, the first line that is refused is told, with why its first refused subcommand is, at what
+-- a law: where the status is 1, the first line that is refused is reported, with why its first refused subcommand is, at what
 -- all subcommands before it denote; or all lines are obeyed, and the end is refused
 abbrev pub RefusesAtWhatIsDenoted : Type 0
 RefusesAtWhatIsDenoted = (bytes : List ℕ) → (exported bytes).status ≡ status_refused

@@ -1,4 +1,4 @@
--- Why `export` refuses a line or the end of its input, as standard error tells it: the code, the name, and what it
+-- Why `export` refuses a line or the end of its input, as standard error reports it: the code, the name, and what it
 -- is about.
 use Rattle.std.specs.Prelude.{ℕ, List, ◌++◌, unwrap_or, codes}
 use Rattle.std.specs.Fmt.{decimal}

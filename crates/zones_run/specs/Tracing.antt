@@ -103,7 +103,7 @@ entry_text entry = reply_text entry.subject entry.reply
 abbrev pub replies_text : List Entry → List ℕ
 replies_text entries = flat_map entry_text entries
 
--- at the end of the input the first refusal is told
+-- at the end of the input the first refusal is reported
 abbrev pub told_refusal : List ℕ → Option ℕ → Output
 told_refusal text None = written text
 told_refusal text (Some number) = record (complaint_output (FirstRefused number)) { out = text }
@@ -121,12 +121,12 @@ told run = told_ending (replies_text run.entries) run.refused run.ending
 abbrev pub traced : List ℕ → Output
 traced bytes = told (run_of bytes)
 
--- what a trace still has to tell at its end
+-- what a trace still has to report at its end
 abbrev pub left_to_tell : Option Complaint → Output
 left_to_tell None = written []
 left_to_tell (Some complaint) = complaint_output complaint
 
--- what was written, and what is left to tell, are an output
+-- what was written, and what is left to report, are an output
 pub record Tells (complaint : Option Complaint) (held holds : Option (List ℕ)) (output : Output) : Type 0 where
   pub rest : left_to_tell complaint ≡ record output { out = [] }
   pub taken : holds ≡ after_known held output.out
@@ -161,7 +161,7 @@ pub record IsAnswered (stands new_stands : State → Type 0) (e : Event) (refusa
   pub text : (S : State) → stands S → new_holds ≡ after_known holds (entry_text (entry_at S e (allowed S e)))
   pub refused : (S : State) → stands S → refusal ≡ is_refusal (entry_at S e (allowed S e)).reply.head
 
--- a line was taken: it is no event, or its event was answered, and the first refused line is told
+-- a line was taken: it is no event, or its event was answered, and the first refused line is reported
 abbrev pub TakesEvent : (State → Type 0) → (State → Type 0) → Result (Option Event) LineFault → ℕ → Option ℕ → Option ℕ → Option (List ℕ) → Option (List ℕ) → Type 0
 TakesEvent stands new_stands (Ok None) number refused now holds new_holds =
     ((S : State) → stands S → new_stands S) × (now ≡ refused) × (new_holds ≡ holds)

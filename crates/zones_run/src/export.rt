@@ -38,7 +38,7 @@ fn end_of(alloc: Global, editor: &mut Editor, brands: &[Text]) -> Result<Outcome
     }
 }
 
-// Obeys all lines, one at a time, up to the first that is refused or past a limit, of which is told.
+// Obeys all lines, one at a time, up to the first that is refused or past a limit, which is then reported.
 fn edit_lines<S: Source>(
     alloc: Global,
     editor: &mut Editor,
@@ -74,7 +74,7 @@ fn edit_lines<S: Source>(
     Ok(None)
 }
 
-// An editor with nothing open. No subcommand that `export` takes tells the zone's name.
+// An editor with nothing open. No subcommand that `export` takes shows the zone's name.
 fn new_editor(alloc: Global) -> Result<Editor, ReadFault>
     ensures nothing { IfOk result (λ editor. editor.opened ≡ Nothing) }
     ensures memory { IsErrOf result ReadFault.Failed → ⊥ }

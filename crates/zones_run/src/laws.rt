@@ -7,7 +7,7 @@ pub fn exports_what_is_denoted()
     ensures { ExportsWhatIsDenoted }
 {}
 
-/// A law: where `export` ends with status 1, it tells the first line that is refused, and why its first refused
+/// A law: where `export` ends with status 1, it reports the first line that is refused, and why its first refused
 /// subcommand is, at what all subcommands before it denote; or why the end is, at what those of all lines denote.
 pub fn refuses_at_what_is_denoted()
     ensures { RefusesAtWhatIsDenoted }

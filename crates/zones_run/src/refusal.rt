@@ -1,4 +1,4 @@
-//! Why `export` refuses a line or the end of its input, and how standard error tells it.
+//! Why `export` refuses a line or the end of its input, and how standard error reports it.
 ghost use Rattle.std.specs.Prelude.{◌≡◌, ◌++◌, OnOk};
 ghost use Rattle.config_verify.specs.declared.flaw.Flaw.TheVariants.{MissingProperty};
 ghost use Rattle.zones_run.specs.Refusals.{config_text, edit_text, flaw_text, lex_text, property_text, refusal_text, scope_text};
@@ -136,7 +136,7 @@ fn push_flaw(out: &mut Vec<u8>, flaw: &Flaw) -> Result<(), AllocError>
     }
 }
 
-/// Puts the code, the name and the rest of a refusal behind a text.
+/// Puts the code, the name and the rest of a refusal after a text.
 #[tactic(auto, unfolding(crate::specs::Refusals::refusal_text))]
 pub fn push_refusal(out: &mut Vec<u8>, refusal: &Refusal) -> Result<(), AllocError>
     ensures { OnOk result (out.new.items ≡ out.old.items ++ refusal_text refusal.now) }

@@ -40,14 +40,14 @@ fn is_refusal(head: &Head) -> bool
     }
 }
 
-// What is left to tell at the end of the input.
+// What is left to report at the end of the input.
 fn ended(refused: Option<u64>) -> Option<Complaint>
     ensures { left_to_tell result ≡ record (told_refusal [] refused) { out = [] } }
 {
     refused.map(Complaint::FirstRefused)
 }
 
-// One event: its reply waits to be written, and told is whether it is a refusal.
+// One event: its reply waits to be written, and the answer is whether it is a refusal.
 fn answer(
     alloc: Global,
     machine: &mut Machine,
@@ -75,7 +75,7 @@ enum Stop {
     Grammar(LineFault),
 }
 
-// One line: its event, if it is one, is answered, and the number of the first refused line is told.
+// One line: its event, if it is one, is answered, and the number of the first refused line is reported.
 fn take_line(
     alloc: Global,
     machine: &mut Machine,
@@ -134,7 +134,7 @@ fn write_some<K: Sink>(ahead: &Ahead, waiting: &mut Vec<u8>, out: &mut K) -> Res
 }
 
 // Takes all lines, one at a time, up to the first that is outside the grammar or past a limit. What is
-// left to tell is answered, and the last replies wait to be written. Nothing waits while the first byte of a
+// left to report is answered, and the last replies wait to be written. Nothing waits while the first byte of a
 // line is read, so whoever types whole lines gets each reply before the next line is read.
 fn take_lines<S: Source, K: Sink>(
     alloc: Global,
@@ -180,7 +180,7 @@ fn take_lines<S: Source, K: Sink>(
 }
 
 /// Runs all lines, one at a time, up to the first that is outside the grammar or past a limit. What is
-/// left to tell is answered.
+/// left to report is answered.
 pub fn trace_all<S: Source, K: Sink>(
     alloc: Global,
     machine: &mut Machine,
