@@ -1,8 +1,13 @@
 //! What a subcommand asks for.
-ghost use Rattle.std.specs.Prelude.{◌≡◌};
+ghost use Rattle.std.specs.Prelude.{◌≡◌, IsTrue};
 ghost use Rattle.zonecfg_scopes.specs.Commands.{list_name, list_named, topic_named};
+ghost use Rattle.zonecfg_scopes.specs.Denotes.{Follows};
+ghost use Rattle.zonecfg_scopes.specs.Scopes.{is_in_place};
 
+use crate::EditFault;
+use crate::opened::Opened;
 use config_terms::Kind;
+use std::alloc::Global;
 use zn_base::{Bytes, Listing, Pair, Text, Value};
 use zone_config::Setting;
 
@@ -29,7 +34,6 @@ pub enum Topic {
 }
 
 /// A subcommand of zonecfg(8) in a form that it has. `force` is `-F`; `bare` is the `-b` of `create`.
-#[derive(Drop)]
 pub enum Command {
     /// No token: nothing is asked for.
     Blank,
@@ -53,6 +57,35 @@ pub enum Command {
     Select(Matching),
     Set(Text, Value),
     Verify,
+}
+
+// In one step, so that a function that holds a subcommand has one for it at each of its exits.
+impl Drop for Command {
+    fn drop(self) {
+        match self {
+            Command::Append(_, _value) | Command::RemoveItem(_, _value) => {}
+            Command::Clear(_name) => {}
+            Command::Remove {
+                force: _,
+                matching: _matching,
+            } => {}
+            Command::Select(_matching) => {}
+            Command::Set(_name, _value) => {}
+            Command::Blank
+            | Command::Add(_)
+            | Command::Cancel
+            | Command::Commit
+            | Command::Create { force: _, bare: _ }
+            | Command::Delete { force: _ }
+            | Command::End
+            | Command::Exit { force: _ }
+            | Command::Export
+            | Command::Help
+            | Command::Info(_)
+            | Command::Revert { force: _ }
+            | Command::Verify => {}
+        }
+    }
 }
 
 /// What a subcommand is answered that is not refused: it is done, or there are lines to show, or there is
@@ -101,6 +134,33 @@ impl Topic {
         match Setting::named(name) {
             Some(setting) => Some(Topic::Setting(setting)),
             None => Kind::with_name(name).map(Topic::Resources),
+        }
+    }
+}
+
+#[tactic(auto, unfolding(crate::specs::Scopes::made))]
+impl Command {
+    /// Does what the subcommand says. A refused one leaves all as it was, and so does running out of memory.
+    pub(crate) fn obey(self, alloc: Global, opened: &mut Opened) -> Result<(), EditFault>
+        requires { IsTrue (is_in_place opened.old) }
+        ensures { Follows self opened.old opened.new result }
+    {
+        match self {
+            Command::Blank | Command::Help => Ok(()),
+            Command::Add(kind) => opened.add(alloc, kind),
+            Command::Append(list, value) => opened.append(alloc, list, &value),
+            Command::Cancel => opened.cancel(),
+            Command::Clear(name) => opened.clear(alloc, &name),
+            Command::Commit | Command::Export | Command::Verify => opened.look(),
+            Command::Create { force, bare } => opened.create(alloc, force, bare),
+            Command::Delete { force } | Command::Revert { force } => opened.look_forced(force),
+            Command::End => opened.end(),
+            Command::Exit { force } => opened.exit(force),
+            Command::Info(topic) => opened.inform(topic),
+            Command::Remove { force, matching } => opened.remove(force, &matching),
+            Command::RemoveItem(list, value) => opened.remove_item(alloc, list, &value),
+            Command::Select(matching) => opened.select(alloc, &matching),
+            Command::Set(name, value) => opened.set(alloc, &name, value),
         }
     }
 }

@@ -75,7 +75,7 @@ impl Editor {
     {
         // The lines come first: should memory run out over them, nothing was done.
         let reply = self.reply(alloc, &command)?;
-        self.opened.obey(alloc, command)?;
+        command.obey(alloc, &mut self.opened)?;
         Ok(reply)
     }
 

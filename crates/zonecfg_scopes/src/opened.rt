@@ -1,13 +1,14 @@
 //! What is open, and what subcommands make of it.
 ghost use Rattle.std.specs.Prelude.{◌≡◌, IfOk, IsTrue, OnErr, OnOk, Err, Ok, option_copied};
 ghost use Rattle.config_terms.specs.Edits.{Changes};
+ghost use Rattle.zonecfg_scopes.specs.declared.command.Command.{Command};
 ghost use Rattle.zonecfg_scopes.specs.Denotes.{Follows};
 ghost use Rattle.zonecfg_scopes.specs.Info.{export_lines, info_lines};
 ghost use Rattle.zonecfg_scopes.specs.Open.{Nothing, Whole};
 ghost use Rattle.zonecfg_scopes.specs.OpenOf.{config_of};
 ghost use Rattle.zonecfg_scopes.specs.Scopes.{ended_length, is_in_place, made, without_matching};
 
-use crate::command::{Command, ListProperty, Matching, Topic};
+use crate::command::{ListProperty, Matching, Topic};
 use crate::create::created;
 use crate::info::{resource_lines, topic_lines};
 use crate::line::export_lines;
@@ -139,7 +140,7 @@ impl Opened {
 
 #[tactic(auto, unfolding(crate::specs::Scopes::made))]
 impl Opened {
-    fn create(&mut self, alloc: Global, force: bool, bare: bool) -> Result<(), EditFault>
+    pub(crate) fn create(&mut self, alloc: Global, force: bool, bare: bool) -> Result<(), EditFault>
         ensures { Follows (Command.Create force bare) self.old self.new result }
     {
         match (&self.config, &self.scope) {
@@ -152,7 +153,7 @@ impl Opened {
         Ok(())
     }
 
-    fn set(&mut self, alloc: Global, name: &Text, value: Value) -> Result<(), EditFault>
+    pub(crate) fn set(&mut self, alloc: Global, name: &Text, value: Value) -> Result<(), EditFault>
         ensures { Follows (Command.Set name.now value) self.old self.new result }
     {
         match (&mut self.config, &mut self.scope) {
@@ -163,7 +164,7 @@ impl Opened {
         Ok(())
     }
 
-    fn clear(&mut self, alloc: Global, name: &Text) -> Result<(), EditFault>
+    pub(crate) fn clear(&mut self, alloc: Global, name: &Text) -> Result<(), EditFault>
         ensures { Follows (Command.Clear name.now) self.old self.new result }
     {
         match (&mut self.config, &mut self.scope) {
@@ -174,7 +175,12 @@ impl Opened {
         Ok(())
     }
 
-    fn append(&mut self, alloc: Global, list: ListProperty, value: &Value) -> Result<(), EditFault>
+    pub(crate) fn append(
+        &mut self,
+        alloc: Global,
+        list: ListProperty,
+        value: &Value,
+    ) -> Result<(), EditFault>
         ensures { Follows (Command.Append list value.now) self.old self.new result }
     {
         match (&self.config, &mut self.scope) {
@@ -185,7 +191,7 @@ impl Opened {
         Ok(())
     }
 
-    fn remove_item(
+    pub(crate) fn remove_item(
         &mut self,
         alloc: Global,
         list: ListProperty,
@@ -201,7 +207,7 @@ impl Opened {
         Ok(())
     }
 
-    fn add(&mut self, alloc: Global, kind: Kind) -> Result<(), EditFault>
+    pub(crate) fn add(&mut self, alloc: Global, kind: Kind) -> Result<(), EditFault>
         ensures { Follows (Command.Add kind) self.old self.new result }
     {
         match (&self.config, &self.scope) {
@@ -217,7 +223,7 @@ impl Opened {
         Ok(())
     }
 
-    fn select(&mut self, alloc: Global, matching: &Matching) -> Result<(), EditFault>
+    pub(crate) fn select(&mut self, alloc: Global, matching: &Matching) -> Result<(), EditFault>
         ensures { Follows (Command.Select matching.now) self.old self.new result }
     {
         let scope = match (&self.config, &self.scope) {
@@ -229,7 +235,7 @@ impl Opened {
         Ok(())
     }
 
-    fn remove(&mut self, force: bool, matching: &Matching) -> Result<(), EditFault>
+    pub(crate) fn remove(&mut self, force: bool, matching: &Matching) -> Result<(), EditFault>
         ensures { Follows (Command.Remove force matching.now) self.old self.new result }
     {
         match (&mut self.config, &self.scope) {
@@ -271,7 +277,7 @@ impl Opened {
         Ok(())
     }
 
-    fn end(&mut self) -> Result<(), EditFault>
+    pub(crate) fn end(&mut self) -> Result<(), EditFault>
         requires { IsTrue (is_in_place self.old) }
         ensures { Follows Command.End self.old self.new result }
     {
@@ -280,7 +286,7 @@ impl Opened {
         Ok(())
     }
 
-    fn cancel(&mut self) -> Result<(), EditFault>
+    pub(crate) fn cancel(&mut self) -> Result<(), EditFault>
         ensures { Follows Command.Cancel self.old self.new result }
     {
         match (&self.config, &self.scope) {
@@ -293,7 +299,7 @@ impl Opened {
     }
 
     // `delete` and `revert` ask for `-F`, and leave all else to the caller.
-    fn look_forced(&self, force: bool) -> Result<(), EditFault>
+    pub(crate) fn look_forced(&self, force: bool) -> Result<(), EditFault>
         ensures delete { Follows (Command.Delete force) self.now self.now result }
         ensures revert { Follows (Command.Revert force) self.now self.now result }
     {
@@ -306,7 +312,7 @@ impl Opened {
     }
 
     // What stands in the global scope and leaves all to the caller.
-    fn look(&self) -> Result<(), EditFault>
+    pub(crate) fn look(&self) -> Result<(), EditFault>
         ensures commit { Follows Command.Commit self.now self.now result }
         ensures export { Follows Command.Export self.now self.now result }
         ensures verify { Follows Command.Verify self.now self.now result }
@@ -318,7 +324,7 @@ impl Opened {
         }
     }
 
-    fn exit(&self, force: bool) -> Result<(), EditFault>
+    pub(crate) fn exit(&self, force: bool) -> Result<(), EditFault>
         ensures { Follows (Command.Exit force) self.now self.now result }
     {
         match (&self.config, &self.scope) {
@@ -327,7 +333,7 @@ impl Opened {
         }
     }
 
-    fn inform(&self, topic: Topic) -> Result<(), EditFault>
+    pub(crate) fn inform(&self, topic: Topic) -> Result<(), EditFault>
         ensures { Follows (Command.Info topic) self.now self.now result }
     {
         match (&self.config, &self.scope) {
@@ -337,30 +343,6 @@ impl Opened {
                 Topic::Everything => Ok(()),
                 Topic::Setting(_) | Topic::Resources(_) => Err(wrong_scope(scope)),
             },
-        }
-    }
-
-    /// Does what a subcommand says. A refused one leaves all as it was, and so does running out of memory.
-    pub(crate) fn obey(&mut self, alloc: Global, command: Command) -> Result<(), EditFault>
-        requires { IsTrue (is_in_place self.old) }
-        ensures { Follows command self.old self.new result }
-    {
-        match command {
-            Command::Blank | Command::Help => Ok(()),
-            Command::Add(kind) => self.add(alloc, kind),
-            Command::Append(list, value) => self.append(alloc, list, &value),
-            Command::Cancel => self.cancel(),
-            Command::Clear(name) => self.clear(alloc, &name),
-            Command::Commit | Command::Export | Command::Verify => self.look(),
-            Command::Create { force, bare } => self.create(alloc, force, bare),
-            Command::Delete { force } | Command::Revert { force } => self.look_forced(force),
-            Command::End => self.end(),
-            Command::Exit { force } => self.exit(force),
-            Command::Info(topic) => self.inform(topic),
-            Command::Remove { force, matching } => self.remove(force, &matching),
-            Command::RemoveItem(list, value) => self.remove_item(alloc, list, &value),
-            Command::Select(matching) => self.select(alloc, &matching),
-            Command::Set(name, value) => self.set(alloc, &name, value),
         }
     }
 }

@@ -1,5 +1,5 @@
-use Rattle.std.proofs.Common.{◌≡◌, ◌∙◌, Ok, Some, Option, None, ap, if◌then◌else◌, sym, true}
-use Rattle.std.specs.Prelude.{is_ok, List, ℕ}
+use Rattle.std.proofs.Common.{◌≡◌, ◌∙◌, Ok, Some, None, ap, if◌then◌else◌, sym, true}
+use Rattle.std.specs.Prelude.{is_ok}
 use Rattle.zn_base.specs.Names.{is_name, name_of}
 use Rattle.zn_base.proofs.Read_back.{name_of_name}
 use Rattle.zn_base.proofs.name.ZoneName.read_if_name.Goals as goal
