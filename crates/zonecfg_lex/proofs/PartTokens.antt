@@ -1,17 +1,15 @@
 -- The tokens of a line, counted from the begins of its parts, are those of its parts.
-use Rattle.std.proofs.Common.{◌≡◌, ◌≤◌, ◌<◌, ◌+◌, ◌-◌, ◌⊎◌, inl, inr, ℕ, suc, Bool, true, false, cond, List, [], ◌∷◌, ◌++◌, Option, Some, None, Result, Ok, Err, All, get_or, set, map, take, drop, length, length-drop, append_assoc, append-nil, refl, ap, sym, subst, arith, ◌∙◌}
+use Rattle.std.proofs.Common.{◌≡◌, ◌≤◌, ◌<◌, ◌+◌, ◌-◌, ℕ, suc, Bool, true, false, cond, List, [], ◌∷◌, ◌++◌, Some, None, Result, Ok, Err, All, get_or, set, map, take, drop, length, length-drop, append_assoc, append-nil, refl, ap, sym, subst, arith, ◌∙◌}
 use Rattle.std.specs.Prelude.{slice_range}
 use Rattle.std.proofs.lemmas.List.{drop-drop, drop-set-lt, drop_all, drop_more, map-append, take_all, take_more_set}
 use Rattle.std.proofs.lemmas.List.Elements.{All-head, All-nil, All-tail}
 use Rattle.zonecfg_lex.specs.declared.fault.LexFault.{LexFault}
 use Rattle.zonecfg_lex.specs.declared.scope.Scope.TheVariants.{Between}
-use Rattle.zonecfg_lex.specs.declared.token.Span.{Span}
 use Rattle.zonecfg_lex.specs.declared.token.Token.{Token}
-use Rattle.zonecfg_lex.specs.declared.token.TokenKind.TheVariants.{Semi}
 use Rattle.zonecfg_lex.specs.Parts.{is_semi, parts_of, span, span_text}
 use Rattle.zonecfg_lex.specs.Subcommands.{before_semi, counted_from, counted_in_parts, part_start, part_text, text_if, texts_from, AreRead, EndsPart, ReadsInParts, subcommands_of}
-use Rattle.zonecfg_lex.specs.Tokens.{is_comment, part_tokens_of, result_map, token, tokens_from, tokens_of, AreRisingFrom, IsWithin}
-use Rattle.zonecfg_lex.proofs.Cuts.{IsCut, cut_at, first_semi, front, past}
+use Rattle.zonecfg_lex.specs.Tokens.{is_comment, part_tokens_of, result_map, tokens_from, tokens_of, AreRisingFrom, IsWithin}
+use Rattle.zonecfg_lex.proofs.Cuts.{cut_at, first_semi, front, past}
 use Rattle.zonecfg_lex.proofs.FilledSpans.{filled, filled-filter, parts_of-Err, parts_of-Ok}
 use Rattle.zonecfg_lex.proofs.MadeValues.{first_and_rest}
 use Rattle.zonecfg_lex.proofs.Moves.{alone}

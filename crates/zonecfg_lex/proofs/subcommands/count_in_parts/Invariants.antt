@@ -1,4 +1,4 @@
-use Rattle.std.proofs.Common.{◌≡◌, ◌≤◌, ◌++◌, drop, take, length}
+use Rattle.std.proofs.Common.{◌≡◌, ◌++◌, drop, take}
 use Rattle.zonecfg_lex.specs.Subcommands.{counted_in_parts}
 use Rattle.zonecfg_lex.specs.Tokens.{AreRisingFrom}
 use Rattle.zonecfg_lex.proofs.subcommands.count_in_parts.Given as goal
