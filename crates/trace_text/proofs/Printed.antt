@@ -1,0 +1,100 @@
+-- A line that is printed is read as its event.
+use Rattle.std.proofs.Common.{◌≡◌, ◌+◌, ◌≤◌, ℕ, Bool, true, false, zero, suc, not, ◌&&◌, nat_eq, nat_lt, List, [], ◌∷◌, ◌++◌, length, Option, Some, None, Ok, IsTrue, refl, ap, arith, append-nil}
+use Rattle.std.specs.Prelude.{◌==◌, position, is_ok, unwrap_or}
+use Rattle.std.specs.Fmt.{decimal, digits}
+use Rattle.std.specs.List.{position_or_len}
+use Rattle.std.proofs.lemmas.Bool.{and_parts}
+use Rattle.std.proofs.lemmas.Bool.Decides.{nat_tests}
+use Rattle.zn_base.specs.Cuts.{cut_after, cut_to, lacks}
+use Rattle.zn_base.specs.Decimals.{decimal_of}
+use Rattle.zn_base.specs.Names.{is_name}
+use Rattle.zn_base.specs.Text.{is_text, is_text_byte, text_unless}
+use Rattle.zn_base.proofs.First_byte.{after_first, before_first}
+use Rattle.zn_base.proofs.Read_back.{name_lacks, name_of_name}
+use Rattle.zone_machine.specs.declared.events.Event.TheVariants.{Session, Turn}
+use Rattle.trace_text.specs.Lines.{Said, after_word, event_by, event_of, first_word, line_text, session_of, turn_of, typed_text, types, types_unless}
+
+-- bytes without a byte are cut nowhere
+none_reached : (c : ℕ) (xs : List ℕ) → lacks c xs ≡ true → position_or_len (λ b. b == c) xs ≡ length xs
+none_reached c [] f = refl
+none_reached c (x ∷ xs) f =
+    let parts = and_parts (not (x == c)) (lacks c xs) f in
+    rw (parts.0, none_reached c xs parts.1) (omega arith)
+
+none_found : (c : ℕ) (xs : List ℕ) → lacks c xs ≡ true → position (λ b. b == c) xs ≡ None
+none_found c xs f =
+    let outside : nat_lt (length xs) (length xs) ≡ false = grind (arith, nat_tests) in
+    rw (none_reached c xs f, outside) refl
+
+word_alone : (xs : List ℕ) → lacks 32 xs ≡ true → first_word xs ≡ xs
+word_alone xs f = ap (λ at. cut_to at xs) (none_found 32 xs f)
+
+nothing_after : (xs : List ℕ) → lacks 32 xs ≡ true → after_word xs ≡ None
+nothing_after xs f = ap (λ at. cut_after at xs) (none_found 32 xs f)
+
+-- the numbers of sessions are read as they are printed, and have no space
+reads : ℕ → Bool
+unfolding decimal_of
+reads n = nat_eq (unwrap_or (decimal_of 64 (decimal n)) 0) n && lacks 32 (decimal n)
+
+all_read : ℕ → Bool
+all_read zero = true
+all_read (suc n) = reads (suc n) && all_read n
+
+reads_up_to : (most n : ℕ) → all_read most ≡ true → 1 ≤ n → n ≤ most → reads n ≡ true
+unfolding reads all_read
+reads_up_to zero n all some few = absurd (omega (arith, some, few))
+reads_up_to (suc most) n all some few =
+    let parts = and_parts (reads (suc most)) (all_read most) all in
+    elim (nat_eq n (suc most)) as (λ v. nat_eq n (suc most) ≡ v → reads n ≡ true) [
+      | true ↦ λ e. let same : n ≡ suc most = grind (arith, nat_tests) in rw same parts.0
+      | false ↦ λ e. let less : n ≤ most = grind (arith, nat_tests) in reads_up_to most n parts.1 some less
+    ] refl
+
+all_sessions : all_read 64 ≡ true
+unfolding all_read decimal_of digits reads
+all_sessions = refl
+
+some_number : (found : Option ℕ) (n : ℕ) → 1 ≤ n → nat_eq (unwrap_or found 0) n ≡ true → found ≡ Some n
+some_number None n some same = absurd (grind (arith, nat_tests))
+some_number (Some m) n some same = let is : m ≡ n = grind (arith, nat_tests) in ap Some is
+
+number_again : (n : ℕ) → 1 ≤ n → n ≤ 64 → (decimal_of 64 (decimal n) ≡ Some n) × (lacks 32 (decimal n) ≡ true)
+unfolding reads
+number_again n some few =
+    let parts = and_parts (nat_eq (unwrap_or (decimal_of 64 (decimal n)) 0) n) (lacks 32 (decimal n)) (reads_up_to 64 n all_sessions some few) in
+    (some_number (decimal_of 64 (decimal n)) n some parts.0, parts.1)
+
+-- a text has no byte that no text may have
+no_bad : (found : Option ℕ) (text : List ℕ) → is_ok (text_unless found text) ≡ true → found ≡ None
+no_bad None text ok = refl
+no_bad (Some place) text ok = absurd (cc)
+
+typed_again : (n place : ℕ) (text : List ℕ) → IsTrue (is_text text) → types n place text ≡ Ok (Some (Session n text))
+typed_again n place text is = ap (λ bad. types_unless bad n place text) (no_bad (position (λ b. not (is_text_byte b)) text) text (cc))
+
+-- what follows the tag
+by_tag : (tag : ℕ) (rest : List ℕ) (said : Said) → (tag == 32) ≡ false → event_by (tag ∷ []) (Some rest) ≡ said → event_by (first_word (tag ∷ 32 ∷ rest)) (after_word (tag ∷ 32 ∷ rest)) ≡ said
+by_tag tag rest said other is =
+    let alone : lacks 32 (tag ∷ []) ≡ true = rw other refl in
+    rw (before_first 32 (tag ∷ 32 ∷ rest) (tag ∷ []) rest alone refl, after_first 32 (tag ∷ 32 ∷ rest) (tag ∷ []) rest alone refl) is
+
+session_words : (n : ℕ) (text : List ℕ) → 1 ≤ n → n ≤ 64 → IsTrue (is_text text) → session_of (decimal n ++ typed_text text) ≡ Ok (Some (Session n text))
+session_words n [] some few is =
+    let number = number_again n some few in
+    rw (append-nil (decimal n), word_alone (decimal n) number.1, nothing_after (decimal n) number.1, number.0) (typed_again n (length (decimal n) + 3) [] is)
+session_words n (b ∷ text) some few is =
+    let number = number_again n some few in
+    let words = decimal n ++ 32 ∷ b ∷ text in
+    rw (before_first 32 words (decimal n) (b ∷ text) number.1 refl, after_first 32 words (decimal n) (b ∷ text) number.1 refl, number.0) (typed_again n (length (decimal n) + 3) (b ∷ text) is)
+
+pub session_again : (n : ℕ) (text : List ℕ) → IsTrue (is_text text) → 1 ≤ n → n ≤ 64 → event_of (line_text (Session n text)) ≡ Ok (Some (Session n text))
+session_again n text is some few = by_tag 83 (decimal n ++ typed_text text) (Ok (Some (Session n text))) refl (session_words n text some few is)
+
+turn_words : (zone : List ℕ) → IsTrue (is_name zone) → turn_of zone ≡ Ok (Some (Turn zone))
+turn_words zone is =
+    let alone = name_lacks 32 refl zone is in
+    rw (word_alone zone alone, nothing_after zone alone, (name_of_name zone is).0) refl
+
+pub turn_again : (zone : List ℕ) → IsTrue (is_name zone) → event_of (line_text (Turn zone)) ≡ Ok (Some (Turn zone))
+turn_again zone is = by_tag 68 zone (Ok (Some (Turn zone))) refl (turn_words zone is)
