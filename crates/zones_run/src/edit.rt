@@ -3,7 +3,7 @@
 ghost use Rattle.std.specs.Prelude.{◌≡◌, ◌≤◌, [], IfOk, false, length};
 ghost use Rattle.zonecfg_lex.specs.Subcommands.{texts_from, ReadsInParts};
 ghost use Rattle.zonecfg_scopes.specs.OpenOf.{config_of};
-ghost use Rattle.zones_run.specs.Subcommands.{Edits, edit_of, is_elsewhere, known_brands, looked_over, obeyed, obeyed_as, verified};
+ghost use Rattle.zones_run.specs.Subcommands.{Edits, edit_of, is_elsewhere, known_brands, obeyed, obeyed_as, verified};
 ghost use Rattle.zonecfg_scopes.specs.Turns.{in_turn};
 
 use crate::refusal::Refusal;
@@ -11,7 +11,7 @@ use config_verify::verify;
 use std::alloc::{AllocError, Global};
 use zn_base::Text;
 use zonecfg_lex::{Part, Token, line_tokens};
-use zonecfg_scopes::{Command, EditFault, Editor, next_command};
+use zonecfg_scopes::{Command, EditFault, EditReply, Editor, next_command};
 
 /// The brands that a zone may have.
 pub fn known_brands(alloc: Global) -> Result<Vec<Text>, AllocError>
@@ -47,38 +47,24 @@ fn first_flaw(alloc: Global, editor: &Editor, brands: &[Text]) -> Result<(), Ref
     }
 }
 
-// Looks for a flaw where the subcommand asks for it.
-fn look_over(
-    alloc: Global,
-    editor: &Editor,
-    brands: &[Text],
-    command: &Command,
-) -> Result<(), Refusal>
-    requires { brands.now ≡ known_brands }
-    ensures { Edits editor.now.opened result (looked_over command.now editor.now.opened) }
-{
-    match command {
-        Command::Verify => first_flaw(alloc, editor, brands),
-        _ => Ok(()),
-    }
-}
-
-/// Does what a subcommand says.
-#[tactic(auto, using(crate::proofs::Obeying::elsewhere, crate::proofs::Obeying::fails, crate::proofs::Obeying::does))]
+/// Does what a subcommand says, and looks for a flaw where it asks for that.
+#[tactic(auto, using(crate::proofs::Obeying::elsewhere, crate::proofs::Obeying::fails, crate::proofs::Obeying::verifies, crate::proofs::Obeying::does))]
 pub fn obey(
     alloc: Global,
     editor: &mut Editor,
     brands: &[Text],
-    command: &Command,
+    command: Command,
 ) -> Result<(), Refusal>
     requires { brands.now ≡ known_brands }
-    ensures { Edits editor.new.opened result (obeyed command.now editor.old.opened) }
+    ensures { Edits editor.new.opened result (obeyed command editor.old.opened) }
 {
-    if is_elsewhere(command) {
+    if is_elsewhere(&command) {
         return Err(Refusal::Edit(EditFault::NotHere));
     }
-    editor.obey(alloc, command)?;
-    look_over(alloc, editor, brands, command)
+    if let EditReply::WantVerify = editor.obey(alloc, command)? {
+        return first_flaw(alloc, editor, brands);
+    }
+    Ok(())
 }
 
 // Does what the subcommands of a line say, one after another.
@@ -96,7 +82,7 @@ fn obey_parts(
 {
     let mut left = line;
     while let Some(command) = next_command(alloc, &mut left)? {
-        obey(alloc, editor, brands, &command)?;
+        obey(alloc, editor, brands, command)?;
     }
     Ok(())
 }

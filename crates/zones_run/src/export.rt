@@ -24,7 +24,7 @@ fn end_of(alloc: Global, editor: &mut Editor, brands: &[Text]) -> Result<Outcome
     ensures end { IfOk result (λ outcome. outcome_of outcome ≡ ended editor.old.opened) }
     ensures memory { IsErrOf result ReadFault.Failed → ⊥ }
 {
-    match obey(alloc, editor, brands, &Command::Verify) {
+    match obey(alloc, editor, brands, Command::Verify) {
         Ok(()) => {}
         Err(Refusal::Memory) => return Err(ReadFault::Memory),
         Err(refusal) => return Ok(Outcome::Complains(Complaint::End(refusal))),
