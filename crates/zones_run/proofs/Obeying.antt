@@ -45,7 +45,7 @@ done command e (Ok x) o reply h = (refl, cc)
 done command e (Err fault) o reply h = absurd (cc)
 
 -- what is looked at after a subcommand is told by the reply to it
-looked_by : EditReply → Open → Result Open Refusal
+abbrev looked_by : EditReply → Open → Result Open Refusal
 looked_by WantVerify o = verified (config_of o) o
 looked_by reply o = Ok o
 
