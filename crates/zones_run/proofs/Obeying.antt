@@ -44,7 +44,7 @@ done : (command : Command) (e : Edited) (said : Result Open EditFault) (o : Open
 done command e (Ok x) o reply h = (refl, cc)
 done command e (Err fault) o reply h = absurd (cc)
 
--- what is looked at after a subcommand is told by the reply to it
+-- what is looked at after a subcommand is reported by the reply to it
 abbrev looked_by : EditReply → Open → Result Open Refusal
 looked_by WantVerify o = verified (config_of o) o
 looked_by reply o = Ok o
