@@ -1,5 +1,5 @@
 -- What a resource may hold, and how two are told apart.
-use Rattle.std.specs.Prelude.{ℕ, List, [], ◌∷◌, length, Bool, true, false, nat_le, nat_lt, not, ◌&&◌, ◌==◌, Option, Some, None, if◌then◌else◌}
+use Rattle.std.specs.Prelude.{ℕ, List, [], ◌∷◌, length, Bool, true, false, nat_lt, not, ◌&&◌, ◌==◌, Option, Some, None, if◌then◌else◌}
 use Rattle.std.specs.List.{list_all, list_any}
 use Rattle.std.specs.Str.{bytes_eq}
 use Rattle.config_terms.specs.declared.fields.Field.{Field}
@@ -59,10 +59,6 @@ attr_allowed a = is_allowed (Attr a)
 
 abbrev pub dataset_allowed : List ℕ → Bool
 dataset_allowed d = is_allowed (Dataset d)
-
--- the options of one fs are at most 32
-abbrev pub few_options : fs.Fs → Bool
-few_options f = nat_le (length f.options) 32
 
 -- the limit that the options of a resource pass, if they pass one
 abbrev pub options_passed : Resource → Option ℕ

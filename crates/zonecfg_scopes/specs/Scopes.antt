@@ -1,8 +1,7 @@
 -- What a subcommand makes of what is open, or why it is refused: a row for each subcommand that a scope
 -- has (zonecfg(8), SUBCOMMANDS).
-use Rattle.std.specs.Prelude.{ℕ, List, nat_lt, Bool, true, false, Option, Some, None, Result, Ok, Err, codes}
+use Rattle.std.specs.Prelude.{ℕ, nat_lt, Bool, true, false, Option, Some, None, Result, Ok, Err, codes}
 use Rattle.config_terms.specs.declared.fault.ConfigFault.{ConfigFault}
-use Rattle.config_terms.specs.declared.terms.Kind.{Kind}
 use Rattle.config_terms.specs.declared.terms.Resource.{Resource}
 use Rattle.config_terms.specs.Edits.{empty}
 use Rattle.config_terms.specs.Edits as edits
