@@ -1,6 +1,6 @@
 //! The test of what is written for users: each example ends as the files beside its input say, and each code that
-//! `zones` can print has its paragraph in docs/CODES.md, and each paragraph its code. They lie in `data/`, where a
-//! program that the gate runs may read them; `examples/` and `docs/CODES.md` are links to them.
+//! `zones` can print has its paragraph in docs/CODES.md, and each paragraph its code. Copies of them lie in
+//! `data/`, where a program that the gate runs may read them; `tools/same_docs.py` makes and compares these.
 #![tactic(auto)]
 
 mod codes;
