@@ -1,5 +1,5 @@
 -- No two commits have one body.
-use Rattle.std.proofs.Common.{◌≡◌, ◌<◌, ◌+◌, ◌/◌, ◌%◌, ◌^◌, ℕ, zero, suc, List, [], ◌++◌, Option, Some, None, IsTrue, true, false, refl, ap, sym, ◌∙◌, arith, append_assoc, codes}
+use Rattle.std.proofs.Common.{◌≡◌, ◌<◌, ◌+◌, ◌/◌, ◌%◌, ◌^◌, ℕ, zero, suc, List, [], ◌++◌, Bool, Option, Some, None, IsTrue, true, false, if◌then◌else◌, refl, ap, sym, ◌∙◌, arith, append_assoc, codes}
 use Rattle.std.specs.Prelude.{bytes_eq, IfSome}
 use Rattle.std.proofs.Common.{true≢false}
 use Rattle.std.proofs.lemmas.List.{append-nil}
@@ -7,7 +7,7 @@ use Rattle.uuid_text.specs.Text.{uuid_text}
 use Rattle.uuid_text.proofs.Texts.{uuid_of_text}
 use Rattle.zn_base.specs.Cuts.{lacks}
 use Rattle.zn_base.specs.Lines.{newline}
-use Rattle.zn_base.specs.Names.{Name}
+use Rattle.zn_base.specs.Names.{Name, is_name}
 use Rattle.zn_base.specs.States.{is_stored, state_text}
 use Rattle.zn_base.proofs.Read_back.{name_lacks, state_lacks, state_of_text}
 use Rattle.zn_base.specs.declared.state.ZoneState.{ZoneState}
@@ -130,3 +130,7 @@ pub one_commit : OneCommitABody
 one_commit a b f g same =
     let zones = told_alike (codes "zone") a.zone b.zone (stored_text a.stored) (stored_text b.stored) refl (name_lacks newline refl a.zone f.zone) (name_lacks newline refl b.zone g.zone) (sym (body_lines a) ∙ same ∙ body_lines b) in
     same_commit a b zones.0 (one_stored a.stored b.stored f.stored g.stored zones.1)
+
+-- what is read of bytes that are a name
+pub named : (bytes : List ℕ) (read : Option (List ℕ)) → read ≡ (if is_name bytes then Some bytes else None) → IsTrue (is_name bytes) → read ≡ Some bytes
+named bytes read said is = said ∙ ap (λ (b : Bool). if b then Some bytes else None) is
