@@ -1,18 +1,17 @@
--- What the code's turns do, as the definitions have it.
+-- What the code's turns and lines do, as the definitions have it.
 use Rattle.zone_machine.specs.Desks_seen.{job_seen}
 use Rattle.std.specs.Prelude.{◌≡◌, ℕ, ◌+◌, List, [], ◌∷◌, ◌++◌, Option, Some, None, drop, length, ◌<◌, Bool, true, false, IsSome, if◌then◌else◌}
 use Rattle.std.specs.Option.{option_map}
 use Rattle.zone_pools.specs.Owned_lists.{Come, Go}
 use Rattle.zone_pools.specs.declared.grant.Grant.{Grant}
-use Rattle.zone_machine.specs.Decisions.{Act, Decision, Effect, act_of, says, after_came_world}
-use Rattle.zone_machine.specs.Edits.{Arrival, Edit, Ids_go, New_id, New_process, New_record, Of_mounts, Processes_go, Set_desk, Sweep, edits_world}
+use Rattle.zone_machine.specs.Decisions.{Act, Decision, Effect, act_of, acts_world, says, after_came_world}
+use Rattle.zone_machine.specs.Edits.{Arrival, Edit, Here, Ids_go, New_id, New_process, New_record, Of_mounts, Processes_go, Set_desk, Sweep, edits_world}
 use Rattle.zone_machine.specs.State as state
 use Rattle.zone_machine.specs.Turns.{all_of, is_at, last_dir, ticket_ended, zid_of}
 use Rattle.zone_machine.specs.Worlds.{View, World}
 use Rattle.zone_machine.specs.declared.daemon.Step.{Step}
 use Rattle.zone_machine.specs.declared.daemon.Step.TheVariants as step
 use Rattle.zone_machine.specs.declared.desks.Job.{Job}
-use Rattle.zone_machine.specs.declared.replies.Head.TheVariants.{Turned}
 use Rattle.zone_machine.specs.declared.work.Came.{Came}
 use Rattle.zone_machine.specs.declared.work.Came.TheVariants.{Process, Id, Record}
 use Rattle.zone_machine.specs.declared.work.ObjectEdit.{ObjectEdit}
@@ -36,12 +35,22 @@ abbrev pub sweeps : Option ℕ → List Edit
 sweeps None = []
 sweeps (Some t) = Sweep (ticket_ended t) ∷ []
 
--- the act of a turn that leaves the desk so
+abbrev pub sits : Option ℕ → List Edit
+sits None = []
+sits (Some t) = Here (Some (state.Awaiting t)) ∷ []
+
+-- the act of some work that leaves the desk so
 abbrev pub work_act : Work → state.Desk → Act
 work_act w d = record {
   came = option_map arrival_of w.came;
-  effect = record { edits = object_edits w.objects ++ Set_desk d ∷ sweeps w.ended; reply = says (Turned w.reply) };
+  effect = record { edits = object_edits w.objects ++ (Set_desk d ∷ (sits w.waits ++ sweeps w.ended)); reply = says w.head };
 }
+
+-- the work does what an act says in a world, and leaves the desk so
+pub record Works (n : Option ℕ) (a : Act) (v : World) (d : state.Desk) (w : Work) : Type 0 where
+  pub came : option_map arrival_of w.came ≡ a.came
+  pub reply : says w.head ≡ a.effect.reply
+  pub world : acts_world n (work_act w d) v ≡ acts_world n a v
 
 -- an act with which nothing comes
 abbrev pub bare : Effect → Act
@@ -96,10 +105,6 @@ pub record HasNoWork (d : state.Desk) : Type 0 where
   pub job : d.job ≡ None
   pub waiting : d.waiting ≡ []
 
--- what comes, is done to the objects and ends changes a world so
-abbrev pub changed_world : Option Came → ObjectEdit → Option ℕ → World → World
-changed_world came objects ended v = edits_world None (sweeps ended) (edits_world None (object_edits objects) (after_came_world (option_map arrival_of came) v))
-
--- what a turn does to a world beside its change of the desk
-abbrev pub work_world : Work → World → World
-work_world w v = changed_world w.came w.objects w.ended v
+-- what some work does to a world beside its change of the desk
+abbrev pub work_world : Option ℕ → Work → World → World
+work_world n w v = edits_world n (sweeps w.ended) (edits_world n (sits w.waits) (edits_world n (object_edits w.objects) (after_came_world (option_map arrival_of w.came) v)))

@@ -1,33 +1,26 @@
-//! Lists of the processes and mounts of all zones.
-ghost use Rattle.std.specs.Prelude.{◌≡◌, OnOk, position};
-ghost use Rattle.zone_pools.specs.Owned_lists.{Go, Put, edit_list};
+//! Lists of what a zone has.
+ghost use Rattle.std.specs.Prelude.{◌≡◌, OnOk, not, position};
+ghost use Rattle.zone_pools.specs.Owned_lists.{Go, Put, edited};
 ghost use Rattle.zone_machine.specs.Edits.{below};
-ghost use Rattle.zone_machine.specs.Lists_seen.{is_above};
 ghost use Rattle.zone_machine.specs.Turns.{is_at};
 
 use crate::objects::{Mount, Process};
 use std::alloc::AllocError;
-use zn_base::{AbsPath, ZoneName};
-use zone_pools::Owned;
+use zn_base::AbsPath;
 
-fn place_above(list: &[Owned<Process>], zone: &ZoneName, pid: u32) -> Option<usize>
-    ensures { result ≡ position (λ o. is_above zone.now pid o) list.now }
+fn place_above(list: &[Process], pid: u32) -> Option<usize>
+    ensures { result ≡ position (λ p. not (below pid p)) list.now }
 {
-    list.iter()
-        .position(|owned| *zone == owned.zone && owned.it.pid >= pid)
+    list.iter().position(|process| process.pid >= pid)
 }
 
-/// A process comes before those of its zone that have a greater number.
-pub(crate) fn enter(
-    list: &mut Vec<Owned<Process>>,
-    zone: ZoneName,
-    process: Process,
-) -> Result<(), AllocError>
-    ensures { OnOk result (list.new.items ≡ edit_list zone (Put (below process.pid) process) list.old.items) }
+/// A process comes before the first that doesn't stand below its number.
+pub(crate) fn enter(list: &mut Vec<Process>, process: Process) -> Result<(), AllocError>
+    ensures { OnOk result (list.new.items ≡ edited (Put (below process.pid) process) list.old.items) }
 {
-    match place_above(list, &zone, process.pid) {
-        Some(at) => list.insert(at, Owned { zone, it: process })?,
-        None => list.push(Owned { zone, it: process })?,
+    match place_above(list, process.pid) {
+        Some(at) => list.insert(at, process)?,
+        None => list.push(process)?,
     }
     Ok(())
 }
@@ -39,8 +32,8 @@ fn is_at(dir: &AbsPath, mount: &Mount) -> bool
 }
 
 /// The mount at a directory goes.
-pub(crate) fn unmount(list: &mut Vec<Owned<Mount>>, zone: &ZoneName, dir: &AbsPath)
-    ensures { list.new.items ≡ edit_list zone.now (Go (is_at dir.now)) list.old.items }
+pub(crate) fn unmount(list: &mut Vec<Mount>, dir: &AbsPath)
+    ensures { list.new.items ≡ edited (Go (is_at dir.now)) list.old.items }
 {
-    list.retain(|owned| !(*zone == owned.zone && is_at(dir, &owned.it)));
+    list.retain(|mount| !is_at(dir, mount));
 }

@@ -2,28 +2,32 @@
 ghost use Rattle.std.specs.Prelude.{◌≡◌, ◌⊎◌, [], IfOk, IsErrOf, IsOkUnless, OnErr, OnOk, false, true};
 ghost use Rattle.zone_machine.specs.Machine.{opening};
 ghost use Rattle.zone_machine.specs.Steps.{IsAllowed, IsAllowedStep, IsFit, IsFittingStep, IsMisfit, IsRefusedIfUnfit, IsStarted, IsSubject, IsZoneState};
-ghost use Rattle.zone_machine.specs.Tables.{Stands, subject_in};
+ghost use Rattle.zone_machine.specs.Cells.{Stands, subject_in};
 
 use crate::events::{Entry, Event, Subject};
 use crate::faults::StepFault;
-use crate::tables::Tables;
+use crate::parts::Parts;
+use crate::steps::subject;
 use std::alloc::Global;
 use std::marker::Model;
 use zn_base::{ZoneName, ZoneState};
 use zone_pools::Grant;
 
-/// The machine of all zones. Contracts see its tables, and say what they stand for.
+/// The machine of all zones. Contracts see its parts, and say what they stand for.
 #[derive(Drop)]
 pub struct Machine {
-    tables: Tables,
+    parts: Parts,
 }
 
 impl Model for Machine {
-    ghost use Rattle.zone_machine.specs.declared.tables.Tables.{Tables};
+    ghost use Rattle.zone_machine.specs.contracts.parts.Parts.{the_row};
+    ghost use Rattle.zone_machine.specs.declared.parts.Parts.{Parts};
 
-    ghost Value = { Tables };
+    ghost Value = { Parts };
 
-    ghost view = { λ m. m.tables };
+    ghost coded = { the_row.coded };
+
+    ghost view = { λ m. m.parts };
 }
 
 impl Machine {
@@ -32,7 +36,7 @@ impl Machine {
         ensures { Stands (opening []) result }
     {
         Self {
-            tables: Tables::empty(alloc),
+            parts: Parts::empty(alloc),
         }
     }
 
@@ -42,7 +46,7 @@ impl Machine {
         ensures ok { IfOk result (IsSubject self.now event.now) }
         ensures err { IsOkUnless result StepFault.Memory }
     {
-        Ok(self.tables.subject(alloc, event)?)
+        Ok(subject(&self.parts.shared, alloc, event)?)
     }
 
     /// The grant that the pools give an event.
@@ -50,30 +54,30 @@ impl Machine {
         ensures ok { IfOk result (IsAllowed self.now event.now) }
         ensures err { IsOkUnless result StepFault.Memory }
     {
-        let subject = self.tables.subject(alloc, event)?;
-        Ok(self.tables.allowed(alloc, event, &subject)?)
+        let subject = subject(&self.parts.shared, alloc, event)?;
+        Ok(self.parts.allowed(alloc, event, &subject)?)
     }
 
     // Whose an event is, and the grant that the pools give it.
     fn granted(&self, alloc: Global, event: &Event) -> Result<(Subject, Grant), StepFault>
-        ensures subject { IfOk result (λ r. r.0 ≡ subject_in self.now event.now) }
+        ensures subject { IfOk result (λ r. r.0 ≡ subject_in self.now.shared event.now) }
         ensures grant { IfOk result (λ r. IsAllowed self.now event.now r.1) }
         ensures err { IsOkUnless result StepFault.Memory }
     {
-        let subject = self.tables.subject(alloc, event)?;
-        let grant = self.tables.allowed(alloc, event, &subject)?;
+        let subject = subject(&self.parts.shared, alloc, event)?;
+        let grant = self.parts.allowed(alloc, event, &subject)?;
         Ok((subject, grant))
     }
 
     // Whose an event is, where a stated grant fits it.
     fn fitting(&self, alloc: Global, event: &Event, grant: Grant) -> Result<Subject, StepFault>
-        ensures subject { IfOk result (λ subject. subject ≡ subject_in self.now event.now) }
+        ensures subject { IfOk result (λ subject. subject ≡ subject_in self.now.shared event.now) }
         ensures fits { OnOk result (IsFit self.now event.now grant true) }
         ensures misfit { IsErrOf result StepFault.BadGrant → IsFit self.now event.now grant false }
         ensures fault { OnErr result (IsErrOf result StepFault.BadGrant ⊎ IsErrOf result StepFault.Memory) }
     {
-        let subject = self.tables.subject(alloc, event)?;
-        if self.tables.is_fit(alloc, event, &subject, grant)? {
+        let subject = subject(&self.parts.shared, alloc, event)?;
+        if self.parts.is_fit(alloc, event, &subject, grant)? {
             Ok(subject)
         } else {
             Err(StepFault::BadGrant)
@@ -87,7 +91,7 @@ impl Machine {
         ensures err { IsOkUnless result StepFault.Memory }
     {
         let (subject, grant) = self.granted(alloc, &event)?;
-        Ok(self.tables.answer(alloc, event, subject, grant)?)
+        Ok(self.parts.answer(alloc, event, subject, grant)?)
     }
 
     /// An event is answered under a stated grant, where it fits, as when a recorded trace is run again. Where
@@ -103,20 +107,20 @@ impl Machine {
         ensures unfit { IsRefusedIfUnfit self.old event grant result }
     {
         let subject = self.fitting(alloc, &event, grant)?;
-        Ok(self.tables.answer(alloc, event, subject, grant)?)
+        Ok(self.parts.answer(alloc, event, subject, grant)?)
     }
 
     /// The state of a zone, where it is stored.
     pub fn state(&self, zone: &ZoneName) -> Option<ZoneState>
         ensures { IsZoneState self.now zone.now result }
     {
-        self.tables.state(zone)
+        self.parts.state(zone)
     }
 
     /// Whether an event has come.
     pub fn started(&self) -> bool
         ensures { IsStarted self.now result }
     {
-        self.tables.started
+        self.parts.shared.started
     }
 }

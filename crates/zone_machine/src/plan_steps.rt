@@ -17,6 +17,7 @@ use crate::daemon::{Outcome, Step, TurnReply};
 use crate::desks::Job;
 use crate::objects::{Id, Mount, Process};
 use crate::records::{Config, Record};
+use crate::replies::Head;
 use crate::work::{Came, ObjectEdit, Seen, Work};
 use std::alloc::{AllocError, Global};
 use zn_base::{AbsPath, Text, ZoneState};
@@ -39,8 +40,9 @@ fn passed(
     Ok(Work {
         came,
         objects,
+        waits: None,
         ended: None,
-        reply: TurnReply::Stepped(shown),
+        head: Head::Turned(TurnReply::Stepped(shown)),
     })
 }
 
@@ -64,8 +66,9 @@ fn counted(job: &mut Job, objects: ObjectEdit, shown: Step) -> Result<Work, Allo
     Ok(Work {
         came: None,
         objects,
+        waits: None,
         ended: None,
-        reply: TurnReply::Stepped(shown),
+        head: Head::Turned(TurnReply::Stepped(shown)),
     })
 }
 
@@ -85,7 +88,7 @@ fn failed(job: &mut Job, outcome: Outcome) -> Work
 {
     job.at = job.steps.len();
     job.ending = Some(outcome);
-    Work::saying(TurnReply::Failed(job.place, outcome))
+    Work::saying(Head::Turned(TurnReply::Failed(job.place, outcome)))
 }
 
 // The zone gets its id.
@@ -214,7 +217,7 @@ fn enter_state(
 }
 
 // All processes end. Their numbers are 2 to 29999, each once, so that their count is always a `u32`; the type
-// of the tables doesn't keep that.
+// of a cell doesn't keep that.
 fn kill_all(job: &mut Job, count: usize) -> Result<Work, AllocError>
     requires { job.old.at < length job.old.steps.items }
     ensures { IfOk result (CarriesOut

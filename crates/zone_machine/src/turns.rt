@@ -12,6 +12,7 @@ use crate::desks::{Desk, Job};
 use crate::plan_steps::{pass_unmounts, root_dir, step};
 use crate::plans::{may_begin, plan};
 use crate::records::Record;
+use crate::replies::Head;
 use crate::work::{ObjectEdit, Seen, Work};
 use std::alloc::{AllocError, Global};
 use zone_pools::Grant;
@@ -24,8 +25,9 @@ fn finish(desk: &mut Desk, ticket: u32, outcome: Outcome) -> Work
     Work {
         came: None,
         objects: ObjectEdit::Nothing,
+        waits: None,
         ended: Some(ticket),
-        reply: TurnReply::Finished(ticket, outcome),
+        head: Head::Turned(TurnReply::Finished(ticket, outcome)),
     }
 }
 
@@ -54,7 +56,7 @@ fn begin(
         undo: Vec::new(alloc),
         ending: None,
     });
-    Ok(Work::saying(TurnReply::Began(ticket, kind)))
+    Ok(Work::saying(Head::Turned(TurnReply::Began(ticket, kind))))
 }
 
 fn take_first(waiting: &mut Vec<(u32, RequestKind)>) -> (u32, RequestKind)
@@ -104,8 +106,9 @@ fn undo(desk: &mut Desk, alloc: Global, job: Job, outcome: Outcome) -> Result<Wo
             Ok(Work {
                 came: None,
                 objects: undoing(&shown, alloc)?,
+                waits: None,
                 ended: None,
-                reply: TurnReply::Undone(shown),
+                head: Head::Turned(TurnReply::Undone(shown)),
             })
         }
         None => Ok(finish(desk, job.ticket, outcome)),

@@ -6,7 +6,7 @@ use Rattle.std.proofs.lemmas.Bool.{and_parts, false≢true}
 use Rattle.zone_pools.proofs.Owned_laws.{same_self, same_true}
 use Rattle.zn_base.specs.Names.{Name}
 use Rattle.zone_pools.specs.declared.grant.Grant.{Grant}
-use Rattle.zone_machine.proofs.Laws.{IsOwn, IsOwn-of, IsOwn-swept}
+use Rattle.zone_machine.proofs.Acts_laws.{IsOwn, IsOwn-of, IsOwn-swept}
 use Rattle.zone_machine.proofs.Own_worlds.{leaves, reply-whole, reply-world, world-one, world_by-other}
 use Rattle.zone_machine.proofs.Same_laws.{reply-Decides, subject-Decides}
 use Rattle.zone_machine.specs.Decisions.{Act, act_of, acts, after_came}

@@ -1,0 +1,51 @@
+//! A zone's cell: everything that one zone has, but for what is stored of it.
+ghost use Rattle.std.specs.Prelude.{◌≡◌, Option, true};
+ghost use Rattle.zone_machine.specs.Cells.{cell_world, empty_world};
+ghost use Rattle.zone_machine.specs.declared.records.Record as record_types;
+
+use crate::desks::Desk;
+use crate::objects::{Id, Mount, Process};
+use crate::waits::Waits;
+use indexmap::IndexMap;
+use std::alloc::Global;
+use zn_base::ZoneName;
+
+/// Everything that one zone has, but for what is stored of it.
+#[derive(Drop)]
+pub struct Cell {
+    pub(crate) zone: ZoneName,
+    /// In the order of their numbers.
+    pub(crate) processes: Vec<Process>,
+    pub(crate) mounts: Vec<Mount>,
+    pub(crate) ids: Vec<Id>,
+    pub(crate) desk: Desk,
+    pub(crate) waits: Waits,
+}
+
+impl Cell {
+    /// A zone that has nothing.
+    pub fn new(alloc: Global, zone: ZoneName) -> Self
+        ensures zone { result.zone ≡ zone }
+        ensures nothing { (row : Option record_types.Record) → cell_world row result ≡ empty_world row }
+    {
+        Self {
+            zone,
+            processes: Vec::new(alloc),
+            mounts: Vec::new(alloc),
+            ids: Vec::new(alloc),
+            desk: Desk::new(alloc),
+            waits: IndexMap::new(alloc),
+        }
+    }
+
+    /// Whether the zone has nothing.
+    pub fn is_empty(&self) -> bool
+        ensures { result ≡ true → (row : Option record_types.Record) → cell_world row self.now ≡ empty_world row }
+    {
+        self.processes.is_empty()
+            && self.mounts.is_empty()
+            && self.ids.is_empty()
+            && self.desk.is_new()
+            && self.waits.is_empty()
+    }
+}
