@@ -7,10 +7,11 @@ use Rattle.zn_base.specs.declared.state.ZoneState.{ZoneState}
 use Rattle.zone_machine.proofs.Standing.{decide-stands, pools-stand, subject-stands}
 use Rattle.zone_pools.specs.Asked.{Asked}
 use Rattle.zone_pools.specs.Decisions.{asked_of}
+use Rattle.zone_machine.specs.Desks.{state_of}
 use Rattle.zone_machine.specs.Machine.{decide, subject}
 use Rattle.zone_machine.specs.Pools.{allowed, allowed_of, fits, fits_of, pools_of}
 use Rattle.zone_pools.specs.Pools.{fits_asked, said_by_all}
-use Rattle.zone_machine.specs.State.{State, state_of}
+use Rattle.zone_machine.specs.State.{State}
 use Rattle.zone_machine.specs.Steps.{IsAllowed, IsFit, IsSubject, IsZoneState, asked_in}
 use Rattle.zone_machine.specs.Tables.{Stands, decide_in, pools_in, subject_in, world_of}
 use Rattle.zone_machine.specs.Worlds.{view}

@@ -3,6 +3,9 @@ mod Turn_examples
 pub mod Same_laws
 pub mod Laws
 pub mod Own_worlds
+pub mod Turned_laws
+pub mod Common_laws
+pub mod Local_laws
 pub mod Words
 pub mod Passing
 pub mod Results

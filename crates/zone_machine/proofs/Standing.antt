@@ -9,16 +9,18 @@ use Rattle.zone_pools.specs.Owned_lists.{mine}
 use Rattle.zone_pools.specs.declared.owned.Owned.{Owned}
 use Rattle.zone_machine.proofs.Laws.{OwnSession, other-acts, own-acts}
 use Rattle.zone_machine.proofs.Own_worlds.{view-world}
+use Rattle.zone_machine.specs.Arrivals.{Arrival, New_id, New_process, New_record}
 use Rattle.zone_machine.specs.Decisions.{Act, acts, acts_world, after_came}
-use Rattle.zone_machine.specs.Edits.{Arrival, Edit, New_id, New_process, New_record, Processes_go, comes, edit, edits}
+use Rattle.zone_machine.specs.Edits.{Edit, Of_objects, comes, edit, edits}
 use Rattle.zone_machine.specs.Lines.{Line, line_of}
 use Rattle.zone_machine.specs.Machine.{decide, session_subject, started, subject}
-use Rattle.zone_machine.specs.Pools.{has_zid, path_taken, pools_of}
+use Rattle.zone_machine.specs.Objects.{Processes_go, has_pid, has_zid}
+use Rattle.zone_machine.specs.Pools.{path_taken, pools_of}
 use Rattle.zone_machine.specs.Sessions_seen.{doing_at, session_at}
 use Rattle.zone_machine.specs.State as state
 use Rattle.zone_machine.specs.State.{State, rows_from, rows_of, with_stored}
 use Rattle.zone_machine.specs.Tables.{Acts, Stands, came_rest, decide_in, pools_in, rest, subject_at, subject_in, world_of}
-use Rattle.zone_machine.specs.Worlds.{doing, has_pid, view, view_of, world}
+use Rattle.zone_machine.specs.Worlds.{doing, view, view_of, world}
 use Rattle.zone_machine.specs.declared.events.Event.{Event}
 use Rattle.zone_machine.specs.declared.events.Event.TheVariants as event
 use Rattle.zone_machine.specs.declared.events.Subject.TheVariants.{Zone}
@@ -31,7 +33,7 @@ use Rattle.zone_machine.specs.declared.tables.Tables.{Tables}
 -- what no world shows, after an act
 rest-edit : (z : Name) (n : Option ℕ) (e : Edit) (S : State) → rest (edit z n e S) ≡ rest S
 unfolding edit
-rest-edit z n (Processes_go p) S = refl
+rest-edit z n (Of_objects (Processes_go p)) S = refl
 rest-edit z n _ S = refl
 
 rest-edits : (z : Name) (n : Option ℕ) (es : List Edit) (S : State) → rest (edits z n es S) ≡ rest S

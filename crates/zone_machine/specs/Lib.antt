@@ -1,3 +1,8 @@
+pub mod Objects
+pub mod Arrivals
+pub mod Desks
+pub mod Plans
+pub mod Turns
 pub mod State
 pub mod Worlds
 pub mod Edits
@@ -5,8 +10,6 @@ pub mod Decisions
 pub mod Lines
 pub mod Lines_seen
 pub mod Typed
-pub mod Plans
-pub mod Turns
 pub mod Desks_seen
 pub mod Sessions_seen
 pub mod Lists_seen
@@ -18,6 +21,7 @@ pub mod Acts_seen
 pub mod Steps
 pub mod Machine
 pub mod Same
+pub mod Common
 pub mod Pools
 pub mod Histories
 pub mod Turns_left

@@ -1,0 +1,182 @@
+-- Turns that change their zone's mounts and desk alone, and turns of a zone that has work.
+use Rattle.std.proofs.Common.{◌≡◌, ◌∷◌, ◌++◌, [], ◌&&◌, ◌||◌, ℕ, List, Bool, Option, Some, None, true, false, map, not, refl, ap, sym, ◌∙◌}
+use Rattle.std.specs.Prelude.{◌≢◌, is_none, is_some}
+use Rattle.std.specs.List.{list_all}
+use Rattle.std.proofs.lemmas.Bool.{and_from, and_parts, false≢true, not-true}
+use Rattle.zn_base.specs.Names.{Name}
+use Rattle.zn_base.specs.declared.state.ZoneState.{ZoneState}
+use Rattle.zone_pools.proofs.Owned_laws.{same_true}
+use Rattle.zone_pools.proofs.Same_laws.{grant-Decides}
+use Rattle.zone_pools.specs.Decisions as decisions
+use Rattle.zone_pools.specs.Decisions.{Ask, Just, asked_of}
+use Rattle.zone_pools.specs.Firsts.{is_nil}
+use Rattle.zone_pools.specs.Pools.{said_by_all}
+use Rattle.zone_pools.specs.Same.{same_grant}
+use Rattle.zone_pools.specs.declared.grant.Grant.{Grant}
+use Rattle.zone_pools.specs.declared.grant.Grant.TheVariants.{Nothing}
+use Rattle.zone_machine.proofs.Same_laws.{reply-Decides, subject-Decides}
+use Rattle.zone_machine.proofs.Turned_laws.{In, in-act, one-turn, turn-reply, turn_act, turned_act}
+use Rattle.zone_machine.specs.Arrivals.{arrived}
+use Rattle.zone_machine.specs.Common.{Common, common, is_busy, is_idle, is_local, is_of_mounts, is_turn_of, tells_local}
+use Rattle.zone_machine.specs.Decisions.{effects, says, sweeps, turned}
+use Rattle.zone_machine.specs.Desks.{Desk, Job, state_now}
+use Rattle.zone_machine.specs.Edits.{Of_objects, Set_desk, edit, edits}
+use Rattle.zone_machine.specs.Histories.{is_allowed, is_told}
+use Rattle.zone_machine.specs.Machine.{Answered, decide, done_by, one, started, subject}
+use Rattle.zone_machine.specs.Objects.{Object_edit, Objects, Of_mounts, last_dir}
+use Rattle.zone_machine.specs.Plans.{may_begin}
+use Rattle.zone_machine.specs.Pools.{allowed, pools_of}
+use Rattle.zone_machine.specs.Same.{same_reply, same_subject}
+use Rattle.zone_machine.specs.State.{State}
+use Rattle.zone_machine.specs.Turns.{Turn_decision, Turned, begin, goes_on, next_request, step, turn, turn_at, undo, unmount}
+use Rattle.zone_machine.specs.Worlds.{World, objects_of, view, world}
+use Rattle.zone_machine.specs.declared.daemon.Outcome.{Outcome}
+use Rattle.zone_machine.specs.declared.daemon.RequestKind.{RequestKind}
+use Rattle.zone_machine.specs.declared.daemon.Step.{Step}
+use Rattle.zone_machine.specs.declared.daemon.Step.TheVariants.{Record as Record_step, Zid, Init, Unmount}
+use Rattle.zone_machine.specs.declared.daemon.TurnReply.{TurnReply}
+use Rattle.zone_machine.specs.declared.daemon.TurnReply.TheVariants.{Idle}
+use Rattle.zone_machine.specs.declared.events.Entry.{Entry}
+use Rattle.zone_machine.specs.declared.events.Event.{Event}
+use Rattle.zone_machine.specs.declared.events.Event.TheVariants.{Session, Turn}
+use Rattle.zone_machine.specs.declared.events.Subject.TheVariants.{Zone}
+use Rattle.zone_machine.specs.declared.records.Config.{Config}
+use Rattle.zone_machine.specs.declared.records.Record.{Record}
+use Rattle.zone_machine.specs.declared.replies.Head.TheVariants.{Turned as Told}
+
+-- what a local entry says, with what its turn does
+record Local (z : Name) (w : World) (e : Entry) (t : Turned) : Type 0 where
+  event : e.event ≡ Turn z
+  subject : e.subject ≡ Zone z
+  grant : e.grant ≡ Nothing
+  decided : turn (objects_of w) w.stored w.desk ≡ Just t
+  mounts : list_all is_of_mounts t.objects ≡ true
+  ended : t.ended ≡ None
+  busy : is_idle t.reply ≡ false
+  reply : e.reply ≡ says (Told t.reply)
+
+local-turn : (z : Name) (w : World) (e : Entry) → is_local z w e ≡ true → (t : Turned) × Local z w e t
+local-turn z w e h =
+    let d = turn (objects_of w) w.stored w.desk in
+    let parts = and_parts (is_turn_of z e.event && same_subject e.subject (Zone z) && same_grant e.grant Nothing) (tells_local d e.reply) h in
+    let more = and_parts (is_turn_of z e.event && same_subject e.subject (Zone z)) (same_grant e.grant Nothing) parts.0 in
+    let first = and_parts (is_turn_of z e.event) (same_subject e.subject (Zone z)) more.0 in
+    at_decision d refl (turn_of e.event first.0) ((subject-Decides e.subject (Zone z)).0 first.1) ((grant-Decides e.grant Nothing).0 more.1) parts.1
+  where
+    turn_of : (x : Event) → is_turn_of z x ≡ true → x ≡ Turn z
+    turn_of (Session n text) h = absurd (false≢true h)
+    turn_of (Turn y) h = ap Turn (sym (same_true z y h))
+
+    none : (o : Option ℕ) → is_none o ≡ true → o ≡ None
+    none None h = refl
+    none (Some t) h = absurd (false≢true h)
+
+    at_decision : (d : Turn_decision) → turn (objects_of w) w.stored w.desk ≡ d → e.event ≡ Turn z → e.subject ≡ Zone z → e.grant ≡ Nothing → tells_local d e.reply ≡ true → (t : Turned) × Local z w e t
+    at_decision (Just t) is event subject grant h =
+        let outer = and_parts (list_all is_of_mounts t.objects && is_none t.ended && not (is_idle t.reply)) (same_reply e.reply (says (Told t.reply))) h in
+        let mid = and_parts (list_all is_of_mounts t.objects && is_none t.ended) (not (is_idle t.reply)) outer.0 in
+        let inner = and_parts (list_all is_of_mounts t.objects) (is_none t.ended) mid.0 in
+        (t, record {
+          event = event;
+          subject = subject;
+          grant = grant;
+          decided = is;
+          mounts = inner.0;
+          ended = none t.ended inner.1;
+          busy = not-true (is_idle t.reply) mid.1;
+          reply = (reply-Decides e.reply (says (Told t.reply))).0 outer.1;
+        })
+    at_decision (Ask c asked denied given) is event subject grant h = absurd (false≢true h)
+
+local-one : (z : Name) (S : State) (e : Entry) (t : Turned) → Local z (world z S) e t → one S e.event e.grant ≡ done_by z None (turned_act (record { came = None; effect = t })) S
+local-one z S e t l = ap (λ x. one S x e.grant) l.event ∙ (one-turn z S e.grant ∙ ap (λ (d : Turn_decision). done_by z None (turned_act (decisions.act_of arrived d e.grant)) S) l.decided)
+
+-- it is told as it is, and under the grant that the pools give
+subject-turn : (S : State) (z : Name) → subject S (Turn z) ≡ Zone z
+unfolding subject
+subject-turn S z = refl
+
+allowed-just : (z : Name) (S : State) (t : Turned) → (let w = world z S in turn (objects_of w) w.stored w.desk ≡ Just t) → allowed S (Turn z) ≡ Nothing
+unfolding allowed subject decide view
+allowed-just z S t is = ap (λ (d : Turn_decision). said_by_all (pools_of S) z (asked_of (effects turned d)) Nothing) is
+
+pub local-right : (z : Name) (S : State) (e : Entry) → is_local z (world z S) e ≡ true → (is_told S e ≡ true) × (is_allowed S e.event e.grant ≡ true)
+local-right z S e h =
+    let found = local-turn z (world z S) e h in let t = found.0 in let l = found.1 in
+    let whose : e.subject ≡ subject S e.event = l.subject ∙ sym (ap (subject S) l.event ∙ subject-turn S z) in
+    let reply : e.reply ≡ (one S e.event e.grant).reply = l.reply ∙ sym (ap (λ (r : Answered). r.reply) (local-one z S e t l)) in
+    let grant : e.grant ≡ allowed S e.event = l.grant ∙ sym (ap (allowed S) l.event ∙ allowed-just z S t l.decided) in (
+      and_from _ _ ((subject-Decides e.subject (subject S e.event)).1 whose) ((reply-Decides e.reply (one S e.event e.grant).reply).1 reply),
+      (grant-Decides e.grant (allowed S e.event)).1 grant,
+    )
+
+-- it leaves what is common, but for the start
+common-edits : (z : Name) (es : List Object_edit) (d : Desk) (S : State) → list_all is_of_mounts es ≡ true → common (edits z None (map Of_objects es ++ Set_desk d ∷ []) S) ≡ common S
+unfolding edit
+common-edits z [] d S h = refl
+common-edits z (Of_mounts e ∷ es) d S h = common-edits z es d (edit z None (Of_objects (Of_mounts e)) S) h
+common-edits z (_ ∷ es) d S h = absurd (false≢true h)
+
+pub local-common : (z : Name) (S : State) (e : Entry) → is_local z (world z S) e ≡ true → common (one S e.event e.grant).state ≡ record (common S) { started = true }
+local-common z S e h =
+    let found = local-turn z (world z S) e h in let t = found.0 in let l = found.1 in
+    ap (λ (r : Answered). common r.state) (local-one z S e t l)
+    ∙ (ap (λ o. common (started (edits z None (map Of_objects t.objects ++ Set_desk t.desk ∷ sweeps o) S))) l.ended
+    ∙ ap (λ (c : Common). record c { started = true }) (common-edits z t.objects t.desk S l.mounts))
+
+-- it isn't idle
+awake : (r : TurnReply) → is_idle r ≡ false → says (Told r) ≢ says (Told Idle)
+awake r h same = let head : Told r ≡ Told Idle = ap (λ r. r.head) same in let e : r ≡ Idle = cc in false≢true (sym h ∙ ap is_idle e)
+
+pub local-awake : (z : Name) (w : World) (e : Entry) → is_local z w e ≡ true → e.reply ≢ says (Told Idle)
+local-awake z w e h same = let found = local-turn z w e h in let l = found.1 in awake found.0.reply l.busy (sym l.reply ∙ same)
+
+-- nor is a turn of a zone that has work
+abbrev Awake : Turn_decision → Type 0
+Awake d = In (λ c (t : Turned). is_idle t.reply ≡ false) d
+
+awake-step : (o : Objects) (d : Desk) (j : Job) (row : Record) (left : List Step) → Awake (step o d j row left)
+awake-step o d j row [] = refl
+awake-step o d j row (Record_step s ∷ rest) = (λ pool. refl, λ n. refl)
+awake-step o d j row (Zid n ∷ rest) = (λ pool. refl, λ n. refl)
+awake-step o d j row (Init n ∷ rest) = (λ pool. refl, λ n. refl)
+awake-step o d j row (Unmount dir ∷ rest) = at_mount (last_dir o.mounts) (awake-step o d j row rest)
+  where
+    at_mount : (m : Option (List ℕ)) → Awake (step o d j row rest) → Awake (unmount d j (Unmount dir ∷ rest) (step o d j row rest) m)
+    at_mount None ih = ih
+    at_mount (Some m) ih = refl
+awake-step o d j row (_ ∷ rest) = refl
+
+awake-on : (o : Objects) (d : Desk) (j : Job) (row : Record) (ending : Option Outcome) → Awake (goes_on o d j row ending)
+awake-on o d j row None = awake-step o d j row j.left
+awake-on o d j row (Some outcome) = at_undo j.undo
+  where
+    at_undo : (undone : List Step) → is_idle (undo d j outcome undone).reply ≡ false
+    at_undo [] = refl
+    at_undo (s ∷ rest) = refl
+
+awake-begin : (d : Desk) (t : ℕ) (kind : RequestKind) (s : ZoneState) (config : Config) → is_idle (begin d t kind s config).reply ≡ false
+awake-begin d t kind s config = at_test (may_begin kind s) refl
+  where
+    at_test : (b : Bool) → may_begin kind s ≡ b → is_idle (begin d t kind s config).reply ≡ false
+    at_test true e = simp e
+    at_test false e = simp e
+
+awake-next : (d : Desk) (waiting : List (ℕ × RequestKind)) (row : Record) → not (is_nil waiting) ≡ true → is_idle (next_request d waiting row).reply ≡ false
+awake-next d [] row h = absurd (false≢true h)
+awake-next d (w ∷ waiting) row h = awake-begin (record d { waiting = waiting }) w.0 w.1 (state_now row d) row.config
+
+awake-turn_at : (o : Objects) (d : Desk) (job : Option Job) (row : Record) → (is_some job || not (is_nil d.waiting)) ≡ true → Awake (turn_at o d job row)
+awake-turn_at o d None row h = awake-next d d.waiting row h
+awake-turn_at o d (Some j) row h = awake-on o d j row j.ending
+
+awake-turn : (o : Objects) (row : Option Record) (d : Desk) → (is_some row && (is_some d.job || not (is_nil d.waiting))) ≡ true → Awake (turn o row d)
+unfolding turn
+awake-turn o None d h = absurd (false≢true h)
+awake-turn o (Some row) d h = awake-turn_at o d d.job row h
+
+pub busy-awake : (w : World) (g : Grant) → is_busy w ≡ true → is_idle (turn_act w g).effect.reply ≡ false
+busy-awake w g h = in-act (λ c (t : Turned). is_idle t.reply ≡ false) (turn (objects_of w) w.stored w.desk) g (awake-turn (objects_of w) w.stored w.desk h)
+
+pub busy-turn : (z : Name) (S : State) (g : Grant) → is_busy (world z S) ≡ true → (one S (Turn z) g).reply ≢ says (Told Idle)
+busy-turn z S g h same = awake (turn_act (world z S) g).effect.reply (busy-awake (world z S) g h) (sym (turn-reply z S g) ∙ same)
