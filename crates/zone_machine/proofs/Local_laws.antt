@@ -75,17 +75,19 @@ local-turn z w e h =
     at_decision (Just t) is event subject grant h =
         let outer = and_parts (list_all is_of_mounts t.objects && is_none t.ended && not (is_idle t.reply)) (same_reply e.reply (says (Told t.reply))) h in
         let mid = and_parts (list_all is_of_mounts t.objects && is_none t.ended) (not (is_idle t.reply)) outer.0 in
-        let inner = and_parts (list_all is_of_mounts t.objects) (is_none t.ended) mid.0 in
-        (t, record {
-          event = event;
-          subject = subject;
-          grant = grant;
-          decided = is;
-          mounts = inner.0;
-          ended = none t.ended inner.1;
-          busy = not-true (is_idle t.reply) mid.1;
-          reply = (reply-Decides e.reply (says (Told t.reply))).0 outer.1;
-        })
+        let inner = and_parts (list_all is_of_mounts t.objects) (is_none t.ended) mid.0 in (
+          t,
+          record {
+            event = event;
+            subject = subject;
+            grant = grant;
+            decided = is;
+            mounts = inner.0;
+            ended = none t.ended inner.1;
+            busy = not-true (is_idle t.reply) mid.1;
+            reply = (reply-Decides e.reply (says (Told t.reply))).0 outer.1;
+          },
+        )
     at_decision (Ask c asked denied given) is event subject grant h = absurd (false≢true h)
 
 local-one : (z : Name) (S : State) (e : Entry) (t : Turned) → Local z (world z S) e t → one S e.event e.grant ≡ done_by z None (turned_act (record { came = None; effect = t })) S

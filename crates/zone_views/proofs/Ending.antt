@@ -66,14 +66,17 @@ rests false up rooted = true
 rests true true rooted = true
 rests true false rooted = rooted
 
--- the same at each place of a plan, which mounts the root only where nothing is mounted
+-- so it is where a step may fail and at the end of a plan, which mounts the root only where nothing is mounted
 abbrev plan_rests : (mounted up rooted : Bool) → List Step → Bool
 plan_rests m up r [] = rests m up false
-plan_rests m up r (Root ∷ rest) = rests m up r && not m && plan_rests true up true rest
-plan_rests m up r (Unmount dir ∷ rest) = rests m up r && plan_rests false up r rest
-plan_rests m up r (State_step Ready ∷ rest) = rests m up r && plan_rests m true false rest
-plan_rests m up r (State_step s ∷ rest) = rests m up r && plan_rests m (is_up (active_after s)) r rest
-plan_rests m up r (_ ∷ rest) = rests m up r && plan_rests m up r rest
+plan_rests m up r (Root ∷ rest) = not m && plan_rests true up true rest
+plan_rests m up r (Unmount dir ∷ rest) = plan_rests false up r rest
+plan_rests m up r (State_step Ready ∷ rest) = plan_rests m true false rest
+plan_rests m up r (State_step s ∷ rest) = plan_rests m (is_up (active_after s)) r rest
+plan_rests m up r (Record_step s ∷ rest) = rests m up r && plan_rests m up r rest
+plan_rests m up r (Zid id ∷ rest) = rests m up r && plan_rests m up r rest
+plan_rests m up r (Init pid ∷ rest) = rests m up r && plan_rests m up r rest
+plan_rests m up r (_ ∷ rest) = plan_rests m up r rest
 
 abbrev job_rests : Bool → Bool → Job → Option Outcome → Bool
 job_rests m up j None = plan_rests m up (has_root j.undo) j.left
@@ -188,41 +191,24 @@ module _ (o : Objects) (d : Desk) (j : Job) (row : Record) where
         λ pool. record { grounded = and_from _ _ a parts.0; fewer = λ i. if_failed _ },
         λ k. record { grounded = and_from _ _ a parts.1; fewer = λ i. fewer k },
       )
-  lowers_step ms (Limits ∷ rest) a p =
-      let parts = and_parts _ (plan_rests (is_mounted ms) (is_up d.active) (has_root j.undo) rest) p in
-      record { grounded = and_from _ _ a parts.1; fewer = λ i. if_done ms (Limits ∷ j.undo) rest }
-  lowers_step ms (Devices count ∷ rest) a p =
-      let parts = and_parts _ (plan_rests (is_mounted ms) (is_up d.active) (has_root j.undo) rest) p in
-      let fewer : left_in ms (Devices (Some 0) ∷ j.undo) rest < left_in ms j.undo (Devices count ∷ rest) =
-      rw (turns_same (Devices (Some 0) ∷ j.undo) (Devices count ∷ j.undo) (trail (length ms) rest) refl) (if_done ms (Devices count ∷ j.undo) rest) in
-      record { grounded = and_from _ _ a parts.1; fewer = λ i. fewer }
-  lowers_step [] (Root ∷ rest) a p = record { grounded = p; fewer = λ i. if_done (root_mount j.config ∷ []) (Root ∷ j.undo) rest }
-  lowers_step (x ∷ ms) (Root ∷ rest) a p =
-      let parts = and_parts _ (plan_rests true (is_up d.active) true rest) p in
-      let unmounted = and_parts (rests true (is_up d.active) (has_root j.undo)) false parts.0 in
-      absurd (false≢true unmounted.1)
-  lowers_step ms (State_step s ∷ rest) a p = at_state s p
-    where
-      at_state : (s : ZoneState) → plan_rests (is_mounted ms) (is_up d.active) (has_root j.undo) (State_step s ∷ rest) ≡ true → Steps ms (State_step s ∷ rest)
-      at_state Ready p =
-          let parts = and_parts _ (plan_rests (is_mounted ms) true false rest) p in
-          record { grounded = and_from _ _ a parts.1; fewer = λ i. if_done ms [] rest }
-      at_state s p =
-          let parts = and_parts _ (plan_rests (is_mounted ms) (is_up (active_after s)) (has_root j.undo) rest) p in
-          record { grounded = and_from _ _ a parts.1; fewer = λ i. if_done ms j.undo rest }
   lowers_step ms (Init pid ∷ rest) a p =
       let parts = and_parts _ (plan_rests (is_mounted ms) (is_up d.active) (has_root j.undo) rest) p in (
         λ pool. record { grounded = and_from _ _ a parts.0; fewer = λ i. if_failed _ },
         λ k. record { grounded = and_from _ _ a parts.1; fewer = λ i. if_done ms j.undo rest },
       )
+  lowers_step ms (Limits ∷ rest) a p = record { grounded = and_from _ _ a p; fewer = λ i. if_done ms (Limits ∷ j.undo) rest }
+  lowers_step ms (Devices count ∷ rest) a p =
+      let fewer : left_in ms (Devices (Some 0) ∷ j.undo) rest < left_in ms j.undo (Devices count ∷ rest) =
+      rw (turns_same (Devices (Some 0) ∷ j.undo) (Devices count ∷ j.undo) (trail (length ms) rest) refl) (if_done ms (Devices count ∷ j.undo) rest) in
+      record { grounded = and_from _ _ a p; fewer = λ i. fewer }
+  lowers_step [] (Root ∷ rest) a p = record { grounded = p; fewer = λ i. if_done (root_mount j.config ∷ []) (Root ∷ j.undo) rest }
+  lowers_step (x ∷ ms) (Root ∷ rest) a p = absurd (false≢true p)
+  lowers_step ms (State_step Ready ∷ rest) a p = record { grounded = and_from _ _ a p; fewer = λ i. if_done ms [] rest }
+  lowers_step ms (State_step s ∷ rest) a p = record { grounded = and_from _ _ a p; fewer = λ i. if_done ms j.undo rest }
   lowers_step [] (Unmount dir ∷ rest) a p = lowers_step [] rest a p
-  lowers_step (x ∷ []) (Unmount dir ∷ rest) a p =
-      let parts = and_parts _ (plan_rests false (is_up d.active) (has_root j.undo) rest) p in
-      simp (same_self x.dir) (record { grounded = parts.1; fewer = λ i. if_done [] j.undo rest })
+  lowers_step (x ∷ []) (Unmount dir ∷ rest) a p = simp (same_self x.dir) (record { grounded = p; fewer = λ i. if_done [] j.undo rest })
   lowers_step (x ∷ y ∷ more) (Unmount dir ∷ rest) a p = absurd (false≢true a)
-  lowers_step ms (_ ∷ rest) a p =
-      let parts = and_parts _ (plan_rests (is_mounted ms) (is_up d.active) (has_root j.undo) rest) p in
-      record { grounded = and_from _ _ a parts.1; fewer = λ i. if_done ms j.undo rest }
+  lowers_step ms (_ ∷ rest) a p = record { grounded = and_from _ _ a p; fewer = λ i. if_done ms j.undo rest }
 
   -- a step back
   lowers_undo : (ms : List Mount) (outcome : Outcome) (undone : List Step) → root_alone ms ≡ true → rests (is_mounted ms) (is_up d.active) (has_root undone) ≡ true
@@ -231,7 +217,6 @@ module _ (o : Objects) (d : Desk) (j : Job) (row : Record) where
   lowers_undo [] outcome (Root ∷ rest) a r = record { grounded = refl; fewer = λ i. omega arith }
   lowers_undo (x ∷ []) outcome (Root ∷ rest) a r = simp a (record { grounded = refl; fewer = λ i. omega arith })
   lowers_undo (x ∷ y ∷ more) outcome (Root ∷ rest) a r = absurd (false≢true a)
-  lowers_undo ms outcome (Zid k ∷ rest) a r = record { grounded = and_from _ _ a r; fewer = λ i. omega arith }
   lowers_undo ms outcome (_ ∷ rest) a r = record { grounded = and_from _ _ a r; fewer = λ i. omega arith }
 
   lowers_job : (ms : List Mount) (ending : Option Outcome) → root_alone ms ≡ true → job_rests (is_mounted ms) (is_up d.active) j ending ≡ true
