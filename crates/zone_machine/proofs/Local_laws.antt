@@ -14,13 +14,14 @@ use Rattle.zone_pools.specs.Pools.{said_by_all}
 use Rattle.zone_pools.specs.Same.{same_grant}
 use Rattle.zone_pools.specs.declared.grant.Grant.{Grant}
 use Rattle.zone_pools.specs.declared.grant.Grant.TheVariants.{Nothing}
+use Rattle.zone_machine.proofs.Laws.{own-acts}
 use Rattle.zone_machine.proofs.Same_laws.{reply-Decides, subject-Decides}
-use Rattle.zone_machine.proofs.Turned_laws.{In, in-act, one-turn, turn-reply, turn_act, turned_act}
+use Rattle.zone_machine.proofs.Turned_laws.{In, in-act, mounts_after, one-turn, turn-reply, turn_act, turned_act}
 use Rattle.zone_machine.specs.Arrivals.{arrived}
 use Rattle.zone_machine.specs.Common.{Common, common, is_busy, is_idle, is_local, is_of_mounts, is_turn_of, tells_local}
 use Rattle.zone_machine.specs.Decisions.{effects, says, sweeps, turned}
 use Rattle.zone_machine.specs.Desks.{Desk, Job, state_now}
-use Rattle.zone_machine.specs.Edits.{Of_objects, Set_desk, edit, edits}
+use Rattle.zone_machine.specs.Edits.{Of_objects, Set_desk, edit, edit_world, edits, edits_world}
 use Rattle.zone_machine.specs.Histories.{is_allowed, is_told}
 use Rattle.zone_machine.specs.Machine.{Answered, decide, done_by, one, started, subject}
 use Rattle.zone_machine.specs.Objects.{Object_edit, Objects, Of_mounts, last_dir}
@@ -40,6 +41,7 @@ use Rattle.zone_machine.specs.declared.events.Entry.{Entry}
 use Rattle.zone_machine.specs.declared.events.Event.{Event}
 use Rattle.zone_machine.specs.declared.events.Event.TheVariants.{Session, Turn}
 use Rattle.zone_machine.specs.declared.events.Subject.TheVariants.{Zone}
+use Rattle.zone_machine.specs.declared.objects.Mount.{Mount}
 use Rattle.zone_machine.specs.declared.records.Config.{Config}
 use Rattle.zone_machine.specs.declared.records.Record.{Record}
 use Rattle.zone_machine.specs.declared.replies.Head.TheVariants.{Turned as Told}
@@ -125,6 +127,22 @@ local-common z S e h =
     ap (λ (r : Answered). common r.state) (local-one z S e t l)
     ∙ (ap (λ o. common (started (edits z None (map Of_objects t.objects ++ Set_desk t.desk ∷ sweeps o) S))) l.ended
     ∙ ap (λ (c : Common). record c { started = true }) (common-edits z t.objects t.desk S l.mounts))
+
+-- of the zone's world it changes the mounts and the desk alone
+world-edits : (es : List Object_edit) (d : Desk) (w : World) → list_all is_of_mounts es ≡ true → edits_world None (map Of_objects es ++ Set_desk d ∷ []) w ≡ record w { mounts = mounts_after es w.mounts; desk = d }
+world-edits [] d w h = refl
+world-edits (Of_mounts e ∷ es) d w h = world-edits es d (edit_world None (Of_objects (Of_mounts e)) w) h
+world-edits (_ ∷ es) d w h = absurd (false≢true h)
+
+pub local-world : (z : Name) (S : State) (e : Entry) → is_local z (world z S) e ≡ true → (ms : List Mount) × (d : Desk) × (world z (one S e.event e.grant).state ≡ record (world z S) { mounts = ms; desk = d })
+local-world z S e h =
+    let w = world z S in let found = local-turn z w e h in let t = found.0 in let l = found.1 in (
+      mounts_after t.objects w.mounts,
+      t.desk,
+      ap (λ (r : Answered). world z r.state) (local-one z S e t l)
+          ∙ (own-acts z None (turned_act (record { came = None; effect = t })) S
+          ∙ (ap (λ o. edits_world None (map Of_objects t.objects ++ Set_desk t.desk ∷ sweeps o) w) l.ended ∙ world-edits t.objects t.desk w l.mounts)),
+    )
 
 -- it isn't idle
 awake : (r : TurnReply) → is_idle r ≡ false → says (Told r) ≢ says (Told Idle)
