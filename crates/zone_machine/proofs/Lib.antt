@@ -4,6 +4,7 @@ pub mod Same_laws
 pub mod Laws
 pub mod Own_worlds
 pub mod Turned_laws
+pub mod Turn_cases
 pub mod Common_laws
 pub mod Local_laws
 pub mod Words

@@ -1,40 +1,34 @@
 -- Turns that change their zone's mounts and desk alone, and turns of a zone that has work.
-use Rattle.std.proofs.Common.{◌≡◌, ◌∷◌, ◌++◌, [], ◌&&◌, ◌||◌, ℕ, List, Bool, Option, Some, None, true, false, map, not, refl, ap, sym, ◌∙◌}
-use Rattle.std.specs.Prelude.{◌≢◌, is_none, is_some}
+use Rattle.std.proofs.Common.{◌≡◌, ◌∷◌, ◌++◌, [], ◌&&◌, ℕ, List, Option, Some, None, true, false, map, not, refl, ap, sym, ◌∙◌}
+use Rattle.std.specs.Prelude.{◌≢◌, is_none}
 use Rattle.std.specs.List.{list_all}
-use Rattle.std.proofs.lemmas.Bool.{and_from, and_parts, false≢true, not-true}
+use Rattle.std.proofs.lemmas.Bool.{and_from, and_parts, false≢true, not-true, true≢false}
 use Rattle.zn_base.specs.Names.{Name}
-use Rattle.zn_base.specs.declared.state.ZoneState.{ZoneState}
 use Rattle.zone_pools.proofs.Owned_laws.{same_true}
 use Rattle.zone_pools.proofs.Same_laws.{grant-Decides}
 use Rattle.zone_pools.specs.Decisions as decisions
 use Rattle.zone_pools.specs.Decisions.{Ask, Just, asked_of}
-use Rattle.zone_pools.specs.Firsts.{is_nil}
 use Rattle.zone_pools.specs.Pools.{said_by_all}
 use Rattle.zone_pools.specs.Same.{same_grant}
 use Rattle.zone_pools.specs.declared.grant.Grant.{Grant}
 use Rattle.zone_pools.specs.declared.grant.Grant.TheVariants.{Nothing}
 use Rattle.zone_machine.proofs.Laws.{own-acts}
 use Rattle.zone_machine.proofs.Same_laws.{reply-Decides, subject-Decides}
+use Rattle.zone_machine.proofs.Turn_cases.{of_turn}
 use Rattle.zone_machine.proofs.Turned_laws.{In, in-act, mounts_after, one-turn, turn-reply, turn_act, turned_act}
-use Rattle.zone_machine.specs.Arrivals.{arrived}
+use Rattle.zone_machine.specs.Arrivals.{Arrival, arrived}
 use Rattle.zone_machine.specs.Common.{Common, common, is_busy, is_idle, is_local, is_of_mounts, is_turn_of, tells_local}
 use Rattle.zone_machine.specs.Decisions.{effects, says, sweeps, turned}
-use Rattle.zone_machine.specs.Desks.{Desk, Job, state_now}
+use Rattle.zone_machine.specs.Desks.{Desk}
 use Rattle.zone_machine.specs.Edits.{Of_objects, Set_desk, edit, edit_world, edits, edits_world}
 use Rattle.zone_machine.specs.Histories.{is_allowed, is_told}
 use Rattle.zone_machine.specs.Machine.{Answered, decide, done_by, one, started, subject}
-use Rattle.zone_machine.specs.Objects.{Object_edit, Objects, Of_mounts, last_dir}
-use Rattle.zone_machine.specs.Plans.{may_begin}
+use Rattle.zone_machine.specs.Objects.{Object_edit, Of_mounts}
 use Rattle.zone_machine.specs.Pools.{allowed, pools_of}
 use Rattle.zone_machine.specs.Same.{same_reply, same_subject}
 use Rattle.zone_machine.specs.State.{State}
-use Rattle.zone_machine.specs.Turns.{Turn_decision, Turned, begin, goes_on, next_request, step, turn, turn_at, undo, unmount}
+use Rattle.zone_machine.specs.Turns.{Turn_decision, Turned, turn}
 use Rattle.zone_machine.specs.Worlds.{World, objects_of, view, world}
-use Rattle.zone_machine.specs.declared.daemon.Outcome.{Outcome}
-use Rattle.zone_machine.specs.declared.daemon.RequestKind.{RequestKind}
-use Rattle.zone_machine.specs.declared.daemon.Step.{Step}
-use Rattle.zone_machine.specs.declared.daemon.Step.TheVariants.{Record as Record_step, Zid, Init, Unmount}
 use Rattle.zone_machine.specs.declared.daemon.TurnReply.{TurnReply}
 use Rattle.zone_machine.specs.declared.daemon.TurnReply.TheVariants.{Idle}
 use Rattle.zone_machine.specs.declared.events.Entry.{Entry}
@@ -42,8 +36,6 @@ use Rattle.zone_machine.specs.declared.events.Event.{Event}
 use Rattle.zone_machine.specs.declared.events.Event.TheVariants.{Session, Turn}
 use Rattle.zone_machine.specs.declared.events.Subject.TheVariants.{Zone}
 use Rattle.zone_machine.specs.declared.objects.Mount.{Mount}
-use Rattle.zone_machine.specs.declared.records.Config.{Config}
-use Rattle.zone_machine.specs.declared.records.Record.{Record}
 use Rattle.zone_machine.specs.declared.replies.Head.TheVariants.{Turned as Told}
 
 -- what a local entry says, with what its turn does
@@ -152,51 +144,12 @@ pub local-awake : (z : Name) (w : World) (e : Entry) → is_local z w e ≡ true
 local-awake z w e h same = let found = local-turn z w e h in let l = found.1 in awake found.0.reply l.busy (sym l.reply ∙ same)
 
 -- nor is a turn of a zone that has work
-abbrev Awake : Turn_decision → Type 0
-Awake d = In (λ c (t : Turned). is_idle t.reply ≡ false) d
-
-awake-step : (o : Objects) (d : Desk) (j : Job) (row : Record) (left : List Step) → Awake (step o d j row left)
-awake-step o d j row [] = refl
-awake-step o d j row (Record_step s ∷ rest) = (λ pool. refl, λ n. refl)
-awake-step o d j row (Zid n ∷ rest) = (λ pool. refl, λ n. refl)
-awake-step o d j row (Init n ∷ rest) = (λ pool. refl, λ n. refl)
-awake-step o d j row (Unmount dir ∷ rest) = at_mount (last_dir o.mounts) (awake-step o d j row rest)
-  where
-    at_mount : (m : Option (List ℕ)) → Awake (step o d j row rest) → Awake (unmount d j (Unmount dir ∷ rest) (step o d j row rest) m)
-    at_mount None ih = ih
-    at_mount (Some m) ih = refl
-awake-step o d j row (_ ∷ rest) = refl
-
-awake-on : (o : Objects) (d : Desk) (j : Job) (row : Record) (ending : Option Outcome) → Awake (goes_on o d j row ending)
-awake-on o d j row None = awake-step o d j row j.left
-awake-on o d j row (Some outcome) = at_undo j.undo
-  where
-    at_undo : (undone : List Step) → is_idle (undo d j outcome undone).reply ≡ false
-    at_undo [] = refl
-    at_undo (s ∷ rest) = refl
-
-awake-begin : (d : Desk) (t : ℕ) (kind : RequestKind) (s : ZoneState) (config : Config) → is_idle (begin d t kind s config).reply ≡ false
-awake-begin d t kind s config = at_test (may_begin kind s) refl
-  where
-    at_test : (b : Bool) → may_begin kind s ≡ b → is_idle (begin d t kind s config).reply ≡ false
-    at_test true e = simp e
-    at_test false e = simp e
-
-awake-next : (d : Desk) (waiting : List (ℕ × RequestKind)) (row : Record) → not (is_nil waiting) ≡ true → is_idle (next_request d waiting row).reply ≡ false
-awake-next d [] row h = absurd (false≢true h)
-awake-next d (w ∷ waiting) row h = awake-begin (record d { waiting = waiting }) w.0 w.1 (state_now row d) row.config
-
-awake-turn_at : (o : Objects) (d : Desk) (job : Option Job) (row : Record) → (is_some job || not (is_nil d.waiting)) ≡ true → Awake (turn_at o d job row)
-awake-turn_at o d None row h = awake-next d d.waiting row h
-awake-turn_at o d (Some j) row h = awake-on o d j row j.ending
-
-awake-turn : (o : Objects) (row : Option Record) (d : Desk) → (is_some row && (is_some d.job || not (is_nil d.waiting))) ≡ true → Awake (turn o row d)
-unfolding turn
-awake-turn o None d h = absurd (false≢true h)
-awake-turn o (Some row) d h = awake-turn_at o d d.job row h
+abbrev Awake : Option Arrival → Turned → Type 0
+Awake c t = is_idle t.reply ≡ false
 
 pub busy-awake : (w : World) (g : Grant) → is_busy w ≡ true → is_idle (turn_act w g).effect.reply ≡ false
-busy-awake w g h = in-act (λ c (t : Turned). is_idle t.reply ≡ false) (turn (objects_of w) w.stored w.desk) g (awake-turn (objects_of w) w.stored w.desk h)
+busy-awake w g h = in-act Awake (turn (objects_of w) w.stored w.desk) g
+    (of_turn (λ d. In Awake d) (λ t h. h) (λ d j rest c asked shown h. (λ pool. refl, λ n. refl)) (objects_of w) w.stored w.desk (λ e. absurd (true≢false (sym h ∙ e))))
 
 pub busy-turn : (z : Name) (S : State) (g : Grant) → is_busy (world z S) ≡ true → (one S (Turn z) g).reply ≢ says (Told Idle)
 busy-turn z S g h same = awake (turn_act (world z S) g).effect.reply (busy-awake (world z S) g h) (sym (turn-reply z S g) ∙ same)

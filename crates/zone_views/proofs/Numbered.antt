@@ -7,6 +7,7 @@ use Rattle.zone_pools.proofs.Same_laws.{grant-Decides}
 use Rattle.zn_base.specs.Names.{Name}
 use Rattle.zone_pools.specs.declared.grant.Grant.{Grant}
 use Rattle.zone_pools.specs.declared.grant.Grant.TheVariants.{Nothing, Number, Yes, Denied}
+use Rattle.zone_machine.proofs.Turn_cases.{is_asked_for}
 use Rattle.zone_machine.specs.Arrivals.{A_process, A_record, An_id, Comes, arrived}
 use Rattle.zone_machine.specs.Decisions.{Decision, act_of, acts, after_came}
 use Rattle.zone_pools.specs.Asked.{A_pid, A_zid, Asked}
@@ -25,7 +26,7 @@ use Rattle.zone_machine.specs.declared.events.Subject.{Subject}
 use Rattle.zone_machine.specs.declared.events.Subject.TheVariants.{Zone, Global, Whole}
 use Rattle.zone_machine.specs.declared.records.Commit.{Commit}
 use Rattle.zone_views.proofs.Differing.{differ-come, differ-filter, differ-put}
-use Rattle.zone_views.proofs.Granting.{asks-decide, asks_rightly, decision-fits, is_asked_for}
+use Rattle.zone_views.proofs.Granting.{asks-decide, asks_rightly, decision-fits}
 use Rattle.zone_views.specs.Numbers.{AllDiffer, pids, zids}
 
 pub record AreNumbered (S : State) : Type 0 where
