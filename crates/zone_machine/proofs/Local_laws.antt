@@ -39,17 +39,17 @@ use Rattle.zone_machine.specs.declared.objects.Mount.{Mount}
 use Rattle.zone_machine.specs.declared.replies.Head.TheVariants.{Turned as Told}
 
 -- what a local entry says, with what its turn does
-record Local (z : Name) (w : World) (e : Entry) (t : Turned) : Type 0 where
-  event : e.event ≡ Turn z
-  subject : e.subject ≡ Zone z
-  grant : e.grant ≡ Nothing
-  decided : turn (objects_of w) w.stored w.desk ≡ Just t
-  mounts : list_all is_of_mounts t.objects ≡ true
-  ended : t.ended ≡ None
-  busy : is_idle t.reply ≡ false
-  reply : e.reply ≡ says (Told t.reply)
+pub record Local (z : Name) (w : World) (e : Entry) (t : Turned) : Type 0 where
+  pub event : e.event ≡ Turn z
+  pub subject : e.subject ≡ Zone z
+  pub grant : e.grant ≡ Nothing
+  pub decided : turn (objects_of w) w.stored w.desk ≡ Just t
+  pub mounts : list_all is_of_mounts t.objects ≡ true
+  pub ended : t.ended ≡ None
+  pub busy : is_idle t.reply ≡ false
+  pub reply : e.reply ≡ says (Told t.reply)
 
-local-turn : (z : Name) (w : World) (e : Entry) → is_local z w e ≡ true → (t : Turned) × Local z w e t
+pub local-turn : (z : Name) (w : World) (e : Entry) → is_local z w e ≡ true → (t : Turned) × Local z w e t
 local-turn z w e h =
     let d = turn (objects_of w) w.stored w.desk in
     let parts = and_parts (is_turn_of z e.event && same_subject e.subject (Zone z) && same_grant e.grant Nothing) (tells_local d e.reply) h in
@@ -84,7 +84,7 @@ local-turn z w e h =
         )
     at_decision (Ask c asked denied given) is event subject grant h = absurd (false≢true h)
 
-local-one : (z : Name) (S : State) (e : Entry) (t : Turned) → Local z (world z S) e t → one S e.event e.grant ≡ done_by z None (turned_act (record { came = None; effect = t })) S
+pub local-one : (z : Name) (S : State) (e : Entry) (t : Turned) → Local z (world z S) e t → one S e.event e.grant ≡ done_by z None (turned_act (record { came = None; effect = t })) S
 local-one z S e t l = ap (λ x. one S x e.grant) l.event ∙ (one-turn z S e.grant ∙ ap (λ (d : Turn_decision). done_by z None (turned_act (decisions.act_of arrived d e.grant)) S) l.decided)
 
 -- it is told as it is, and under the grant that the pools give
