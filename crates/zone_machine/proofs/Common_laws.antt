@@ -1,32 +1,33 @@
--- What an event of one zone does to what is common. Nothing here opens a case of the machine.
-use Rattle.std.proofs.Common.{◌≡◌, ◌+◌, ◌∷◌, ◌++◌, [], ℕ, List, Bool, Option, Some, None, true, false, length, refl, ap, sym, subst, ◌∙◌, length-append}
-use Rattle.std.specs.Prelude.{bytes_eq, is_some, if◌then◌else◌}
+-- What an event of one zone does to what is common, and what it takes from there. Nothing here opens a case of the machine.
+use Rattle.std.proofs.Common.{◌≡◌, ◌+◌, ◌∷◌, ◌++◌, [], ℕ, List, Bool, Option, Some, None, true, false, length, not, refl, ap, sym, subst, ◌∙◌, length-append}
+use Rattle.std.specs.Prelude.{bytes_eq, filter, is_some, if◌then◌else◌}
 use Rattle.std.specs.List.{list_any}
 use Rattle.std.proofs.lemmas.Bool.{false≢true, true≢false}
+use Rattle.zn_base.specs.Names.{Name}
 use Rattle.zone_pools.proofs.Firsts_laws.{first-placed, other-placed}
 use Rattle.zone_pools.proofs.Holding.{not_same}
 use Rattle.zone_pools.proofs.Owned_laws.{mine-edit, other-list, same_self, same_true}
-use Rattle.zone_pools.specs.Firsts.{first_of}
-use Rattle.zn_base.specs.Names.{Name}
-use Rattle.zone_pools.specs.Owned_lists.{Go, mine}
 use Rattle.zone_pools.specs.Decisions.{asked_of}
+use Rattle.zone_pools.specs.Firsts.{first_of}
+use Rattle.zone_pools.specs.Owned_lists.{Go, mine}
 use Rattle.zone_pools.specs.Pools.{fits_asked, said_by_all}
 use Rattle.zone_pools.specs.declared.grant.Grant.{Grant}
 use Rattle.zone_pools.specs.declared.grant.Grant.TheVariants.{Nothing}
 use Rattle.zone_pools.specs.declared.owned.Owned.{Owned}
 use Rattle.zone_machine.proofs.Acts_laws.{OwnSession, other-acts, own-acts}
-use Rattle.zone_machine.proofs.Lists_laws.{none_left}
 use Rattle.zone_machine.proofs.Own_worlds.{decide-world, need-world, own_session, view-world}
+use Rattle.zone_machine.specs.Arrivals.{Arrival, New_id, New_process, New_record}
 use Rattle.zone_machine.specs.Common.{Common, acts_common, came_common, common, holds_pid, holds_session, holds_zid}
 use Rattle.zone_machine.specs.Decisions.{Act, act_of, acts, acts_world, after_came}
-use Rattle.zone_machine.specs.Edits.{Arrival, Edit, New_id, New_process, New_record, Processes_go, comes, edit, edits}
+use Rattle.zone_machine.specs.Edits.{Edit, Of_objects, comes, edit, edits}
 use Rattle.zone_machine.specs.Lines.{Line, line_of}
 use Rattle.zone_machine.specs.Machine.{decide, need, one, one_of, session_number, session_subject, started, subject}
-use Rattle.zone_machine.specs.Pools.{allowed, allowed_of, fits, fits_of, has_zid, path_taken, pools_of}
+use Rattle.zone_machine.specs.Objects.{Processes_go, has_pid, has_zid}
+use Rattle.zone_machine.specs.Pools.{allowed, allowed_of, fits, fits_of, path_taken, pools_of}
 use Rattle.zone_machine.specs.State.{At, Idle, Session as Session_mode, State, rows_from, rows_of, stored, stored_from, with_stored}
-use Rattle.zone_machine.specs.Worlds.{World, doing, has_pid, view, view_of, world}
+use Rattle.zone_machine.specs.Worlds.{World, doing, view, view_of, world}
 use Rattle.zone_machine.specs.declared.events.Event.{Event}
-use Rattle.zone_machine.specs.declared.events.Event.TheVariants as event
+use Rattle.zone_machine.specs.declared.events.Event.TheVariants.{Session, Turn}
 use Rattle.zone_machine.specs.declared.events.Subject.TheVariants.{Global, Zone}
 use Rattle.zone_machine.specs.declared.records.Commit.{Commit}
 use Rattle.zone_machine.specs.declared.records.Record.{Record}
@@ -46,7 +47,7 @@ rest_in c = record { rows = c.rows; serial = c.serial; last_pid = c.last_pid; la
 
 rest-edit : (z : Name) (n : Option ℕ) (e : Edit) (S : State) → rest (edit z n e S) ≡ rest S
 unfolding edit
-rest-edit z n (Processes_go p) S = refl
+rest-edit z n (Of_objects (Processes_go p)) S = refl
 rest-edit z n _ S = refl
 
 rest-edits : (z : Name) (n : Option ℕ) (es : List Edit) (S : State) → rest (edits z n es S) ≡ rest S
@@ -68,6 +69,12 @@ rest-came z (Some (New_record row)) S =
     let count : length (S.commits ++ c ∷ []) ≡ length S.commits + 1 = length-append S.commits (c ∷ []) in
     λ i. record { rows = rows i; serial = count i; last_pid = S.last_pid; last_zid = S.last_zid }
 
+-- what comes is held only once its world shows it
+held-came : (z : Name) (a : Option Arrival) (S : State) → record (came_common z a (common S)) { rows = rows_of S.commits; serial = length S.commits; last_pid = S.last_pid; last_zid = S.last_zid } ≡ common S
+held-came z None S = refl
+held-came z (Some (New_process p)) S = refl
+held-came z (Some _) S = refl
+
 -- each zone's world after an act of z, as what it holds
 spread : {A : Type 0} (of : World → A) (y z : Name) (n : Option ℕ) (a : Act) (S : State) → OwnSession z n S → of (world y (acts z n a S)) ≡ (if bytes_eq z y then of (acts_world n a (world z S)) else of (world y S))
 spread of y z n a S own = at_zone (bytes_eq z y) refl
@@ -80,36 +87,24 @@ spread of y z n a S own = at_zone (bytes_eq z y) refl
 pub common-acts : (z : Name) (n : Option ℕ) (a : Act) (S : State) → OwnSession z n S → common (started (acts z n a S)) ≡ acts_common z n a (world z S) (common S)
 common-acts z n a S own =
     let r : rest (acts z n a S) ≡ rest_in (came_common z a.came (common S)) = rest-edits z n a.effect.edits (after_came z a.came S) ∙ rest-came z a.came S in
+    let w = acts_world n a (world z S) in
+    let held = sym (held-came z a.came S) in
     λ i. record {
-      pids = λ y k. (spread (λ w. holds_pid w k) y z n a S own ∙ ap (λ b. if bytes_eq z y then holds_pid (acts_world n a (world z S)) k else b) (sym (kept_pids a.came y k))) i;
-      zids = λ y k. (spread (λ w. holds_zid w k) y z n a S own ∙ ap (λ b. if bytes_eq z y then holds_zid (acts_world n a (world z S)) k else b) (sym (kept_zids a.came y k))) i;
-      sessions = λ y k. (spread (λ w. holds_session w k) y z n a S own ∙ ap (λ b. if bytes_eq z y then holds_session (acts_world n a (world z S)) k else b) (sym (kept_sessions a.came y k))) i;
+      pids = λ y k. (spread (λ v. holds_pid v k) y z n a S own ∙ ap (λ (c : Common). if bytes_eq z y then holds_pid w k else c.pids y k) held) i;
+      zids = λ y k. (spread (λ v. holds_zid v k) y z n a S own ∙ ap (λ (c : Common). if bytes_eq z y then holds_zid w k else c.zids y k) held) i;
+      sessions = λ y k. (spread (λ v. holds_session v k) y z n a S own ∙ ap (λ (c : Common). if bytes_eq z y then holds_session w k else c.sessions y k) held) i;
       rows = (r i).rows;
       serial = (r i).serial;
       last_pid = (r i).last_pid;
       last_zid = (r i).last_zid;
       started = true;
     }
-  where
-    kept_pids : (came : Option Arrival) (y : Name) (k : ℕ) → (came_common z came (common S)).pids y k ≡ holds_pid (world y S) k
-    kept_pids None y k = refl
-    kept_pids (Some (New_process p)) y k = refl
-    kept_pids (Some (New_id i)) y k = refl
-    kept_pids (Some (New_record row)) y k = refl
-
-    kept_zids : (came : Option Arrival) (y : Name) (k : ℕ) → (came_common z came (common S)).zids y k ≡ holds_zid (world y S) k
-    kept_zids None y k = refl
-    kept_zids (Some (New_process p)) y k = refl
-    kept_zids (Some (New_id i)) y k = refl
-    kept_zids (Some (New_record row)) y k = refl
-
-    kept_sessions : (came : Option Arrival) (y : Name) (k : ℕ) → (came_common z came (common S)).sessions y k ≡ holds_session (world y S) k
-    kept_sessions None y k = refl
-    kept_sessions (Some (New_process p)) y k = refl
-    kept_sessions (Some (New_id i)) y k = refl
-    kept_sessions (Some (New_record row)) y k = refl
 
 -- the stored record of a zone is among the stored zones
+none_left : {A : Type 0} (xs : List A) → filter (λ x. not true) xs ≡ []
+none_left [] = refl
+none_left (x ∷ xs) = none_left xs
+
 first-stored : (y z : Name) (row : Option Record) (rows : List (Owned Record)) → first_of (mine z (with_stored y row rows)) ≡ (if bytes_eq z y then row else first_of (mine z rows))
 first-stored y z row rows = at_zone (bytes_eq z y) refl row
   where
@@ -139,7 +134,7 @@ pub common-global : (S : State) (e : Event) (g : Grant) → subject S e ≡ Glob
 unfolding one
 common-global S e g is = ap (λ s. common (one_of s S e g).state) is
 
--- a thing that passes is some zone's
+-- lists with the same held by each zone have the same among them
 module _ {A : Type 0} (p : A → Bool) where
   pub any_own : (os : List (Owned A)) → list_any (λ o. p o.it) os ≡ true → (z : Name) × (list_any p (mine z os) ≡ true)
   any_own [] h = absurd (false≢true h)
@@ -162,23 +157,23 @@ module _ {A : Type 0} (p : A → Bool) where
       at_tests ih true false e f h = simp f (ih (simp (e, f) at h))
       at_tests ih false false e f h = simp f (ih (simp e at h))
 
+  pub same_any : (os ps : List (Owned A)) → ((z : Name) → list_any p (mine z os) ≡ list_any p (mine z ps)) → list_any (λ o. p o.it) os ≡ list_any (λ o. p o.it) ps
+  same_any os ps h = at_tests (list_any (λ o. p o.it) os) (list_any (λ o. p o.it) ps) refl refl
+    where
+      passes : (xs ys : List (Owned A)) → ((z : Name) → list_any p (mine z xs) ≡ list_any p (mine z ys)) → list_any (λ o. p o.it) xs ≡ true → list_any (λ o. p o.it) ys ≡ true
+      passes xs ys same e = let found = any_own xs e in any_mine found.0 ys (sym (same found.0) ∙ found.1)
+
+      at_tests : (b c : Bool) → list_any (λ o. p o.it) os ≡ b → list_any (λ o. p o.it) ps ≡ c → b ≡ c
+      at_tests true true e f = refl
+      at_tests false false e f = refl
+      at_tests true false e f = sym (passes os ps h e) ∙ f
+      at_tests false true e f = sym e ∙ passes ps os (λ z. sym (h z)) f
+
 -- what the pools know, whose an event is, and what is allowed and fits, from what is common and the zone's world
-same_used : {A : Type 0} (p : A → Bool) (os ps : List (Owned A)) → ((z : Name) → list_any p (mine z os) ≡ list_any p (mine z ps)) → list_any (λ o. p o.it) os ≡ list_any (λ o. p o.it) ps
-same_used {A} p os ps h = at_tests (list_any (λ o. p o.it) os) (list_any (λ o. p o.it) ps) refl refl
-  where
-    passes : (xs ys : List (Owned A)) → ((z : Name) → list_any p (mine z xs) ≡ list_any p (mine z ys)) → list_any (λ o. p o.it) xs ≡ true → list_any (λ o. p o.it) ys ≡ true
-    passes xs ys same e = let found = any_own p xs e in any_mine p found.0 ys (sym (same found.0) ∙ found.1)
-
-    at_tests : (b c : Bool) → list_any (λ o. p o.it) os ≡ b → list_any (λ o. p o.it) ps ≡ c → b ≡ c
-    at_tests true true e f = refl
-    at_tests false false e f = refl
-    at_tests true false e f = sym (passes os ps h e) ∙ f
-    at_tests false true e f = sym e ∙ passes ps os (λ z. sym (h z)) f
-
 pub pools-common : (S T : State) → common S ≡ common T → pools_of S ≡ pools_of T
 pools-common S T h = λ i. record {
-  pid_used = λ n. same_used (has_pid n) S.processes T.processes (λ z. ap (λ k. k.pids z n) h) i;
-  zid_used = λ n. same_used (has_zid n) S.ids T.ids (λ z. ap (λ k. k.zids z n) h) i;
+  pid_used = λ n. same_any (has_pid n) S.processes T.processes (λ z. ap (λ k. k.pids z n) h) i;
+  zid_used = λ n. same_any (has_zid n) S.ids T.ids (λ z. ap (λ k. k.zids z n) h) i;
   last_pid = (h i).last_pid;
   last_zid = (h i).last_zid;
   zones = length (h i).rows;
@@ -198,8 +193,8 @@ session-common line (At x c) (At y d) h = ap Zone (at_zone (bytes_eq x y) refl)
 
 pub subject-common : (S T : State) (e : Event) → common S ≡ common T → subject S e ≡ subject T e
 unfolding subject
-subject-common S T (event.Session n text) h = session-common (line_of text) (S.sessions n) (T.sessions n) (λ z. ap (λ k. k.sessions z n) h)
-subject-common S T (event.Turn z) h = refl
+subject-common S T (Session n text) h = session-common (line_of text) (S.sessions n) (T.sessions n) (λ z. ap (λ k. k.sessions z n) h)
+subject-common S T (Turn z) h = refl
 
 pub need-common : (z : Name) (S T : State) (e : Event) → subject S e ≡ Zone z → common S ≡ common T → world z S ≡ world z T → need S e ≡ need T e
 need-common z S T e is h w = need-world z S T e is (sym (subject-common S T e h) ∙ is) w

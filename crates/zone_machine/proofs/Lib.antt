@@ -3,6 +3,10 @@ mod Turn_examples
 pub mod Same_laws
 pub mod Acts_laws
 pub mod Own_worlds
+pub mod Turned_laws
+pub mod Turn_cases
+pub mod Common_laws
+pub mod Local_laws
 pub mod Words
 pub mod Passing
 pub mod Results
