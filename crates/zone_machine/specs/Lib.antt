@@ -1,4 +1,7 @@
 pub mod State
+pub mod Desks
+pub mod Objects
+pub mod Arrivals
 pub mod Worlds
 pub mod Edits
 pub mod Decisions
@@ -8,14 +11,8 @@ pub mod Typed
 pub mod Plans
 pub mod Turns
 pub mod Desks_seen
-pub mod Sessions_seen
-pub mod Lists_seen
-pub mod Turns_seen
+pub mod Cases
 pub mod Needs_seen
-pub mod Numbers_seen
-pub mod Tables
-pub mod Acts_seen
-pub mod Steps
 pub mod Machine
 pub mod Same
 pub mod Pools

@@ -4,35 +4,26 @@
 //! the state after.
 #![tactic(auto)]
 
-mod acts;
+mod cases;
 mod daemon;
 mod desks;
 mod events;
 mod faults;
-mod grants;
+mod line_cases;
 mod lines;
-mod lists;
-mod machine;
 mod needs;
-mod numbers;
 mod objects;
-mod plan_steps;
+mod plan_cases;
 mod plans;
-mod pools;
 mod records;
 mod replies;
-mod sessions;
-mod sights;
-mod steps;
-mod tables;
-mod turns;
-mod typing;
+mod settling;
+mod turn_cases;
 mod work;
 
 pub use daemon::{Change, ChangeKind, Outcome, RequestKind, Step, TurnReply};
 pub use events::{Entry, Event, SESSION_MAX, Subject};
 pub use faults::StepFault;
-pub use machine::Machine;
 pub use objects::{Id, Mount, Process};
 pub use records::{Commit, Config, Record};
 pub use replies::{Body, Head, Refusal, Reply};
