@@ -1,5 +1,5 @@
 -- What the code's cases decide, and what its works do, as the definitions have it.
-use Rattle.std.specs.Prelude.{◌≡◌, ℕ, ◌+◌, ◌<◌, List, [], ◌∷◌, ◌++◌, drop, length, map, false, Option, Some, None, IfSome, IsSomeAnd, vec_capacity, vec_len}
+use Rattle.std.specs.Prelude.{◌≡◌, ℕ, ◌+◌, ◌<◌, List, [], ◌∷◌, ◌++◌, drop, length, map, Bool, true, false, Option, Some, None, IfSome, IsSomeAnd, vec_capacity, vec_len}
 use Rattle.std.specs.Option.{option_map}
 use Rattle.zn_base.specs.Names.{Name}
 use Rattle.zn_base.specs.declared.state.ZoneState.{ZoneState}
@@ -66,6 +66,10 @@ abbrev pub shown_under : Came → ℕ → Step
 shown_under (Process p) n = step.Init (Some n)
 shown_under (Id i) n = step.Zid (Some n)
 shown_under (Record r) n = step.Record r.state
+
+abbrev pub is_unmount : Step → Bool
+is_unmount (step.Unmount dir) = true
+is_unmount _ = false
 
 -- the zone's state on its desk after a step
 abbrev pub active_with : Step → Option ZoneState → Option ZoneState

@@ -1,11 +1,10 @@
 //! What the steps of a request's plan come to, each one turn of the zone's daemon.
 ghost use Rattle.std.specs.Prelude.{◌++◌, ◌+◌, ◌-◌, ◌<◌, ◌∷◌, ◌≡◌, ◌^◌, IfOk, Some, codes, drop, false, length};
 ghost use Rattle.std.specs.Option.{option_map};
-ghost use Rattle.zone_machine.specs.Cases.{IsJobCase, IsNamedJobCase, job_turn, objects_seen};
+ghost use Rattle.zone_machine.specs.Cases.{IsJobCase, IsNamedJobCase, is_unmount, job_turn, objects_seen};
 ghost use Rattle.zone_machine.specs.Desks as desks;
 ghost use Rattle.zone_machine.specs.Desks_seen.{job_seen};
 ghost use Rattle.zone_machine.specs.Objects.{last_dir, zid_of};
-ghost use Rattle.zone_machine.specs.Plans.{is_unmount};
 ghost use Rattle.zone_machine.specs.Turns.{count_of, init_process, root_mount, step};
 
 use crate::cases::{JobCase, Pass};

@@ -46,8 +46,7 @@ fn numbered(it: Came, number: u32) -> Came
     match it {
         Came::Process(process) => Came::Process(Process {
             pid: number,
-            parent: process.parent,
-            name: process.name,
+            ..process
         }),
         Came::Id(_) => Came::Id(Id { zid: number }),
         Came::Record(record) => Came::Record(record),
@@ -76,13 +75,14 @@ fn ask(job: &mut Job, coming: Coming, next: usize, grant: Grant) -> Work
         Ok(number) => {
             let shown = shown_under(&coming.it, number);
             job.pass(next, &shown);
-            Work::bringing(
-                Coming {
-                    it: numbered(coming.it, number),
-                    owner: coming.owner,
-                },
-                TurnReply::Stepped(shown),
-            )
+            let came = Coming {
+                it: numbered(coming.it, number),
+                owner: coming.owner,
+            };
+            Work {
+                came: Some(came),
+                ..Work::turned(ObjectEdit::Nothing, TurnReply::Stepped(shown))
+            }
         }
         Err(pool) => {
             let outcome = Outcome::Denied(pool);
@@ -104,11 +104,17 @@ fn settle_job(desk: &mut Desk, job: Job, case: JobCase, grant: Grant) -> Work
     let mut job = job;
     match case {
         JobCase::Finish(outcome) => Work::finished(job.ticket, outcome),
-        JobCase::Pass(pass) => {
-            job.pass(pass.next, &pass.shown);
+        JobCase::Pass(
+            Pass {
+                next,
+                objects,
+                shown,
+            },
+        ) => {
+            job.pass(next, &shown);
             desk.job = Some(job);
-            desk.active = active_with(&pass.shown, desk.active);
-            Work::turned(pass.objects, TurnReply::Stepped(pass.shown))
+            desk.active = active_with(&shown, desk.active);
+            Work::turned(objects, TurnReply::Stepped(shown))
         }
         JobCase::Ask(coming, next) => {
             let work = ask(&mut job, coming, next, grant);
@@ -166,20 +172,13 @@ fn make(row: Record, owner: ZoneName, grant: Grant) -> Work
 {
     match number_in(grant) {
         Ok(revision) => {
-            let row = Record {
-                state: row.state,
-                revision,
-                config: row.config,
+            let came = Coming {
+                it: Came::Record(Record { revision, ..row }),
+                owner,
             };
             Work {
-                came: Some(Coming {
-                    it: Came::Record(row),
-                    owner,
-                }),
-                objects: ObjectEdit::Nothing,
-                sits: None,
-                ended: None,
-                head: Head::Ok,
+                came: Some(came),
+                ..Work::saying(Head::Ok)
             }
         }
         Err(pool) => Work::saying(Head::Refused(Refusal::Denied(pool))),
@@ -197,11 +196,8 @@ fn put(desk: &mut Desk, kind: RequestKind, owner: ZoneName) -> Work
     desk.waiting.push_reserved((ticket, kind));
     desk.last = ticket;
     Work {
-        came: None,
-        objects: ObjectEdit::Nothing,
         sits: Some(Sitting { ticket, owner }),
-        ended: None,
-        head: Head::Ticket(ticket),
+        ..Work::saying(Head::Ticket(ticket))
     }
 }
 
