@@ -195,6 +195,11 @@ work_act w d = record {
   effect = record { edits = map Of_objects (object_edits w.objects) ++ (Set_desk d ∷ (sits w.sits ++ sweeps w.ended)); reply = says w.head };
 }
 
+-- the request under way, where none ended
+abbrev pub unless_ended : Option ℕ → desks.Job → Option desks.Job
+unless_ended None j = Some j
+unless_ended (Some ticket) j = None
+
 -- the work does what an act says in a world, and leaves the desk so
 pub record Works (n : Option ℕ) (a : Act) (v : World) (d : desks.Desk) (w : Work) : Type 0 where
   pub came : option_map (λ c. arrival_of c.it) w.came ≡ a.came

@@ -2,7 +2,7 @@
 ghost use Rattle.std.specs.Prelude.{◌+◌, ◌<◌, ◌∷◌, ◌≡◌, IfSome, None, Option, Some, drop, false, length, vec_capacity, vec_len, ℕ};
 ghost use Rattle.zn_base.specs.Names.{Name};
 ghost use Rattle.zone_machine.specs.Arrivals.{arrived};
-ghost use Rattle.zone_machine.specs.Cases.{HasJobRoom, HasRoomFor, HasTurnRoom, HasUndoRoom, IsCaseOf, IsJobCase, IsNamedCase, IsNamedJobCase, IsNamedTurn, IsNamedWork, IsTurnOf, Works, active_with, arrival_of, case_seen, comes_of, job_turn, made, shown_under, sitting_of, turn_seen, work_act};
+ghost use Rattle.zone_machine.specs.Cases.{HasJobRoom, HasRoomFor, HasTurnRoom, HasUndoRoom, IsCaseOf, IsJobCase, IsNamedCase, IsNamedJobCase, IsNamedTurn, IsNamedWork, IsTurnOf, Works, active_with, arrival_of, case_seen, comes_of, job_turn, made, shown_under, sitting_of, turn_seen, unless_ended, work_act};
 ghost use Rattle.zone_machine.specs.Decisions.{act_of, effects, turned};
 ghost use Rattle.zone_machine.specs.Desks as desks;
 ghost use Rattle.zone_machine.specs.Desks_seen.{desk_seen, job_seen};
@@ -67,7 +67,7 @@ fn shown_under(it: &Came, number: u32) -> Step
 // A step asks a pool for what comes.
 fn ask(job: &mut Job, coming: Coming, next: usize, grant: Grant) -> Work
     requires { HasUndoRoom job.old }
-    ensures act { (d : desks.Desk) → act_of (effects turned (job_turn d (job_seen job.old) job.old.steps.items (JobCase.Ask coming next))) grant ≡ work_act result (record d { job = Some (job_seen job.new) }) }
+    ensures act { (d : desks.Desk) → act_of (effects turned (job_turn d (job_seen job.old) job.old.steps.items (JobCase.Ask coming next))) grant ≡ work_act result (record d { job = unless_ended result.ended (job_seen job.new) }) }
     ensures sits { result.sits ≡ None }
     ensures owner { IfSome result.came (λ c. c.owner ≡ coming.owner) }
 {
@@ -92,38 +92,24 @@ fn ask(job: &mut Job, coming: Coming, next: usize, grant: Grant) -> Work
     }
 }
 
-// The request under way, which is off the desk, goes on.
-fn settle_job(desk: &mut Desk, job: Job, case: JobCase, grant: Grant) -> Work
-    requires none { desk.old.job ≡ None }
-    requires of { IsJobCase job case }
-    requires room { HasJobRoom job case }
-    ensures act { (o : Option desks.Job) → act_of (effects turned (job_turn (record (desk_seen desk.old) { job = o }) (job_seen job) job.steps.items case)) grant ≡ work_act result (desk_seen desk.new) }
+// The request under way goes on, or ends.
+fn settle_job(job: &mut Job, active: &mut Option<ZoneState>, case: JobCase, grant: Grant) -> Work
+    requires of { IsJobCase job.old case }
+    requires room { HasJobRoom job.old case }
+    ensures act { (d : desks.Desk) → d.active ≡ active.old → act_of (effects turned (job_turn d (job_seen job.old) job.old.steps.items case)) grant ≡ work_act result (record d { job = unless_ended result.ended (job_seen job.new); active = active.new }) }
     ensures sits { result.sits ≡ None }
     ensures named { (z : Name) → IsNamedJobCase z case → IfSome result.came (λ c. c.owner ≡ z) }
 {
-    let mut job = job;
     match case {
         JobCase::Finish(outcome) => Work::finished(job.ticket, outcome),
-        JobCase::Pass(
-            Pass {
-                next,
-                objects,
-                shown,
-            },
-        ) => {
-            job.pass(next, &shown);
-            desk.job = Some(job);
-            desk.active = active_with(&shown, desk.active);
-            Work::turned(objects, TurnReply::Stepped(shown))
+        JobCase::Pass(pass) => {
+            job.pass(pass.next, &pass.shown);
+            *active = active_with(&pass.shown, *active);
+            Work::turned(pass.objects, TurnReply::Stepped(pass.shown))
         }
-        JobCase::Ask(coming, next) => {
-            let work = ask(&mut job, coming, next, grant);
-            desk.job = Some(job);
-            work
-        }
+        JobCase::Ask(coming, next) => ask(job, coming, next, grant),
         JobCase::Undo(objects) => {
             let shown = job.take_undo();
-            desk.job = Some(job);
             Work::turned(objects, TurnReply::Undone(shown))
         }
     }
@@ -157,8 +143,14 @@ fn settle_turn(desk: &mut Desk, case: TurnCase, grant: Grant) -> Work
             desk.job = None;
             Work::finished(ticket, Outcome::WrongState(state))
         }
-        TurnCase::GoOn(case) => match desk.job.take() {
-            Some(job) => settle_job(desk, job, case, grant),
+        TurnCase::GoOn(case) => match &mut desk.job {
+            Some(job) => {
+                let work = settle_job(job, &mut desk.active, case, grant);
+                if work.ended.is_some() {
+                    desk.job = None;
+                }
+                work
+            }
             None => unreachable!(),
         },
     }
