@@ -8,14 +8,10 @@ pub mod Turn_cases
 pub mod Common_laws
 pub mod Local_laws
 pub mod Words
-pub mod Passing
-pub mod Results
-pub mod Asking
+pub mod Latest
 pub mod Pools_laws
-pub mod Seeing
 pub mod Lists_laws
 pub mod Waits_laws
 pub mod Doing_laws
-pub mod Common_laws
 pub mod Standing
 pub mod Stepping

@@ -143,6 +143,24 @@ abbrev pub subject_in : Shared → Event → Subject
 subject_in s (event.Session n text) = subject_at (line_of text) (owner nat_eq s.sessions n)
 subject_in s (event.Turn z) = Zone z
 
+-- an event as it is read once: whose it is, its case in a view, the session that it is typed in, and what it is answered where
+-- it is no zone's
+abbrev pub subject_read : Shared → Read → Subject
+subject_read s (read.Line n line) = subject_at (line_seen line) (owner nat_eq s.sessions n)
+subject_read s (read.Turn z) = Zone z.now
+
+abbrev pub decide_read : View → Read → Decision
+decide_read v (read.Line n line) = typed v (v.world.sessions n) (line_seen line)
+decide_read v (read.Turn z) = turn v
+
+abbrev pub number_read : Read → Option ℕ
+number_read (read.Line n line) = Some n
+number_read (read.Turn z) = None
+
+abbrev pub global_read : Read → Reply
+global_read (read.Line n line) = global_line (line_seen line)
+global_read (read.Turn z) = says Ok
+
 -- the case of an event of a cell's zone, by the cell and what is stored of its zone
 abbrev pub decide_in : Option Record → Cell → Event → Decision
 decide_in row c e = decide (view_of c.zone (cell_world row c)) e
@@ -150,3 +168,8 @@ decide_in row c e = decide (view_of c.zone (cell_world row c)) e
 -- the same of a zone, by the parts
 abbrev pub decide_of : Name → Parts → Event → Decision
 decide_of z p e = decide (view_of z (world_or_empty (row_in z p.shared) (cell_at z p))) e
+
+-- what some work does to a world beside its change of the desk
+abbrev pub work_world : Option ℕ → Work → World → World
+work_world n w v =
+    edits_world n (sweeps w.ended) (edits_world n (sits w.sits) (edits_world n (map Of_objects (object_edits w.objects)) (after_came_world (option_map (λ c. arrival_of c.it) w.came) v)))

@@ -1,101 +1,118 @@
-//! What an event does, on its zone's cell and on the shared part.
-ghost use Rattle.std.specs.Prelude.{◌≡◌, ℕ, IfOk, None, OnOk, Option, Some, if◌then◌else◌};
+//! What an event does, on its zone's cell and on the shared part. All room for it has been taken, so nothing here takes
+//! memory or fails.
+ghost use Rattle.std.specs.Prelude.{◌≡◌, ◌<◌, ℕ, IfSome, None, Option, Some, false, true, vec_capacity, vec_len, if◌then◌else◌};
 ghost use Rattle.std.specs.Option.{option_map};
-ghost use Rattle.zone_machine.specs.Cells.{Does, kept};
-ghost use Rattle.zone_machine.specs.Common.{came_common};
-ghost use Rattle.zone_machine.specs.Decisions.{after_came_world};
-ghost use Rattle.zone_machine.specs.Edits.{New_id, New_process, New_record, comes_world, edits_world};
-ghost use Rattle.zone_machine.specs.Turns_seen.{arrival_of, object_edits, sits, sweeps, work_world};
+ghost use Rattle.indexmap.specs.IndexMap.{spare};
 ghost use Rattle.zone_pools.specs.Owners.{owner};
+ghost use Rattle.zone_pools.specs.Pools.{has_room};
+ghost use Rattle.zone_machine.specs.Cases.{IsCaseOf, IsNamedCase, IsNamedWork, arrival_of, case_seen, object_edits, sits};
+ghost use Rattle.zone_machine.specs.Cells.{Does, kept, pools_in, row_in, cell_world, work_world};
+ghost use Rattle.zone_machine.specs.Common.{came_common};
+ghost use Rattle.zone_machine.specs.Decisions.{act_of, acts_world, after_came_world, says, sweeps};
+ghost use Rattle.zone_machine.specs.Arrivals.{New_id, New_process, New_record};
+ghost use Rattle.zone_machine.specs.Edits.{Of_objects, comes_world, edits_world};
+ghost use Rattle.zone_machine.specs.Rooms.{HasRoom, HasRoomOf, HasRoomToChange, HasRoomToSit, IsFreeOf, IsOpenTo};
 
+use crate::cases::Case;
 use crate::cell::Cell;
 use crate::lists::{enter, unmount};
-use crate::objects::{Id, Process};
-use crate::pools::has_room;
+use crate::objects::{Id, Mount, Process};
 use crate::records::Record;
 use crate::replies::Head;
+use crate::settling::settle;
 use crate::shared::Shared;
 use crate::waits::{end_waits, wait};
-use crate::work::{Came, ObjectEdit, Work};
-use std::alloc::{AllocError, Global};
+use crate::work::{Came, Coming, ObjectEdit, Sitting, Work};
 use std::hash::Hash;
 use zn_base::ZoneName;
-use zone_pools::Owners;
+use zone_pools::{Grant, Owners};
 
 // What nobody holds is the zone's from now on.
-fn take<K: Eq + Hash + Drop>(
-    owners: &mut Owners<K>,
-    key: K,
-    zone: ZoneName,
-) -> Result<(), AllocError>
-    ensures free { OnOk result (owner K.eq owners.old key ≡ None) }
-    ensures taken { OnOk result ((k : K) → owner K.eq owners.new k ≡ (if K.eq key k then Some zone else owner K.eq owners.old k)) }
+fn take<K: Eq + Hash + Drop>(owners: &mut Owners<K>, key: K, zone: ZoneName)
+    requires free { owner K.eq owners.old key ≡ None }
+    requires room { 0 < owners.old.room }
+    ensures { (k : K) → owner K.eq owners.new k ≡ (if K.eq key k then Some zone else owner K.eq owners.old k) }
 {
-    // No grant gives what somebody holds, so this is never answered.
-    if owners.is_held(&key) {
-        return Err(AllocError);
+    match owners.take(key, zone) {
+        Ok(()) => {}
+        Err(_) => unreachable!(),
     }
-    owners.take(key, zone)
 }
 
 // A process begins.
-fn begin(
-    cell: &mut Cell,
-    shared: &mut Shared,
-    alloc: Global,
-    process: Process,
-) -> Result<(), AllocError>
-    ensures { OnOk result (Does (comes_world (New_process process)) (came_common cell.old.zone (Some (New_process process))) cell.old shared.old cell.new shared.new) }
+fn begin(cell: &mut Cell, shared: &mut Shared, process: Process, owner: ZoneName)
+    requires owner { owner ≡ cell.old.zone }
+    requires free { (pools_in shared.old).pid_used process.pid ≡ false }
+    requires list { vec_len cell.old.processes < vec_capacity cell.old.processes }
+    requires room { 0 < shared.old.pids.room }
+    ensures { Does (comes_world (New_process process)) (came_common cell.old.zone (Some (New_process process))) cell.old shared.old cell.new shared.new }
 {
-    take(&mut shared.pids, process.pid, cell.zone.copy(alloc)?)?;
-    shared.last_pid = process.pid;
-    enter(&mut cell.processes, process)?;
-    Ok(())
+    let pid = process.pid;
+    take(&mut shared.pids, pid, owner);
+    shared.last_pid = pid;
+    enter(&mut cell.processes, process);
 }
 
 // The zone gets an id.
-fn give_id(cell: &mut Cell, shared: &mut Shared, alloc: Global, id: Id) -> Result<(), AllocError>
-    ensures { OnOk result (Does (comes_world (New_id id)) (came_common cell.old.zone (Some (New_id id))) cell.old shared.old cell.new shared.new) }
+fn give_id(cell: &mut Cell, shared: &mut Shared, id: Id, owner: ZoneName)
+    requires owner { owner ≡ cell.old.zone }
+    requires free { (pools_in shared.old).zid_used id.zid ≡ false }
+    requires list { vec_len cell.old.ids < vec_capacity cell.old.ids }
+    requires room { 0 < shared.old.zids.room }
+    ensures { Does (comes_world (New_id id)) (came_common cell.old.zone (Some (New_id id))) cell.old shared.old cell.new shared.new }
 {
-    take(&mut shared.zids, id.zid, cell.zone.copy(alloc)?)?;
+    take(&mut shared.zids, id.zid, owner);
     shared.last_zid = id.zid;
-    cell.ids.push(id)?;
-    Ok(())
+    cell.ids.push_reserved(id);
 }
 
 // What is stored of the zone from now on.
-fn store(cell: &Cell, shared: &mut Shared, alloc: Global, row: Record) -> Result<(), AllocError>
-    ensures { OnOk result (Does (comes_world (New_record (Some row))) (came_common cell.now.zone (Some (New_record (Some row)))) cell.now shared.old cell.now shared.new) }
+fn store(cell: &Cell, shared: &mut Shared, row: Record, owner: ZoneName)
+    requires owner { owner ≡ cell.now.zone }
+    requires free { has_room (pools_in shared.old) ≡ true }
+    requires room { 0 < spare shared.old.rows }
+    ensures { Does (comes_world (New_record (Some row))) (came_common cell.now.zone (Some (New_record (Some row)))) cell.now shared.old cell.now shared.new }
 {
-    // Such a record can't be counted. The pools give no number for it, so this is never answered.
-    if !has_room(shared) {
-        return Err(AllocError);
+    match shared.rows.insert(owner, row) {
+        Ok(_) => {}
+        Err(_) => unreachable!(),
     }
-    shared.rows.insert(cell.zone.copy(alloc)?, row)?;
     shared.serial += 1;
-    Ok(())
 }
 
 // What came with a grant.
-fn take_in(
-    cell: &mut Cell,
-    shared: &mut Shared,
-    alloc: Global,
-    came: Option<Came>,
-) -> Result<(), AllocError>
-    ensures { OnOk result (Does (after_came_world (option_map arrival_of came)) (came_common cell.old.zone (option_map arrival_of came)) cell.old shared.old cell.new shared.new) }
+fn take_in(cell: &mut Cell, shared: &mut Shared, coming: Coming)
+    requires owner { coming.owner ≡ cell.old.zone }
+    requires free { IsFreeOf (Some (arrival_of coming.it)) (pools_in shared.old) }
+    requires room { HasRoomOf (Some (arrival_of coming.it)) cell.old shared.old }
+    ensures { Does (comes_world (arrival_of coming.it)) (came_common cell.old.zone (Some (arrival_of coming.it))) cell.old shared.old cell.new shared.new }
+{
+    match coming.it {
+        Came::Process(process) => begin(cell, shared, process, coming.owner),
+        Came::Id(id) => give_id(cell, shared, id, coming.owner),
+        Came::Record(record) => store(cell, shared, record, coming.owner),
+    }
+}
+
+// What came, if anything did.
+fn take_in_some(cell: &mut Cell, shared: &mut Shared, came: Option<Coming>)
+    requires owner { IfSome came (λ c. c.owner ≡ cell.old.zone) }
+    requires free { IsFreeOf (option_map (λ c. arrival_of c.it) came) (pools_in shared.old) }
+    requires room { HasRoomOf (option_map (λ c. arrival_of c.it) came) cell.old shared.old }
+    ensures does { Does (after_came_world (option_map (λ c. arrival_of c.it) came)) (came_common cell.old.zone (option_map (λ c. arrival_of c.it) came)) cell.old shared.old cell.new shared.new }
+    ensures mounts { cell.new.mounts ≡ cell.old.mounts }
+    ensures waits { cell.new.waits ≡ cell.old.waits }
+    ensures sessions { shared.new.sessions ≡ shared.old.sessions }
 {
     match came {
-        Some(Came::Process(process)) => begin(cell, shared, alloc, process),
-        Some(Came::Id(id)) => give_id(cell, shared, alloc, id),
-        Some(Came::Record(record)) => store(cell, shared, alloc, record),
-        None => Ok(()),
+        Some(coming) => take_in(cell, shared, coming),
+        None => {}
     }
 }
 
 // All processes end.
 fn end_processes(cell: &mut Cell, shared: &mut Shared)
-    ensures { (n : Option ℕ) → Does (edits_world n (object_edits ObjectEdit.EndProcesses)) kept cell.old shared.old cell.new shared.new }
+    ensures { (n : Option ℕ) → Does (edits_world n (map Of_objects (object_edits ObjectEdit.EndProcesses))) kept cell.old shared.old cell.new shared.new }
 {
     shared.pids.give_all_back(&cell.processes);
     cell.processes.clear();
@@ -103,53 +120,49 @@ fn end_processes(cell: &mut Cell, shared: &mut Shared)
 
 // The zone gives its id back.
 fn end_ids(cell: &mut Cell, shared: &mut Shared)
-    ensures { (n : Option ℕ) → Does (edits_world n (object_edits ObjectEdit.EndIds)) kept cell.old shared.old cell.new shared.new }
+    ensures { (n : Option ℕ) → Does (edits_world n (map Of_objects (object_edits ObjectEdit.EndIds))) kept cell.old shared.old cell.new shared.new }
 {
     shared.zids.give_all_back(&cell.ids);
     cell.ids.clear();
 }
 
-fn edit_objects(cell: &mut Cell, shared: &mut Shared, edit: ObjectEdit) -> Result<(), AllocError>
-    ensures { OnOk result ((n : Option ℕ) → Does (edits_world n (object_edits edit)) kept cell.old shared.old cell.new shared.new) }
+fn edit_objects(cell: &mut Cell, shared: &mut Shared, edit: ObjectEdit)
+    requires { HasRoomToChange edit cell.old }
+    ensures does { (n : Option ℕ) → Does (edits_world n (map Of_objects (object_edits edit))) kept cell.old shared.old cell.new shared.new }
+    ensures waits { cell.new.waits ≡ cell.old.waits }
+    ensures sessions { shared.new.sessions ≡ shared.old.sessions }
 {
     match edit {
         ObjectEdit::Nothing => {}
         ObjectEdit::EndProcesses => end_processes(cell, shared),
-        ObjectEdit::Mount(mount) => cell.mounts.push(mount)?,
+        ObjectEdit::Mount(mount) => cell.mounts.push_reserved(mount),
         ObjectEdit::Unmount(dir) => unmount(&mut cell.mounts, &dir),
         ObjectEdit::EndIds => end_ids(cell, shared),
     }
-    Ok(())
 }
 
 // A session waits for a ticket.
-fn sit(
-    cell: &mut Cell,
-    shared: &mut Shared,
-    alloc: Global,
-    number: u8,
-    ticket: u32,
-) -> Result<(), AllocError>
-    ensures { OnOk result (Does (edits_world (Some number) (sits (Some ticket))) kept cell.old shared.old cell.new shared.new) }
+fn sit(cell: &mut Cell, shared: &mut Shared, number: u8, sitting: Sitting)
+    requires owner { sitting.owner ≡ cell.old.zone }
+    requires open { IsOpenTo cell.old.zone (owner nat_eq shared.old.sessions number) }
+    requires room { HasRoomToSit cell.old shared.old }
+    ensures { Does (edits_world (Some number) (sits (Some sitting))) kept cell.old shared.old cell.new shared.new }
 {
-    take(&mut shared.sessions, number, cell.zone.copy(alloc)?)?;
-    wait(&mut cell.waits, number, ticket)?;
-    Ok(())
+    shared.sessions.give_back(&number);
+    take(&mut shared.sessions, number, sitting.owner);
+    wait(&mut cell.waits, number, sitting.ticket);
 }
 
 // The event's session waits from now on, if it does.
-fn sit_down(
-    cell: &mut Cell,
-    shared: &mut Shared,
-    alloc: Global,
-    number: Option<u8>,
-    waits: Option<u32>,
-) -> Result<(), AllocError>
-    ensures { OnOk result (Does (edits_world number (sits waits)) kept cell.old shared.old cell.new shared.new) }
+fn sit_down(cell: &mut Cell, shared: &mut Shared, number: Option<u8>, sitting: Option<Sitting>)
+    requires owner { IfSome sitting (λ s. s.owner ≡ cell.old.zone) }
+    requires open { IfSome number (λ n. IsOpenTo cell.old.zone (owner nat_eq shared.old.sessions n)) }
+    requires room { IfSome sitting (λ s. HasRoomToSit cell.old shared.old) }
+    ensures { Does (edits_world number (sits sitting)) kept cell.old shared.old cell.new shared.new }
 {
-    match (number, waits) {
-        (Some(number), Some(ticket)) => sit(cell, shared, alloc, number, ticket),
-        _ => Ok(()),
+    match (number, sitting) {
+        (Some(number), Some(sitting)) => sit(cell, shared, number, sitting),
+        _ => {}
     }
 }
 
@@ -162,20 +175,40 @@ fn end_ticket(cell: &mut Cell, shared: &mut Shared, ended: Option<u32>)
     }
 }
 
-/// What an event does beside its change of the desk.
-pub(crate) fn carry_out(
+// What an event does beside its change of the desk.
+fn carry_out(cell: &mut Cell, shared: &mut Shared, number: Option<u8>, work: Work) -> Head
+    requires named { IsNamedWork cell.old.zone work }
+    requires free { IsFreeOf (option_map (λ c. arrival_of c.it) work.came) (pools_in shared.old) }
+    requires came { HasRoomOf (option_map (λ c. arrival_of c.it) work.came) cell.old shared.old }
+    requires objects { HasRoomToChange work.objects cell.old }
+    requires sits { IfSome work.sits (λ s. HasRoomToSit cell.old shared.old) }
+    requires open { IfSome number (λ n. IsOpenTo cell.old.zone (owner nat_eq shared.old.sessions n)) }
+    ensures head { result ≡ work.head }
+    ensures does { Does (work_world number work) (came_common cell.old.zone (option_map (λ c. arrival_of c.it) work.came)) cell.old shared.old cell.new shared.new }
+{
+    take_in_some(cell, shared, work.came);
+    edit_objects(cell, shared, work.objects);
+    sit_down(cell, shared, number, work.sits);
+    end_ticket(cell, shared, work.ended);
+    work.head
+}
+
+/// A case is done under a grant that fits.
+pub(crate) fn perform(
     cell: &mut Cell,
     shared: &mut Shared,
-    alloc: Global,
     number: Option<u8>,
-    work: Work,
-) -> Result<Head, AllocError>
-    ensures head { IfOk result (λ head. head ≡ work.head) }
-    ensures does { OnOk result (Does (work_world number work) (came_common cell.old.zone (option_map arrival_of work.came)) cell.old shared.old cell.new shared.new) }
+    case: Case,
+    grant: Grant,
+) -> Head
+    requires of { IsCaseOf cell.old.desk case }
+    requires named { IsNamedCase cell.old.zone case }
+    requires room { HasRoom case cell.old shared.old }
+    requires free { IsFreeOf (act_of (case_seen cell.old.desk case) grant).came (pools_in shared.old) }
+    requires open { IfSome number (λ n. IsOpenTo cell.old.zone (owner nat_eq shared.old.sessions n)) }
+    ensures head { says result ≡ (act_of (case_seen cell.old.desk case) grant).effect.reply }
+    ensures does { Does (acts_world number (act_of (case_seen cell.old.desk case) grant)) (came_common cell.old.zone (act_of (case_seen cell.old.desk case) grant).came) cell.old shared.old cell.new shared.new }
 {
-    take_in(cell, shared, alloc, work.came)?;
-    edit_objects(cell, shared, work.objects)?;
-    sit_down(cell, shared, alloc, number, work.waits)?;
-    end_ticket(cell, shared, work.ended);
-    Ok(work.head)
+    let work = settle(&mut cell.desk, case, grant);
+    carry_out(cell, shared, number, work)
 }

@@ -4,6 +4,7 @@
 //! the state after.
 #![tactic(auto)]
 
+mod cases;
 mod cell;
 mod daemon;
 mod desks;
@@ -11,6 +12,7 @@ mod effects;
 mod events;
 mod faults;
 mod laws;
+mod line_cases;
 mod lines;
 mod lists;
 mod machine;
@@ -18,16 +20,16 @@ mod needs;
 mod numbers;
 mod objects;
 mod parts;
-mod plan_steps;
+mod plan_cases;
 mod plans;
 mod pools;
 mod records;
 mod replies;
+mod rooms;
+mod settling;
 mod shared;
-mod sights;
 mod steps;
-mod turns;
-mod typing;
+mod turn_cases;
 mod waits;
 mod work;
 

@@ -1,37 +1,58 @@
-//! One event of a zone, on its cell and on the shared part.
-ghost use Rattle.std.specs.Prelude.{◌≡◌, ℕ, IfOk, IsErrOf, IsOkUnless, Option, Some};
+//! One event of a zone, on its cell and on the shared part: it is read, its case is decided, its grant is found or
+//! looked at, room is taken, and only then anything is changed.
+ghost use Rattle.std.specs.Prelude.{◌≡◌, ◌⊎◌, IfOk, IsErrOf, IsOkUnless, None, OnErr, Some, Option};
 ghost use Rattle.std.specs.Option.{option_map};
-ghost use Rattle.zone_machine.specs.Cells.{cell_world, decide_in, subject_in};
+ghost use Rattle.zone_machine.specs.Cases.{IsCaseOf, IsNamedCase, case_seen};
+ghost use Rattle.zone_machine.specs.Cells.{cell_world, decide_in, decide_read, global_read, number_read, row_in, subject_in, subject_read};
 ghost use Rattle.zone_machine.specs.Decisions.{act_of, says};
-ghost use Rattle.zone_machine.specs.Desks_seen.{desk_seen};
-ghost use Rattle.zone_machine.specs.Lines.{line_of};
 ghost use Rattle.zone_machine.specs.Lines_seen.{line_seen, word_seen};
-ghost use Rattle.zone_machine.specs.Machine.{global_reply, named_subject, session_number};
-ghost use Rattle.zone_machine.specs.Steps.{IsAllowedCellStep, IsCellMisfit, IsCellStep, IsFittingCellStep};
+ghost use Rattle.zone_machine.specs.Machine.{decide, global_reply, named_subject, session_number};
+ghost use Rattle.zone_machine.specs.Rooms.{Alike, IsFreeOf};
 ghost use Rattle.zone_machine.specs.State.{State};
-ghost use Rattle.zone_machine.specs.Turns.{turn};
-ghost use Rattle.zone_machine.specs.Turns_seen.{Works};
+ghost use Rattle.zone_machine.specs.Steps.{IsAllowedCellStep, IsCellMisfit, IsCellMisfitUnder, IsCellStep, IsCellStepUnder, IsFittingCellStep, Takes};
 ghost use Rattle.zone_machine.specs.Typed.{badly_named, global_line};
-ghost use Rattle.zone_machine.specs.Worlds.{view_of};
+ghost use Rattle.zone_machine.specs.Worlds.{View, view_of};
+ghost use Rattle.zone_pools.specs.Pools.{};
 
+use crate::cases::Case;
 use crate::cell::Cell;
-use crate::daemon::TurnReply;
-use crate::effects::carry_out;
+use crate::effects::perform;
 use crate::events::{Entry, Event, Subject};
 use crate::faults::StepFault;
+use crate::line_cases::decide_line;
 use crate::lines::{Command, Line, line_of};
 use crate::needs::need_of;
 use crate::pools::{fits, grant_for};
 use crate::records::Record;
 use crate::replies::{Body, Head, Refusal, Reply};
+use crate::rooms::make_room;
 use crate::shared::Shared;
-use crate::sights::see;
-use crate::turns::{has_work, turn};
-use crate::typing::typed;
-use crate::work::Work;
+use crate::turn_cases::decide_turn;
+use crate::waits::awaited;
 use std::alloc::{AllocError, Global};
 use zn_base::{NameFault, ZoneName};
 use zone_pools::Grant;
+
+/// An event as it is read, once: what a session types, or a turn of a zone's daemon.
+#[derive(Clone, Copy)]
+pub(crate) enum Read<'e> {
+    Line(u8, Line<'e>),
+    Turn(&'e ZoneName),
+}
+
+/// An event is read.
+#[tactic(auto, unfolding(crate::specs::Machine::decide))]
+pub(crate) fn read(event: &Event) -> Read<'_>
+    ensures subject { (s : shared_types.Shared) → subject_read s result ≡ subject_in s event.now }
+    ensures decide { (v : View) → decide_read v result ≡ decide v event.now }
+    ensures number { number_read result ≡ session_number event.now }
+    ensures global { (S : State) → global_read result ≡ global_reply S event.now }
+{
+    match event {
+        Event::Session { number, text } => Read::Line(*number, line_of(text.bytes())),
+        Event::Turn { zone } => Read::Turn(zone),
+    }
+}
 
 // The zone that a word names, or the global zone.
 fn named_subject(alloc: Global, word: Option<&[u8]>) -> Result<Subject, AllocError>
@@ -49,14 +70,18 @@ fn named_subject(alloc: Global, word: Option<&[u8]>) -> Result<Subject, AllocErr
 }
 
 /// Whose an event is: the zone that its session waits in, else the zone that its line names.
-pub(crate) fn subject(shared: &Shared, alloc: Global, event: &Event) -> Result<Subject, AllocError>
-    ensures { IfOk result (λ subject. subject ≡ subject_in shared.now event.now) }
+pub(crate) fn subject(
+    shared: &Shared,
+    alloc: Global,
+    read: Read<'_>,
+) -> Result<Subject, AllocError>
+    ensures { IfOk result (λ subject. subject ≡ subject_read shared.now read.entry) }
 {
-    match event {
-        Event::Turn { zone } => Ok(Subject::Zone(zone.copy(alloc)?)),
-        Event::Session { number, text } => match shared.sessions.owner(number) {
+    match read {
+        Read::Turn(zone) => Ok(Subject::Zone(zone.copy(alloc)?)),
+        Read::Line(number, line) => match shared.sessions.owner(&number) {
             Some(zone) => Ok(Subject::Zone(zone.copy(alloc)?)),
-            None => named_subject(alloc, line_of(text.bytes()).zone),
+            None => named_subject(alloc, line.zone),
         },
     }
 }
@@ -88,54 +113,45 @@ fn global_line(alloc: Global, line: Line<'_>) -> Result<Head, AllocError>
     }
 }
 
-/// What an event of the global zone is answered.
-pub(crate) fn global_head(alloc: Global, event: &Event) -> Result<Head, AllocError>
-    ensures { IfOk result (λ head. (S : State) → says head ≡ global_reply S event.now) }
+/// What an event is answered that is no zone's.
+pub(crate) fn global_head(alloc: Global, read: Read<'_>) -> Result<Head, AllocError>
+    ensures { IfOk result (λ head. says head ≡ global_read read.entry) }
 {
-    match event {
-        Event::Session { text, .. } => global_line(alloc, line_of(text.bytes())),
-        Event::Turn { .. } => Ok(Head::Ok),
+    match read {
+        Read::Line(_, line) => global_line(alloc, line),
+        Read::Turn(_) => Ok(Head::Ok),
     }
 }
 
-// A turn of the zone's daemon.
-#[tactic(auto, unfolding(crate::specs::Turns::turn, crate::specs::Worlds::view_of))]
-fn turn_cell(
-    cell: &mut Cell,
+/// The case of an event of the cell's zone.
+#[tactic(auto, unfolding(crate::specs::Worlds::view_of))]
+pub(crate) fn case_of(
+    cell: &Cell,
     alloc: Global,
     row: Option<&Record>,
-    grant: Grant,
-) -> Result<Work, AllocError>
-    ensures works { IfOk result (λ work. (n : Option ℕ) → Works n (act_of (turn (view_of cell.old.zone (cell_world (option_map (λ row. row.now) row.entry) cell.old))) grant) (cell_world (option_map (λ row. row.now) row.entry) cell.old) (desk_seen cell.new.desk) work) }
-    ensures same { cell.new ≡ record cell.old { desk = cell.new.desk } }
+    read: Read<'_>,
+) -> Result<Case, AllocError>
+    ensures decides { IfOk result (λ case. decide_read (view_of cell.now.zone (cell_world (option_map (λ row. row.now) row.entry) cell.now)) read.entry ≡ case_seen cell.now.desk case) }
+    ensures of { IfOk result (IsCaseOf cell.now.desk) }
+    ensures named { IfOk result (IsNamedCase cell.now.zone) }
 {
-    let Some(row) = row else {
-        return Ok(Work::saying(Head::Turned(TurnReply::Idle)));
-    };
-    if !has_work(&cell.desk) {
-        return Ok(Work::saying(Head::Turned(TurnReply::Idle)));
-    }
-    let seen = see(alloc, cell)?;
-    turn(&mut cell.desk, alloc, seen, row, grant)
-}
-
-// What an event of the cell's zone does.
-#[tactic(auto, unfolding(crate::specs::Machine::decide))]
-fn act(
-    cell: &mut Cell,
-    alloc: Global,
-    row: Option<&Record>,
-    event: &Event,
-    grant: Grant,
-) -> Result<Work, AllocError>
-    ensures works { IfOk result (Works (session_number event.now) (act_of (decide_in (option_map (λ row. row.now) row.entry) cell.old event.now) grant) (cell_world (option_map (λ row. row.now) row.entry) cell.old) (desk_seen cell.new.desk)) }
-    ensures same { cell.new ≡ record cell.old { desk = cell.new.desk } }
-{
-    match event {
-        Event::Session { number, text } => {
-            typed(cell, alloc, row, *number, line_of(text.bytes()), grant)
+    match read {
+        Read::Line(number, line) => {
+            let ticket = awaited(&cell.waits, number);
+            decide_line(alloc, &cell.zone, &cell.desk, row, ticket, line.command)
         }
-        Event::Turn { .. } => turn_cell(cell, alloc, row, grant),
+        Read::Turn(_) => {
+            let case = decide_turn(
+                alloc,
+                &cell.zone,
+                &cell.desk,
+                row,
+                &cell.processes,
+                &cell.mounts,
+                &cell.ids,
+            )?;
+            Ok(Case::Turn(case))
+        }
     }
 }
 
@@ -148,25 +164,32 @@ fn session_number(event: &Event) -> Option<u8>
     }
 }
 
-/// An event of the cell's zone is answered under a grant, whether or not it fits.
-pub(crate) fn answer(
+// A case is done under a grant that gives only what is free.
+fn answer(
     cell: &mut Cell,
     shared: &mut Shared,
-    alloc: Global,
     event: Event,
+    subject: ZoneName,
+    case: Case,
     grant: Grant,
 ) -> Result<Entry, AllocError>
+    requires subject { subject_in shared.old event ≡ Subject.Zone cell.old.zone }
+    requires name { subject ≡ cell.old.zone }
+    requires decided { decide_in (row_in cell.old.zone shared.old) cell.old event ≡ case_seen cell.old.desk case }
+    requires of { IsCaseOf cell.old.desk case }
+    requires named { IsNamedCase cell.old.zone case }
+    requires free { IsFreeOf (act_of (case_seen cell.old.desk case) grant).came (pools_in shared.old) }
     ensures event { IfOk result (λ entry. entry.event ≡ event) }
+    ensures grant { IfOk result (λ entry. entry.grant ≡ grant) }
     ensures step { IfOk result (λ entry. IsCellStep cell.old shared.old event grant entry cell.new shared.new) }
+    ensures memory { OnErr result (Alike cell.old shared.old cell.new shared.new) }
 {
-    let row = shared.rows.get(&cell.zone);
-    let work = act(cell, alloc, row, &event, grant)?;
-    let head = carry_out(cell, shared, alloc, session_number(&event), work)?;
+    make_room(cell, shared, &case)?;
+    let head = perform(cell, shared, session_number(&event), case, grant);
     shared.started = true;
-    let subject = Subject::Zone(cell.zone.copy(alloc)?);
     Ok(Entry {
         event,
-        subject,
+        subject: Subject::Zone(subject),
         grant,
         reply: Reply {
             head,
@@ -175,25 +198,94 @@ pub(crate) fn answer(
     })
 }
 
-/// An event of the cell's zone is answered under the grant that the pools give it. Where memory runs out,
-/// nothing is said of the cell and the shared part.
+// The grant that the pools give a case, or the one that is stated, where it fits.
+fn grant_of(
+    cell: &Cell,
+    shared: &Shared,
+    case: &Case,
+    stated: Option<Grant>,
+) -> Result<Grant, StepFault>
+    requires { IsCaseOf cell.now.desk case.now }
+    ensures takes { IfOk result (IsGrantOf cell.now.zone shared.now (asked_of (case_seen cell.now.desk case.now)) stated) }
+    ensures misfit { OnErr result ((result ≡ Err StepFault.BadGrant) × IfSome stated (λ g. fits_asked (pools_in shared.now) (asked_of (case_seen cell.now.desk case.now)) g ≡ false) × IsSome stated) }
+{
+    let need = need_of(case);
+    match stated {
+        None => Ok(grant_for(shared, &cell.zone, &need)),
+        Some(grant) => {
+            if fits(shared, &need, grant) {
+                Ok(grant)
+            } else {
+                Err(StepFault::BadGrant)
+            }
+        }
+    }
+}
+
+/// A case that was decided for an event of the cell's zone is done, under the grant that the pools give, or under the one that
+/// is stated, where it fits.
+pub(crate) fn do_case(
+    cell: &mut Cell,
+    shared: &mut Shared,
+    event: Event,
+    subject: ZoneName,
+    case: Case,
+    stated: Option<Grant>,
+) -> Result<Entry, StepFault>
+    requires subject { subject_in shared.old event ≡ Subject.Zone cell.old.zone }
+    requires name { subject ≡ cell.old.zone }
+    requires decided { decide_in (row_in cell.old.zone shared.old) cell.old event ≡ case_seen cell.old.desk case }
+    requires of { IsCaseOf cell.old.desk case }
+    requires named { IsNamedCase cell.old.zone case }
+    ensures event { IfOk result (λ entry. entry.event ≡ event) }
+    ensures ok { IfOk result (λ entry. IsCellStepUnder stated cell.old shared.old event entry cell.new shared.new) }
+    ensures memory { IsErrOf result StepFault.Memory → Alike cell.old shared.old cell.new shared.new }
+    ensures misfit { IsErrOf result StepFault.BadGrant → IsCellMisfitUnder stated cell.old shared.old event cell.new shared.new }
+    ensures fault { OnErr result (IsErrOf result StepFault.BadGrant ⊎ IsErrOf result StepFault.Memory) }
+{
+    let grant = grant_of(cell, shared, &case, stated)?;
+    Ok(answer(cell, shared, event, subject, case, grant)?)
+}
+
+// An event of the cell's zone is answered.
+fn cell_event(
+    alloc: Global,
+    cell: &mut Cell,
+    shared: &mut Shared,
+    event: Event,
+    stated: Option<Grant>,
+) -> Result<Entry, StepFault>
+    requires { subject_in shared.old event ≡ Subject.Zone cell.old.zone }
+    ensures event { IfOk result (λ entry. entry.event ≡ event) }
+    ensures ok { IfOk result (λ entry. IsCellStepUnder stated cell.old shared.old event entry cell.new shared.new) }
+    ensures memory { IsErrOf result StepFault.Memory → Alike cell.old shared.old cell.new shared.new }
+    ensures misfit { IsErrOf result StepFault.BadGrant → IsCellMisfitUnder stated cell.old shared.old event cell.new shared.new }
+    ensures fault { OnErr result (IsErrOf result StepFault.BadGrant ⊎ IsErrOf result StepFault.Memory) }
+{
+    let subject = cell.zone.copy(alloc)?;
+    let case = case_of(cell, alloc, shared.rows.get(&cell.zone), read(&event))?;
+    do_case(cell, shared, event, subject, case, stated)
+}
+
+/// An event of the cell's zone is answered under the grant that the pools give it. Where memory runs out, the cell
+/// and the shared part are as they were.
 pub fn cell_step(
     alloc: Global,
     cell: &mut Cell,
     shared: &mut Shared,
     event: Event,
 ) -> Result<Entry, StepFault>
+    requires { subject_in shared.old event ≡ Subject.Zone cell.old.zone }
     ensures event { IfOk result (λ entry. entry.event ≡ event) }
     ensures ok { IfOk result (λ entry. IsAllowedCellStep cell.old shared.old event entry cell.new shared.new) }
     ensures err { IsOkUnless result StepFault.Memory }
+    ensures memory { OnErr result (Alike cell.old shared.old cell.new shared.new) }
 {
-    let need = need_of(cell, alloc, shared.rows.get(&cell.zone), &event)?;
-    let grant = grant_for(shared, &cell.zone, &need);
-    Ok(answer(cell, shared, alloc, event, grant)?)
+    cell_event(alloc, cell, shared, event, None)
 }
 
-/// An event of the cell's zone is answered under a stated grant, where it fits. Where memory runs out, nothing
-/// is said of the cell and the shared part.
+/// An event of the cell's zone is answered under a stated grant, where it fits. Where memory runs out, the cell and the
+/// shared part are as they were.
 pub fn cell_step_given(
     alloc: Global,
     cell: &mut Cell,
@@ -201,13 +293,12 @@ pub fn cell_step_given(
     event: Event,
     grant: Grant,
 ) -> Result<Entry, StepFault>
+    requires { subject_in shared.old event ≡ Subject.Zone cell.old.zone }
     ensures event { IfOk result (λ entry. entry.event ≡ event) }
     ensures ok { IfOk result (λ entry. IsFittingCellStep cell.old shared.old event grant entry cell.new shared.new) }
     ensures misfit { IsErrOf result StepFault.BadGrant → IsCellMisfit cell.old shared.old event grant cell.new shared.new }
+    ensures memory { IsErrOf result StepFault.Memory → Alike cell.old shared.old cell.new shared.new }
+    ensures fault { OnErr result (IsErrOf result StepFault.BadGrant ⊎ IsErrOf result StepFault.Memory) }
 {
-    let need = need_of(cell, alloc, shared.rows.get(&cell.zone), &event)?;
-    if !fits(shared, &need, grant) {
-        return Err(StepFault::BadGrant);
-    }
-    Ok(answer(cell, shared, alloc, event, grant)?)
+    cell_event(alloc, cell, shared, event, Some(grant))
 }
