@@ -33,19 +33,23 @@ use Rattle.zone_machine.specs.declared.shared.Shared.{Shared}
 use Rattle.zone_machine.specs.declared.work.ObjectEdit.TheVariants.{EndProcesses, EndIds}
 
 -- the columns that stay
-module _ (c : Cell) (s : Shared) (agree : Agree c s) where
-  pub same_pids : (y : Name) (n : ℕ) → held_by (owner nat_eq s.pids) y n ≡ owners.holding c.zone (λ n. list_any (has_pid n) c.processes.items) (held_by (owner nat_eq s.pids)) y n
-  same_pids = kept_column c.zone (λ n. list_any (has_pid n) c.processes.items) (owner nat_eq s.pids) agree.pids
+module _ (z : Name) (c : Cell) (s : Shared) (agree : Agree z c s) where
+  pub same_pids : (y : Name) (n : ℕ) → held_by (owner nat_eq s.pids) y n ≡ owners.holding z (λ n. list_any (has_pid n) c.processes.items) (held_by (owner nat_eq s.pids)) y n
+  same_pids = kept_column z (λ n. list_any (has_pid n) c.processes.items) (owner nat_eq s.pids) agree.pids
 
-  pub same_zids : (y : Name) (n : ℕ) → held_by (owner nat_eq s.zids) y n ≡ owners.holding c.zone (λ n. list_any (has_zid n) c.ids.items) (held_by (owner nat_eq s.zids)) y n
-  same_zids = kept_column c.zone (λ n. list_any (has_zid n) c.ids.items) (owner nat_eq s.zids) agree.zids
+  pub same_zids : (y : Name) (n : ℕ) → held_by (owner nat_eq s.zids) y n ≡ owners.holding z (λ n. list_any (has_zid n) c.ids.items) (held_by (owner nat_eq s.zids)) y n
+  same_zids = kept_column z (λ n. list_any (has_zid n) c.ids.items) (owner nat_eq s.zids) agree.zids
 
-  pub same_sessions : (y : Name) (n : ℕ) → held_by (owner nat_eq s.sessions) y n ≡ owners.holding c.zone (λ n. is_some (get nat_eq c.waits n)) (held_by (owner nat_eq s.sessions)) y n
-  same_sessions = kept_column c.zone (λ n. is_some (get nat_eq c.waits n)) (owner nat_eq s.sessions) agree.sessions
+  pub same_sessions : (y : Name) (n : ℕ) → held_by (owner nat_eq s.sessions) y n ≡ owners.holding z (λ n. is_some (get nat_eq c.waits n)) (held_by (owner nat_eq s.sessions)) y n
+  same_sessions = kept_column z (λ n. is_some (get nat_eq c.waits n)) (owner nat_eq s.sessions) agree.sessions
 
 -- nobody holds a key that is this one
 free_at : (o : ℕ → Option Name) (n : ℕ) → o n ≡ None → (k : ℕ) → nat_eq n k ≡ true → o k ≡ None
 free_at o n free k e = subst (λ m. o m ≡ None) (eqb-true n k e) free
+
+pub none_owner : (o : Option Name) → is_some o ≡ false → o ≡ None
+none_owner None h = refl
+none_owner (Some y) h = absurd (true≢false h)
 
 none_of : (b : Bool) → false ≡ (b && not b)
 none_of true = refl
@@ -74,108 +78,113 @@ common_by z w g t waits pids zids sessions seen rows serial last_pid last_zid st
   started = started i;
 }
 
-pub does_nothing : (c : Cell) (s : Shared) → Does (λ w. w) kept c s c s
-does_nothing c s = record {
-  zone = refl;
+pub does_nothing : (z : Name) (c : Cell) (s : Shared) → Does z (λ w. w) kept c s c s
+does_nothing z c s = record {
   world = refl;
-  common = λ a. common_by c.zone (cell_world (row_in c.zone s) c) (common_in s) s (get nat_eq c.waits) (same_pids c s a) (same_zids c s a) (same_sessions c s a) (λ n. holds_wait (get nat_eq c.waits n)) refl refl refl refl refl;
+  common = λ a. common_by z (cell_world (row_in z s) c) (common_in s) s (get nat_eq c.waits) (same_pids z c s a) (same_zids z c s a) (same_sessions z c s a) (λ n. holds_wait (get nat_eq c.waits n)) refl refl refl refl refl;
 }
 
 -- the mounts change
-pub does_mounts : (e : List_edit Mount) (c : Cell) (s : Shared) (v : Vec Mount Global) → v.items ≡ edited e c.mounts.items → (n : Option ℕ) → Does (edits_world n (Of_mounts e ∷ [])) kept c s (record c { mounts = v }) s
-does_mounts e c s v h n = record {
-  zone = refl;
-  world = λ i. record (cell_world (row_in c.zone s) c) { mounts = h i };
-  common = λ a. common_by c.zone (record (cell_world (row_in c.zone s) c) { mounts = edited e c.mounts.items }) (common_in s) s (get nat_eq c.waits) (same_pids c s a) (same_zids c s a) (same_sessions c s a) (λ n. holds_wait (get nat_eq c.waits n)) refl refl refl refl refl;
+pub does_mounts : (z : Name) (e : List_edit Mount) (c : Cell) (s : Shared) (v : Vec Mount Global) → v.items ≡ edited e c.mounts.items → (n : Option ℕ) → Does z (edits_world n (Of_objects (Of_mounts e) ∷ [])) kept c s (record c { mounts = v }) s
+does_mounts z e c s v h n = record {
+  world = λ i. record (cell_world (row_in z s) c) { mounts = h i };
+  common = λ a. common_by z (record (cell_world (row_in z s) c) { mounts = edited e c.mounts.items }) (common_in s) s (get nat_eq c.waits) (same_pids z c s a) (same_zids z c s a) (same_sessions z c s a) (λ n. holds_wait (get nat_eq c.waits n)) refl refl refl refl refl;
 }
 
 -- a process comes, or all go; t is the shared part with the new owners
-pub does_process : (c : Cell) (s t : Shared) (p : Process) (v : Vec Process Global) → owner nat_eq s.pids p.pid ≡ None
-    → ((n : ℕ) → owner nat_eq t.pids n ≡ (if nat_eq p.pid n then Some c.zone else owner nat_eq s.pids n)) → v.items ≡ edited (Put (below p.pid) p) c.processes.items
-    → Does (comes_world (New_process p)) (came_common c.zone (Some (New_process p))) c s (record c { processes = v }) (record s { pids = t.pids; last_pid = p.pid })
-does_process c s t p v free taken h = record {
-  zone = refl;
-  world = λ i. record (cell_world (row_in c.zone s) c) { processes = h i };
-  common = λ a. common_by c.zone (record (cell_world (row_in c.zone s) c) { processes = edited (Put (below p.pid) p) c.processes.items }) (record (common_in s) { last_pid = p.pid })
+pub does_process : (z : Name) (c : Cell) (s t : Shared) (p : Process) (v : Vec Process Global) → owner nat_eq s.pids p.pid ≡ None
+    → ((n : ℕ) → owner nat_eq t.pids n ≡ (if nat_eq p.pid n then Some z else owner nat_eq s.pids n)) → v.items ≡ edited (Put (below p.pid) p) c.processes.items
+    → Does z (comes_world (New_process p)) (came_common z (Some (New_process p))) c s (record c { processes = v }) (record s { pids = t.pids; last_pid = p.pid })
+does_process z c s t p v free taken h = record {
+  world = λ i. record (cell_world (row_in z s) c) { processes = h i };
+  common = λ a. common_by z (record (cell_world (row_in z s) c) { processes = edited (Put (below p.pid) p) c.processes.items }) (record (common_in s) { last_pid = p.pid })
       (record s { pids = t.pids; last_pid = p.pid }) (get nat_eq c.waits)
-      (come_column c.zone (λ n. list_any (has_pid n) c.processes.items) (λ n. list_any (has_pid n) (edited (Put (below p.pid) p) c.processes.items)) (owner nat_eq s.pids) (owner nat_eq t.pids) (nat_eq p.pid)
+      (come_column z (λ n. list_any (has_pid n) c.processes.items) (λ n. list_any (has_pid n) (edited (Put (below p.pid) p) c.processes.items)) (owner nat_eq s.pids) (owner nat_eq t.pids) (nat_eq p.pid)
       a.pids (free_at (owner nat_eq s.pids) p.pid free) taken (λ n. any-put (has_pid n) (below p.pid) p c.processes.items))
-      (same_zids c s a) (same_sessions c s a) (λ n. holds_wait (get nat_eq c.waits n)) refl refl refl refl refl;
+      (same_zids z c s a) (same_sessions z c s a) (λ n. holds_wait (get nat_eq c.waits n)) refl refl refl refl refl;
 }
 
-pub does_end_processes : (c : Cell) (s t : Shared) (v : Vec Process Global) → v.items ≡ []
+pub does_end_processes : (z : Name) (c : Cell) (s t : Shared) (v : Vec Process Global) → v.items ≡ []
     → ((n : ℕ) → owner nat_eq t.pids n ≡ (if list_any (has_pid n) c.processes.items then None else owner nat_eq s.pids n))
-    → (n : Option ℕ) → Does (edits_world n (object_edits EndProcesses)) kept c s (record c { processes = v }) (record s { pids = t.pids })
-does_end_processes c s t v h given n = record {
-  zone = refl;
-  world = λ i. record (cell_world (row_in c.zone s) c) { processes = (h ∙ sym (none_left c.processes.items)) i };
-  common = λ a. rw (none_left c.processes.items) (common_by c.zone (record (cell_world (row_in c.zone s) c) { processes = [] }) (common_in s) (record s { pids = t.pids }) (get nat_eq c.waits)
-      (gone_column c.zone (λ n. list_any (has_pid n) c.processes.items) (λ n. false) (λ n. list_any (has_pid n) c.processes.items) (owner nat_eq s.pids) (owner nat_eq t.pids)
+    → (n : Option ℕ) → Does z (edits_world n (map Of_objects (object_edits EndProcesses))) kept c s (record c { processes = v }) (record s { pids = t.pids })
+does_end_processes z c s t v h given n = record {
+  world = λ i. record (cell_world (row_in z s) c) { processes = (h ∙ sym (none_left c.processes.items)) i };
+  common = λ a. rw (none_left c.processes.items) (common_by z (record (cell_world (row_in z s) c) { processes = [] }) (common_in s) (record s { pids = t.pids }) (get nat_eq c.waits)
+      (gone_column z (λ n. list_any (has_pid n) c.processes.items) (λ n. false) (λ n. list_any (has_pid n) c.processes.items) (owner nat_eq s.pids) (owner nat_eq t.pids)
       a.pids (λ n e. e) given (λ n. none_of (list_any (has_pid n) c.processes.items)))
-      (same_zids c s a) (same_sessions c s a) (λ n. holds_wait (get nat_eq c.waits n)) refl refl refl refl refl);
+      (same_zids z c s a) (same_sessions z c s a) (λ n. holds_wait (get nat_eq c.waits n)) refl refl refl refl refl);
 }
 
 -- an id comes, or all go
-pub does_id : (c : Cell) (s t : Shared) (d : Id) (v : Vec Id Global) → owner nat_eq s.zids d.zid ≡ None
-    → ((n : ℕ) → owner nat_eq t.zids n ≡ (if nat_eq d.zid n then Some c.zone else owner nat_eq s.zids n)) → v.items ≡ c.ids.items ++ d ∷ []
-    → Does (comes_world (New_id d)) (came_common c.zone (Some (New_id d))) c s (record c { ids = v }) (record s { zids = t.zids; last_zid = d.zid })
-does_id c s t d v free taken h = record {
-  zone = refl;
-  world = λ i. record (cell_world (row_in c.zone s) c) { ids = h i };
-  common = λ a. common_by c.zone (record (cell_world (row_in c.zone s) c) { ids = c.ids.items ++ d ∷ [] }) (record (common_in s) { last_zid = d.zid })
-      (record s { zids = t.zids; last_zid = d.zid }) (get nat_eq c.waits) (same_pids c s a)
-      (come_column c.zone (λ n. list_any (has_zid n) c.ids.items) (λ n. list_any (has_zid n) (c.ids.items ++ d ∷ [])) (owner nat_eq s.zids) (owner nat_eq t.zids) (nat_eq d.zid)
+pub does_id : (z : Name) (c : Cell) (s t : Shared) (d : Id) (v : Vec Id Global) → owner nat_eq s.zids d.zid ≡ None
+    → ((n : ℕ) → owner nat_eq t.zids n ≡ (if nat_eq d.zid n then Some z else owner nat_eq s.zids n)) → v.items ≡ c.ids.items ++ d ∷ []
+    → Does z (comes_world (New_id d)) (came_common z (Some (New_id d))) c s (record c { ids = v }) (record s { zids = t.zids; last_zid = d.zid })
+does_id z c s t d v free taken h = record {
+  world = λ i. record (cell_world (row_in z s) c) { ids = h i };
+  common = λ a. common_by z (record (cell_world (row_in z s) c) { ids = c.ids.items ++ d ∷ [] }) (record (common_in s) { last_zid = d.zid })
+      (record s { zids = t.zids; last_zid = d.zid }) (get nat_eq c.waits) (same_pids z c s a)
+      (come_column z (λ n. list_any (has_zid n) c.ids.items) (λ n. list_any (has_zid n) (c.ids.items ++ d ∷ [])) (owner nat_eq s.zids) (owner nat_eq t.zids) (nat_eq d.zid)
       a.zids (free_at (owner nat_eq s.zids) d.zid free) taken (λ n. any-push (has_zid n) c.ids.items d))
-      (same_sessions c s a) (λ n. holds_wait (get nat_eq c.waits n)) refl refl refl refl refl;
+      (same_sessions z c s a) (λ n. holds_wait (get nat_eq c.waits n)) refl refl refl refl refl;
 }
 
-pub does_end_ids : (c : Cell) (s t : Shared) (v : Vec Id Global) → v.items ≡ []
+pub does_end_ids : (z : Name) (c : Cell) (s t : Shared) (v : Vec Id Global) → v.items ≡ []
     → ((n : ℕ) → owner nat_eq t.zids n ≡ (if list_any (has_zid n) c.ids.items then None else owner nat_eq s.zids n))
-    → (n : Option ℕ) → Does (edits_world n (object_edits EndIds)) kept c s (record c { ids = v }) (record s { zids = t.zids })
-does_end_ids c s t v h given n = record {
-  zone = refl;
-  world = λ i. record (cell_world (row_in c.zone s) c) { ids = (h ∙ sym (none_left c.ids.items)) i };
-  common = λ a. rw (none_left c.ids.items) (common_by c.zone (record (cell_world (row_in c.zone s) c) { ids = [] }) (common_in s) (record s { zids = t.zids }) (get nat_eq c.waits) (same_pids c s a)
-      (gone_column c.zone (λ n. list_any (has_zid n) c.ids.items) (λ n. false) (λ n. list_any (has_zid n) c.ids.items) (owner nat_eq s.zids) (owner nat_eq t.zids)
+    → (n : Option ℕ) → Does z (edits_world n (map Of_objects (object_edits EndIds))) kept c s (record c { ids = v }) (record s { zids = t.zids })
+does_end_ids z c s t v h given n = record {
+  world = λ i. record (cell_world (row_in z s) c) { ids = (h ∙ sym (none_left c.ids.items)) i };
+  common = λ a. rw (none_left c.ids.items) (common_by z (record (cell_world (row_in z s) c) { ids = [] }) (common_in s) (record s { zids = t.zids }) (get nat_eq c.waits) (same_pids z c s a)
+      (gone_column z (λ n. list_any (has_zid n) c.ids.items) (λ n. false) (λ n. list_any (has_zid n) c.ids.items) (owner nat_eq s.zids) (owner nat_eq t.zids)
       a.zids (λ n e. e) given (λ n. none_of (list_any (has_zid n) c.ids.items)))
-      (same_sessions c s a) (λ n. holds_wait (get nat_eq c.waits n)) refl refl refl refl refl);
+      (same_sessions z c s a) (λ n. holds_wait (get nat_eq c.waits n)) refl refl refl refl refl);
 }
 
 -- a session waits, or those of a ticket wait no more; d is the cell with what sessions wait for then
-pub does_sits : (c d : Cell) (s t : Shared) (k ticket : ℕ) → owner nat_eq s.sessions k ≡ None
-    → ((n : ℕ) → owner nat_eq t.sessions n ≡ (if nat_eq k n then Some c.zone else owner nat_eq s.sessions n))
-    → ((n : ℕ) → get nat_eq d.waits n ≡ at_session (Some k) n (Some ticket) (get nat_eq c.waits n))
-    → Does (edits_world (Some k) (sits (Some ticket))) kept c s (record c { waits = d.waits }) (record s { sessions = t.sessions })
-does_sits c d s t k ticket free taken h = record {
-  zone = refl;
-  world = λ i. record (cell_world (row_in c.zone s) c) { sessions = λ n. waits n i };
-  common = λ a. common_by c.zone (record (cell_world (row_in c.zone s) c) { sessions = λ n. at_session (Some k) n (Some (state.Awaiting ticket)) (option_map state.Awaiting (get nat_eq c.waits n)) }) (common_in s)
-      (record s { sessions = t.sessions }) (get nat_eq d.waits) (same_pids c s a) (same_zids c s a)
-      (come_column c.zone (λ n. is_some (get nat_eq c.waits n)) (λ n. is_some (get nat_eq d.waits n)) (owner nat_eq s.sessions) (owner nat_eq t.sessions) (nat_eq k)
-      a.sessions (free_at (owner nat_eq s.sessions) k free) taken (λ n. ap is_some (h n) ∙ more (nat_eq k n) (get nat_eq c.waits n)))
+pub does_sits : (z : Name) (c d : Cell) (s t : Shared) (k : ℕ) (x : Sitting) → IsOpenTo z (owner nat_eq s.sessions k)
+    → ((n : ℕ) → owner nat_eq t.sessions n ≡ (if nat_eq k n then Some z else owner nat_eq s.sessions n))
+    → ((n : ℕ) → get nat_eq d.waits n ≡ at_session (Some k) n (Some x.ticket) (get nat_eq c.waits n))
+    → Does z (edits_world (Some k) (sits (Some x))) kept c s (record c { waits = d.waits }) (record s { sessions = t.sessions })
+does_sits z c d s t k x open taken h = record {
+  world = λ i. record (cell_world (row_in z s) c) { sessions = λ n. waits n i };
+  common = λ a. common_by z (record (cell_world (row_in z s) c) { sessions = λ n. at_session (Some k) n (Some (state.Awaiting x.ticket)) (option_map state.Awaiting (get nat_eq c.waits n)) }) (common_in s)
+      (record s { sessions = t.sessions }) (get nat_eq d.waits) (same_pids z c s a) (same_zids z c s a)
+      (column z (λ n. is_some (get nat_eq d.waits n)) (owner nat_eq s.sessions) (owner nat_eq t.sessions)
+      (λ n. ap (is_owner z) (taken n) ∙ (here a n (nat_eq k n) ∙ sym (ap is_some (h n) ∙ more (nat_eq k n) (get nat_eq c.waits n)))) (λ y ne n. ap (is_owner y) (taken n) ∙ there y ne n (nat_eq k n) refl))
       (λ n. ap is_some (sym (waits n)) ∙ holds_wait (get nat_eq d.waits n)) refl refl refl refl refl;
 }
   where
-    mapped : (b : Bool) (o : Option ℕ) → option_map state.Awaiting (if b then Some ticket else o) ≡ (if b then Some (state.Awaiting ticket) else option_map state.Awaiting o)
+    mapped : (b : Bool) (o : Option ℕ) → option_map state.Awaiting (if b then Some x.ticket else o) ≡ (if b then Some (state.Awaiting x.ticket) else option_map state.Awaiting o)
     mapped true o = refl
     mapped false o = refl
 
-    waits : (n : ℕ) → option_map state.Awaiting (get nat_eq d.waits n) ≡ at_session (Some k) n (Some (state.Awaiting ticket)) (option_map state.Awaiting (get nat_eq c.waits n))
+    waits : (n : ℕ) → option_map state.Awaiting (get nat_eq d.waits n) ≡ at_session (Some k) n (Some (state.Awaiting x.ticket)) (option_map state.Awaiting (get nat_eq c.waits n))
     waits n = ap (option_map state.Awaiting) (h n) ∙ mapped (nat_eq k n) (get nat_eq c.waits n)
 
-    more : (b : Bool) (o : Option ℕ) → is_some (if b then Some ticket else o) ≡ (b || is_some o)
+    more : (b : Bool) (o : Option ℕ) → is_some (if b then Some x.ticket else o) ≡ (b || is_some o)
     more true o = refl
     more false o = refl
 
-pub does_ends : (c d : Cell) (s t : Shared) (ticket : ℕ) → ((n : ℕ) → get nat_eq d.waits n ≡ unless_ended ticket (get nat_eq c.waits n))
+    here : Agree z c s → (n : ℕ) (b : Bool) → is_owner z (if b then Some z else owner nat_eq s.sessions n) ≡ (b || is_some (get nat_eq c.waits n))
+    here a n true = same_self z
+    here a n false = sym (a.sessions n)
+
+    not_mine : (y : Name) → y ≢ z → (o : Option Name) → IsOpenTo z o → is_owner y o ≡ false
+    not_mine y ne None open = refl
+    not_mine y ne (Some w) (inl none) = absurd (cc)
+    not_mine y ne (Some w) (inr some) = let same : w ≡ z = cc in ap (bytes_eq y) same ∙ same_other y z ne
+
+    there : (y : Name) → y ≢ z → (n : ℕ) (b : Bool) → nat_eq k n ≡ b → is_owner y (if b then Some z else owner nat_eq s.sessions n) ≡ is_owner y (owner nat_eq s.sessions n)
+    there y ne n true e = same_other y z ne ∙ sym (subst (λ m. is_owner y (owner nat_eq s.sessions m) ≡ false) (eqb-true k n e) (not_mine y ne (owner nat_eq s.sessions k) open))
+    there y ne n false e = refl
+
+pub does_ends : (z : Name) (c d : Cell) (s t : Shared) (ticket : ℕ) → ((n : ℕ) → get nat_eq d.waits n ≡ unless_ended ticket (get nat_eq c.waits n))
     → ((n : ℕ) → owner nat_eq t.sessions n ≡ (if is_wait_for ticket (get nat_eq c.waits n) then None else owner nat_eq s.sessions n))
-    → (n : Option ℕ) → Does (edits_world n (sweeps (Some ticket))) kept c s (record c { waits = d.waits }) (record s { sessions = t.sessions })
-does_ends c d s t ticket h given n = record {
-  zone = refl;
-  world = λ i. record (cell_world (row_in c.zone s) c) { sessions = λ n. waits n i };
-  common = λ a. common_by c.zone (record (cell_world (row_in c.zone s) c) { sessions = λ n. swept_doing (ticket_ended ticket) (option_map state.Awaiting (get nat_eq c.waits n)) }) (common_in s)
-      (record s { sessions = t.sessions }) (get nat_eq d.waits) (same_pids c s a) (same_zids c s a)
-      (gone_column c.zone (λ n. is_some (get nat_eq c.waits n)) (λ n. is_some (get nat_eq d.waits n)) (λ n. is_wait_for ticket (get nat_eq c.waits n)) (owner nat_eq s.sessions) (owner nat_eq t.sessions)
+    → (n : Option ℕ) → Does z (edits_world n (sweeps (Some ticket))) kept c s (record c { waits = d.waits }) (record s { sessions = t.sessions })
+does_ends z c d s t ticket h given n = record {
+  world = λ i. record (cell_world (row_in z s) c) { sessions = λ n. waits n i };
+  common = λ a. common_by z (record (cell_world (row_in z s) c) { sessions = λ n. swept_doing (ticket_ended ticket) (option_map state.Awaiting (get nat_eq c.waits n)) }) (common_in s)
+      (record s { sessions = t.sessions }) (get nat_eq d.waits) (same_pids z c s a) (same_zids z c s a)
+      (gone_column z (λ n. is_some (get nat_eq c.waits n)) (λ n. is_some (get nat_eq d.waits n)) (λ n. is_wait_for ticket (get nat_eq c.waits n)) (owner nat_eq s.sessions) (owner nat_eq t.sessions)
       a.sessions (λ n. some_wait ticket (get nat_eq c.waits n)) given (λ n. ap is_some (h n) ∙ less (get nat_eq c.waits n)))
       (λ n. ap is_some (sym (waits n)) ∙ holds_wait (get nat_eq d.waits n)) refl refl refl refl refl;
 }
@@ -208,14 +217,13 @@ placed_is z row (e ∷ es) = at_head (placed_is z row es) (bytes_eq z e.0) refl
     at_head ih true h = simp h (ap (λ (y : Name). tag y row ∷ rows_in es) (sym (same_true z e.0 h)))
     at_head ih false h = simp h (ap (λ (rows : List (Owned Record)). tag e.0 e.1 ∷ rows) ih)
 
-pub does_record : (c : Cell) (s t : Shared) (r : Record) → t.rows.entries ≡ insert_entry bytes_eq s.rows.entries c.zone r → row_in c.zone t ≡ Some r
-    → Does (comes_world (New_record (Some r))) (came_common c.zone (Some (New_record (Some r)))) c s c (record s { rows = t.rows; serial = s.serial + 1 })
-does_record c s t r h found = record {
-  zone = refl;
-  world = λ i. record (cell_world (row_in c.zone s) c) { stored = found i };
-  common = λ a. common_by c.zone (record (cell_world (row_in c.zone s) c) { stored = Some r }) (record (common_in s) { rows = placed c.zone r (rows_in s.rows.entries); serial = s.serial + 1 })
-      (record s { rows = t.rows; serial = s.serial + 1 }) (get nat_eq c.waits) (same_pids c s a) (same_zids c s a) (same_sessions c s a) (λ n. holds_wait (get nat_eq c.waits n))
-      (ap rows_in h ∙ placed_is c.zone r s.rows.entries) refl refl refl refl;
+pub does_record : (z : Name) (c : Cell) (s t : Shared) (r : Record) → t.rows.entries ≡ insert_entry bytes_eq s.rows.entries z r → row_in z t ≡ Some r
+    → Does z (comes_world (New_record (Some r))) (came_common z (Some (New_record (Some r)))) c s c (record s { rows = t.rows; serial = s.serial + 1 })
+does_record z c s t r h found = record {
+  world = λ i. record (cell_world (row_in z s) c) { stored = found i };
+  common = λ a. common_by z (record (cell_world (row_in z s) c) { stored = Some r }) (record (common_in s) { rows = placed z r (rows_in s.rows.entries); serial = s.serial + 1 })
+      (record s { rows = t.rows; serial = s.serial + 1 }) (get nat_eq c.waits) (same_pids z c s a) (same_zids z c s a) (same_sessions z c s a) (λ n. holds_wait (get nat_eq c.waits n))
+      (ap rows_in h ∙ placed_is z r s.rows.entries) refl refl refl refl;
 }
 
 -- one after another
@@ -237,24 +245,19 @@ own_if : (z : Name) (a b : Bool) → (if bytes_eq z z then a else b) ≡ a
 own_if z a b = ap (λ e. if e then a else b) (same_self z)
 
 -- the shared part still agrees with the cell
-pub does_agree : (f : World → World) (g : Common → Common) (c d : Cell) (s t : Shared) → Does f g c s d t → Agree c s → Agree d t
-does_agree f g c d s t does a = record {
-  pids = λ n. subst (λ z. list_any (has_pid n) d.processes.items ≡ is_owner z (owner nat_eq t.pids n)) (sym does.zone)
-      (ap (λ w. list_any (has_pid n) w.processes) does.world ∙ sym (ap (λ k. k.pids c.zone n) (does.common a) ∙ own_if c.zone _ _));
-  zids = λ n. subst (λ z. list_any (has_zid n) d.ids.items ≡ is_owner z (owner nat_eq t.zids n)) (sym does.zone)
-      (ap (λ w. list_any (has_zid n) w.ids) does.world ∙ sym (ap (λ k. k.zids c.zone n) (does.common a) ∙ own_if c.zone _ _));
-  sessions = λ n. subst (λ z. is_some (get nat_eq d.waits n) ≡ is_owner z (owner nat_eq t.sessions n)) (sym does.zone)
-      (sym (holds_wait (get nat_eq d.waits n)) ∙ (ap (λ w. is_some (w.sessions n)) does.world ∙ sym (ap (λ k. k.sessions c.zone n) (does.common a) ∙ own_if c.zone _ _)));
+pub does_agree : (z : Name) (f : World → World) (g : Common → Common) (c d : Cell) (s t : Shared) → Does z f g c s d t → Agree z c s → Agree z d t
+does_agree z f g c d s t does a = record {
+  pids = λ n. ap (λ w. list_any (has_pid n) w.processes) does.world ∙ sym (ap (λ k. k.pids z n) (does.common a) ∙ own_if z _ _);
+  zids = λ n. ap (λ w. list_any (has_zid n) w.ids) does.world ∙ sym (ap (λ k. k.zids z n) (does.common a) ∙ own_if z _ _);
+  sessions = λ n. sym (holds_wait (get nat_eq d.waits n)) ∙ (ap (λ w. is_some (w.sessions n)) does.world ∙ sym (ap (λ k. k.sessions z n) (does.common a) ∙ own_if z _ _));
 }
 
-pub does_then : (f f' : World → World) (g : Common → Common) (c d e : Cell) (s t u : Shared) → Does f g c s d t → Does f' kept d t e u → Does (λ w. f' (f w)) g c s e u
-does_then f f' g c d e s t u one two = record {
-  zone = two.zone ∙ one.zone;
-  world = ap (λ z. cell_world (row_in z u) e) (sym one.zone) ∙ (two.world ∙ ap f' (ap (λ z. cell_world (row_in z t) d) one.zone ∙ one.world));
+pub does_then : (z : Name) (f f' : World → World) (g : Common → Common) (c d e : Cell) (s t u : Shared) → Does z f g c s d t → Does z f' kept d t e u → Does z (λ w. f' (f w)) g c s e u
+does_then z f f' g c d e s t u one two = record {
+  world = two.world ∙ ap f' one.world;
   common = λ a.
-      two.common (does_agree f g c d s t one a)
-      ∙ (ap (λ z. holding z (f' (cell_world (row_in z t) d)) (common_in t)) one.zone
-      ∙ (ap (λ w. holding c.zone (f' w) (common_in t)) one.world
-      ∙ (ap (holding c.zone (f' (f (cell_world (row_in c.zone s) c)))) (one.common a)
-      ∙ holding_again c.zone (f (cell_world (row_in c.zone s) c)) (f' (f (cell_world (row_in c.zone s) c))) (g (common_in s)))));
+      two.common (does_agree z f g c d s t one a)
+      ∙ (ap (λ w. holding z (f' w) (common_in t)) one.world
+      ∙ (ap (holding z (f' (f (cell_world (row_in z s) c)))) (one.common a)
+      ∙ holding_again z (f (cell_world (row_in z s) c)) (f' (f (cell_world (row_in z s) c))) (g (common_in s))));
 }

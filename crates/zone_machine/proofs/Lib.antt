@@ -5,6 +5,8 @@ pub mod Acts_laws
 pub mod Own_worlds
 pub mod Turned_laws
 pub mod Turn_cases
+pub mod Asking
+pub mod Freeing
 pub mod Common_laws
 pub mod Local_laws
 pub mod Words
@@ -13,5 +15,6 @@ pub mod Pools_laws
 pub mod Lists_laws
 pub mod Waits_laws
 pub mod Doing_laws
+pub mod Rooms_laws
 pub mod Standing
 pub mod Stepping

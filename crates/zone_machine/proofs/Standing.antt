@@ -57,18 +57,18 @@ pub stored-stands : (S : State) (s : Shared) (z : Name) → SharedOf s (common S
 stored-stands S s z h = stored-common z S ∙ (ap (λ k. first_of (mine z k.rows)) h ∙ row_is z s.rows.entries)
 
 -- so a cell has its zone's world with that row
-pub cell-stands : (S : State) (c : Cell) (s : Shared) → CellOf c (world c.zone S) → SharedOf s (common S) → world c.zone S ≡ cell_world (row_in c.zone s) c
-cell-stands S c s cell shared = cell ∙ ap (λ row. cell_world row c) (stored-stands S s c.zone shared)
+pub cell-stands : (z : Name) (S : State) (c : Cell) (s : Shared) → CellOf c (world z S) → SharedOf s (common S) → world z S ≡ cell_world (row_in z s) c
+cell-stands z S c s cell shared = cell ∙ ap (λ row. cell_world row c) (stored-stands S s z shared)
 
 pub cell-of : (w : World) (row : Option Record) (c : Cell) → w ≡ cell_world row c → CellOf c w
 cell-of w row c h = h ∙ ap (λ row. cell_world row c) (sym (ap (λ w. w.stored) h))
 
 -- the shared part agrees with each cell
-pub agrees : (S : State) (c : Cell) (s : Shared) → CellOf c (world c.zone S) → SharedOf s (common S) → Agree c s
-agrees S c s cell shared = record {
-  pids = λ n. ap (λ w. list_any (has_pid n) w.processes) (sym cell) ∙ ap (λ k. k.pids c.zone n) shared;
-  zids = λ n. ap (λ w. list_any (has_zid n) w.ids) (sym cell) ∙ ap (λ k. k.zids c.zone n) shared;
-  sessions = λ n. sym (holds_wait (get nat_eq c.waits n)) ∙ (ap (λ w. is_some (w.sessions n)) (sym cell) ∙ ap (λ k. k.sessions c.zone n) shared);
+pub agrees : (z : Name) (S : State) (c : Cell) (s : Shared) → CellOf c (world z S) → SharedOf s (common S) → Agree z c s
+agrees z S c s cell shared = record {
+  pids = λ n. ap (λ w. list_any (has_pid n) w.processes) (sym cell) ∙ ap (λ k. k.pids z n) shared;
+  zids = λ n. ap (λ w. list_any (has_zid n) w.ids) (sym cell) ∙ ap (λ k. k.zids z n) shared;
+  sessions = λ n. sym (holds_wait (get nat_eq c.waits n)) ∙ (ap (λ w. is_some (w.sessions n)) (sym cell) ∙ ap (λ k. k.sessions z n) shared);
 }
 
 -- before any event nobody holds anything
@@ -108,69 +108,43 @@ subject-stands S s (event.Turn z) h = refl
 pub decide-stands : (S : State) (z : Name) (w : World) (e : Event) → world z S ≡ w → decide (view z S) e ≡ decide (view_of z w) e
 decide-stands S z w e h = ap (λ v. decide v e) (view-world z S ∙ ap (view_of z) h)
 
--- the act of some work on a world whose desk is changed already
-edits-then : (n : Option ℕ) (xs ys : List Edit) (w : World) → edits_world n (xs ++ ys) w ≡ edits_world n ys (edits_world n xs w)
-edits-then n [] ys w = refl
-edits-then n (x ∷ xs) ys w = edits-then n xs ys (edit_world n x w)
-
-desk-came : (c : Option Came) (w : World) (d : state.Desk) → after_came_world (option_map arrival_of c) (record w { desk = d }) ≡ record (after_came_world (option_map arrival_of c) w) { desk = d }
-desk-came None w d = refl
-desk-came (Some (came.Process p)) w d = refl
-desk-came (Some (came.Id i)) w d = refl
-desk-came (Some (came.Record r)) w d = refl
-
-desk-objects : (n : Option ℕ) (o : ObjectEdit) (w : World) (d : state.Desk) → edits_world n (object_edits o) (record w { desk = d }) ≡ record (edits_world n (object_edits o) w) { desk = d }
-desk-objects n objects.Nothing w d = refl
-desk-objects n objects.EndProcesses w d = refl
-desk-objects n (objects.Mount m) w d = refl
-desk-objects n (objects.Unmount dir) w d = refl
-desk-objects n objects.EndIds w d = refl
-
-pub work-desk : (n : Option ℕ) (w : World) (d : state.Desk) (work : Work) → work_world n work (record w { desk = d }) ≡ acts_world n (work_act work d) w
-work-desk n w d work =
-    let after = after_came_world (option_map arrival_of work.came) w in
-    ap (λ (v : World). edits_world n (sweeps work.ended) (edits_world n (sits work.waits) v)) (ap (edits_world n (object_edits work.objects)) (desk-came work.came w d) ∙ desk-objects n work.objects after d)
-    ∙ sym (edits-then n (object_edits work.objects) (Set_desk d ∷ (sits work.waits ++ sweeps work.ended)) after
-    ∙ edits-then n (sits work.waits) (sweeps work.ended) (record (edits_world n (object_edits work.objects) after) { desk = d }))
-
-pub works-by : (n : Option ℕ) (a : Act) (v : World) (d : state.Desk) (work : Work) → a ≡ work_act work d → Works n a v d work
-works-by n a v d work e = record { came = sym (ap (λ a. a.came) e); reply = sym (ap (λ a. a.effect.reply) e); world = ap (λ a. acts_world n a v) (sym e) }
+-- the session of an event of z is nobody's or z's
+pub open-to : (z : Name) (s : Shared) (e : Event) → subject_in s e ≡ Zone z → IfSome (session_number e) (λ n. IsOpenTo z (owner nat_eq s.sessions n))
+open-to z s (event.Turn y) is = tt
+open-to z s (event.Session n text) is = at_owner (owner nat_eq s.sessions n) is
+  where
+    at_owner : (o : Option Name) → subject_at (line_of text) o ≡ Zone z → IsOpenTo z o
+    at_owner None h = inl refl
+    at_owner (Some y) h = inr (ap Some (same h))
+      where
+        same : Zone y ≡ Zone z → y ≡ z
+        same h = cc
 
 -- an event, by its subject
 one-of : (S : State) (e : Event) (g : Grant) (s : Subject) → subject S e ≡ s → one S e g ≡ one_of s S e g
 unfolding one
 one-of S e g s is = ap (λ s. one_of s S e g) is
 
--- an event of the cell's zone: c has its desk as it was, b as it is after the event's work was found
-module _ (c b d : Cell) (s t : Shared) (e : Event) (g : Grant) (work : Work) (head : Head) where
-  pub cell-answered : Works (session_number e) (act_of (decide_in (row_in c.zone s) c e) g) (cell_world (row_in c.zone s) c) (desk_seen b.desk) work → b ≡ record c { desk = b.desk }
-      → head ≡ work.head → Does (work_world (session_number e) work) (came_common b.zone (option_map arrival_of work.came)) b s d t
-      → IsCellStep c s e g (record { event = e; subject = Zone d.zone; grant = g; reply = record { head = head; body = No_body } }) d (record t { started = true })
-  cell-answered works same said does S has shares is =
-      let z = c.zone in let n = session_number e in let w = cell_world (row_in z s) c in let a = act_of (decide_in (row_in z s) c e) g in
-      let here : world z S ≡ w = cell-stands S c s has shares in
-      let zone : b.zone ≡ z = ap (λ (b : Cell). b.zone) same in
-      let case : decide (view z S) e ≡ decide_in (row_in z s) c e = decide-stands S z w e here in
+-- an event of z, whose case on the cell c and the shared part s was done and left d and t
+module _ (z : Name) (c d : Cell) (s t : Shared) (e : Event) (g : Grant) (head : Head) where
+  abbrev done_in : Act
+  done_in = act_of (decide_in z (row_in z s) c e) g
+
+  pub cell-answered : says head ≡ done_in.effect.reply
+      → (IfSome (session_number e) (λ n. IsOpenTo z (owner nat_eq s.sessions n)) → Does z (acts_world (session_number e) done_in) (came_common z done_in.came) c s d t)
+      → IsCellStep z c s e g (record { event = e; subject = Zone z; grant = g; reply = record { head = head; body = No_body } }) d (record t { started = true })
+  cell-answered said done S has shares is =
+      let n = session_number e in let w = cell_world (row_in z s) c in let a = done_in in
+      let here : world z S ≡ w = cell-stands z S c s has shares in
+      let does = done (open-to z s e (sym (subject-stands S s e shares) ∙ is)) in
+      let case : decide (view z S) e ≡ decide_in z (row_in z s) c e = decide-stands S z w e here in
       let steps : one S e g ≡ done_by z n a S = one-of S e g (Zone z) is ∙ ap (λ x. done_by z n (act_of x g) S) case in
-      let does : Does (work_world n work) (came_common z (option_map arrival_of work.came)) (record c { desk = b.desk }) s d t =
-      subst (λ (x : Cell). Does (work_world n work) (came_common x.zone (option_map arrival_of work.came)) x s d t) same does in
-      let lasts : work_world n work (record w { desk = desk_seen b.desk }) ≡ acts_world n a w = work-desk n w (desk_seen b.desk) work ∙ works.world in
-      let after : cell_world (row_in z t) d ≡ acts_world n a w = does.world ∙ lasts in
-      let told : says head ≡ (one S e g).reply = ap says said ∙ (works.reply ∙ ap (λ x. x.reply) (sym steps)) in
-      let shared : common_in t ≡ holding z (acts_world n a w) (came_common z a.came (common_in s)) =
-      does.common (desked (agrees S c s has shares))
-      ∙ (ap (λ v. holding z v (came_common z (option_map arrival_of work.came) (common_in s))) lasts ∙ ap (λ x. holding z (acts_world n a w) (came_common z x (common_in s))) works.came) in
-      let left : world d.zone (done_by z n a S).state ≡ cell_world (row_in d.zone t) d =
-      ap (λ y. world y (done_by z n a S).state) does.zone
-      ∙ (own-acts z n a S ∙ (ap (acts_world n a) here ∙ (sym after ∙ ap (λ y. cell_world (row_in y t) d) (sym does.zone)))) in
+      let told : says head ≡ (one S e g).reply = said ∙ ap (λ x. x.reply) (sym steps) in
+      let left : world z (done_by z n a S).state ≡ cell_world (row_in z t) d = own-acts z n a S ∙ (ap (acts_world n a) here ∙ sym does.world) in
       record {
-        told = λ i. record { event = e; subject = (ap Zone does.zone ∙ sym is) i; grant = g; reply = told i };
-        zone = does.zone;
-        cell = subst (λ x. CellOf d (world d.zone x.state)) (sym steps) (cell-of (world d.zone (done_by z n a S).state) (row_in d.zone t) d left);
+        told = λ i. record { event = e; subject = sym is i; grant = g; reply = told i };
+        cell = subst (λ x. CellOf d (world z x.state)) (sym steps) (cell-of (world z (done_by z n a S).state) (row_in z t) d left);
         shared = subst (λ x. SharedOf (record t { started = true }) (common x.state)) (sym steps)
             (common-acts z n a S (own_session S e z is) ∙ (ap (λ x. acts_common z n a x (common S)) here
-            ∙ (ap (acts_common z n a w) shares ∙ ap (λ (x : Common). record x { started = true }) (sym shared))));
+            ∙ (ap (acts_common z n a w) shares ∙ ap (λ (x : Common). record x { started = true }) (sym (does.common (agrees z S c s has shares))))));
       }
-    where
-      desked : Agree c s → Agree (record c { desk = b.desk }) s
-      desked a = record { pids = a.pids; zids = a.zids; sessions = a.sessions }

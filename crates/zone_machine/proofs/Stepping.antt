@@ -80,82 +80,73 @@ module _ (S : State) (s : Shared) (z : Name) (w : World) (e : Event) (asked : Li
   unfolding fits
   fits-by g = ap (λ x. fits_of x S e g) of ∙ λ i. fits_asked (pools-stand S s h i) (asked-stands i) g
 
--- a step of a cell under the allowed grant, and under one that fits
-pub IsAllowedCellStep-by : (c : Cell) (s : Shared) (e : Event) (g : Grant) (entry : Entry) (d : Cell) (t : Shared) (asked : List Asked) → asked_of (decide_in (row_in c.zone s) c e) ≡ asked
-    → g ≡ said_by_all (pools_in s) c.zone asked Nothing → IsCellStep c s e g entry d t → IsAllowedCellStep c s e entry d t
-IsAllowedCellStep-by c s e g entry d t asked asks said steps S cell shared is =
-    subst (λ g. CellAnswers S e g entry c d t) (said ∙ allowed-by S s c.zone (cell_world (row_in c.zone s) c) e asked shared (cell-stands S c s cell shared) is asks) (steps S cell shared is)
+-- a step of a cell under the grant that its case takes
+module _ (z : Name) (c : Cell) (s : Shared) (e : Event) where
+  pub IsCellStepUnder-by : (stated : Option Grant) (g : Grant) (entry : Entry) (d : Cell) (t : Shared) (asked : List Asked) → asked_of (decide_in z (row_in z s) c e) ≡ asked
+      → IsGrantFor z (pools_in s) asked stated g → entry.grant ≡ g → IsCellStep z c s e g entry d t → IsCellStepUnder z stated c s e entry d t
+  IsCellStepUnder-by None g entry d t asked asks takes is steps S cell shared of = record {
+    takes = is ∙ (takes ∙ allowed-by S s z (cell_world (row_in z s) c) e asked shared (cell-stands z S c s cell shared) of asks);
+    answers = subst (λ g. CellAnswers z S e g entry d t) (sym is) (steps S cell shared of);
+  }
+  IsCellStepUnder-by (Some stated) g entry d t asked asks takes is steps S cell shared of = record {
+    takes = (is ∙ takes.0, fits-by S s z (cell_world (row_in z s) c) e asked shared (cell-stands z S c s cell shared) of asks stated ∙ takes.1);
+    answers = subst (λ g. CellAnswers z S e g entry d t) (sym is) (steps S cell shared of);
+  }
 
-module _ (c : Cell) (s : Shared) (e : Event) (g : Grant) (asked : List Asked) (asks : asked_of (decide_in (row_in c.zone s) c e) ≡ asked) where
-  cell-fits : (S : State) → CellOf c (world c.zone S) → SharedOf s (common S) → subject S e ≡ Zone c.zone → fits S e g ≡ fits_asked (pools_in s) asked g
-  cell-fits S cell shared is = fits-by S s c.zone (cell_world (row_in c.zone s) c) e asked shared (cell-stands S c s cell shared) is asks g
+  pub IsCellMisfitUnder-by : (stated : Option Grant) (asked : List Asked) → asked_of (decide_in z (row_in z s) c e) ≡ asked → IsUnfit (pools_in s) asked stated → IsCellMisfitUnder z stated c s e c s
+  IsCellMisfitUnder-by None asked asks unfit = absurd unfit
+  IsCellMisfitUnder-by (Some stated) asked asks unfit =
+      (λ S cell shared of. fits-by S s z (cell_world (row_in z s) c) e asked shared (cell-stands z S c s cell shared) of asks stated ∙ unfit, (refl, refl))
 
-  pub IsFittingCellStep-by : (entry : Entry) (d : Cell) (t : Shared) → fits_asked (pools_in s) asked g ≡ true → IsCellStep c s e g entry d t → IsFittingCellStep c s e g entry d t
-  IsFittingCellStep-by entry d t fit steps S cell shared is = (cell-fits S cell shared is ∙ fit, steps S cell shared is)
+-- a cell and a shared part that are alike stand for the same, and so a step of the ones is one of the others
+module _ (z : Name) (c : Cell) (s : Shared) (c' : Cell) (s' : Shared) (alike : Alike c s c' s') where
+  pub alike-cell : (w : World) → CellOf c w → CellOf c' w
+  alike-cell w h = h ∙ sym (alike.world w.stored)
 
-  pub IsCellMisfit-by : fits_asked (pools_in s) asked g ≡ false → IsCellMisfit c s e g c s
-  IsCellMisfit-by misfit = (λ S cell shared is. cell-fits S cell shared is ∙ misfit, refl, refl)
+  pub alike-shared : (k : Common) → SharedOf s k → SharedOf s' k
+  alike-shared k h = h ∙ sym alike.common
+
+  pub IsCellStep-alike : (e : Event) (g : Grant) (entry : Entry) (d : Cell) (t : Shared) → IsCellStep z c' s' e g entry d t → IsCellStep z c s e g entry d t
+  IsCellStep-alike e g entry d t steps S cell shared of = steps S (alike-cell (world z S) cell) (alike-shared (common S) shared) of
 
 -- the world of each zone
 pub world-stands : (S : State) (m : Parts) (z : Name) → Stands S m → world z S ≡ world_or_empty (row_in z m.shared) (cell_at z m)
 world-stands S m z h = h.worlds z ∙ ap (λ row. world_or_empty row (cell_at z m)) (stored-stands S m.shared z h.shared)
 
--- what an event asks, and the pools give
-pub IsAllowed-zone : (m : Parts) (z : Name) (e : Event) (g : Grant) (asked : List Asked) → subject_in m.shared e ≡ Zone z → (IsNamed z (cell_at z m) → asked_of (decide_of z m e) ≡ asked)
+-- the grant that the pools give an event
+pub IsAllowed-zone : (m : Parts) (z : Name) (e : Event) (g : Grant) (asked : List Asked) → subject_in m.shared e ≡ Zone z → asked_of (decide (view_of z (world_or_empty (row_in z m.shared) (cell_at z m))) e) ≡ asked
     → g ≡ said_by_all (pools_in m.shared) z asked Nothing → IsAllowed m e g
 IsAllowed-zone m z e g asked is asks said S h =
-    said ∙ allowed-by S m.shared z (world_or_empty (row_in z m.shared) (cell_at z m)) e asked h.shared (world-stands S m z h) (subject-stands S m.shared e h.shared ∙ is) (asks (h.named z))
+    said ∙ allowed-by S m.shared z (world_or_empty (row_in z m.shared) (cell_at z m)) e asked h.shared (world-stands S m z h) (subject-stands S m.shared e h.shared ∙ is) asks
 
 allowed-of : (S : State) (e : Event) (s : Subject) → subject S e ≡ s → allowed S e ≡ allowed_of s S e
 unfolding allowed
 allowed-of S e s is = ap (λ s. allowed_of s S e) is
 
-pub IsAllowed-other : (m : Parts) (e : Event) (s : Subject) → s ≡ subject_in m.shared e → (s ≡ Global) ⊎ (s ≡ Whole) → IsAllowed m e Nothing
-IsAllowed-other m e s is (inl one) S h = sym (allowed-of S e Global (subject-stands S m.shared e h.shared ∙ (sym is ∙ one)))
-IsAllowed-other m e s is (inr one) S h = sym (allowed-of S e Whole (subject-stands S m.shared e h.shared ∙ (sym is ∙ one)))
+pub IsAllowed-global : (m : Parts) (e : Event) → subject_in m.shared e ≡ Global → IsAllowed m e Nothing
+IsAllowed-global m e is S h = sym (allowed-of S e Global (subject-stands S m.shared e h.shared ∙ is))
 
 fits-of : (S : State) (e : Event) (g : Grant) (s : Subject) → subject S e ≡ s → fits S e g ≡ fits_of s S e g
 unfolding fits
 fits-of S e g s is = ap (λ s. fits_of s S e g) is
 
-pub IsFit-by : (m : Parts) (e : Event) (g : Grant) (s : Subject) (asked : List Asked) → s ≡ subject_in m.shared e → Asks s m e asked → IsFit m e g (fits_asked (pools_in m.shared) asked g)
-IsFit-by m e g (Zone z) asked is asks S h =
-    fits-by S m.shared z (world_or_empty (row_in z m.shared) (cell_at z m)) e asked h.shared (world-stands S m z h) (subject-stands S m.shared e h.shared ∙ sym is) (asks (h.named z)) g
-IsFit-by m e g Global asked is asks S h = fits-of S e g Global (subject-stands S m.shared e h.shared ∙ sym is) ∙ λ i. fits_asked (pools-stand S m.shared h.shared i) (sym asks i) g
-IsFit-by m e g Whole asked is asks S h = fits-of S e g Whole (subject-stands S m.shared e h.shared ∙ sym is) ∙ λ i. fits_asked (pools-stand S m.shared h.shared i) (sym asks i) g
-
 -- a zone's state
 pub IsZoneState-in : (m : Parts) (z : Name) (s : Option ZoneState) → s ≡ state_of (row_in z m.shared) (world_or_empty (row_in z m.shared) (cell_at z m)).desk → IsZoneState m z s
 IsZoneState-in m z s is S h = is ∙ (ap (λ (w : World). state_of (row_in z m.shared) w.desk) (sym (world-stands S m z h)) ∙ ap (λ row. state_of row (S.desks z)) (sym (stored-stands S m.shared z h.shared)))
 
--- the case of an event of a zone without a cell
-pub decide-new : (m : Parts) (z : Name) (e : Event) (c : Cell) → cell_at z m ≡ None → c.zone ≡ z → ((row : Option Record) → cell_world row c ≡ empty_world row) → decide_of z m e ≡ decide_in (row_in z m.shared) c e
-decide-new m z e c none zone nothing =
-    ap (λ (w : World). decide (view_of z w) e) (ap (world_or_empty (row_in z m.shared)) none ∙ sym (nothing (row_in z m.shared))) ∙ ap (λ (y : Name). decide (view_of y (cell_world (row_in z m.shared) c)) e) (sym zone)
-
 -- a zone's new cell is kept, or it has nothing
 pub Keeps-new : (z : Name) (d : Cell) (old new : Name → Option Cell) → ((y : Name) → new y ≡ (if bytes_eq z y then Some d else old y)) → Keeps z d old new
-Keeps-new z d old new now = record {
-  worlds = λ row y. ap (world_or_empty row) (now y) ∙ at_world row y (bytes_eq z y);
-  named = λ zone named y. subst (IsNamed y) (sym (now y)) (at_name zone named y (bytes_eq z y) refl);
-}
+Keeps-new z d old new now = λ row y. ap (world_or_empty row) (now y) ∙ at_world row y (bytes_eq z y)
   where
     at_world : (row : Option Record) (y : Name) (b : Bool) → world_or_empty row (if b then Some d else old y) ≡ (if b then cell_world row d else world_or_empty row (old y))
     at_world row y true = refl
     at_world row y false = refl
 
-    at_name : d.zone ≡ z → ((y : Name) → IsNamed y (old y)) → (y : Name) (b : Bool) → bytes_eq z y ≡ b → IsNamed y (if b then Some d else old y)
-    at_name zone named y true e = zone ∙ same_true z y e
-    at_name zone named y false e = named y
-
-pub Keeps-empty : (z : Name) (d : Cell) (old : Name → Option Cell) → old z ≡ None → ((row : Option Record) → cell_world row d ≡ empty_world row) → Keeps z d old old
-Keeps-empty z d old none empty = record {
-  worlds = λ row y. at_zone row y (bytes_eq z y) refl;
-  named = λ zone named. named;
-}
+pub Keeps-same : (z : Name) (d : Cell) (old : Name → Option Cell) → ((row : Option Record) → cell_world row d ≡ world_or_empty row (old z)) → Keeps z d old old
+Keeps-same z d old same = λ row y. at_zone row y (bytes_eq z y) refl
   where
     at_zone : (row : Option Record) (y : Name) (b : Bool) → bytes_eq z y ≡ b → world_or_empty row (old y) ≡ (if b then cell_world row d else world_or_empty row (old y))
-    at_zone row y true e = ap (λ y. world_or_empty row (old y)) (sym (same_true z y e)) ∙ (ap (world_or_empty row) none ∙ sym (empty row))
+    at_zone row y true e = ap (λ y. world_or_empty row (old y)) (sym (same_true z y e)) ∙ sym (same row)
     at_zone row y false e = refl
 
 -- the cell at an index is changed, and all others stay
@@ -182,52 +173,94 @@ Keeps-at m u z i d unique found now = Keeps-new z d (λ y. cell_at y m) (λ y. c
         past h = cc
 
 -- a step of the machine, by a step of a cell
-module _ (m u : Parts) (z : Name) (e : Event) (g : Grant) (entry : Entry) (c d : Cell) where
-  pub IsStep-cell : subject_in m.shared e ≡ Zone z → (IsNamed z (cell_at z m) → c.zone ≡ z) → ((row : Option Record) → world_or_empty row (cell_at z m) ≡ cell_world row c)
-      → IsCellStep c m.shared e g entry d u.shared → Keeps z d (λ y. cell_at y m) (λ y. cell_at y u) → IsStep m e g entry u
-  IsStep-cell is named same steps keeps S h =
-      let zone = named (h.named z) in
-      let of : subject S e ≡ Zone z = subject-stands S m.shared e h.shared ∙ is in
-      let cell : CellOf c (world c.zone S) = subst (λ y. world y S ≡ cell_world (stored y S.commits) c) (sym zone) (h.worlds z ∙ same (stored z S.commits)) in
-      let after = steps S cell h.shared (of ∙ ap Zone (sym zone)) in
-      let now : d.zone ≡ z = after.zone ∙ zone in
-      let here : world z (one S e g).state ≡ cell_world (stored z (one S e g).state.commits) d = subst (λ y. world y (one S e g).state ≡ cell_world (stored y (one S e g).state.commits) d) now after.cell in
+module _ (m u : Parts) (z : Name) (e : Event) (c d : Cell) (same : (row : Option Record) → world_or_empty row (cell_at z m) ≡ cell_world row c) (keeps : Keeps z d (λ y. cell_at y m) (λ y. cell_at y u)) where
+  left_at : (y : Name) (row : Option Record) (b : Bool) → bytes_eq z y ≡ b → world_or_empty row (cell_at y u) ≡ (if b then cell_world row d else world_or_empty row (cell_at y m))
+  left_at y row b k = keeps row y ∙ ap (λ b. if b then cell_world row d else world_or_empty row (cell_at y m)) k
+
+  pub stands-cell : (S : State) → Stands S m → CellOf c (world z S)
+  stands-cell S h = h.worlds z ∙ same (stored z S.commits)
+
+  pub Stands-cell : (S : State) (g : Grant) (entry : Entry) → subject S e ≡ Zone z → Stands S m → CellAnswers z S e g entry d u.shared → Answers S e g entry u
+  Stands-cell S g entry of h after =
       record {
         told = after.told;
-        stands = record {
-          worlds = λ y. at_zone of here y (bytes_eq z y) refl;
-          named = keeps.named now h.named;
-          shared = after.shared;
-        };
+        stands = record { worlds = λ y. at_zone y (bytes_eq z y) refl; shared = after.shared };
       }
     where
-      left_at : (y : Name) (row : Option Record) (b : Bool) → bytes_eq z y ≡ b → world_or_empty row (cell_at y u) ≡ (if b then cell_world row d else world_or_empty row (cell_at y m))
-      left_at y row b k = keeps.worlds row y ∙ ap (λ b. if b then cell_world row d else world_or_empty row (cell_at y m)) k
-
       other : (y : Name) → bytes_eq z y ≡ false → bytes_eq y z ≡ false
       other y k = nat_list_eq_equiv.symm y z ∙ k
 
-      at_zone : subject S e ≡ Zone z → world z (one S e g).state ≡ cell_world (stored z (one S e g).state.commits) d → (y : Name) (b : Bool) → bytes_eq z y ≡ b
-          → world y (one S e g).state ≡ world_or_empty (stored y (one S e g).state.commits) (cell_at y u)
-      at_zone of here y true k =
-          subst (λ x. world x (one S e g).state ≡ cell_world (stored x (one S e g).state.commits) d) (same_true z y k) here
+      at_zone : (y : Name) (b : Bool) → bytes_eq z y ≡ b → world y (one S e g).state ≡ world_or_empty (stored y (one S e g).state.commits) (cell_at y u)
+      at_zone y true k =
+          subst (λ x. world x (one S e g).state ≡ cell_world (stored x (one S e g).state.commits) d) (same_true z y k) after.cell
           ∙ sym (left_at y (stored y (one S e g).state.commits) true k)
-      at_zone of here y false k =
+      at_zone y false k =
           let kept : world y (one S e g).state ≡ world y S = leaves y S e g (ap (concerns y) of ∙ other y k) in
           kept ∙ (h.worlds y ∙ (ap (λ row. world_or_empty row (cell_at y m)) (sym (ap (λ w. w.stored) kept)) ∙ sym (left_at y (stored y (one S e g).state.commits) false k)))
 
+  pub IsStepUnder-cell : (stated : Option Grant) (entry : Entry) → subject_in m.shared e ≡ Zone z → IsCellStepUnder z stated c m.shared e entry d u.shared → IsStepUnder stated m e entry u
+  IsStepUnder-cell stated entry is steps S h =
+      let of : subject S e ≡ Zone z = subject-stands S m.shared e h.shared ∙ is in
+      let after = steps S (stands-cell S h) h.shared of in
+      record { takes = after.takes; answers = Stands-cell S entry.grant entry of h after.answers }
+
+  -- where the cell and the shared part are alike to what they were, the machine is as it was
+  pub AsItWas-cell : Alike c m.shared d u.shared → AsItWas m u
+  AsItWas-cell alike S = (
+      λ h. record { worlds = λ y. h.worlds y ∙ kept y (stored y S.commits); shared = h.shared ∙ sym alike.common },
+      λ h. record { worlds = λ y. h.worlds y ∙ sym (kept y (stored y S.commits)); shared = h.shared ∙ alike.common },
+    )
+    where
+      kept : (y : Name) (row : Option Record) → world_or_empty row (cell_at y m) ≡ world_or_empty row (cell_at y u)
+      kept y row = at_zone (bytes_eq z y) refl
+        where
+          at_zone : (b : Bool) → bytes_eq z y ≡ b → world_or_empty row (cell_at y m) ≡ world_or_empty row (cell_at y u)
+          at_zone true k = subst (λ x. world_or_empty row (cell_at x m) ≡ cell_world row d) (same_true z y k) (same row ∙ sym (alike.world row)) ∙ sym (left_at y row true k)
+          at_zone false k = sym (left_at y row false k)
+
+-- a stated grant that doesn't fit is a misfit of the machine
+pub IsMisfitUnder-cell : (m : Parts) (z : Name) (e : Event) (c d : Cell) (t : Shared) (stated : Option Grant) → ((row : Option Record) → world_or_empty row (cell_at z m) ≡ cell_world row c)
+    → subject_in m.shared e ≡ Zone z → IsCellMisfitUnder z stated c m.shared e d t → (u : Parts) → (d ≡ c → t ≡ m.shared → u ≡ m) → IsMisfitUnder stated m e u
+IsMisfitUnder-cell m z e c d t None same is misfit u whole = absurd misfit
+IsMisfitUnder-cell m z e c d t (Some g) same is misfit u whole =
+    (λ S h. misfit.0 S (h.worlds z ∙ same (stored z S.commits)) h.shared (subject-stands S m.shared e h.shared ∙ is), whole misfit.1.0 misfit.1.1)
+
 -- an event of the global zone
-pub IsStep-global : (m : Parts) (e : Event) (g : Grant) (head : Head) → subject_in m.shared e ≡ Global → ((S : State) → says head ≡ global_reply S e)
-    → IsStep m e g (record { event = e; subject = Global; grant = g; reply = record { head = head; body = No_body } }) (record m { shared = record m.shared { started = true } })
-unfolding one
-IsStep-global m e g head is said S h =
-    let of : subject S e ≡ Global = subject-stands S m.shared e h.shared ∙ is in
-    let steps : one S e g ≡ one_of Global S e g = ap (λ s. one_of s S e g) of in
-    record {
-      told = λ i. record { event = e; subject = sym of i; grant = g; reply = (said S ∙ ap (λ r. r.reply) (sym steps)) i };
-      stands = subst (λ r. Stands r.state (record m { shared = record m.shared { started = true } })) (sym steps)
-          (record { worlds = h.worlds; named = h.named; shared = ap (λ (k : Common). record k { started = true }) h.shared });
-    }
+module _ (m : Parts) (e : Event) (is : subject_in m.shared e ≡ Global) where
+  of_global : (S : State) → Stands S m → subject S e ≡ Global
+  of_global S h = subject-stands S m.shared e h.shared ∙ is
+
+  one-global : (S : State) (g : Grant) → Stands S m → one S e g ≡ one_of Global S e g
+  unfolding one
+  one-global S g h = ap (λ s. one_of s S e g) (of_global S h)
+
+  takes_nothing : (S : State) (stated : Option Grant) → Stands S m → unwrap_or stated Nothing ≡ Nothing → Takes stated S e Nothing
+  takes_nothing S None h none = sym (allowed-of S e Global (of_global S h))
+  takes_nothing S (Some g) h none = (sym none, fits-of S e g Global (of_global S h) ∙ ap (λ g. fits_asked (pools_of S) [] g) none)
+
+  pub IsStepUnder-global : (stated : Option Grant) (head : Head) → ((S : State) → says head ≡ global_reply S e) → unwrap_or stated Nothing ≡ Nothing
+      → IsStepUnder stated m e (record { event = e; subject = Global; grant = Nothing; reply = record { head = head; body = No_body } }) (record m { shared = record m.shared { started = true } })
+  IsStepUnder-global stated head said none S h =
+      let steps = one-global S Nothing h in
+      record {
+        takes = takes_nothing S stated h none;
+        answers = record {
+          told = λ i. record { event = e; subject = sym (of_global S h) i; grant = Nothing; reply = (said S ∙ ap (λ r. r.reply) (sym steps)) i };
+          stands = subst (λ r. Stands r.state (record m { shared = record m.shared { started = true } })) (sym steps)
+              (record { worlds = h.worlds; shared = ap (λ (k : Common). record k { started = true }) h.shared });
+        };
+      }
+
+  -- a stated grant that is something doesn't fit
+  pub IsMisfitUnder-global : (stated : Option Grant) → (unwrap_or stated Nothing ≡ Nothing → ⊥) → IsMisfitUnder stated m e m
+  IsMisfitUnder-global None some = absurd (some refl)
+  IsMisfitUnder-global (Some g) some = (λ S h. fits-of S e g Global (of_global S h) ∙ unfit g some, refl)
+    where
+      unfit : {P : Pools} (g : Grant) → (g ≡ Nothing → ⊥) → fits_asked P [] g ≡ false
+      unfit Nothing some = absurd (some refl)
+      unfit (Number n) some = refl
+      unfit Yes some = refl
+      unfit (Denied pool) some = refl
 
 -- no event is the whole system's yet
 never_named : (word : Option (List ℕ)) → Whole ≡ named_subject word → ⊥

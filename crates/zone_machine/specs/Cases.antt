@@ -81,16 +81,16 @@ abbrev pub undo_with : desks.Desk → desks.Job → List Object_edit → List St
 undo_with d j edits [] = decisions.Just (rests d)
 undo_with d j edits (s ∷ rest) = decisions.Just (undone d j rest edits s)
 
--- what a case of the request under way decides, whose whole plan is this
-abbrev pub job_turn : desks.Desk → desks.Job → List Step → JobCase → Turn_decision
-job_turn d j steps (Finish outcome) = decisions.Just (finish d j.ticket outcome)
-job_turn d j steps (Pass p) = decisions.Just (advance (record d { active = active_with p.shown d.active }) j (drop p.next steps) (object_edits p.objects) p.shown)
-job_turn d j steps (Ask c next) = asking d j (drop next steps) (comes_of c.it) (asked_for c.it) (shown_under c.it)
-job_turn d j steps (Undo objects) = undo_with d j (object_edits objects) j.undo
+-- what a case of the request under way decides
+abbrev pub job_turn : desks.Desk → Job → JobCase → Turn_decision
+job_turn d j (Finish outcome) = decisions.Just (finish d j.ticket outcome)
+job_turn d j (Pass p) = decisions.Just (advance (record d { active = active_with p.shown d.active }) (job_seen j) (drop p.next j.steps.items) (object_edits p.objects) p.shown)
+job_turn d j (Ask c next) = asking d (job_seen j) (drop next j.steps.items) (comes_of c.it) (asked_for c.it) (shown_under c.it)
+job_turn d j (Undo objects) = undo_with d (job_seen j) (object_edits objects) (job_seen j).undo
 
 abbrev pub on_job : Desk → Option Job → JobCase → Turn_decision
 on_job d None c = decisions.Just (rests (desk_seen d))
-on_job d (Some j) c = job_turn (desk_seen d) (job_seen j) j.steps.items c
+on_job d (Some j) c = job_turn (desk_seen d) j c
 
 -- the desk without the first request that waits
 abbrev pub without_first : Desk → desks.Desk

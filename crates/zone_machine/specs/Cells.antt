@@ -92,32 +92,25 @@ SharedOf s k = k ≡ common_in s
 abbrev pub cell_at : Name → Parts → Option Cell
 cell_at z p = get_by (bytes_eq z) p.cells
 
-abbrev pub IsNamed : Name → Option Cell → Type 0
-IsNamed z None = Unit {0}
-IsNamed z (Some c) = c.zone ≡ z
-
 -- the parts stand for the state S: each cell has its zone's world, each zone without one has nothing
 pub record Stands (S : State) (p : Parts) : Type 0 where
   pub worlds : (z : Name) → world z S ≡ world_or_empty (stored z S.commits) (cell_at z p)
-  pub named : (z : Name) → IsNamed z (cell_at z p)
   pub shared : SharedOf p.shared (common S)
 
 -- z has what a cell has from now on, and each other zone what it had
-pub record Keeps (z : Name) (d : Cell) (old new : Name → Option Cell) : Type 0 where
-  pub worlds : (row : Option Record) (y : Name) → world_or_empty row (new y) ≡ (if bytes_eq z y then cell_world row d else world_or_empty row (old y))
-  pub named : d.zone ≡ z → ((y : Name) → IsNamed y (old y)) → (y : Name) → IsNamed y (new y)
+abbrev pub Keeps : Name → Cell → (Name → Option Cell) → (Name → Option Cell) → Type 0
+Keeps z d old new = (row : Option Record) (y : Name) → world_or_empty row (new y) ≡ (if bytes_eq z y then cell_world row d else world_or_empty row (old y))
 
--- the shared part names for the cell's zone exactly what the cell has
-pub record Agree (c : Cell) (s : Shared) : Type 0 where
-  pub pids : (n : ℕ) → list_any (has_pid n) c.processes.items ≡ is_owner c.zone (owner nat_eq s.pids n)
-  pub zids : (n : ℕ) → list_any (has_zid n) c.ids.items ≡ is_owner c.zone (owner nat_eq s.zids n)
-  pub sessions : (n : ℕ) → is_some (get nat_eq c.waits n) ≡ is_owner c.zone (owner nat_eq s.sessions n)
+-- the shared part names for z exactly what its cell has
+pub record Agree (z : Name) (c : Cell) (s : Shared) : Type 0 where
+  pub pids : (n : ℕ) → list_any (has_pid n) c.processes.items ≡ is_owner z (owner nat_eq s.pids n)
+  pub zids : (n : ℕ) → list_any (has_zid n) c.ids.items ≡ is_owner z (owner nat_eq s.zids n)
+  pub sessions : (n : ℕ) → is_some (get nat_eq c.waits n) ≡ is_owner z (owner nat_eq s.sessions n)
 
--- a cell's world was changed so and what is common so: its zone holds what it has then, and the other zones hold what they held
-pub record Does (f : World → World) (g : Common → Common) (c : Cell) (s : Shared) (d : Cell) (t : Shared) : Type 0 where
-  pub zone : d.zone ≡ c.zone
-  pub world : cell_world (row_in c.zone t) d ≡ f (cell_world (row_in c.zone s) c)
-  pub common : Agree c s → common_in t ≡ holding c.zone (f (cell_world (row_in c.zone s) c)) (g (common_in s))
+-- z's world was changed so and what is common so: z holds what it has then, and the other zones hold what they held
+pub record Does (z : Name) (f : World → World) (g : Common → Common) (c : Cell) (s : Shared) (d : Cell) (t : Shared) : Type 0 where
+  pub world : cell_world (row_in z t) d ≡ f (cell_world (row_in z s) c)
+  pub common : Agree z c s → common_in t ≡ holding z (f (cell_world (row_in z s) c)) (g (common_in s))
 
 abbrev pub kept : Common → Common
 kept c = c
@@ -161,13 +154,9 @@ abbrev pub global_read : Read → Reply
 global_read (read.Line n line) = global_line (line_seen line)
 global_read (read.Turn z) = says Ok
 
--- the case of an event of a cell's zone, by the cell and what is stored of its zone
-abbrev pub decide_in : Option Record → Cell → Event → Decision
-decide_in row c e = decide (view_of c.zone (cell_world row c)) e
-
--- the same of a zone, by the parts
-abbrev pub decide_of : Name → Parts → Event → Decision
-decide_of z p e = decide (view_of z (world_or_empty (row_in z p.shared) (cell_at z p))) e
+-- the case of an event of z, by its cell and what is stored of it
+abbrev pub decide_in : Name → Option Record → Cell → Event → Decision
+decide_in z row c e = decide (view_of z (cell_world row c)) e
 
 -- what some work does to a world beside its change of the desk
 abbrev pub work_world : Option ℕ → Work → World → World

@@ -20,4 +20,6 @@ pub mod Desks_seen
 pub mod Needs_seen
 pub mod Cases
 pub mod Cells
+pub mod Rooms
 pub mod Steps
+pub mod Decided

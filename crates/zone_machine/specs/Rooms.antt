@@ -21,7 +21,6 @@ use Rattle.zone_machine.specs.declared.work.ObjectEdit.TheVariants.{Mount}
 
 -- a cell and a shared part are as they were, but for room
 pub record Alike (c : Cell) (s : Shared) (d : Cell) (t : Shared) : Type 0 where
-  pub zone : d.zone ≡ c.zone
   pub world : (row : Option Record) → cell_world row d ≡ cell_world row c
   pub rows : t.rows.entries ≡ s.rows.entries
   pub common : common_in t ≡ common_in s

@@ -63,31 +63,67 @@ IsZoneState t z s = (S : State) → Stands S t → s ≡ zone_state z S
 abbrev pub IsStarted : Parts → Bool → Type 0
 IsStarted t b = (S : State) → Stands S t → b ≡ S.started
 
--- what an event asks of the pools, by the parts
-abbrev pub Asks : Subject → Parts → Event → List Asked → Type 0
-Asks (Zone z) p e asked = IsNamed z (cell_at z p) → asked_of (decide_of z p e) ≡ asked
-Asks Global p e asked = asked ≡ []
-Asks Whole p e asked = asked ≡ []
+-- the grant that is taken: the one that the pools give, or the stated one, which fits
+abbrev pub Takes : Option Grant → State → Event → Grant → Type 0
+Takes None S e g = g ≡ allowed S e
+Takes (Some stated) S e g = (g ≡ stated) × (fits S e stated ≡ true)
 
--- the same of a cell and the shared part: the entry is the definitions', and what is left has the world and what is common of the state after it
-pub record CellAnswers (S : State) (e : Event) (g : Grant) (entry : Entry) (c d : Cell) (t : Shared) : Type 0 where
+pub record StepsUnder (stated : Option Grant) (S : State) (e : Event) (entry : Entry) (u : Parts) : Type 0 where
+  pub takes : Takes stated S e entry.grant
+  pub answers : Answers S e entry.grant entry u
+
+abbrev pub IsStepUnder : Option Grant → Parts → Event → Entry → Parts → Type 0
+IsStepUnder stated t e entry u = (S : State) → Stands S t → StepsUnder stated S e entry u
+
+abbrev pub IsMisfitUnder : Option Grant → Parts → Event → Parts → Type 0
+IsMisfitUnder None t e u = ⊥
+IsMisfitUnder (Some g) t e u = IsMisfit t e g u
+
+-- the parts stand for what they stood for
+abbrev pub AsItWas : Parts → Parts → Type 0
+AsItWas t u = (S : State) → (Stands S t → Stands S u) × (Stands S u → Stands S t)
+
+-- the same of a zone's cell and the shared part: the entry is the definitions', and what is left has the world and what is common of
+-- the state after it
+pub record CellAnswers (z : Name) (S : State) (e : Event) (g : Grant) (entry : Entry) (d : Cell) (t : Shared) : Type 0 where
   pub told : entry ≡ entry_at S e g
-  pub zone : d.zone ≡ c.zone
-  pub cell : CellOf d (world d.zone (one S e g).state)
+  pub cell : CellOf d (world z (one S e g).state)
   pub shared : SharedOf t (common (one S e g).state)
 
--- whatever state they stood for in which the event is the cell's
-abbrev pub IsCellStep : Cell → Shared → Event → Grant → Entry → Cell → Shared → Type 0
-IsCellStep c s e g entry d t = (S : State) → CellOf c (world c.zone S) → SharedOf s (common S) → subject S e ≡ Zone c.zone → CellAnswers S e g entry c d t
+-- whatever state they stood for in which the event is the zone's
+abbrev pub IsCellStep : Name → Cell → Shared → Event → Grant → Entry → Cell → Shared → Type 0
+IsCellStep z c s e g entry d t = (S : State) → CellOf c (world z S) → SharedOf s (common S) → subject S e ≡ Zone z → CellAnswers z S e g entry d t
 
 -- under the grant that the pools give
-abbrev pub IsAllowedCellStep : Cell → Shared → Event → Entry → Cell → Shared → Type 0
-IsAllowedCellStep c s e entry d t = (S : State) → CellOf c (world c.zone S) → SharedOf s (common S) → subject S e ≡ Zone c.zone → CellAnswers S e (allowed S e) entry c d t
+abbrev pub IsAllowedCellStep : Name → Cell → Shared → Event → Entry → Cell → Shared → Type 0
+IsAllowedCellStep z c s e entry d t = (S : State) → CellOf c (world z S) → SharedOf s (common S) → subject S e ≡ Zone z → CellAnswers z S e (allowed S e) entry d t
 
 -- under a grant that fits
-abbrev pub IsFittingCellStep : Cell → Shared → Event → Grant → Entry → Cell → Shared → Type 0
-IsFittingCellStep c s e g entry d t = (S : State) → CellOf c (world c.zone S) → SharedOf s (common S) → subject S e ≡ Zone c.zone → (fits S e g ≡ true) × CellAnswers S e g entry c d t
+abbrev pub IsFittingCellStep : Name → Cell → Shared → Event → Grant → Entry → Cell → Shared → Type 0
+IsFittingCellStep z c s e g entry d t = (S : State) → CellOf c (world z S) → SharedOf s (common S) → subject S e ≡ Zone z → (fits S e g ≡ true) × CellAnswers z S e g entry d t
+
+-- under the one or the other
+pub record CellStepsUnder (z : Name) (stated : Option Grant) (S : State) (e : Event) (entry : Entry) (d : Cell) (t : Shared) : Type 0 where
+  pub takes : Takes stated S e entry.grant
+  pub answers : CellAnswers z S e entry.grant entry d t
+
+abbrev pub IsCellStepUnder : Name → Option Grant → Cell → Shared → Event → Entry → Cell → Shared → Type 0
+IsCellStepUnder z stated c s e entry d t = (S : State) → CellOf c (world z S) → SharedOf s (common S) → subject S e ≡ Zone z → CellStepsUnder z stated S e entry d t
 
 -- the grant doesn't fit, and nothing is changed
-abbrev pub IsCellMisfit : Cell → Shared → Event → Grant → Cell → Shared → Type 0
-IsCellMisfit c s e g d t = ((S : State) → CellOf c (world c.zone S) → SharedOf s (common S) → subject S e ≡ Zone c.zone → fits S e g ≡ false) × (d ≡ c) × (t ≡ s)
+abbrev pub IsCellMisfit : Name → Cell → Shared → Event → Grant → Cell → Shared → Type 0
+IsCellMisfit z c s e g d t = ((S : State) → CellOf c (world z S) → SharedOf s (common S) → subject S e ≡ Zone z → fits S e g ≡ false) × (d ≡ c) × (t ≡ s)
+
+abbrev pub IsCellMisfitUnder : Name → Option Grant → Cell → Shared → Event → Cell → Shared → Type 0
+IsCellMisfitUnder z None c s e d t = ⊥
+IsCellMisfitUnder z (Some g) c s e d t = IsCellMisfit z c s e g d t
+
+-- the grant that a case takes: what the pools say, or the stated one, which fits what it asks
+abbrev pub IsGrantFor : Name → Pools → List Asked → Option Grant → Grant → Type 0
+IsGrantFor z P asked None g = g ≡ said_by_all P z asked Nothing
+IsGrantFor z P asked (Some stated) g = (g ≡ stated) × (fits_asked P asked stated ≡ true)
+
+-- a stated grant doesn't fit it
+abbrev pub IsUnfit : Pools → List Asked → Option Grant → Type 0
+IsUnfit P asked None = ⊥
+IsUnfit P asked (Some stated) = fits_asked P asked stated ≡ false

@@ -1,4 +1,4 @@
-//! A zone's cell: everything that one zone has, but for what is stored of it.
+//! A zone's cell: everything that one zone has, but for its name and what is stored of it.
 ghost use Rattle.std.specs.Prelude.{◌≡◌, Option, true};
 ghost use Rattle.zone_machine.specs.Cells.{cell_world, empty_world};
 ghost use Rattle.zone_machine.specs.declared.records.Record as record_types;
@@ -8,12 +8,10 @@ use crate::objects::{Id, Mount, Process};
 use crate::waits::Waits;
 use indexmap::IndexMap;
 use std::alloc::Global;
-use zn_base::ZoneName;
 
-/// Everything that one zone has, but for what is stored of it.
+/// Everything that one zone has, but for its name and what is stored of it.
 #[derive(Drop)]
 pub struct Cell {
-    pub(crate) zone: ZoneName,
     /// In the order of their numbers.
     pub(crate) processes: Vec<Process>,
     pub(crate) mounts: Vec<Mount>,
@@ -24,12 +22,10 @@ pub struct Cell {
 
 impl Cell {
     /// A zone that has nothing.
-    pub fn new(alloc: Global, zone: ZoneName) -> Self
-        ensures zone { result.zone ≡ zone }
-        ensures nothing { (row : Option record_types.Record) → cell_world row result ≡ empty_world row }
+    pub fn new(alloc: Global) -> Self
+        ensures { (row : Option record_types.Record) → cell_world row result ≡ empty_world row }
     {
         Self {
-            zone,
             processes: Vec::new(alloc),
             mounts: Vec::new(alloc),
             ids: Vec::new(alloc),

@@ -3,6 +3,7 @@
 ghost use Rattle.std.specs.Prelude.{◌≡◌, ◌<◌, ℕ, IfSome, None, Option, Some, false, true, vec_capacity, vec_len, if◌then◌else◌};
 ghost use Rattle.std.specs.Option.{option_map};
 ghost use Rattle.indexmap.specs.IndexMap.{spare};
+ghost use Rattle.zn_base.specs.Names.{Name};
 ghost use Rattle.zone_pools.specs.Owners.{owner};
 ghost use Rattle.zone_pools.specs.Pools.{has_room};
 ghost use Rattle.zone_machine.specs.Cases.{IsCaseOf, IsNamedCase, IsNamedWork, arrival_of, case_seen, object_edits, sits};
@@ -41,11 +42,10 @@ fn take<K: Eq + Hash + Drop>(owners: &mut Owners<K>, key: K, zone: ZoneName)
 
 // A process begins.
 fn begin(cell: &mut Cell, shared: &mut Shared, process: Process, owner: ZoneName)
-    requires owner { owner ≡ cell.old.zone }
     requires free { (pools_in shared.old).pid_used process.pid ≡ false }
     requires list { vec_len cell.old.processes < vec_capacity cell.old.processes }
     requires room { 0 < shared.old.pids.room }
-    ensures { Does (comes_world (New_process process)) (came_common cell.old.zone (Some (New_process process))) cell.old shared.old cell.new shared.new }
+    ensures { Does owner (comes_world (New_process process)) (came_common owner (Some (New_process process))) cell.old shared.old cell.new shared.new }
 {
     let pid = process.pid;
     take(&mut shared.pids, pid, owner);
@@ -55,11 +55,10 @@ fn begin(cell: &mut Cell, shared: &mut Shared, process: Process, owner: ZoneName
 
 // The zone gets an id.
 fn give_id(cell: &mut Cell, shared: &mut Shared, id: Id, owner: ZoneName)
-    requires owner { owner ≡ cell.old.zone }
     requires free { (pools_in shared.old).zid_used id.zid ≡ false }
     requires list { vec_len cell.old.ids < vec_capacity cell.old.ids }
     requires room { 0 < shared.old.zids.room }
-    ensures { Does (comes_world (New_id id)) (came_common cell.old.zone (Some (New_id id))) cell.old shared.old cell.new shared.new }
+    ensures { Does owner (comes_world (New_id id)) (came_common owner (Some (New_id id))) cell.old shared.old cell.new shared.new }
 {
     take(&mut shared.zids, id.zid, owner);
     shared.last_zid = id.zid;
@@ -68,10 +67,9 @@ fn give_id(cell: &mut Cell, shared: &mut Shared, id: Id, owner: ZoneName)
 
 // What is stored of the zone from now on.
 fn store(cell: &Cell, shared: &mut Shared, row: Record, owner: ZoneName)
-    requires owner { owner ≡ cell.now.zone }
     requires free { has_room (pools_in shared.old) ≡ true }
     requires room { 0 < spare shared.old.rows }
-    ensures { Does (comes_world (New_record (Some row))) (came_common cell.now.zone (Some (New_record (Some row)))) cell.now shared.old cell.now shared.new }
+    ensures { Does owner (comes_world (New_record (Some row))) (came_common owner (Some (New_record (Some row)))) cell.now shared.old cell.now shared.new }
 {
     match shared.rows.insert(owner, row) {
         Ok(_) => {}
@@ -82,10 +80,9 @@ fn store(cell: &Cell, shared: &mut Shared, row: Record, owner: ZoneName)
 
 // What came with a grant.
 fn take_in(cell: &mut Cell, shared: &mut Shared, coming: Coming)
-    requires owner { coming.owner ≡ cell.old.zone }
     requires free { IsFreeOf (Some (arrival_of coming.it)) (pools_in shared.old) }
     requires room { HasRoomOf (Some (arrival_of coming.it)) cell.old shared.old }
-    ensures { Does (comes_world (arrival_of coming.it)) (came_common cell.old.zone (Some (arrival_of coming.it))) cell.old shared.old cell.new shared.new }
+    ensures { Does coming.owner (comes_world (arrival_of coming.it)) (came_common coming.owner (Some (arrival_of coming.it))) cell.old shared.old cell.new shared.new }
 {
     match coming.it {
         Came::Process(process) => begin(cell, shared, process, coming.owner),
@@ -96,10 +93,9 @@ fn take_in(cell: &mut Cell, shared: &mut Shared, coming: Coming)
 
 // What came, if anything did.
 fn take_in_some(cell: &mut Cell, shared: &mut Shared, came: Option<Coming>)
-    requires owner { IfSome came (λ c. c.owner ≡ cell.old.zone) }
     requires free { IsFreeOf (option_map (λ c. arrival_of c.it) came) (pools_in shared.old) }
     requires room { HasRoomOf (option_map (λ c. arrival_of c.it) came) cell.old shared.old }
-    ensures does { Does (after_came_world (option_map (λ c. arrival_of c.it) came)) (came_common cell.old.zone (option_map (λ c. arrival_of c.it) came)) cell.old shared.old cell.new shared.new }
+    ensures does { (z : Name) → IfSome came (λ c. c.owner ≡ z) → Does z (after_came_world (option_map (λ c. arrival_of c.it) came)) (came_common z (option_map (λ c. arrival_of c.it) came)) cell.old shared.old cell.new shared.new }
     ensures mounts { cell.new.mounts ≡ cell.old.mounts }
     ensures waits { cell.new.waits ≡ cell.old.waits }
     ensures sessions { shared.new.sessions ≡ shared.old.sessions }
@@ -112,7 +108,7 @@ fn take_in_some(cell: &mut Cell, shared: &mut Shared, came: Option<Coming>)
 
 // All processes end.
 fn end_processes(cell: &mut Cell, shared: &mut Shared)
-    ensures { (n : Option ℕ) → Does (edits_world n (map Of_objects (object_edits ObjectEdit.EndProcesses))) kept cell.old shared.old cell.new shared.new }
+    ensures { (z : Name) (n : Option ℕ) → Does z (edits_world n (map Of_objects (object_edits ObjectEdit.EndProcesses))) kept cell.old shared.old cell.new shared.new }
 {
     shared.pids.give_all_back(&cell.processes);
     cell.processes.clear();
@@ -120,7 +116,7 @@ fn end_processes(cell: &mut Cell, shared: &mut Shared)
 
 // The zone gives its id back.
 fn end_ids(cell: &mut Cell, shared: &mut Shared)
-    ensures { (n : Option ℕ) → Does (edits_world n (map Of_objects (object_edits ObjectEdit.EndIds))) kept cell.old shared.old cell.new shared.new }
+    ensures { (z : Name) (n : Option ℕ) → Does z (edits_world n (map Of_objects (object_edits ObjectEdit.EndIds))) kept cell.old shared.old cell.new shared.new }
 {
     shared.zids.give_all_back(&cell.ids);
     cell.ids.clear();
@@ -128,7 +124,7 @@ fn end_ids(cell: &mut Cell, shared: &mut Shared)
 
 fn edit_objects(cell: &mut Cell, shared: &mut Shared, edit: ObjectEdit)
     requires { HasRoomToChange edit cell.old }
-    ensures does { (n : Option ℕ) → Does (edits_world n (map Of_objects (object_edits edit))) kept cell.old shared.old cell.new shared.new }
+    ensures does { (z : Name) (n : Option ℕ) → Does z (edits_world n (map Of_objects (object_edits edit))) kept cell.old shared.old cell.new shared.new }
     ensures waits { cell.new.waits ≡ cell.old.waits }
     ensures sessions { shared.new.sessions ≡ shared.old.sessions }
 {
@@ -143,10 +139,8 @@ fn edit_objects(cell: &mut Cell, shared: &mut Shared, edit: ObjectEdit)
 
 // A session waits for a ticket.
 fn sit(cell: &mut Cell, shared: &mut Shared, number: u8, sitting: Sitting)
-    requires owner { sitting.owner ≡ cell.old.zone }
-    requires open { IsOpenTo cell.old.zone (owner nat_eq shared.old.sessions number) }
     requires room { HasRoomToSit cell.old shared.old }
-    ensures { Does (edits_world (Some number) (sits (Some sitting))) kept cell.old shared.old cell.new shared.new }
+    ensures { IsOpenTo sitting.owner (owner nat_eq shared.old.sessions number) → Does sitting.owner (edits_world (Some number) (sits (Some sitting))) kept cell.old shared.old cell.new shared.new }
 {
     shared.sessions.give_back(&number);
     take(&mut shared.sessions, number, sitting.owner);
@@ -155,10 +149,8 @@ fn sit(cell: &mut Cell, shared: &mut Shared, number: u8, sitting: Sitting)
 
 // The event's session waits from now on, if it does.
 fn sit_down(cell: &mut Cell, shared: &mut Shared, number: Option<u8>, sitting: Option<Sitting>)
-    requires owner { IfSome sitting (λ s. s.owner ≡ cell.old.zone) }
-    requires open { IfSome number (λ n. IsOpenTo cell.old.zone (owner nat_eq shared.old.sessions n)) }
     requires room { IfSome sitting (λ s. HasRoomToSit cell.old shared.old) }
-    ensures { Does (edits_world number (sits sitting)) kept cell.old shared.old cell.new shared.new }
+    ensures { (z : Name) → IfSome sitting (λ s. s.owner ≡ z) → IfSome number (λ n. IsOpenTo z (owner nat_eq shared.old.sessions n)) → Does z (edits_world number (sits sitting)) kept cell.old shared.old cell.new shared.new }
 {
     match (number, sitting) {
         (Some(number), Some(sitting)) => sit(cell, shared, number, sitting),
@@ -168,7 +160,7 @@ fn sit_down(cell: &mut Cell, shared: &mut Shared, number: Option<u8>, sitting: O
 
 // Whoever waits for a ticket that ended is idle again.
 fn end_ticket(cell: &mut Cell, shared: &mut Shared, ended: Option<u32>)
-    ensures { (n : Option ℕ) → Does (edits_world n (sweeps ended)) kept cell.old shared.old cell.new shared.new }
+    ensures { (z : Name) (n : Option ℕ) → Does z (edits_world n (sweeps ended)) kept cell.old shared.old cell.new shared.new }
 {
     if let Some(ticket) = ended {
         end_waits(&mut cell.waits, &mut shared.sessions, ticket);
@@ -177,14 +169,12 @@ fn end_ticket(cell: &mut Cell, shared: &mut Shared, ended: Option<u32>)
 
 // What an event does beside its change of the desk.
 fn carry_out(cell: &mut Cell, shared: &mut Shared, number: Option<u8>, work: Work) -> Head
-    requires named { IsNamedWork cell.old.zone work }
     requires free { IsFreeOf (option_map (λ c. arrival_of c.it) work.came) (pools_in shared.old) }
     requires came { HasRoomOf (option_map (λ c. arrival_of c.it) work.came) cell.old shared.old }
     requires objects { HasRoomToChange work.objects cell.old }
     requires sits { IfSome work.sits (λ s. HasRoomToSit cell.old shared.old) }
-    requires open { IfSome number (λ n. IsOpenTo cell.old.zone (owner nat_eq shared.old.sessions n)) }
     ensures head { result ≡ work.head }
-    ensures does { Does (work_world number work) (came_common cell.old.zone (option_map (λ c. arrival_of c.it) work.came)) cell.old shared.old cell.new shared.new }
+    ensures does { (z : Name) → IsNamedWork z work → IfSome number (λ n. IsOpenTo z (owner nat_eq shared.old.sessions n)) → Does z (work_world number work) (came_common z (option_map (λ c. arrival_of c.it) work.came)) cell.old shared.old cell.new shared.new }
 {
     take_in_some(cell, shared, work.came);
     edit_objects(cell, shared, work.objects);
@@ -202,12 +192,11 @@ pub(crate) fn perform(
     grant: Grant,
 ) -> Head
     requires of { IsCaseOf cell.old.desk case }
-    requires named { IsNamedCase cell.old.zone case }
     requires room { HasRoom case cell.old shared.old }
     requires free { IsFreeOf (act_of (case_seen cell.old.desk case) grant).came (pools_in shared.old) }
-    requires open { IfSome number (λ n. IsOpenTo cell.old.zone (owner nat_eq shared.old.sessions n)) }
     ensures head { says result ≡ (act_of (case_seen cell.old.desk case) grant).effect.reply }
-    ensures does { Does (acts_world number (act_of (case_seen cell.old.desk case) grant)) (came_common cell.old.zone (act_of (case_seen cell.old.desk case) grant).came) cell.old shared.old cell.new shared.new }
+    ensures does { (z : Name) → IsNamedCase z case → IfSome number (λ n. IsOpenTo z (owner nat_eq shared.old.sessions n))
+        → Does z (acts_world number (act_of (case_seen cell.old.desk case) grant)) (came_common z (act_of (case_seen cell.old.desk case) grant).came) cell.old shared.old cell.new shared.new }
 {
     let work = settle(&mut cell.desk, case, grant);
     carry_out(cell, shared, number, work)

@@ -1,11 +1,9 @@
 //! Lists of what a zone has.
-ghost use Rattle.std.specs.Prelude.{◌≡◌, OnOk, not, position};
+ghost use Rattle.std.specs.Prelude.{◌≡◌, ◌<◌, ◌≤◌, insert, not, position, vec_capacity, vec_len};
 ghost use Rattle.zone_pools.specs.Owned_lists.{Go, Put, edited};
-ghost use Rattle.zone_machine.specs.Edits.{below};
-ghost use Rattle.zone_machine.specs.Turns.{is_at};
+ghost use Rattle.zone_machine.specs.Objects.{below, is_at};
 
 use crate::objects::{Mount, Process};
-use std::alloc::AllocError;
 use zn_base::AbsPath;
 
 fn place_above(list: &[Process], pid: u32) -> Option<usize>
@@ -14,15 +12,27 @@ fn place_above(list: &[Process], pid: u32) -> Option<usize>
     list.iter().position(|process| process.pid >= pid)
 }
 
-/// A process comes before the first that doesn't stand below its number.
-pub(crate) fn enter(list: &mut Vec<Process>, process: Process) -> Result<(), AllocError>
-    ensures { OnOk result (list.new.items ≡ edited (Put (below process.pid) process) list.old.items) }
+// Something comes to a place, for which there is room.
+fn insert<T: Drop>(list: &mut Vec<T>, at: usize, it: T)
+    requires place { at ≤ vec_len list.old }
+    requires room { vec_len list.old < vec_capacity list.old }
+    ensures { list.new.items ≡ insert list.old.items at it }
+{
+    match list.insert(at, it) {
+        Ok(()) => {}
+        Err(_) => unreachable!(),
+    }
+}
+
+/// A process comes before the first that doesn't stand below its number. There is room for it.
+pub(crate) fn enter(list: &mut Vec<Process>, process: Process)
+    requires { vec_len list.old < vec_capacity list.old }
+    ensures { list.new.items ≡ edited (Put (below process.pid) process) list.old.items }
 {
     match place_above(list, process.pid) {
-        Some(at) => list.insert(at, process)?,
-        None => list.push(process)?,
+        Some(at) => insert(list, at, process),
+        None => list.push_reserved(process),
     }
-    Ok(())
 }
 
 fn is_at(dir: &AbsPath, mount: &Mount) -> bool

@@ -7,7 +7,7 @@ ghost use Rattle.zone_machine.specs.Cells.{Stands, subject_in};
 use crate::events::{Entry, Event, Subject};
 use crate::faults::StepFault;
 use crate::parts::Parts;
-use crate::steps::subject;
+use crate::steps::{read, subject};
 use std::alloc::Global;
 use std::marker::Model;
 use zn_base::{ZoneName, ZoneState};
@@ -46,7 +46,7 @@ impl Machine {
         ensures ok { IfOk result (IsSubject self.now event.now) }
         ensures err { IsOkUnless result StepFault.Memory }
     {
-        Ok(subject(&self.parts.shared, alloc, event)?)
+        Ok(subject(&self.parts.shared, alloc, read(event))?)
     }
 
     /// The grant that the pools give an event.
@@ -54,48 +54,21 @@ impl Machine {
         ensures ok { IfOk result (IsAllowed self.now event.now) }
         ensures err { IsOkUnless result StepFault.Memory }
     {
-        let subject = subject(&self.parts.shared, alloc, event)?;
-        Ok(self.parts.allowed(alloc, event, &subject)?)
+        Ok(self.parts.allowed(alloc, event)?)
     }
 
-    // Whose an event is, and the grant that the pools give it.
-    fn granted(&self, alloc: Global, event: &Event) -> Result<(Subject, Grant), StepFault>
-        ensures subject { IfOk result (λ r. r.0 ≡ subject_in self.now.shared event.now) }
-        ensures grant { IfOk result (λ r. IsAllowed self.now event.now r.1) }
-        ensures err { IsOkUnless result StepFault.Memory }
-    {
-        let subject = subject(&self.parts.shared, alloc, event)?;
-        let grant = self.parts.allowed(alloc, event, &subject)?;
-        Ok((subject, grant))
-    }
-
-    // Whose an event is, where a stated grant fits it.
-    fn fitting(&self, alloc: Global, event: &Event, grant: Grant) -> Result<Subject, StepFault>
-        ensures subject { IfOk result (λ subject. subject ≡ subject_in self.now.shared event.now) }
-        ensures fits { OnOk result (IsFit self.now event.now grant true) }
-        ensures misfit { IsErrOf result StepFault.BadGrant → IsFit self.now event.now grant false }
-        ensures fault { OnErr result (IsErrOf result StepFault.BadGrant ⊎ IsErrOf result StepFault.Memory) }
-    {
-        let subject = subject(&self.parts.shared, alloc, event)?;
-        if self.parts.is_fit(alloc, event, &subject, grant)? {
-            Ok(subject)
-        } else {
-            Err(StepFault::BadGrant)
-        }
-    }
-
-    /// An event is answered under the grant that the pools give it. Where memory runs out, nothing is said of
-    /// the machine.
+    /// An event is answered under the grant that the pools give it. Where memory runs out, the machine is as it
+    /// was.
     pub fn step(&mut self, alloc: Global, event: Event) -> Result<Entry, StepFault>
         ensures ok { IfOk result (λ entry. IsAllowedStep self.old event entry self.new) }
         ensures err { IsOkUnless result StepFault.Memory }
+        ensures memory { OnErr result (AsItWas self.old self.new) }
     {
-        let (subject, grant) = self.granted(alloc, &event)?;
-        Ok(self.parts.answer(alloc, event, subject, grant)?)
+        self.parts.step(alloc, event, None)
     }
 
     /// An event is answered under a stated grant, where it fits, as when a recorded trace is run again. Where
-    /// memory runs out, nothing is said of the machine.
+    /// memory runs out, the machine is as it was.
     pub fn step_given(
         &mut self,
         alloc: Global,
@@ -105,9 +78,9 @@ impl Machine {
         ensures ok { IfOk result (λ entry. IsFittingStep self.old event grant entry self.new) }
         ensures misfit { IsErrOf result StepFault.BadGrant → IsMisfit self.old event grant self.new }
         ensures unfit { IsRefusedIfUnfit self.old event grant result }
+        ensures memory { IsErrOf result StepFault.Memory → AsItWas self.old self.new }
     {
-        let subject = self.fitting(alloc, &event, grant)?;
-        Ok(self.parts.answer(alloc, event, subject, grant)?)
+        self.parts.step(alloc, event, Some(grant))
     }
 
     /// The state of a zone, where it is stored.

@@ -1,11 +1,11 @@
 //! What a case asks of the pools.
-ghost use Rattle.std.specs.Prelude.{◌∷◌, ◌≡◌, [], List};
+ghost use Rattle.std.specs.Prelude.{◌∷◌, ◌≡◌, []};
 ghost use Rattle.zone_pools.specs.Decisions.{asked_of};
 ghost use Rattle.zone_machine.specs.Cases.{IsCaseOf, IsJobCase, IsTurnOf, asked_for, case_seen, job_turn, turn_seen};
 ghost use Rattle.zone_machine.specs.Desks as desks;
 ghost use Rattle.zone_machine.specs.Needs_seen.{asked_by};
 ghost use Rattle.zone_machine.specs.declared.desks.Desk as desk_types;
-ghost use Rattle.zone_machine.specs.declared.daemon.Step.{Step};
+ghost use Rattle.zone_machine.specs.declared.desks.Job as job_types;
 
 use crate::cases::{Case, JobCase, TurnCase};
 use crate::work::Came;
@@ -34,7 +34,7 @@ fn came_need(it: &Came) -> Need<'_>
 }
 
 fn job_need(case: &JobCase) -> Need<'_>
-    ensures { (d : desks.Desk) (j : desks.Job) (steps : List Step) → asked_of (job_turn d j steps case.now) ≡ asked_by result }
+    ensures { (d : desks.Desk) (j : job_types.Job) → asked_of (job_turn d j case.now) ≡ asked_by result }
 {
     match case {
         JobCase::Ask(coming, _) => came_need(&coming.it),

@@ -1,20 +1,22 @@
-//! The parts of the machine: a cell for each zone that has something, and what zones share.
-ghost use Rattle.std.specs.Prelude.{◌≡◌, [], IfOk, None, OnOk, bytes_eq};
-ghost use Rattle.indexmap.specs.IndexMap.{get_by};
-ghost use Rattle.zone_machine.specs.State.{state_of};
-ghost use Rattle.zone_machine.specs.Cells.{IsNamed, Keeps, Stands, cell_at, decide_of, row_in, subject_in, world_or_empty};
+//! The parts of the machine: a cell for each zone that has something, and what zones share. An event is decided before
+//! anything is changed.
+ghost use Rattle.std.specs.Prelude.{◌≡◌, ◌⊎◌, ◌<◌, [], IfOk, IsErrOf, None, OnErr, Option, bytes_eq};
+ghost use Rattle.indexmap.specs.IndexMap.{get_by, spare};
+ghost use Rattle.zone_machine.specs.Cells.{Keeps, Stands, cell_at, decide_read, row_in, world_or_empty};
+ghost use Rattle.zone_machine.specs.Decided.{IsDecided, IsDecidedZone};
+ghost use Rattle.zone_machine.specs.Desks.{state_of};
 ghost use Rattle.zone_machine.specs.Machine.{opening};
-ghost use Rattle.zone_machine.specs.Needs_seen.{asked_by};
-ghost use Rattle.zone_machine.specs.Steps.{Asks, IsAllowed, IsFit, IsStep};
-ghost use Rattle.zone_pools.specs.Decisions.{asked_of};
+ghost use Rattle.zone_machine.specs.Steps.{AsItWas, IsAllowed, IsMisfitUnder, IsStepUnder};
 
+use crate::cases::Case;
 use crate::cell::Cell;
 use crate::events::{Entry, Event, Subject};
-use crate::needs::{Need, need_of};
-use crate::pools::{fits, grant_for};
-use crate::replies::{Body, Reply};
+use crate::faults::StepFault;
+use crate::needs::need_of;
+use crate::pools::grant_for;
+use crate::replies::{Body, Head, Reply};
 use crate::shared::Shared;
-use crate::steps::{answer, global_head};
+use crate::steps::{Read, case_of, do_case, global_head, read, subject};
 use indexmap::IndexMap;
 use std::alloc::{AllocError, Global};
 use zn_base::{ZoneName, ZoneState};
@@ -27,20 +29,30 @@ pub(crate) struct Parts {
     pub(crate) shared: Shared,
 }
 
+/// What an event comes to, before anything is changed.
+#[derive(Drop)]
+pub(crate) enum Decided {
+    /// A case of a zone, whose cell stands at an index.
+    At(usize, ZoneName, Case),
+    /// A case of a zone that has no cell, the cell that it would have, and the name under which that would stand.
+    New(Cell, ZoneName, ZoneName, Case),
+    /// The event is no zone's.
+    Global(Head),
+}
+
 // A zone's new cell is kept, where it has something.
-fn keep(
-    cells: &mut IndexMap<ZoneName, Cell>,
-    zone: ZoneName,
-    cell: Cell,
-) -> Result<(), AllocError>
-    requires { get_by (bytes_eq zone) cells.old ≡ None }
-    ensures { OnOk result (Keeps zone cell (λ y. get_by (bytes_eq y) cells.old) (λ y. get_by (bytes_eq y) cells.new)) }
+fn keep(cells: &mut IndexMap<ZoneName, Cell>, zone: ZoneName, cell: Cell)
+    requires none { get_by (bytes_eq zone) cells.old ≡ None }
+    requires room { 0 < spare cells.old }
+    ensures { Keeps zone cell (λ y. get_by (bytes_eq y) cells.old) (λ y. get_by (bytes_eq y) cells.new) }
 {
     if cell.is_empty() {
-        return Ok(());
+        return;
     }
-    cells.insert(zone, cell)?;
-    Ok(())
+    match cells.insert(zone, cell) {
+        Ok(_) => {}
+        Err(_) => unreachable!(),
+    }
 }
 
 impl Parts {
@@ -54,107 +66,108 @@ impl Parts {
         }
     }
 
-    // What an event of a zone asks of the pools.
-    fn need(&self, alloc: Global, zone: &ZoneName, event: &Event) -> Result<Need, AllocError>
-        ensures { IfOk result (λ need. IsNamed zone.now (cell_at zone.now self.now) → asked_of (decide_of zone.now self.now event.now) ≡ asked_by need) }
+    // A case of an event of a zone.
+    fn decide_zone(
+        &self,
+        alloc: Global,
+        zone: ZoneName,
+        read: Read<'_>,
+    ) -> Result<Decided, AllocError>
+        ensures { IfOk result (IsDecidedZone self.now zone (λ v. decide_read v read.entry)) }
     {
-        let row = self.shared.rows.get(zone);
-        match self.cells.get(zone) {
-            Some(cell) => need_of(cell, alloc, row, event),
-            None => need_of(&Cell::new(alloc, zone.copy(alloc)?), alloc, row, event),
+        let row = self.shared.rows.get(&zone);
+        match self.cells.get_index_of(&zone) {
+            Some(at) => {
+                let case = case_of(alloc, &zone, &self.cells[at], row, read)?;
+                Ok(Decided::At(at, zone, case))
+            }
+            None => {
+                let cell = Cell::new(alloc);
+                let case = case_of(alloc, &zone, &cell, row, read)?;
+                Ok(Decided::New(cell, zone.copy(alloc)?, zone, case))
+            }
         }
     }
 
-    // What an event asks of the pools.
-    fn asked(&self, alloc: Global, event: &Event, subject: &Subject) -> Result<Need, AllocError>
-        ensures { IfOk result (λ need. Asks subject.now self.now event.now (asked_by need)) }
+    /// What an event comes to.
+    pub(crate) fn decide(&self, alloc: Global, event: &Event) -> Result<Decided, AllocError>
+        ensures { IfOk result (IsDecided self.now event.now) }
     {
-        match subject {
-            Subject::Zone(zone) => self.need(alloc, zone, event),
-            Subject::Global | Subject::Whole => Ok(Need::Nothing),
+        let read = read(event);
+        match subject(&self.shared, alloc, read)? {
+            Subject::Zone(zone) => self.decide_zone(alloc, zone, read),
+            Subject::Global => Ok(Decided::Global(global_head(alloc, read)?)),
+            Subject::Whole => unreachable!(),
         }
     }
 
     /// The grant that the pools give an event.
-    pub(crate) fn allowed(
-        &self,
-        alloc: Global,
-        event: &Event,
-        subject: &Subject,
-    ) -> Result<Grant, AllocError>
-        requires { subject.now ≡ subject_in self.now.shared event.now }
+    pub(crate) fn allowed(&self, alloc: Global, event: &Event) -> Result<Grant, AllocError>
         ensures { IfOk result (IsAllowed self.now event.now) }
     {
-        match subject {
-            Subject::Zone(zone) => {
-                let need = self.need(alloc, zone, event)?;
-                Ok(grant_for(&self.shared, zone, &need))
-            }
-            Subject::Global | Subject::Whole => Ok(Grant::Nothing),
+        match self.decide(alloc, event)? {
+            Decided::At(_, zone, case) => Ok(grant_for(&self.shared, &zone, &need_of(&case))),
+            Decided::New(_, _, zone, case) => Ok(grant_for(&self.shared, &zone, &need_of(&case))),
+            Decided::Global(_) => Ok(Grant::Nothing),
         }
     }
 
-    /// Whether a grant may be stated for an event.
-    pub(crate) fn is_fit(
-        &self,
-        alloc: Global,
-        event: &Event,
-        subject: &Subject,
-        grant: Grant,
-    ) -> Result<bool, AllocError>
-        requires { subject.now ≡ subject_in self.now.shared event.now }
-        ensures { IfOk result (IsFit self.now event.now grant) }
+    // A case of a zone is done, whose cell stands at an index.
+    fn do_at(
+        &mut self,
+        event: Event,
+        at: usize,
+        zone: ZoneName,
+        case: Case,
+        stated: Option<Grant>,
+    ) -> Result<Entry, StepFault>
+        requires { IsDecided self.old event (Decided.At at zone case) }
+        ensures ok { IfOk result (λ entry. IsStepUnder stated self.old event entry self.new) }
+        ensures memory { IsErrOf result StepFault.Memory → AsItWas self.old self.new }
+        ensures misfit { IsErrOf result StepFault.BadGrant → IsMisfitUnder stated self.old event self.new }
+        ensures fault { OnErr result (IsErrOf result StepFault.BadGrant ⊎ IsErrOf result StepFault.Memory) }
     {
-        let need = self.asked(alloc, event, subject)?;
-        Ok(fits(&self.shared, &need, grant))
+        do_case(&mut self.cells[at], &mut self.shared, event, zone, case, stated)
     }
 
-    // The event of a zone that has no cell is answered under a grant.
-    fn answer_new(
+    // A case of a zone is done that has no cell.
+    fn do_new(
         &mut self,
-        alloc: Global,
         event: Event,
+        cell: Cell,
+        key: ZoneName,
         zone: ZoneName,
-        grant: Grant,
-    ) -> Result<Entry, AllocError>
-        requires subject { subject_in self.old.shared event ≡ Subject.Zone zone }
-        requires none { cell_at zone self.old ≡ None }
-        ensures { IfOk result (λ entry. IsStep self.old event grant entry self.new) }
+        case: Case,
+        stated: Option<Grant>,
+    ) -> Result<Entry, StepFault>
+        requires { IsDecided self.old event (Decided.New cell key zone case) }
+        ensures ok { IfOk result (λ entry. IsStepUnder stated self.old event entry self.new) }
+        ensures memory { IsErrOf result StepFault.Memory → AsItWas self.old self.new }
+        ensures misfit { IsErrOf result StepFault.BadGrant → IsMisfitUnder stated self.old event self.new }
+        ensures fault { OnErr result (IsErrOf result StepFault.BadGrant ⊎ IsErrOf result StepFault.Memory) }
     {
-        let mut cell = Cell::new(alloc, zone.copy(alloc)?);
-        let entry = answer(&mut cell, &mut self.shared, alloc, event, grant)?;
-        keep(&mut self.cells, zone, cell)?;
+        let mut cell = cell;
+        self.cells.reserve(1)?;
+        let entry = do_case(&mut cell, &mut self.shared, event, zone, case, stated)?;
+        keep(&mut self.cells, key, cell);
         Ok(entry)
     }
 
-    // The event of a zone is answered under a grant.
-    fn answer_zone(
+    // An event that is no zone's asks nothing and changes nothing.
+    fn do_global(
         &mut self,
-        alloc: Global,
         event: Event,
-        zone: ZoneName,
-        grant: Grant,
-    ) -> Result<Entry, AllocError>
-        requires { subject_in self.old.shared event ≡ Subject.Zone zone }
-        ensures { IfOk result (λ entry. IsStep self.old event grant entry self.new) }
+        head: Head,
+        stated: Option<Grant>,
+    ) -> Result<Entry, StepFault>
+        requires { IsDecided self.old event (Decided.Global head) }
+        ensures ok { IfOk result (λ entry. IsStepUnder stated self.old event entry self.new) }
+        ensures misfit { OnErr result ((result ≡ Err StepFault.BadGrant) × IsMisfitUnder stated self.old event self.new) }
     {
-        match self.cells.get_index_of(&zone) {
-            Some(at) => answer(&mut self.cells[at], &mut self.shared, alloc, event, grant),
-            None => self.answer_new(alloc, event, zone, grant),
+        let grant = stated.unwrap_or(Grant::Nothing);
+        if grant != Grant::Nothing {
+            return Err(StepFault::BadGrant);
         }
-    }
-
-    // The event of the global zone is answered.
-    fn answer_global(
-        &mut self,
-        alloc: Global,
-        event: Event,
-        grant: Grant,
-    ) -> Result<Entry, AllocError>
-        requires { subject_in self.old.shared event ≡ Subject.Global }
-        ensures { IfOk result (λ entry. IsStep self.old event grant entry self.new) }
-    {
-        let head = global_head(alloc, &event)?;
         self.shared.started = true;
         Ok(Entry {
             event,
@@ -167,22 +180,42 @@ impl Parts {
         })
     }
 
-    /// The event is answered under a grant, whether or not it fits.
-    pub(crate) fn answer(
+    // What was decided is done.
+    fn perform(
+        &mut self,
+        event: Event,
+        decided: Decided,
+        stated: Option<Grant>,
+    ) -> Result<Entry, StepFault>
+        requires { IsDecided self.old event decided }
+        ensures ok { IfOk result (λ entry. IsStepUnder stated self.old event entry self.new) }
+        ensures memory { IsErrOf result StepFault.Memory → AsItWas self.old self.new }
+        ensures misfit { IsErrOf result StepFault.BadGrant → IsMisfitUnder stated self.old event self.new }
+        ensures fault { OnErr result (IsErrOf result StepFault.BadGrant ⊎ IsErrOf result StepFault.Memory) }
+    {
+        match decided {
+            Decided::At(at, zone, case) => self.do_at(event, at, zone, case, stated),
+            Decided::New(cell, key, zone, case) => {
+                self.do_new(event, cell, key, zone, case, stated)
+            }
+            Decided::Global(head) => self.do_global(event, head, stated),
+        }
+    }
+
+    /// An event is answered, under the grant that the pools give it, or under one that is stated, where it fits.
+    pub(crate) fn step(
         &mut self,
         alloc: Global,
         event: Event,
-        subject: Subject,
-        grant: Grant,
-    ) -> Result<Entry, AllocError>
-        requires { subject ≡ subject_in self.old.shared event }
-        ensures { IfOk result (λ entry. IsStep self.old event grant entry self.new) }
+        stated: Option<Grant>,
+    ) -> Result<Entry, StepFault>
+        ensures ok { IfOk result (λ entry. IsStepUnder stated self.old event entry self.new) }
+        ensures memory { IsErrOf result StepFault.Memory → AsItWas self.old self.new }
+        ensures misfit { IsErrOf result StepFault.BadGrant → IsMisfitUnder stated self.old event self.new }
+        ensures fault { OnErr result (IsErrOf result StepFault.BadGrant ⊎ IsErrOf result StepFault.Memory) }
     {
-        match subject {
-            Subject::Zone(zone) => self.answer_zone(alloc, event, zone, grant),
-            Subject::Global => self.answer_global(alloc, event, grant),
-            Subject::Whole => unreachable!(),
-        }
+        let decided = self.decide(alloc, &event)?;
+        self.perform(event, decided, stated)
     }
 
     fn active(&self, zone: &ZoneName) -> Option<ZoneState>

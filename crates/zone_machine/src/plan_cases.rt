@@ -115,7 +115,7 @@ fn zid_of(ids: &[Id]) -> Option<u32>
     Some(id.zid)
 }
 
-// What a step comes to that is no unmount; the plan goes on at a place.
+// What a step comes to that is no unmount, where the plan then goes on at `next`.
 fn step_case(
     alloc: Global,
     zone: &ZoneName,
@@ -127,7 +127,7 @@ fn step_case(
 ) -> Result<JobCase, AllocError>
     requires { is_unmount planned.now ≡ false }
     ensures decides { IfOk result (λ c. (d : desks.Desk)
-        → step (objects_seen objects.entry) d (job_seen job.now) row.now (planned.now ∷ drop next job.now.steps.items) ≡ job_turn d (job_seen job.now) job.now.steps.items c) }
+        → step (objects_seen objects.entry) d (job_seen job.now) row.now (planned.now ∷ drop next job.now.steps.items) ≡ job_turn d job.now c) }
     ensures of { IfOk result (IsJobCase job.now) }
     ensures named { IfOk result (IsNamedJobCase zone.now) }
 {
@@ -190,7 +190,7 @@ pub(crate) fn plan_case(
     objects: Objects<'_>,
 ) -> Result<JobCase, AllocError>
     ensures decides { IfOk result (λ c. (d : desks.Desk)
-        → step (objects_seen objects.entry) d (job_seen job.now) row.now (drop at job.now.steps.items) ≡ job_turn d (job_seen job.now) job.now.steps.items c) }
+        → step (objects_seen objects.entry) d (job_seen job.now) row.now (drop at job.now.steps.items) ≡ job_turn d job.now c) }
     ensures of { IfOk result (IsJobCase job.now) }
     ensures named { IfOk result (IsNamedJobCase zone.now) }
 {

@@ -67,7 +67,7 @@ fn shown_under(it: &Came, number: u32) -> Step
 // A step asks a pool for what comes.
 fn ask(job: &mut Job, coming: Coming, next: usize, grant: Grant) -> Work
     requires { HasUndoRoom job.old }
-    ensures act { (d : desks.Desk) → act_of (effects turned (job_turn d (job_seen job.old) job.old.steps.items (JobCase.Ask coming next))) grant ≡ work_act result (record d { job = unless_ended result.ended (job_seen job.new) }) }
+    ensures act { (d : desks.Desk) → act_of (effects turned (job_turn d job.old (JobCase.Ask coming next))) grant ≡ work_act result (record d { job = unless_ended result.ended (job_seen job.new) }) }
     ensures sits { result.sits ≡ None }
     ensures owner { IfSome result.came (λ c. c.owner ≡ coming.owner) }
 {
@@ -96,7 +96,7 @@ fn ask(job: &mut Job, coming: Coming, next: usize, grant: Grant) -> Work
 fn settle_job(job: &mut Job, active: &mut Option<ZoneState>, case: JobCase, grant: Grant) -> Work
     requires of { IsJobCase job.old case }
     requires room { HasJobRoom job.old case }
-    ensures act { (d : desks.Desk) → d.active ≡ active.old → act_of (effects turned (job_turn d (job_seen job.old) job.old.steps.items case)) grant ≡ work_act result (record d { job = unless_ended result.ended (job_seen job.new); active = active.new }) }
+    ensures act { (d : desks.Desk) → d.active ≡ active.old → act_of (effects turned (job_turn d job.old case)) grant ≡ work_act result (record d { job = unless_ended result.ended (job_seen job.new); active = active.new }) }
     ensures sits { result.sits ≡ None }
     ensures named { (z : Name) → IsNamedJobCase z case → IfSome result.came (λ c. c.owner ≡ z) }
 {

@@ -2,8 +2,9 @@
 //! looked at, room is taken, and only then anything is changed.
 ghost use Rattle.std.specs.Prelude.{◌≡◌, ◌⊎◌, IfOk, IsErrOf, IsOkUnless, None, OnErr, Some, Option};
 ghost use Rattle.std.specs.Option.{option_map};
-ghost use Rattle.zone_machine.specs.Cases.{IsCaseOf, IsNamedCase, case_seen};
-ghost use Rattle.zone_machine.specs.Cells.{cell_world, decide_in, decide_read, global_read, number_read, row_in, subject_in, subject_read};
+ghost use Rattle.zone_machine.specs.Cases.{IsCaseOf, case_seen};
+ghost use Rattle.zone_machine.specs.Cells.{decide_read, global_read, number_read, pools_in, row_in, subject_in, subject_read};
+ghost use Rattle.zone_machine.specs.Decided.{IsCaseIn};
 ghost use Rattle.zone_machine.specs.Decisions.{act_of, says};
 ghost use Rattle.zone_machine.specs.Lines_seen.{line_seen, word_seen};
 ghost use Rattle.zone_machine.specs.Machine.{decide, global_reply, named_subject, session_number};
@@ -11,8 +12,10 @@ ghost use Rattle.zone_machine.specs.Rooms.{Alike, IsFreeOf};
 ghost use Rattle.zone_machine.specs.State.{State};
 ghost use Rattle.zone_machine.specs.Steps.{IsAllowedCellStep, IsCellMisfit, IsCellMisfitUnder, IsCellStep, IsCellStepUnder, IsFittingCellStep, Takes};
 ghost use Rattle.zone_machine.specs.Typed.{badly_named, global_line};
-ghost use Rattle.zone_machine.specs.Worlds.{View, view_of};
-ghost use Rattle.zone_pools.specs.Pools.{};
+ghost use Rattle.zone_machine.specs.Worlds.{View};
+ghost use Rattle.zone_machine.specs.declared.shared.Shared as shared_types;
+ghost use Rattle.zone_pools.specs.Decisions.{asked_of};
+ghost use Rattle.zone_pools.specs.Pools.{fits_asked};
 
 use crate::cases::Case;
 use crate::cell::Cell;
@@ -123,27 +126,26 @@ pub(crate) fn global_head(alloc: Global, read: Read<'_>) -> Result<Head, AllocEr
     }
 }
 
-/// The case of an event of the cell's zone.
+/// The case of an event of a zone, by its cell and what is stored of it.
 #[tactic(auto, unfolding(crate::specs::Worlds::view_of))]
 pub(crate) fn case_of(
-    cell: &Cell,
     alloc: Global,
+    zone: &ZoneName,
+    cell: &Cell,
     row: Option<&Record>,
     read: Read<'_>,
 ) -> Result<Case, AllocError>
-    ensures decides { IfOk result (λ case. decide_read (view_of cell.now.zone (cell_world (option_map (λ row. row.now) row.entry) cell.now)) read.entry ≡ case_seen cell.now.desk case) }
-    ensures of { IfOk result (IsCaseOf cell.now.desk) }
-    ensures named { IfOk result (IsNamedCase cell.now.zone) }
+    ensures { IfOk result (IsCaseIn zone.now (option_map (λ row. row.now) row.entry) cell.now (λ v. decide_read v read.entry)) }
 {
     match read {
         Read::Line(number, line) => {
             let ticket = awaited(&cell.waits, number);
-            decide_line(alloc, &cell.zone, &cell.desk, row, ticket, line.command)
+            decide_line(alloc, zone, &cell.desk, row, ticket, line.command)
         }
         Read::Turn(_) => {
             let case = decide_turn(
                 alloc,
-                &cell.zone,
+                zone,
                 &cell.desk,
                 row,
                 &cell.processes,
@@ -169,19 +171,15 @@ fn answer(
     cell: &mut Cell,
     shared: &mut Shared,
     event: Event,
-    subject: ZoneName,
+    zone: ZoneName,
     case: Case,
     grant: Grant,
 ) -> Result<Entry, AllocError>
-    requires subject { subject_in shared.old event ≡ Subject.Zone cell.old.zone }
-    requires name { subject ≡ cell.old.zone }
-    requires decided { decide_in (row_in cell.old.zone shared.old) cell.old event ≡ case_seen cell.old.desk case }
-    requires of { IsCaseOf cell.old.desk case }
-    requires named { IsNamedCase cell.old.zone case }
+    requires case { IsCaseIn zone (row_in zone shared.old) cell.old (λ v. decide v event) case }
     requires free { IsFreeOf (act_of (case_seen cell.old.desk case) grant).came (pools_in shared.old) }
     ensures event { IfOk result (λ entry. entry.event ≡ event) }
     ensures grant { IfOk result (λ entry. entry.grant ≡ grant) }
-    ensures step { IfOk result (λ entry. IsCellStep cell.old shared.old event grant entry cell.new shared.new) }
+    ensures step { IfOk result (λ entry. IsCellStep zone cell.old shared.old event grant entry cell.new shared.new) }
     ensures memory { OnErr result (Alike cell.old shared.old cell.new shared.new) }
 {
     make_room(cell, shared, &case)?;
@@ -189,7 +187,7 @@ fn answer(
     shared.started = true;
     Ok(Entry {
         event,
-        subject: Subject::Zone(subject),
+        subject: Subject::Zone(zone),
         grant,
         reply: Reply {
             head,
@@ -200,18 +198,19 @@ fn answer(
 
 // The grant that the pools give a case, or the one that is stated, where it fits.
 fn grant_of(
+    zone: &ZoneName,
     cell: &Cell,
     shared: &Shared,
     case: &Case,
     stated: Option<Grant>,
 ) -> Result<Grant, StepFault>
     requires { IsCaseOf cell.now.desk case.now }
-    ensures takes { IfOk result (IsGrantOf cell.now.zone shared.now (asked_of (case_seen cell.now.desk case.now)) stated) }
-    ensures misfit { OnErr result ((result ≡ Err StepFault.BadGrant) × IfSome stated (λ g. fits_asked (pools_in shared.now) (asked_of (case_seen cell.now.desk case.now)) g ≡ false) × IsSome stated) }
+    ensures takes { IfOk result (IsGrantFor zone.now (pools_in shared.now) (asked_of (case_seen cell.now.desk case.now)) stated) }
+    ensures misfit { OnErr result ((result ≡ Err StepFault.BadGrant) × IsUnfit (pools_in shared.now) (asked_of (case_seen cell.now.desk case.now)) stated) }
 {
     let need = need_of(case);
     match stated {
-        None => Ok(grant_for(shared, &cell.zone, &need)),
+        None => Ok(grant_for(shared, zone, &need)),
         Some(grant) => {
             if fits(shared, &need, grant) {
                 Ok(grant)
@@ -228,77 +227,73 @@ pub(crate) fn do_case(
     cell: &mut Cell,
     shared: &mut Shared,
     event: Event,
-    subject: ZoneName,
+    zone: ZoneName,
     case: Case,
     stated: Option<Grant>,
 ) -> Result<Entry, StepFault>
-    requires subject { subject_in shared.old event ≡ Subject.Zone cell.old.zone }
-    requires name { subject ≡ cell.old.zone }
-    requires decided { decide_in (row_in cell.old.zone shared.old) cell.old event ≡ case_seen cell.old.desk case }
-    requires of { IsCaseOf cell.old.desk case }
-    requires named { IsNamedCase cell.old.zone case }
+    requires case { IsCaseIn zone (row_in zone shared.old) cell.old (λ v. decide v event) case }
     ensures event { IfOk result (λ entry. entry.event ≡ event) }
-    ensures ok { IfOk result (λ entry. IsCellStepUnder stated cell.old shared.old event entry cell.new shared.new) }
+    ensures ok { IfOk result (λ entry. IsCellStepUnder zone stated cell.old shared.old event entry cell.new shared.new) }
     ensures memory { IsErrOf result StepFault.Memory → Alike cell.old shared.old cell.new shared.new }
-    ensures misfit { IsErrOf result StepFault.BadGrant → IsCellMisfitUnder stated cell.old shared.old event cell.new shared.new }
+    ensures misfit { IsErrOf result StepFault.BadGrant → IsCellMisfitUnder zone stated cell.old shared.old event cell.new shared.new }
     ensures fault { OnErr result (IsErrOf result StepFault.BadGrant ⊎ IsErrOf result StepFault.Memory) }
 {
-    let grant = grant_of(cell, shared, &case, stated)?;
-    Ok(answer(cell, shared, event, subject, case, grant)?)
+    let grant = grant_of(&zone, cell, shared, &case, stated)?;
+    Ok(answer(cell, shared, event, zone, case, grant)?)
 }
 
-// An event of the cell's zone is answered.
+// An event of a zone is answered.
 fn cell_event(
     alloc: Global,
+    zone: &ZoneName,
     cell: &mut Cell,
     shared: &mut Shared,
     event: Event,
     stated: Option<Grant>,
 ) -> Result<Entry, StepFault>
-    requires { subject_in shared.old event ≡ Subject.Zone cell.old.zone }
     ensures event { IfOk result (λ entry. entry.event ≡ event) }
-    ensures ok { IfOk result (λ entry. IsCellStepUnder stated cell.old shared.old event entry cell.new shared.new) }
+    ensures ok { IfOk result (λ entry. IsCellStepUnder zone.now stated cell.old shared.old event entry cell.new shared.new) }
     ensures memory { IsErrOf result StepFault.Memory → Alike cell.old shared.old cell.new shared.new }
-    ensures misfit { IsErrOf result StepFault.BadGrant → IsCellMisfitUnder stated cell.old shared.old event cell.new shared.new }
+    ensures misfit { IsErrOf result StepFault.BadGrant → IsCellMisfitUnder zone.now stated cell.old shared.old event cell.new shared.new }
     ensures fault { OnErr result (IsErrOf result StepFault.BadGrant ⊎ IsErrOf result StepFault.Memory) }
 {
-    let subject = cell.zone.copy(alloc)?;
-    let case = case_of(cell, alloc, shared.rows.get(&cell.zone), read(&event))?;
+    let subject = zone.copy(alloc)?;
+    let case = case_of(alloc, zone, cell, shared.rows.get(zone), read(&event))?;
     do_case(cell, shared, event, subject, case, stated)
 }
 
-/// An event of the cell's zone is answered under the grant that the pools give it. Where memory runs out, the cell
-/// and the shared part are as they were.
+/// An event of a zone is answered on its cell and the shared part, under the grant that the pools give it. Where memory
+/// runs out, both are as they were.
 pub fn cell_step(
     alloc: Global,
+    zone: &ZoneName,
     cell: &mut Cell,
     shared: &mut Shared,
     event: Event,
 ) -> Result<Entry, StepFault>
-    requires { subject_in shared.old event ≡ Subject.Zone cell.old.zone }
     ensures event { IfOk result (λ entry. entry.event ≡ event) }
-    ensures ok { IfOk result (λ entry. IsAllowedCellStep cell.old shared.old event entry cell.new shared.new) }
+    ensures ok { IfOk result (λ entry. IsAllowedCellStep zone.now cell.old shared.old event entry cell.new shared.new) }
     ensures err { IsOkUnless result StepFault.Memory }
     ensures memory { OnErr result (Alike cell.old shared.old cell.new shared.new) }
 {
-    cell_event(alloc, cell, shared, event, None)
+    cell_event(alloc, zone, cell, shared, event, None)
 }
 
-/// An event of the cell's zone is answered under a stated grant, where it fits. Where memory runs out, the cell and the
-/// shared part are as they were.
+/// An event of a zone is answered on its cell and the shared part, under a stated grant, where it fits. Where memory
+/// runs out, both are as they were.
 pub fn cell_step_given(
     alloc: Global,
+    zone: &ZoneName,
     cell: &mut Cell,
     shared: &mut Shared,
     event: Event,
     grant: Grant,
 ) -> Result<Entry, StepFault>
-    requires { subject_in shared.old event ≡ Subject.Zone cell.old.zone }
     ensures event { IfOk result (λ entry. entry.event ≡ event) }
-    ensures ok { IfOk result (λ entry. IsFittingCellStep cell.old shared.old event grant entry cell.new shared.new) }
-    ensures misfit { IsErrOf result StepFault.BadGrant → IsCellMisfit cell.old shared.old event grant cell.new shared.new }
+    ensures ok { IfOk result (λ entry. IsFittingCellStep zone.now cell.old shared.old event grant entry cell.new shared.new) }
+    ensures misfit { IsErrOf result StepFault.BadGrant → IsCellMisfit zone.now cell.old shared.old event grant cell.new shared.new }
     ensures memory { IsErrOf result StepFault.Memory → Alike cell.old shared.old cell.new shared.new }
     ensures fault { OnErr result (IsErrOf result StepFault.BadGrant ⊎ IsErrOf result StepFault.Memory) }
 {
-    cell_event(alloc, cell, shared, event, Some(grant))
+    cell_event(alloc, zone, cell, shared, event, Some(grant))
 }

@@ -40,7 +40,7 @@ fn latest(steps: &[Step]) -> Option<&Step>
 
 // One step back, or the end of the request where none is left.
 fn undo_case(alloc: Global, job: &Job, outcome: Outcome) -> Result<JobCase, AllocError>
-    ensures decides { IfOk result (λ c. (d : desks.Desk) → Just (undo d (job_seen job.now) outcome (job_seen job.now).undo) ≡ job_turn d (job_seen job.now) job.now.steps.items c) }
+    ensures decides { IfOk result (λ c. (d : desks.Desk) → Just (undo d (job_seen job.now) outcome (job_seen job.now).undo) ≡ job_turn d job.now c) }
     ensures of { IfOk result (IsJobCase job.now) }
     ensures named { IfOk result (λ c. (z : Name) → IsNamedJobCase z c) }
 {
@@ -58,7 +58,7 @@ fn job_case(
     row: &Record,
     objects: Objects<'_>,
 ) -> Result<JobCase, AllocError>
-    ensures decides { IfOk result (λ c. (d : desks.Desk) → goes_on (objects_seen objects.entry) d (job_seen job.now) row.now (job_seen job.now).ending ≡ job_turn d (job_seen job.now) job.now.steps.items c) }
+    ensures decides { IfOk result (λ c. (d : desks.Desk) → goes_on (objects_seen objects.entry) d (job_seen job.now) row.now (job_seen job.now).ending ≡ job_turn d job.now c) }
     ensures of { IfOk result (IsJobCase job.now) }
     ensures named { IfOk result (IsNamedJobCase zone.now) }
 {

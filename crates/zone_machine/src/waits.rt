@@ -6,18 +6,20 @@ ghost use Rattle.zone_machine.specs.Edits.{at_session};
 ghost use Rattle.zone_pools.specs.Owners.{owner};
 
 use indexmap::IndexMap;
-use std::alloc::AllocError;
 use zone_pools::Owners;
 
 /// The tickets that sessions wait for, by the sessions' numbers.
 pub(crate) type Waits = IndexMap<u8, u32>;
 
-/// A session waits for a ticket.
-pub(crate) fn wait(waits: &mut Waits, number: u8, ticket: u32) -> Result<(), AllocError>
-    ensures { OnOk result ((k : ℕ) → get nat_eq waits.new k ≡ at_session (Some number) k (Some ticket) (get nat_eq waits.old k)) }
+/// A session waits for a ticket. There is room for it.
+pub(crate) fn wait(waits: &mut Waits, number: u8, ticket: u32)
+    requires { 0 < spare waits.old }
+    ensures { (k : ℕ) → get nat_eq waits.new k ≡ at_session (Some number) k (Some ticket) (get nat_eq waits.old k) }
 {
-    waits.insert(number, ticket)?;
-    Ok(())
+    match waits.insert(number, ticket) {
+        Ok(_) => {}
+        Err(_) => unreachable!(),
+    }
 }
 
 // The session at an index is nobody's, where it waits for a ticket.

@@ -5,6 +5,7 @@ use Rattle.zn_base.specs.Names.{Name}
 use Rattle.zn_base.specs.Path.{path_of}
 use Rattle.zone_pools.specs.declared.grant.Grant.TheVariants.{Nothing}
 use Rattle.zone_pools.proofs.Pools_laws.{pid-fits, serial-fits, zid-fits, zone-fits}
+use Rattle.zone_machine.proofs.Asking.{asks_rightly}
 use Rattle.zone_machine.proofs.Turn_cases.{is_asked_for, of_turn}
 use Rattle.zone_machine.specs.Arrivals.{A_process, A_record, An_id, Comes}
 use Rattle.zone_machine.specs.Decisions.{effects, turned}
@@ -20,39 +21,6 @@ use Rattle.zone_machine.specs.Worlds.{View, objects_of}
 use Rattle.zone_machine.specs.declared.events.Event.{Event}
 use Rattle.zone_machine.specs.declared.events.Event.TheVariants.{Session, Turn}
 use Rattle.zone_machine.specs.declared.records.Record.{Record}
-
-abbrev pub asks_rightly : {E : Type 0} → Decision Comes E → Bool
-asks_rightly (Just e) = true
-asks_rightly (Ask c asked denied given) = is_asked_for c asked
-
-asks-turned : (d : Turn_decision) → asks_rightly d ≡ true → asks_rightly (effects turned d) ≡ true
-asks-turned (Just t) h = h
-asks-turned (Ask c asked denied given) h = h
-
-asks-make_at : (path : Option (List ℕ)) → asks_rightly (make_at path) ≡ true
-asks-make_at None = refl
-asks-make_at (Some path) = refl
-
-asks-make : (row : Option Record) (word : List ℕ) → asks_rightly (make row word) ≡ true
-asks-make (Some row) word = refl
-asks-make None word = asks-make_at (usable_path (path_of word))
-
-asks-line : (v : View) (c : Command) → asks_rightly (idle_line v c) ≡ true
-asks-line v Blank = refl
-asks-line v (Make word) = asks-make v.world.stored word
-asks-line v (Request kind) = refl
-asks-line v Unknown = refl
-
-asks-typed : (v : View) (d : Option Doing) (line : Line) → asks_rightly (typed v d line) ≡ true
-unfolding typed
-asks-typed v None line = asks-line v line.command
-asks-typed v (Some (Awaiting t)) line = refl
-
-pub asks-decide : (v : View) (e : Event) → asks_rightly (decide v e) ≡ true
-unfolding decide
-asks-decide v (Session n text) = asks-typed v (v.world.sessions n) (line_of text)
-asks-decide v (Turn z) = asks-turned (turn (objects_of v.world) v.world.stored v.world.desk)
-    (of_turn (λ d. asks_rightly d ≡ true) (λ t h. refl) (λ d j rest c asked shown h. h) (objects_of v.world) v.world.stored v.world.desk (λ e. refl))
 
 pub said-fits : (P : Pools) (z : Name) (c : Comes) (asked : List Asked) → is_asked_for c asked ≡ true → 1 ≤ P.last_pid → fits_asked P asked (said_by_all P z asked Nothing) ≡ true
 said-fits P z (A_process p) (A_pid ∷ []) h last = pid-fits P z last

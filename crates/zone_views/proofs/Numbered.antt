@@ -26,7 +26,8 @@ use Rattle.zone_machine.specs.declared.events.Subject.{Subject}
 use Rattle.zone_machine.specs.declared.events.Subject.TheVariants.{Zone, Global, Whole}
 use Rattle.zone_machine.specs.declared.records.Commit.{Commit}
 use Rattle.zone_views.proofs.Differing.{differ-come, differ-filter, differ-put}
-use Rattle.zone_views.proofs.Granting.{asks-decide, asks_rightly, decision-fits}
+use Rattle.zone_machine.proofs.Asking.{asks-decide, asks_rightly}
+use Rattle.zone_views.proofs.Granting.{decision-fits}
 use Rattle.zone_views.specs.Numbers.{AllDiffer, pids, zids}
 
 pub record AreNumbered (S : State) : Type 0 where

@@ -1,0 +1,50 @@
+-- What is known of an event that was decided.
+use Rattle.std.specs.Prelude.{◌≡◌, bytes_eq, Option, Some, None}
+use Rattle.indexmap.specs.IndexMap.{index_of_by}
+use Rattle.zn_base.specs.Names.{Name}
+use Rattle.zone_machine.specs.Cases.{IsCaseOf, IsNamedCase, case_seen}
+use Rattle.zone_machine.specs.Cells.{cell_at, cell_world, decide_in, decide_read, empty_world, global_read, row_in, subject_in}
+use Rattle.zone_machine.specs.Decisions.{Decision, says}
+use Rattle.zone_machine.specs.Machine.{decide, global_reply}
+use Rattle.zone_machine.specs.State.{State}
+use Rattle.zone_machine.specs.Worlds.{View, view_of}
+use Rattle.zone_machine.specs.declared.cases.Case.{Case}
+use Rattle.zone_machine.specs.declared.cell.Cell.{Cell}
+use Rattle.zone_machine.specs.declared.events.Event.{Event}
+use Rattle.zone_machine.specs.declared.events.Subject.TheVariants.{Global, Zone}
+use Rattle.zone_machine.specs.declared.parts.Decided.{Decided}
+use Rattle.zone_machine.specs.declared.parts.Decided.TheVariants as decided
+use Rattle.zone_machine.specs.declared.parts.Parts.{Parts}
+use Rattle.zone_machine.specs.declared.records.Record.{Record}
+use Rattle.zone_machine.specs.declared.replies.Head.{Head}
+
+-- a case of z's cell, of what is decided in its view
+pub record IsCaseIn (z : Name) (row : Option Record) (c : Cell) (decides : View → Decision) (case : Case) : Type 0 where
+  pub decided : decides (view_of z (cell_world row c)) ≡ case_seen c.desk case
+  pub of : IsCaseOf c.desk case
+  pub named : IsNamedCase z case
+
+-- the case is one of the cell that stands at an index, which is z's
+pub record IsCaseAt (p : Parts) (at : ℕ) (z : Name) (decides : View → Decision) (case : Case) : Type 0 where
+  pub index : index_of_by (bytes_eq z) p.cells ≡ Some at
+  pub cell : Cell
+  pub here : cell_at z p ≡ Some cell
+  pub case : IsCaseIn z (row_in z p.shared) cell decides case
+
+-- the case is one of a new cell of z, which has none
+pub record IsCaseNew (p : Parts) (c : Cell) (key z : Name) (decides : View → Decision) (case : Case) : Type 0 where
+  pub none : cell_at z p ≡ None
+  pub key : key ≡ z
+  pub nothing : (row : Option Record) → cell_world row c ≡ empty_world row
+  pub case : IsCaseIn z (row_in z p.shared) c decides case
+
+abbrev pub IsDecidedZone : Parts → Name → (View → Decision) → Decided → Type 0
+IsDecidedZone p y decides (decided.At at z case) = (z ≡ y) × IsCaseAt p at z decides case
+IsDecidedZone p y decides (decided.New c key z case) = (z ≡ y) × IsCaseNew p c key z decides case
+IsDecidedZone p y decides (decided.Global head) = ⊥
+
+-- what was decided of an event
+abbrev pub IsDecided : Parts → Event → Decided → Type 0
+IsDecided p e (decided.At at z case) = (subject_in p.shared e ≡ Zone z) × IsCaseAt p at z (λ v. decide v e) case
+IsDecided p e (decided.New c key z case) = (subject_in p.shared e ≡ Zone z) × IsCaseNew p c key z (λ v. decide v e) case
+IsDecided p e (decided.Global head) = (subject_in p.shared e ≡ Global) × ((S : State) → says head ≡ global_reply S e)
