@@ -18,12 +18,9 @@ use Rattle.zone_machine.proofs.Lists_laws.{any-push, any-put, none_left}
 use Rattle.zone_machine.proofs.Waits_laws.{some_wait}
 use Rattle.zone_machine.specs.Cells.{Agree, Does, cell_world, common_in, is_wait_for, kept, row_in, rows_in, unless_ended}
 use Rattle.zone_machine.specs.Common.{Common, came_common, holding, holds_pid, holds_zid}
-use Rattle.zone_machine.specs.Edits.{New_id, New_process, New_record, Of_mounts, at_session, below, comes_world, edits_world, swept_doing}
-use Rattle.zone_machine.specs.Pools.{has_zid}
+use Rattle.zone_machine.specs.Edits.{at_session, comes_world, edits_world, swept_doing}
 use Rattle.zone_machine.specs.State as state
-use Rattle.zone_machine.specs.Turns.{ticket_ended}
-use Rattle.zone_machine.specs.Turns_seen.{object_edits, sits, sweeps}
-use Rattle.zone_machine.specs.Worlds.{World, has_pid}
+use Rattle.zone_machine.specs.Worlds.{World}
 use Rattle.zone_machine.specs.declared.cell.Cell.{Cell}
 use Rattle.zone_machine.specs.declared.objects.Id.{Id}
 use Rattle.zone_machine.specs.declared.objects.Mount.{Mount}
@@ -31,6 +28,10 @@ use Rattle.zone_machine.specs.declared.objects.Process.{Process}
 use Rattle.zone_machine.specs.declared.records.Record.{Record}
 use Rattle.zone_machine.specs.declared.shared.Shared.{Shared}
 use Rattle.zone_machine.specs.declared.work.ObjectEdit.TheVariants.{EndProcesses, EndIds}
+use Rattle.zone_machine.specs.Arrivals.{New_id, New_process, New_record}
+use Rattle.zone_machine.specs.Objects.{Of_mounts, below, has_pid, has_zid}
+use Rattle.zone_machine.specs.Decisions.{sweeps, ticket_ended}
+use Rattle.zone_machine.specs.Cases.{object_edits, sits}
 
 -- the columns that stay
 module _ (z : Name) (c : Cell) (s : Shared) (agree : Agree z c s) where

@@ -1,5 +1,5 @@
 -- What comes with a grant that the pools give, or that fits, is free.
-use Rattle.std.proofs.Common.{◌≡◌, ◌∷◌, ◌+◌, ◌-◌, ◌&&◌, [], ℕ, zero, suc, List, Bool, true, false, Option, Some, None, Result, Ok as Right, Err, absurd, refl, sym, ap, ◌∙◌}
+use Rattle.std.proofs.Common.{◌≡◌, ◌∷◌, ◌+◌, ◌-◌, ◌&&◌, [], ℕ, zero, suc, List, Bool, true, false, Option, Some, None, Result, Ok as Right, Err, refl, sym, ap, ◌∙◌, subst}
 use Rattle.std.specs.Prelude.{not, if◌then◌else◌}
 use Rattle.std.proofs.lemmas.Bool.{false≢true, true≢false}
 use Rattle.zn_base.specs.Names.{Name}
@@ -14,7 +14,7 @@ use Rattle.zone_pools.specs.declared.grant.Pool.{Pool}
 use Rattle.zone_pools.specs.declared.grant.Pool.TheVariants.{Paths, Pids, Store, Zids, Zones}
 use Rattle.zone_pools.specs.declared.limits.TheConstants.{PID_MAX, PID_MIN, ZID_MAX, ZID_MIN}
 use Rattle.zone_machine.proofs.Asking.{asks_rightly}
-use Rattle.zone_machine.proofs.Turn_cases.{is_asked_for}
+use Rattle.zone_machine.proofs.Of_turns.{is_asked_for}
 use Rattle.zone_machine.specs.Arrivals.{A_process, A_record, An_id, Arrival, Comes, arrived}
 use Rattle.zone_machine.specs.Decisions.{Decision, act_of}
 use Rattle.zone_machine.specs.Rooms.{HasRoomOf, HasRoomToCome, IsFreeOf}

@@ -4,7 +4,7 @@ pub mod Same_laws
 pub mod Acts_laws
 pub mod Own_worlds
 pub mod Turned_laws
-pub mod Turn_cases
+pub mod Of_turns
 pub mod Asking
 pub mod Freeing
 pub mod Common_laws

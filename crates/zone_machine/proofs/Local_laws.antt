@@ -14,7 +14,7 @@ use Rattle.zone_pools.specs.declared.grant.Grant.{Grant}
 use Rattle.zone_pools.specs.declared.grant.Grant.TheVariants.{Nothing}
 use Rattle.zone_machine.proofs.Acts_laws.{own-acts}
 use Rattle.zone_machine.proofs.Same_laws.{reply-Decides, subject-Decides}
-use Rattle.zone_machine.proofs.Turn_cases.{of_turn}
+use Rattle.zone_machine.proofs.Of_turns.{of_turn}
 use Rattle.zone_machine.proofs.Turned_laws.{In, in-act, mounts_after, one-turn, turn-reply, turn_act, turned_act}
 use Rattle.zone_machine.specs.Arrivals.{Arrival, arrived}
 use Rattle.zone_machine.specs.Common.{Common, common, is_busy, is_idle, is_local, is_of_mounts, is_turn_of, tells_local}

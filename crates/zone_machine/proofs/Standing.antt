@@ -16,19 +16,17 @@ use Rattle.zone_machine.proofs.Common_laws.{common-acts, stored-common}
 use Rattle.zone_machine.proofs.Doing_laws.{holds_wait}
 use Rattle.zone_machine.proofs.Acts_laws.{own-acts}
 use Rattle.zone_machine.proofs.Own_worlds.{own_session, view-world}
-use Rattle.zone_machine.specs.Cells.{Agree, CellOf, Does, SharedOf, cell_world, common_in, decide_in, row_in, rows_in, subject_at, subject_in}
+use Rattle.zone_machine.specs.Cells.{Agree, CellOf, Does, SharedOf, cell_world, common_in, decide_in, row_in, rows_in, subject_at, subject_in, work_world}
 use Rattle.zone_machine.specs.Common.{Common, acts_common, came_common, common, holding}
-use Rattle.zone_machine.specs.Decisions.{Act, act_of, acts_world, after_came_world, says}
+use Rattle.zone_machine.specs.Decisions.{Act, act_of, acts_world, after_came_world, says, sweeps}
 use Rattle.zone_machine.specs.Desks_seen.{desk_seen}
 use Rattle.zone_machine.specs.Edits.{Edit, Set_desk, edit_world, edits_world}
 use Rattle.zone_machine.specs.Lines.{Line, line_of}
 use Rattle.zone_machine.specs.Machine.{decide, done_by, opening, one, one_of, session_number, session_subject, subject}
-use Rattle.zone_machine.specs.Pools.{has_zid}
 use Rattle.zone_machine.specs.State as state
 use Rattle.zone_machine.specs.State.{State, stored}
 use Rattle.zone_machine.specs.Steps.{IsCellStep}
-use Rattle.zone_machine.specs.Turns_seen.{Works, arrival_of, object_edits, sits, sweeps, work_act, work_world}
-use Rattle.zone_machine.specs.Worlds.{World, doing, has_pid, view, view_of, world}
+use Rattle.zone_machine.specs.Worlds.{World, doing, view, view_of, world}
 use Rattle.zone_machine.specs.declared.cell.Cell.{Cell}
 use Rattle.zone_machine.specs.declared.events.Event.{Event}
 use Rattle.zone_machine.specs.declared.events.Event.TheVariants as event
@@ -43,6 +41,8 @@ use Rattle.zone_machine.specs.declared.work.Came.TheVariants as came
 use Rattle.zone_machine.specs.declared.work.ObjectEdit.{ObjectEdit}
 use Rattle.zone_machine.specs.declared.work.ObjectEdit.TheVariants as objects
 use Rattle.zone_machine.specs.declared.work.Work.{Work}
+use Rattle.zone_machine.specs.Objects.{has_pid, has_zid}
+use Rattle.zone_machine.specs.Cases.{Works, arrival_of, object_edits, sits, work_act}
 
 -- what is stored of a zone is its row of the shared part
 row_is : (z : Name) (es : List (Name × Record)) → first_of (mine z (rows_in es)) ≡ lookup (bytes_eq z) es

@@ -23,16 +23,16 @@ use Rattle.zone_pools.specs.declared.owned.Owned.{Owned}
 use Rattle.zone_machine.proofs.Common_laws.{any_mine, any_own}
 use Rattle.zone_machine.proofs.Own_worlds.{leaves}
 use Rattle.zone_machine.proofs.Standing.{cell-stands, decide-stands, stored-stands, subject-stands}
-use Rattle.zone_machine.specs.Cells.{CellOf, IsNamed, Keeps, SharedOf, Stands, cell_at, cell_world, decide_in, decide_of, empty_world, pools_in, row_in, subject_at, subject_in, world_or_empty}
+use Rattle.zone_machine.specs.Cells.{CellOf, Keeps, SharedOf, Stands, cell_at, cell_world, decide_in, empty_world, pools_in, row_in, subject_at, subject_in, world_or_empty}
 use Rattle.zone_machine.specs.Common.{Common, common}
 use Rattle.zone_machine.specs.Decisions.{says}
 use Rattle.zone_machine.specs.Histories.{concerns}
 use Rattle.zone_machine.specs.Lines.{Line, line_of}
 use Rattle.zone_machine.specs.Machine.{decide, global_reply, named_subject, one, one_of, subject, subject_of_name}
-use Rattle.zone_machine.specs.Pools.{allowed, allowed_of, fits, fits_of, has_zid, path_taken, pools_of}
-use Rattle.zone_machine.specs.State.{State, state_of, stored}
-use Rattle.zone_machine.specs.Steps.{Asks, CellAnswers, IsAllowed, IsAllowedCellStep, IsCellMisfit, IsCellStep, IsFit, IsFittingCellStep, IsStep, IsZoneState}
-use Rattle.zone_machine.specs.Worlds.{World, has_pid, view, view_of, world}
+use Rattle.zone_machine.specs.Pools.{allowed, allowed_of, fits, fits_of, path_taken, pools_of}
+use Rattle.zone_machine.specs.State.{State, stored}
+use Rattle.zone_machine.specs.Steps.{CellAnswers, IsAllowed, IsAllowedCellStep, IsCellMisfit, IsCellStep, IsFit, IsFittingCellStep, IsStep, IsZoneState}
+use Rattle.zone_machine.specs.Worlds.{World, view, view_of, world}
 use Rattle.zone_machine.specs.declared.cell.Cell.{Cell}
 use Rattle.zone_machine.specs.declared.events.Entry.{Entry}
 use Rattle.zone_machine.specs.declared.events.Event.{Event}
@@ -44,6 +44,8 @@ use Rattle.zone_machine.specs.declared.records.Record.{Record}
 use Rattle.zone_machine.specs.declared.replies.Body.TheVariants.{Nothing as No_body}
 use Rattle.zone_machine.specs.declared.replies.Head.{Head}
 use Rattle.zone_machine.specs.declared.shared.Shared.{Shared}
+use Rattle.zone_machine.specs.Objects.{has_pid, has_zid}
+use Rattle.zone_machine.specs.Desks.{state_of}
 
 -- what the pools know
 module _ {A : Type 0} (p : A → Bool) where

@@ -9,13 +9,13 @@ use Rattle.zone_pools.specs.Owners.{held_by, is_owner, owner}
 use Rattle.zone_pools.specs.Pools.{Pools}
 use Rattle.zone_pools.specs.declared.owned.Owned.{Owned}
 use Rattle.zone_machine.specs.Common.{Common, common, holding}
-use Rattle.zone_machine.specs.Decisions.{Decision}
+use Rattle.zone_machine.specs.Decisions.{Decision, after_came_world, says, sweeps}
 use Rattle.zone_machine.specs.Desks_seen.{desk_seen}
 use Rattle.zone_machine.specs.Lines.{Line, line_of}
-use Rattle.zone_machine.specs.Machine.{decide, named_subject}
-use Rattle.zone_machine.specs.Pools.{has_zid, path_taken}
-use Rattle.zone_machine.specs.State.{Awaiting, State, empty_desk, stored}
-use Rattle.zone_machine.specs.Worlds.{World, has_pid, view_of, world}
+use Rattle.zone_machine.specs.Machine.{decide, named_subject, turn}
+use Rattle.zone_machine.specs.Pools.{path_taken}
+use Rattle.zone_machine.specs.State.{Awaiting, State, stored}
+use Rattle.zone_machine.specs.Worlds.{World, view_of, world, View}
 use Rattle.zone_machine.specs.declared.cell.Cell.{Cell}
 use Rattle.zone_machine.specs.declared.events.Event.{Event}
 use Rattle.zone_machine.specs.declared.events.Event.TheVariants as event
@@ -24,6 +24,17 @@ use Rattle.zone_machine.specs.declared.events.Subject.TheVariants.{Zone}
 use Rattle.zone_machine.specs.declared.parts.Parts.{Parts}
 use Rattle.zone_machine.specs.declared.records.Record.{Record}
 use Rattle.zone_machine.specs.declared.shared.Shared.{Shared}
+use Rattle.zone_machine.specs.Objects.{has_pid, has_zid}
+use Rattle.zone_machine.specs.Desks.{empty_desk}
+use Rattle.zone_machine.specs.declared.work.Work.{Work}
+use Rattle.zone_machine.specs.declared.replies.Reply.{Reply}
+use Rattle.zone_machine.specs.declared.replies.Head.TheVariants.{Ok}
+use Rattle.zone_machine.specs.declared.steps.Read.TheVariants as read
+use Rattle.zone_machine.specs.declared.steps.Read.{Read}
+use Rattle.zone_machine.specs.Edits.{Of_objects, edits_world}
+use Rattle.zone_machine.specs.Cases.{arrival_of, object_edits, sits}
+use Rattle.zone_machine.specs.Typed.{global_line, typed}
+use Rattle.zone_machine.specs.Lines_seen.{line_seen}
 
 -- a ticket that ends, at what a session waits for
 abbrev pub is_wait_for : ℕ → Option ℕ → Bool

@@ -25,18 +25,18 @@ pub record IsCaseIn (z : Name) (row : Option Record) (c : Cell) (decides : View 
   pub named : IsNamedCase z case
 
 -- the case is one of the cell that stands at an index, which is z's
-pub record IsCaseAt (p : Parts) (at : ℕ) (z : Name) (decides : View → Decision) (case : Case) : Type 0 where
+pub record IsCaseAt (p : Parts) (at : ℕ) (z : Name) (decides_so : View → Decision) (case : Case) : Type 0 where
   pub index : index_of_by (bytes_eq z) p.cells ≡ Some at
   pub cell : Cell
   pub here : cell_at z p ≡ Some cell
-  pub case : IsCaseIn z (row_in z p.shared) cell decides case
+  pub decides : IsCaseIn z (row_in z p.shared) cell decides_so case
 
 -- the case is one of a new cell of z, which has none
-pub record IsCaseNew (p : Parts) (c : Cell) (key z : Name) (decides : View → Decision) (case : Case) : Type 0 where
+pub record IsCaseNew (p : Parts) (c : Cell) (key z : Name) (decides_so : View → Decision) (case : Case) : Type 0 where
   pub none : cell_at z p ≡ None
-  pub key : key ≡ z
+  pub keyed : key ≡ z
   pub nothing : (row : Option Record) → cell_world row c ≡ empty_world row
-  pub case : IsCaseIn z (row_in z p.shared) c decides case
+  pub decides : IsCaseIn z (row_in z p.shared) c decides_so case
 
 abbrev pub IsDecidedZone : Parts → Name → (View → Decision) → Decided → Type 0
 IsDecidedZone p y decides (decided.At at z case) = (z ≡ y) × IsCaseAt p at z decides case

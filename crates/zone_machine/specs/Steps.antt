@@ -1,7 +1,7 @@
 -- A step of the machine, as the definitions have it.
 use Rattle.zone_pools.specs.Asked.{Asked}
 use Rattle.zone_pools.specs.Decisions.{asked_of}
-use Rattle.std.specs.Prelude.{◌≡◌, ◌⊎◌, List, [], Option, Bool, true, false, IsErrOf, Result}
+use Rattle.std.specs.Prelude.{◌≡◌, ◌⊎◌, List, [], Option, None, Bool, true, false, IsErrOf, Result, Some}
 use Rattle.zn_base.specs.Names.{Name}
 use Rattle.zone_pools.specs.declared.grant.Grant.{Grant}
 use Rattle.zn_base.specs.declared.state.ZoneState.{ZoneState}
@@ -9,7 +9,7 @@ use Rattle.zone_machine.specs.Histories.{entry_at}
 use Rattle.zone_machine.specs.Machine.{one, subject}
 use Rattle.zone_machine.specs.Pools.{allowed, fits}
 use Rattle.zone_machine.specs.State.{State, zone_state}
-use Rattle.zone_machine.specs.Cells.{CellOf, IsNamed, SharedOf, Stands, cell_at, decide_of}
+use Rattle.zone_machine.specs.Cells.{CellOf, SharedOf, Stands, cell_at}
 use Rattle.zone_machine.specs.Common.{common}
 use Rattle.zone_machine.specs.declared.events.Entry.{Entry}
 use Rattle.zone_machine.specs.declared.events.Event.{Event}
@@ -21,6 +21,8 @@ use Rattle.zone_machine.specs.Worlds.{world}
 use Rattle.zone_machine.specs.declared.cell.Cell.{Cell}
 use Rattle.zone_machine.specs.declared.parts.Parts.{Parts}
 use Rattle.zone_machine.specs.declared.shared.Shared.{Shared}
+use Rattle.zone_pools.specs.declared.grant.Grant.TheVariants.{Nothing}
+use Rattle.zone_pools.specs.Pools.{Pools, fits_asked, said_by_all}
 
 -- the event is answered by the definitions' entry under a grant, and what is left stands for the state after it
 pub record Answers (S : State) (e : Event) (g : Grant) (entry : Entry) (u : Parts) : Type 0 where

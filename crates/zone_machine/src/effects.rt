@@ -1,6 +1,6 @@
 //! What an event does, on its zone's cell and on the shared part. All room for it has been taken, so nothing here takes
 //! memory or fails.
-ghost use Rattle.std.specs.Prelude.{◌≡◌, ◌<◌, ℕ, IfSome, None, Option, Some, false, true, vec_capacity, vec_len, if◌then◌else◌};
+ghost use Rattle.std.specs.Prelude.{◌≡◌, ◌<◌, ℕ, IfSome, None, Option, Some, false, true, vec_capacity, vec_len, if◌then◌else◌, map, nat_eq};
 ghost use Rattle.std.specs.Option.{option_map};
 ghost use Rattle.indexmap.specs.IndexMap.{spare};
 ghost use Rattle.zn_base.specs.Names.{Name};
@@ -84,10 +84,11 @@ fn take_in(cell: &mut Cell, shared: &mut Shared, coming: Coming)
     requires room { HasRoomOf (Some (arrival_of coming.it)) cell.old shared.old }
     ensures { Does coming.owner (comes_world (arrival_of coming.it)) (came_common coming.owner (Some (arrival_of coming.it))) cell.old shared.old cell.new shared.new }
 {
-    match coming.it {
-        Came::Process(process) => begin(cell, shared, process, coming.owner),
-        Came::Id(id) => give_id(cell, shared, id, coming.owner),
-        Came::Record(record) => store(cell, shared, record, coming.owner),
+    let Coming { it, owner } = coming;
+    match it {
+        Came::Process(process) => begin(cell, shared, process, owner),
+        Came::Id(id) => give_id(cell, shared, id, owner),
+        Came::Record(record) => store(cell, shared, record, owner),
     }
 }
 

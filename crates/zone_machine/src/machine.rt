@@ -1,13 +1,13 @@
 //! The machine.
 ghost use Rattle.std.specs.Prelude.{◌≡◌, ◌⊎◌, [], IfOk, IsErrOf, IsOkUnless, OnErr, OnOk, false, true};
 ghost use Rattle.zone_machine.specs.Machine.{opening};
-ghost use Rattle.zone_machine.specs.Steps.{IsAllowed, IsAllowedStep, IsFit, IsFittingStep, IsMisfit, IsRefusedIfUnfit, IsStarted, IsSubject, IsZoneState};
+ghost use Rattle.zone_machine.specs.Steps.{IsAllowed, IsAllowedStep, IsFit, IsFittingStep, IsMisfit, IsRefusedIfUnfit, IsStarted, IsSubject, IsZoneState, AsItWas};
 ghost use Rattle.zone_machine.specs.Cells.{Stands, subject_in};
 
 use crate::events::{Entry, Event, Subject};
 use crate::faults::StepFault;
 use crate::parts::Parts;
-use crate::steps::{read, subject};
+use crate::steps::{read_event, subject};
 use std::alloc::Global;
 use std::marker::Model;
 use zn_base::{ZoneName, ZoneState};
@@ -46,7 +46,7 @@ impl Machine {
         ensures ok { IfOk result (IsSubject self.now event.now) }
         ensures err { IsOkUnless result StepFault.Memory }
     {
-        Ok(subject(&self.parts.shared, alloc, read(event))?)
+        Ok(subject(&self.parts.shared, alloc, read_event(event))?)
     }
 
     /// The grant that the pools give an event.

@@ -16,7 +16,7 @@ use crate::needs::need_of;
 use crate::pools::grant_for;
 use crate::replies::{Body, Head, Reply};
 use crate::shared::Shared;
-use crate::steps::{Read, case_of, do_case, global_head, read, subject};
+use crate::steps::{Read, case_of, do_case, global_head, read_event, subject};
 use indexmap::IndexMap;
 use std::alloc::{AllocError, Global};
 use zn_base::{ZoneName, ZoneState};
@@ -93,7 +93,7 @@ impl Parts {
     pub(crate) fn decide(&self, alloc: Global, event: &Event) -> Result<Decided, AllocError>
         ensures { IfOk result (IsDecided self.now event.now) }
     {
-        let read = read(event);
+        let read = read_event(event);
         match subject(&self.shared, alloc, read)? {
             Subject::Zone(zone) => self.decide_zone(alloc, zone, read),
             Subject::Global => Ok(Decided::Global(global_head(alloc, read)?)),

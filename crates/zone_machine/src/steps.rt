@@ -10,7 +10,7 @@ ghost use Rattle.zone_machine.specs.Lines_seen.{line_seen, word_seen};
 ghost use Rattle.zone_machine.specs.Machine.{decide, global_reply, named_subject, session_number};
 ghost use Rattle.zone_machine.specs.Rooms.{Alike, IsFreeOf};
 ghost use Rattle.zone_machine.specs.State.{State};
-ghost use Rattle.zone_machine.specs.Steps.{IsAllowedCellStep, IsCellMisfit, IsCellMisfitUnder, IsCellStep, IsCellStepUnder, IsFittingCellStep, Takes};
+ghost use Rattle.zone_machine.specs.Steps.{IsAllowedCellStep, IsCellMisfit, IsCellMisfitUnder, IsCellStep, IsCellStepUnder, IsFittingCellStep, Takes, IsGrantFor, IsUnfit};
 ghost use Rattle.zone_machine.specs.Typed.{badly_named, global_line};
 ghost use Rattle.zone_machine.specs.Worlds.{View};
 ghost use Rattle.zone_machine.specs.declared.shared.Shared as shared_types;
@@ -45,7 +45,7 @@ pub(crate) enum Read<'e> {
 
 /// An event is read.
 #[tactic(auto, unfolding(crate::specs::Machine::decide))]
-pub(crate) fn read(event: &Event) -> Read<'_>
+pub(crate) fn read_event(event: &Event) -> Read<'_>
     ensures subject { (s : shared_types.Shared) → subject_read s result ≡ subject_in s event.now }
     ensures decide { (v : View) → decide_read v result ≡ decide v event.now }
     ensures number { number_read result ≡ session_number event.now }
@@ -258,7 +258,7 @@ fn cell_event(
     ensures fault { OnErr result (IsErrOf result StepFault.BadGrant ⊎ IsErrOf result StepFault.Memory) }
 {
     let subject = zone.copy(alloc)?;
-    let case = case_of(alloc, zone, cell, shared.rows.get(zone), read(&event))?;
+    let case = case_of(alloc, zone, cell, shared.rows.get(zone), read_event(&event))?;
     do_case(cell, shared, event, subject, case, stated)
 }
 

@@ -6,7 +6,7 @@ use Rattle.zn_base.specs.Path.{path_of}
 use Rattle.zone_pools.specs.declared.grant.Grant.TheVariants.{Nothing}
 use Rattle.zone_pools.proofs.Pools_laws.{pid-fits, serial-fits, zid-fits, zone-fits}
 use Rattle.zone_machine.proofs.Asking.{asks_rightly}
-use Rattle.zone_machine.proofs.Turn_cases.{is_asked_for, of_turn}
+use Rattle.zone_machine.proofs.Of_turns.{is_asked_for, of_turn}
 use Rattle.zone_machine.specs.Arrivals.{A_process, A_record, An_id, Comes}
 use Rattle.zone_machine.specs.Decisions.{effects, turned}
 use Rattle.zone_pools.specs.Asked.{A_path, A_pid, A_serial, A_zid, A_zone, Asked}

@@ -7,7 +7,7 @@ use Rattle.zone_pools.proofs.Same_laws.{grant-Decides}
 use Rattle.zn_base.specs.Names.{Name}
 use Rattle.zone_pools.specs.declared.grant.Grant.{Grant}
 use Rattle.zone_pools.specs.declared.grant.Grant.TheVariants.{Nothing, Number, Yes, Denied}
-use Rattle.zone_machine.proofs.Turn_cases.{is_asked_for}
+use Rattle.zone_machine.proofs.Of_turns.{is_asked_for}
 use Rattle.zone_machine.specs.Arrivals.{A_process, A_record, An_id, Comes, arrived}
 use Rattle.zone_machine.specs.Decisions.{Decision, act_of, acts, after_came}
 use Rattle.zone_pools.specs.Asked.{A_pid, A_zid, Asked}

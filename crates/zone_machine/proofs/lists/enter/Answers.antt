@@ -1,8 +1,8 @@
 use Rattle.std.proofs.Common.{◌≡◌, Some, None, not, sym, ◌∙◌}
 use Rattle.std.specs.Prelude.{position}
 use Rattle.zone_machine.proofs.Lists_laws.{put-at, put-nowhere}
-use Rattle.zone_machine.specs.Edits.{below}
 use Rattle.zone_machine.proofs.lists.enter.Goals as goal
+use Rattle.zone_machine.specs.Objects.{below}
 
 pub returns-in_ok-insert-in-Some : goal.returns-in_ok-insert-in-Some
 returns-in_ok-insert-in-Some c =

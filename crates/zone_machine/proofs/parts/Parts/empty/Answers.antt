@@ -1,7 +1,7 @@
 use Rattle.std.proofs.Common.{◌≡◌, None, [], ap, bytes_eq, subst, sym}
 use Rattle.std.specs.Map.{lookup}
 use Rattle.zn_base.specs.Names.{Name}
-use Rattle.zone_machine.specs.Cells.{IsNamed, world_or_empty}
+use Rattle.zone_machine.specs.Cells.{world_or_empty}
 use Rattle.zone_machine.specs.State.{stored}
 use Rattle.zone_machine.proofs.parts.Parts.empty.Goals as goal
 
