@@ -121,11 +121,11 @@ fn give_zid_back(next: usize, ids: &[Id]) -> JobCase
 }
 
 // The directory of the last mount.
-#[tactic(auto, using(crate::proofs::Latest::last_is))]
+#[tactic(auto, using(crate::proofs::Last::last_push))]
 fn last_dir(mounts: &[Mount]) -> Option<&AbsPath>
     ensures { option_map (λ dir. dir.now) result ≡ last_dir mounts.now }
 {
-    let mount = mounts.last()?;
+    let (mount, _) = mounts.split_last()?;
     Some(&mount.dir)
 }
 
