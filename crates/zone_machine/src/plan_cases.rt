@@ -1,5 +1,5 @@
 //! What the steps of a request's plan come to, each one turn of the zone's daemon.
-ghost use Rattle.std.specs.Prelude.{◌++◌, ◌+◌, ◌-◌, ◌<◌, ◌∷◌, ◌≡◌, ◌^◌, IfOk, Some, codes, drop, false, length};
+ghost use Rattle.std.specs.Prelude.{◌++◌, ◌+◌, ◌-◌, ◌<◌, ◌∷◌, ◌≡◌, IfOk, Some, codes, drop, false, length};
 ghost use Rattle.std.specs.Option.{option_map};
 ghost use Rattle.zone_machine.specs.Cases.{IsJobCase, IsNamedJobCase, is_unmount, job_turn, objects_seen};
 ghost use Rattle.zone_machine.specs.Desks as desks;

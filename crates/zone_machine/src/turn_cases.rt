@@ -1,5 +1,5 @@
 //! What the next turn of a zone's daemon comes to.
-ghost use Rattle.std.specs.Prelude.{◌<◌, ◌∷◌, ◌≡◌, [], IfOk, MatchOption, None, drop, length, reverse, take, ◌-◌};
+ghost use Rattle.std.specs.Prelude.{◌<◌, ◌∷◌, ◌≡◌, [], IfOk, MatchOption, None, drop, ◌-◌};
 ghost use Rattle.std.specs.Option.{option_map};
 ghost use Rattle.zn_base.specs.Names.{Name};
 ghost use Rattle.zone_pools.specs.Decisions.{Just};
