@@ -145,7 +145,7 @@ pub does_sits : (z : Name) (c d : Cell) (s t : Shared) (k : ℕ) (x : Sitting) �
     → ((n : ℕ) → owner nat_eq t.sessions n ≡ (if nat_eq k n then Some z else owner nat_eq s.sessions n))
     → ((n : ℕ) → get nat_eq d.waits n ≡ at_session (Some k) n (Some x.ticket) (get nat_eq c.waits n))
     → Does z (edits_world (Some k) (sits (Some x))) kept c s (record c { waits = d.waits }) (record s { sessions = t.sessions })
-does_sits z c d s t k x open taken h = record {
+does_sits z c d s t k x is_open taken h = record {
   world = λ i. record (cell_world (row_in z s) c) { sessions = λ n. waits n i };
   common = λ a. common_by z (record (cell_world (row_in z s) c) { sessions = λ n. at_session (Some k) n (Some (state.Awaiting x.ticket)) (option_map state.Awaiting (get nat_eq c.waits n)) }) (common_in s)
       (record s { sessions = t.sessions }) (get nat_eq d.waits) (same_pids z c s a) (same_zids z c s a)
@@ -170,12 +170,12 @@ does_sits z c d s t k x open taken h = record {
     here a n false = sym (a.sessions n)
 
     not_mine : (y : Name) → y ≢ z → (o : Option Name) → IsOpenTo z o → is_owner y o ≡ false
-    not_mine y ne None open = refl
+    not_mine y ne None is_open = refl
     not_mine y ne (Some w) (inl none) = absurd (cc)
     not_mine y ne (Some w) (inr some) = let same : w ≡ z = cc in ap (bytes_eq y) same ∙ same_other y z ne
 
     there : (y : Name) → y ≢ z → (n : ℕ) (b : Bool) → nat_eq k n ≡ b → is_owner y (if b then Some z else owner nat_eq s.sessions n) ≡ is_owner y (owner nat_eq s.sessions n)
-    there y ne n true e = same_other y z ne ∙ sym (subst (λ m. is_owner y (owner nat_eq s.sessions m) ≡ false) (eqb-true k n e) (not_mine y ne (owner nat_eq s.sessions k) open))
+    there y ne n true e = same_other y z ne ∙ sym (subst (λ m. is_owner y (owner nat_eq s.sessions m) ≡ false) (eqb-true k n e) (not_mine y ne (owner nat_eq s.sessions k) is_open))
     there y ne n false e = refl
 
 pub does_ends : (z : Name) (c d : Cell) (s t : Shared) (ticket : ℕ) → ((n : ℕ) → get nat_eq d.waits n ≡ unless_ended ticket (get nat_eq c.waits n))

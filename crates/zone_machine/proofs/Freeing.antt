@@ -1,6 +1,6 @@
 -- What comes with a grant that the pools give, or that fits, is free.
 use Rattle.std.proofs.Common.{◌≡◌, ◌∷◌, ◌+◌, ◌-◌, ◌&&◌, [], ℕ, zero, suc, List, Bool, true, false, Option, Some, None, Result, Ok as Right, Err, refl, sym, ap, ◌∙◌, subst}
-use Rattle.std.specs.Prelude.{not, if◌then◌else◌}
+use Rattle.std.specs.Prelude.{nat_le, not, if◌then◌else◌}
 use Rattle.std.proofs.lemmas.Bool.{false≢true, true≢false}
 use Rattle.zn_base.specs.Names.{Name}
 use Rattle.zone_pools.proofs.Pools_laws.{said_one}
@@ -101,10 +101,10 @@ module _ (P : Pools) where
   room_of_zone false a b h = absurd (false≢true h)
 
   fit_free : (c : Comes) (asked : List Asked) (n : ℕ) → is_asked_for c asked ≡ true → fits_asked P asked (Number n) ≡ true → IsFreeOf (Some (arrived c n)) P
-  fit_free (A_process p) (A_pid ∷ []) n h fit = last_of_three _ _ (P.pid_used n) fit
-  fit_free (An_id i) (A_zid ∷ []) n h fit = last_of_three _ _ (P.zid_used n) fit
-  fit_free (A_record row) (A_serial ∷ []) n h fit = room_of_two _ (has_room P) fit
-  fit_free (A_record row) (A_zone ∷ A_path path ∷ A_serial ∷ []) n h fit = room_of_zone (has_place P) _ (has_room P) fit
+  fit_free (A_process p) (A_pid ∷ []) n h fit = last_of_three (nat_le PID_MIN n) (nat_le n PID_MAX) (P.pid_used n) fit
+  fit_free (An_id i) (A_zid ∷ []) n h fit = last_of_three (nat_le ZID_MIN n) (nat_le n ZID_MAX) (P.zid_used n) fit
+  fit_free (A_record row) (A_serial ∷ []) n h fit = room_of_two (nat_le 1 n) (has_room P) fit
+  fit_free (A_record row) (A_zone ∷ A_path path ∷ A_serial ∷ []) n h fit = room_of_zone (has_place P) (nat_le 1 n) (has_room P) fit
   fit_free c asked n h fit = absurd (false≢true h)
 
   no_yes : (asked : List Asked) → fits_asked P asked Yes ≡ true → ⊥

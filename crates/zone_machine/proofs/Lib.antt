@@ -10,7 +10,7 @@ pub mod Freeing
 pub mod Common_laws
 pub mod Local_laws
 pub mod Words
-pub mod Latest
+pub mod Last
 pub mod Pools_laws
 pub mod Lists_laws
 pub mod Waits_laws

@@ -2,8 +2,6 @@
 use Rattle.std.proofs.Common.{◌≡◌, ℕ, List, Option, Some, None, nat_eq, refl, sym, ap, ◌∙◌}
 use Rattle.std.specs.Prelude.{is_some}
 use Rattle.std.specs.Option.{option_map}
-use Rattle.std.specs.Global.{Global}
-use Rattle.std.specs.Vec.{Vec}
 use Rattle.indexmap.specs.IndexMap.{get}
 use Rattle.zone_pools.specs.Owners.{is_owner, owner}
 use Rattle.zone_machine.specs.Cells.{cell_world, common_in, pools_in, rows_in}

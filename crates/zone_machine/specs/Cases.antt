@@ -67,6 +67,7 @@ shown_under (Process p) n = step.Init (Some n)
 shown_under (Id i) n = step.Zid (Some n)
 shown_under (Record r) n = step.Record r.state
 
+-- a step that is a turn only where something is mounted
 abbrev pub is_unmount : Step → Bool
 is_unmount (step.Unmount dir) = true
 is_unmount _ = false
@@ -76,7 +77,7 @@ abbrev pub active_with : Step → Option ZoneState → Option ZoneState
 active_with (step.State s) active = active_after s
 active_with _ active = active
 
--- the latest step that is to be undone is undone
+-- the latest step that is to be undone is undone; a desk has no such case where none is
 abbrev pub undo_with : desks.Desk → desks.Job → List Object_edit → List Step → Turn_decision
 undo_with d j edits [] = decisions.Just (rests d)
 undo_with d j edits (s ∷ rest) = decisions.Just (undone d j rest edits s)
@@ -88,6 +89,7 @@ job_turn d j (Pass p) = decisions.Just (advance (record d { active = active_with
 job_turn d j (Ask c next) = asking d (job_seen j) (drop next j.steps.items) (comes_of c.it) (asked_for c.it) (shown_under c.it)
 job_turn d j (Undo objects) = undo_with d (job_seen j) (object_edits objects) (job_seen j).undo
 
+-- a desk without a request under way has no such case
 abbrev pub on_job : Desk → Option Job → JobCase → Turn_decision
 on_job d None c = decisions.Just (rests (desk_seen d))
 on_job d (Some j) c = job_turn (desk_seen d) j c

@@ -1,5 +1,5 @@
 -- What is known of an event that was decided.
-use Rattle.std.specs.Prelude.{◌≡◌, bytes_eq, Option, Some, None}
+use Rattle.std.specs.Prelude.{◌≡◌, ℕ, bytes_eq, Option, Some, None}
 use Rattle.indexmap.specs.IndexMap.{index_of_by}
 use Rattle.zn_base.specs.Names.{Name}
 use Rattle.zone_machine.specs.Cases.{IsCaseOf, IsNamedCase, case_seen}

@@ -1,7 +1,7 @@
 //! What a case asks of the pools.
 ghost use Rattle.std.specs.Prelude.{◌∷◌, ◌≡◌, []};
 ghost use Rattle.zone_pools.specs.Decisions.{asked_of};
-ghost use Rattle.zone_machine.specs.Cases.{IsCaseOf, IsJobCase, IsTurnOf, asked_for, case_seen, job_turn, turn_seen};
+ghost use Rattle.zone_machine.specs.Cases.{IsCaseOf, IsTurnOf, asked_for, case_seen, job_turn, turn_seen};
 ghost use Rattle.zone_machine.specs.Desks as desks;
 ghost use Rattle.zone_machine.specs.Needs_seen.{asked_by};
 ghost use Rattle.zone_machine.specs.declared.desks.Desk as desk_types;

@@ -1,5 +1,5 @@
 //! What the steps of a request's plan come to, each one turn of the zone's daemon.
-ghost use Rattle.std.specs.Prelude.{◌++◌, ◌+◌, ◌-◌, ◌<◌, ◌∷◌, ◌≡◌, ◌^◌, IfOk, Some, codes, drop, false, length};
+ghost use Rattle.std.specs.Prelude.{◌++◌, ◌+◌, ◌-◌, ◌<◌, ◌∷◌, ◌≡◌, IfOk, Some, codes, drop, false, length};
 ghost use Rattle.std.specs.Option.{option_map};
 ghost use Rattle.zone_machine.specs.Cases.{IsJobCase, IsNamedJobCase, is_unmount, job_turn, objects_seen};
 ghost use Rattle.zone_machine.specs.Desks as desks;
@@ -62,57 +62,71 @@ fn root_special(alloc: Global, config: &Config) -> Result<Text, AllocError>
     Text::of(alloc, &bytes)
 }
 
-fn root_mount(alloc: Global, config: &Config) -> Result<Mount, AllocError>
-    ensures { IfOk result (λ mount. mount ≡ root_mount config.now) }
+// The zone's root is mounted.
+fn mount_root(alloc: Global, next: usize, config: &Config) -> Result<JobCase, AllocError>
+    ensures { IfOk result (λ c. c ≡ JobCase.Pass (record { next = next; objects = ObjectEdit.Mount (root_mount config.now); shown = Step.Root })) }
 {
-    Ok(Mount {
+    let mount = Mount {
         dir: root_dir(alloc)?,
         fstype: Text::of(alloc, b"root")?,
         special: root_special(alloc, config)?,
-    })
+    };
+    Ok(changed(next, ObjectEdit::Mount(mount), Step::Root))
 }
 
-fn init_process(alloc: Global) -> Result<Process, AllocError>
-    ensures { IfOk result (λ process. process ≡ init_process) }
+// The first process begins.
+fn start_init(alloc: Global, zone: &ZoneName, next: usize) -> Result<JobCase, AllocError>
+    ensures { IfOk result (λ c. c ≡ JobCase.Ask (record { it = Came.Process init_process; owner = zone.now }) next) }
 {
-    Ok(Process {
+    let process = Process {
         pid: 0,
         parent: 0,
         name: Text::of(alloc, b"init")?,
-    })
+    };
+    asking(alloc, zone, next, Came::Process(process))
 }
 
-fn in_state(alloc: Global, row: &Record, state: ZoneState) -> Result<Record, AllocError>
-    ensures { IfOk result (λ r. r ≡ record row.now { state = state }) }
+// The stored state changes.
+fn store_state(
+    alloc: Global,
+    zone: &ZoneName,
+    next: usize,
+    row: &Record,
+    to: ZoneState,
+) -> Result<JobCase, AllocError>
+    ensures { IfOk result (λ c. c ≡ JobCase.Ask (record { it = Came.Record (record row.now { state = to }); owner = zone.now }) next) }
 {
-    Ok(Record {
-        state,
+    let row = Record {
+        state: to,
         revision: row.revision,
         config: row.config.copy(alloc)?,
-    })
+    };
+    asking(alloc, zone, next, Came::Record(row))
 }
 
-// How many there are. The count stands still at its type's end.
-fn count_of(processes: &[Process]) -> u32
-    ensures { result ≡ count_of processes.now }
+// All processes end. Their count stands still at its type's end.
+fn kill_all(next: usize, processes: &[Process]) -> JobCase
+    ensures { result ≡ JobCase.Pass (record { next = next; objects = ObjectEdit.EndProcesses; shown = Step.Kill (Some (count_of processes.now)) }) }
 {
-    processes.len().min(u32::MAX as usize) as u32
+    let count = processes.len().min(u32::MAX as usize) as u32;
+    changed(next, ObjectEdit::EndProcesses, Step::Kill(Some(count)))
+}
+
+// The zone gives its id back.
+fn give_zid_back(next: usize, ids: &[Id]) -> JobCase
+    ensures { result ≡ JobCase.Pass (record { next = next; objects = ObjectEdit.EndIds; shown = Step.ZidBack (zid_of ids.now) }) }
+{
+    let zid = ids.first().map(|id| id.zid);
+    changed(next, ObjectEdit::EndIds, Step::ZidBack(zid))
 }
 
 // The directory of the last mount.
-#[tactic(auto, using(crate::proofs::Latest::last_is))]
+#[tactic(auto, using(crate::proofs::Last::last_push))]
 fn last_dir(mounts: &[Mount]) -> Option<&AbsPath>
     ensures { option_map (λ dir. dir.now) result ≡ last_dir mounts.now }
 {
-    let mount = mounts.last()?;
+    let (mount, _) = mounts.split_last()?;
     Some(&mount.dir)
-}
-
-fn zid_of(ids: &[Id]) -> Option<u32>
-    ensures { result ≡ zid_of ids.now }
-{
-    let id = ids.first()?;
-    Some(id.zid)
 }
 
 // What a step comes to that is no unmount, where the plan then goes on at `next`.
@@ -133,33 +147,18 @@ fn step_case(
 {
     match planned {
         Step::Hook(change) => Ok(passed(next, Step::Hook(*change))),
-        Step::Record(to) => {
-            let record = in_state(alloc, row, *to)?;
-            asking(alloc, zone, next, Came::Record(record))
-        }
+        Step::Record(to) => store_state(alloc, zone, next, row, *to),
         Step::Copy(part) => Ok(passed(next, Step::Copy(*part))),
         Step::Zid(_) => asking(alloc, zone, next, Came::Id(Id { zid: 0 })),
         Step::Limits => Ok(passed(next, Step::Limits)),
         Step::Devices(_) => Ok(passed(next, Step::Devices(Some(0)))),
-        Step::Root => {
-            let mount = root_mount(alloc, &job.config)?;
-            Ok(changed(next, ObjectEdit::Mount(mount), Step::Root))
-        }
+        Step::Root => mount_root(alloc, next, &job.config),
         Step::State(to) => Ok(passed(next, Step::State(*to))),
-        Step::Init(_) => {
-            let process = init_process(alloc)?;
-            asking(alloc, zone, next, Came::Process(process))
-        }
-        Step::Kill(_) => {
-            let count = count_of(objects.processes);
-            Ok(changed(next, ObjectEdit::EndProcesses, Step::Kill(Some(count))))
-        }
+        Step::Init(_) => start_init(alloc, zone, next),
+        Step::Kill(_) => Ok(kill_all(next, objects.processes)),
         Step::Unmount(_) => unreachable!(),
         Step::Clear => Ok(passed(next, Step::Clear)),
-        Step::ZidBack(_) => {
-            let zid = zid_of(objects.ids);
-            Ok(changed(next, ObjectEdit::EndIds, Step::ZidBack(zid)))
-        }
+        Step::ZidBack(_) => Ok(give_zid_back(next, objects.ids)),
     }
 }
 

@@ -1,5 +1,5 @@
 //! How a case is settled: the desk changes, and what else is to be done is told. No memory is taken, and nothing fails.
-ghost use Rattle.std.specs.Prelude.{◌+◌, ◌<◌, ◌∷◌, ◌≡◌, IfSome, None, Option, Some, drop, false, length, vec_capacity, vec_len, ℕ};
+ghost use Rattle.std.specs.Prelude.{◌+◌, ◌<◌, ◌≡◌, IfSome, None, Option, Some, drop, false, length, vec_capacity, vec_len, ℕ};
 ghost use Rattle.zn_base.specs.Names.{Name};
 ghost use Rattle.zone_machine.specs.Arrivals.{arrived};
 ghost use Rattle.zone_machine.specs.Cases.{HasJobRoom, HasRoomFor, HasTurnRoom, HasUndoRoom, IsCaseOf, IsJobCase, IsNamedCase, IsNamedJobCase, IsNamedTurn, IsNamedWork, IsTurnOf, Works, active_with, arrival_of, case_seen, comes_of, job_turn, made, shown_under, sitting_of, turn_seen, unless_ended, work_act};

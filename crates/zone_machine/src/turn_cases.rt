@@ -1,5 +1,5 @@
 //! What the next turn of a zone's daemon comes to.
-ghost use Rattle.std.specs.Prelude.{◌<◌, ◌∷◌, ◌≡◌, [], IfOk, MatchOption, None, drop, length, reverse, take, ◌-◌};
+ghost use Rattle.std.specs.Prelude.{◌<◌, ◌∷◌, ◌≡◌, [], IfOk, MatchOption, None, drop, ◌-◌};
 ghost use Rattle.std.specs.Option.{option_map};
 ghost use Rattle.zn_base.specs.Names.{Name};
 ghost use Rattle.zone_pools.specs.Decisions.{Just};
@@ -31,21 +31,14 @@ fn undoing(alloc: Global, shown: &Step) -> Result<ObjectEdit, AllocError>
     }
 }
 
-// The latest of the steps that a failure undoes.
-fn latest(steps: &[Step]) -> Option<&Step>
-    ensures { MatchOption result (steps.now ≡ []) (λ s. reverse steps.now ≡ s.now ∷ reverse (take (length steps.now - 1) steps.now)) }
-{
-    steps.last()
-}
-
 // One step back, or the end of the request where none is left.
 fn undo_case(alloc: Global, job: &Job, outcome: Outcome) -> Result<JobCase, AllocError>
     ensures decides { IfOk result (λ c. (d : desks.Desk) → Just (undo d (job_seen job.now) outcome (job_seen job.now).undo) ≡ job_turn d job.now c) }
     ensures of { IfOk result (IsJobCase job.now) }
     ensures named { IfOk result (λ c. (z : Name) → IsNamedJobCase z c) }
 {
-    match latest(&job.undo) {
-        Some(shown) => Ok(JobCase::Undo(undoing(alloc, shown)?)),
+    match job.undo.split_last() {
+        Some((shown, _)) => Ok(JobCase::Undo(undoing(alloc, shown)?)),
         None => Ok(JobCase::Finish(outcome)),
     }
 }
