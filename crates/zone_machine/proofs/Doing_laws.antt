@@ -1,24 +1,25 @@
 -- Changes of a cell and the shared part.
-use Rattle.std.proofs.Common.{◌≡◌, ◌∷◌, ◌++◌, [], ℕ, List, Bool, Option, Some, None, true, false, not, ◌&&◌, ◌||◌, refl, ap, sym, subst, ◌∙◌, ◌+◌, Global}
+use Rattle.std.proofs.Common.{◌≡◌, ◌∷◌, ◌++◌, [], ℕ, List, Bool, Option, Some, None, true, false, not, ◌&&◌, ◌||◌, inl, inr, refl, ap, sym, subst, ◌∙◌, ◌+◌, Global, map, true≢false}
 use Rattle.indexmap.specs.IndexMap.{get, insert_entry}
-use Rattle.std.specs.Prelude.{Vec, bytes_eq, nat_eq, is_some, if◌then◌else◌}
+use Rattle.std.specs.Prelude.{◌≢◌, Vec, bytes_eq, nat_eq, is_some, if◌then◌else◌}
 use Rattle.std.specs.Cmp.{nat_eq_equiv}
 use Rattle.std.specs.Option.{option_map}
 use Rattle.std.specs.List.{list_any}
-use Rattle.std.proofs.lemmas.Bool.{eqb-true}
+use Rattle.std.proofs.lemmas.Bool.{eqb-true, false≢true}
 use Rattle.zn_base.specs.Names.{Name}
-use Rattle.zone_pools.proofs.Holding.{come_column, gone_column, kept_column}
+use Rattle.zone_pools.proofs.Holding.{column, come_column, gone_column, kept_column}
 use Rattle.zone_pools.proofs.Owned_laws.{same_self, same_true}
 use Rattle.zone_pools.specs.Firsts.{placed}
 use Rattle.zone_pools.specs.Owned_lists.{Put, List_edit, edited, tag}
 use Rattle.zone_pools.specs.Owners as owners
 use Rattle.zone_pools.specs.Owners.{held_by, is_owner, owner}
 use Rattle.zone_pools.specs.declared.owned.Owned.{Owned}
+use Rattle.zone_machine.proofs.Acts_laws.{same_other}
 use Rattle.zone_machine.proofs.Lists_laws.{any-push, any-put, none_left}
 use Rattle.zone_machine.proofs.Waits_laws.{some_wait}
-use Rattle.zone_machine.specs.Cells.{Agree, Does, cell_world, common_in, is_wait_for, kept, row_in, rows_in, unless_ended}
+use Rattle.zone_machine.specs.Cells.{Agree, Does, cell_world, common_in, is_wait_for, kept, row_in, rows_in, unless_ended, work_world}
 use Rattle.zone_machine.specs.Common.{Common, came_common, holding, holds_pid, holds_zid}
-use Rattle.zone_machine.specs.Edits.{at_session, comes_world, edits_world, swept_doing}
+use Rattle.zone_machine.specs.Edits.{Edit, Of_objects, Set_desk, at_session, comes_world, edit_world, edits_world, swept_doing}
 use Rattle.zone_machine.specs.State as state
 use Rattle.zone_machine.specs.Worlds.{World}
 use Rattle.zone_machine.specs.declared.cell.Cell.{Cell}
@@ -27,11 +28,20 @@ use Rattle.zone_machine.specs.declared.objects.Mount.{Mount}
 use Rattle.zone_machine.specs.declared.objects.Process.{Process}
 use Rattle.zone_machine.specs.declared.records.Record.{Record}
 use Rattle.zone_machine.specs.declared.shared.Shared.{Shared}
-use Rattle.zone_machine.specs.declared.work.ObjectEdit.TheVariants.{EndProcesses, EndIds}
-use Rattle.zone_machine.specs.Arrivals.{New_id, New_process, New_record}
+use Rattle.zone_machine.specs.declared.work.ObjectEdit.TheVariants.{EndIds, EndProcesses}
+use Rattle.zone_machine.specs.declared.work.ObjectEdit.TheVariants as object
+use Rattle.zone_machine.specs.Arrivals.{Arrival, New_id, New_process, New_record}
 use Rattle.zone_machine.specs.Objects.{Of_mounts, below, has_pid, has_zid}
-use Rattle.zone_machine.specs.Decisions.{sweeps, ticket_ended}
-use Rattle.zone_machine.specs.Cases.{object_edits, sits}
+use Rattle.zone_machine.specs.Decisions.{Act, acts_world, after_came_world, sweeps, ticket_ended}
+use Rattle.zone_machine.specs.Rooms.{IsOpenTo}
+use Rattle.zone_machine.specs.declared.work.Sitting.{Sitting}
+use Rattle.zone_machine.specs.declared.work.Coming.{Coming}
+use Rattle.zone_machine.specs.declared.work.Work.{Work}
+use Rattle.zone_machine.specs.declared.work.ObjectEdit.{ObjectEdit}
+use Rattle.zone_machine.specs.declared.desks.Desk.{Desk}
+use Rattle.zone_machine.specs.Desks as desks
+use Rattle.zone_machine.specs.Desks_seen.{desk_seen}
+use Rattle.zone_machine.specs.Cases.{Works, arrival_of, object_edits, sits, work_act}
 
 -- the columns that stay
 module _ (z : Name) (c : Cell) (s : Shared) (agree : Agree z c s) where
@@ -262,3 +272,49 @@ does_then z f f' g c d e s t u one two = record {
       ∙ (ap (holding z (f' (f (cell_world (row_in z s) c)))) (one.common a)
       ∙ holding_again z (f (cell_world (row_in z s) c)) (f' (f (cell_world (row_in z s) c))) (g (common_in s))));
 }
+
+-- what is taken after it was given back
+pub retaken : (b : Bool) (z : Name) (o : Option Name) → (if b then Some z else (if b then None else o)) ≡ (if b then Some z else o)
+retaken true z o = refl
+retaken false z o = refl
+
+-- the act of some work on a world whose desk is changed already
+edits-then : (n : Option ℕ) (xs ys : List Edit) (w : World) → edits_world n (xs ++ ys) w ≡ edits_world n ys (edits_world n xs w)
+edits-then n [] ys w = refl
+edits-then n (x ∷ xs) ys w = edits-then n xs ys (edit_world n x w)
+
+desk-came : (c : Option Arrival) (w : World) (d : desks.Desk) → after_came_world c (record w { desk = d }) ≡ record (after_came_world c w) { desk = d }
+desk-came None w d = refl
+desk-came (Some (New_process p)) w d = refl
+desk-came (Some (New_id i)) w d = refl
+desk-came (Some (New_record r)) w d = refl
+
+desk-objects : (n : Option ℕ) (o : ObjectEdit) (w : World) (d : desks.Desk) → edits_world n (map Of_objects (object_edits o)) (record w { desk = d }) ≡ record (edits_world n (map Of_objects (object_edits o)) w) { desk = d }
+desk-objects n object.Nothing w d = refl
+desk-objects n object.EndProcesses w d = refl
+desk-objects n (object.Mount m) w d = refl
+desk-objects n (object.Unmount dir) w d = refl
+desk-objects n object.EndIds w d = refl
+
+work-desk : (n : Option ℕ) (w : World) (d : desks.Desk) (work : Work) → work_world n work (record w { desk = d }) ≡ acts_world n (work_act work d) w
+work-desk n w d work =
+    let came = option_map (λ (c : Coming). arrival_of c.it) work.came in
+    let objects = map Of_objects (object_edits work.objects) in
+    let after = after_came_world came w in
+    ap (λ (v : World). edits_world n (sweeps work.ended) (edits_world n (sits work.sits) v)) (ap (edits_world n objects) (desk-came came w d) ∙ desk-objects n work.objects after d)
+    ∙ sym (edits-then n objects (Set_desk d ∷ (sits work.sits ++ sweeps work.ended)) after
+    ∙ edits-then n (sits work.sits) (sweeps work.ended) (record (edits_world n objects after) { desk = d }))
+
+-- so work that does what an act says does it, where the desk is changed before
+pub does_work : (z : Name) (n : Option ℕ) (a : Act) (work : Work) (c d : Cell) (desk : Desk) (s t : Shared) → Works n a (cell_world (row_in z s) c) (desk_seen desk) work
+    → Does z (work_world n work) (came_common z (option_map (λ (c : Coming). arrival_of c.it) work.came)) (record c { desk = desk }) s d t → Does z (acts_world n a) (came_common z a.came) c s d t
+does_work z n a work c d desk s t works does =
+    let w = cell_world (row_in z s) c in
+    let lasts : work_world n work (record w { desk = desk_seen desk }) ≡ acts_world n a w = work-desk n w (desk_seen desk) work ∙ works.world in
+    record {
+      world = does.world ∙ lasts;
+      common = λ agree.
+          does.common (record { pids = agree.pids; zids = agree.zids; sessions = agree.sessions })
+          ∙ (ap (λ v. holding z v (came_common z (option_map (λ (c : Coming). arrival_of c.it) work.came) (common_in s))) lasts
+          ∙ ap (λ x. holding z (acts_world n a w) (came_common z x (common_in s))) works.came);
+    }

@@ -1,5 +1,5 @@
 -- What comes with a grant that the pools give, or that fits, is free.
-use Rattle.std.proofs.Common.{◌≡◌, ◌∷◌, ◌+◌, ◌-◌, ◌&&◌, [], ℕ, zero, suc, List, Bool, true, false, Option, Some, None, Result, Ok as Right, Err, refl, sym, ap, ◌∙◌, subst}
+use Rattle.std.proofs.Common.{◌≡◌, ◌∷◌, ◌+◌, ◌-◌, ◌&&◌, [], ℕ, zero, suc, List, Bool, drop, true, false, Option, Some, None, Result, Ok as Right, Err, refl, sym, ap, ◌∙◌, subst}
 use Rattle.std.specs.Prelude.{nat_le, not, if◌then◌else◌}
 use Rattle.std.proofs.lemmas.Bool.{false≢true, true≢false}
 use Rattle.zn_base.specs.Names.{Name}
@@ -16,11 +16,29 @@ use Rattle.zone_pools.specs.declared.limits.TheConstants.{PID_MAX, PID_MIN, ZID_
 use Rattle.zone_machine.proofs.Asking.{asks_rightly}
 use Rattle.zone_machine.proofs.Of_turns.{is_asked_for}
 use Rattle.zone_machine.specs.Arrivals.{A_process, A_record, An_id, Arrival, Comes, arrived}
-use Rattle.zone_machine.specs.Decisions.{Decision, act_of}
-use Rattle.zone_machine.specs.Rooms.{HasRoomOf, HasRoomToCome, IsFreeOf}
+use Rattle.zone_machine.specs.Decisions.{Decision, act_of, effects, turned}
+use Rattle.zone_machine.specs.Rooms.{HasRoomOf, HasRoomToChange, HasRoomToCome, IsFreeOf}
 use Rattle.zone_machine.specs.Steps.{IsGrantFor}
 use Rattle.zone_machine.specs.declared.cell.Cell.{Cell}
 use Rattle.zone_machine.specs.declared.shared.Shared.{Shared}
+use Rattle.zone_machine.specs.Cases.{asked_for, case_seen, comes_of, job_turn, object_edits, on_job, shown_under, turn_seen, undo_with}
+use Rattle.zone_machine.specs.Desks as desks
+use Rattle.zone_machine.specs.Desks_seen.{desk_seen, job_seen}
+use Rattle.zone_machine.specs.Objects.{Object_edit}
+use Rattle.zone_machine.specs.Turns.{Turn_decision, asking}
+use Rattle.zone_machine.specs.declared.cases.Case.{Case}
+use Rattle.zone_machine.specs.declared.cases.Case.TheVariants as cases
+use Rattle.zone_machine.specs.declared.cases.JobCase.{JobCase}
+use Rattle.zone_machine.specs.declared.cases.JobCase.TheVariants as jobs
+use Rattle.zone_machine.specs.declared.cases.TurnCase.{TurnCase}
+use Rattle.zone_machine.specs.declared.cases.TurnCase.TheVariants as turns
+use Rattle.zone_machine.specs.declared.daemon.Step.{Step}
+use Rattle.zone_machine.specs.declared.desks.Desk.{Desk}
+use Rattle.zone_machine.specs.declared.desks.Job.{Job}
+use Rattle.zone_machine.specs.declared.work.Came.{Came}
+use Rattle.zone_machine.specs.declared.work.Came.TheVariants as came_type
+use Rattle.zone_machine.specs.declared.work.ObjectEdit.{ObjectEdit}
+use Rattle.zone_machine.specs.declared.work.ObjectEdit.TheVariants as object
 
 -- a number that is found isn't used
 unused_found : (used : ℕ → Bool) (from count n : ℕ) → first_free used from count ≡ Some n → used n ≡ false
@@ -144,3 +162,55 @@ room_came c asked (Right n) cell s h room = absurd (false≢true h)
 pub roomy : (d : Decision) (g : Grant) (cell : Cell) (s : Shared) → asks_rightly d ≡ true → HasRoomToCome (asked_of d) cell s → HasRoomOf (act_of d g).came cell s
 roomy (Just e) g cell s h room = tt
 roomy (Ask c asked denied given) g cell s h room = subst (λ o. HasRoomOf o cell s) (sym (came_is c asked denied given g)) (room_came c asked (number_in g) cell s h room)
+
+-- what a case of the code asks goes with what comes
+asks_turn : (d : Turn_decision) → asks_rightly d ≡ true → asks_rightly (effects turned d) ≡ true
+asks_turn (Just t) h = h
+asks_turn (Ask c asked denied given) h = h
+
+asks_came : (d : desks.Desk) (j : desks.Job) (rest : List Step) (c : Came) → asks_rightly (asking d j rest (comes_of c) (asked_for c) (shown_under c)) ≡ true
+asks_came d j rest (came_type.Process p) = refl
+asks_came d j rest (came_type.Id i) = refl
+asks_came d j rest (came_type.Record r) = refl
+
+asks_undo : (d : desks.Desk) (j : desks.Job) (edits : List Object_edit) (undo : List Step) → asks_rightly (undo_with d j edits undo) ≡ true
+asks_undo d j edits [] = refl
+asks_undo d j edits (s ∷ rest) = refl
+
+asks_job : (d : desks.Desk) (j : Job) (c : JobCase) → asks_rightly (job_turn d j c) ≡ true
+asks_job d j (jobs.Finish outcome) = refl
+asks_job d j (jobs.Pass p) = refl
+asks_job d j (jobs.Ask c next) = asks_came d (job_seen j) (drop next j.steps.items) c.it
+asks_job d j (jobs.Undo objects) = asks_undo d (job_seen j) (object_edits objects) (job_seen j).undo
+
+asks_on : (d : Desk) (o : Option Job) (c : JobCase) → asks_rightly (on_job d o c) ≡ true
+asks_on d None c = refl
+asks_on d (Some j) c = asks_job (desk_seen d) j c
+
+asks_turn_case : (d : Desk) (c : TurnCase) → asks_rightly (turn_seen d c) ≡ true
+asks_turn_case d turns.Idle = refl
+asks_turn_case d (turns.Begin job kind) = refl
+asks_turn_case d (turns.Refuse ticket s) = refl
+asks_turn_case d (turns.GoOn c) = asks_on d d.job c
+
+pub asks_case : (d : Desk) (c : Case) → asks_rightly (case_seen d c) ≡ true
+asks_case d (cases.Says head) = refl
+asks_case d (cases.Make row owner) = refl
+asks_case d (cases.Put kind owner) = refl
+asks_case d (cases.Turn c) = asks_turn (turn_seen d c) (asks_turn_case d c)
+
+-- room doesn't go by the desk
+pub room_desk : (asked : List Asked) (c : Cell) (d : Desk) (s : Shared) → HasRoomToCome asked c s → HasRoomToCome asked (record c { desk = d }) s
+room_desk [] c d s h = h
+room_desk (A_pid ∷ asked) c d s h = h
+room_desk (A_zid ∷ asked) c d s h = h
+room_desk (A_zone ∷ asked) c d s h = h
+room_desk (A_path path ∷ asked) c d s h = h
+room_desk (A_serial ∷ asked) c d s h = h
+
+pub room_change : (o : ObjectEdit) (c : Cell) (d : Desk) → HasRoomToChange o c → HasRoomToChange o (record c { desk = d })
+room_change object.Nothing c d h = h
+room_change object.EndProcesses c d h = h
+room_change (object.Mount m) c d h = h
+room_change (object.Unmount dir) c d h = h
+room_change object.EndIds c d h = h

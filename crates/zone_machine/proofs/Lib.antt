@@ -10,6 +10,7 @@ pub mod Freeing
 pub mod Common_laws
 pub mod Local_laws
 pub mod Words
+pub mod Results
 pub mod Last
 pub mod Pools_laws
 pub mod Lists_laws

@@ -1,5 +1,5 @@
 -- Room is taken, and a cell and the shared part are as they were.
-use Rattle.std.proofs.Common.{◌≡◌, ℕ, List, Option, Some, None, nat_eq, refl, sym, ap, ◌∙◌}
+use Rattle.std.proofs.Common.{◌≡◌, ℕ, List, Option, Some, None, nat_eq, refl, sym, ap, ◌∙◌, length}
 use Rattle.std.specs.Prelude.{is_some}
 use Rattle.std.specs.Option.{option_map}
 use Rattle.indexmap.specs.IndexMap.{get}

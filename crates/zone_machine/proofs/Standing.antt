@@ -1,5 +1,5 @@
 -- What a cell and the shared part stand for, and what they stand for after an event of the cell's zone.
-use Rattle.std.proofs.Common.{◌≡◌, ◌∷◌, ◌++◌, [], ℕ, List, Bool, Option, Some, None, true, false, refl, ap, sym, subst, ◌∙◌}
+use Rattle.std.proofs.Common.{◌≡◌, ◌∷◌, ◌++◌, [], ℕ, List, Bool, Option, Some, None, true, false, inl, inr, refl, ap, sym, subst, ◌∙◌, IfSome}
 use Rattle.indexmap.specs.IndexMap.{get}
 use Rattle.std.specs.Map.{lookup}
 use Rattle.std.specs.Prelude.{bytes_eq, is_some, nat_eq}
@@ -36,13 +36,11 @@ use Rattle.zone_machine.specs.declared.records.Record.{Record}
 use Rattle.zone_machine.specs.declared.replies.Body.TheVariants.{Nothing as No_body}
 use Rattle.zone_machine.specs.declared.replies.Head.{Head}
 use Rattle.zone_machine.specs.declared.shared.Shared.{Shared}
-use Rattle.zone_machine.specs.declared.work.Came.{Came}
-use Rattle.zone_machine.specs.declared.work.Came.TheVariants as came
-use Rattle.zone_machine.specs.declared.work.ObjectEdit.{ObjectEdit}
-use Rattle.zone_machine.specs.declared.work.ObjectEdit.TheVariants as objects
-use Rattle.zone_machine.specs.declared.work.Work.{Work}
 use Rattle.zone_machine.specs.Objects.{has_pid, has_zid}
 use Rattle.zone_machine.specs.Cases.{Works, arrival_of, object_edits, sits, work_act}
+use Rattle.zone_machine.specs.Cases.{case_seen}
+use Rattle.zone_machine.specs.Rooms.{Alike, IsOpenTo}
+use Rattle.zone_machine.specs.declared.cases.Case.{Case}
 
 -- what is stored of a zone is its row of the shared part
 row_is : (z : Name) (es : List (Name × Record)) → first_of (mine z (rows_in es)) ≡ lookup (bytes_eq z) es
@@ -148,3 +146,19 @@ module _ (z : Name) (c d : Cell) (s t : Shared) (e : Event) (g : Grant) (head : 
             (common-acts z n a S (own_session S e z is) ∙ (ap (λ x. acts_common z n a x (common S)) here
             ∙ (ap (acts_common z n a w) shares ∙ ap (λ (x : Common). record x { started = true }) (sym (does.common (agrees z S c s has shares))))));
       }
+
+-- the same, where room was taken between: c and s are as they were, c' and s' with the room
+module _ (z : Name) (c : Cell) (s : Shared) (c' d : Cell) (s' t : Shared) (e : Event) (g : Grant) (head : Head) (case : Case) (alike : Alike c s c' s') where
+  row_alike : row_in z s' ≡ row_in z s
+  row_alike = ap (lookup (bytes_eq z)) alike.rows
+
+  pub answered : decide_in z (row_in z s) c e ≡ case_seen c.desk case → case_seen c'.desk case ≡ case_seen c.desk case → says head ≡ (act_of (case_seen c'.desk case) g).effect.reply
+      → (IfSome (session_number e) (λ n. IsOpenTo z (owner nat_eq s'.sessions n)) → Does z (acts_world (session_number e) (act_of (case_seen c'.desk case) g)) (came_common z (act_of (case_seen c'.desk case) g).came) c' s' d t)
+      → IsCellStep z c s e g (record { event = e; subject = Zone z; grant = g; reply = record { head = head; body = No_body } }) d (record t { started = true })
+  answered decided same said done S cell shared is =
+      let here : decide_in z (row_in z s') c' e ≡ case_seen c'.desk case =
+      ap (λ (w : World). decide (view_of z w) e) (ap (λ row. cell_world row c') row_alike ∙ alike.world (row_in z s)) ∙ (decided ∙ sym same) in
+      cell-answered z c' d s' t e g head
+      (said ∙ ap (λ x. (act_of x g).effect.reply) (sym here))
+      (λ opens. subst (λ x. Does z (acts_world (session_number e) (act_of x g)) (came_common z (act_of x g).came) c' s' d t) (sym here) (done opens))
+      S (cell ∙ sym (alike.world (world z S).stored)) (shared ∙ sym alike.common) is

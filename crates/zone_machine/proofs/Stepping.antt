@@ -1,7 +1,7 @@
 -- What the machine's parts say of a state that they stand for, and a step of them.
-use Rattle.std.proofs.Common.{◌≡◌, ◌<◌, ℕ, List, Bool, Option, Some, None, ◌⊎◌, inl, inr, Result, Ok as Right, Err, true, false, get_or, length, refl, ap, sym, subst, ◌∙◌}
+use Rattle.std.proofs.Common.{◌≡◌, ◌<◌, ℕ, List, Bool, Option, Some, None, ◌⊎◌, inl, inr, Result, Ok as Right, Err, true, false, get_or, length, refl, ap, sym, subst, ◌∙◌, unwrap_or, []}
 use Rattle.indexmap.proofs.CallerLemmas.{updates-with_value_at}
-use Rattle.indexmap.specs.IndexMap.{IsUnique, get_by, index_of_by, keys, with_value_at}
+use Rattle.indexmap.specs.IndexMap.{IsUnique, get_by, index_of_by, keys, with_value_at, values}
 use Rattle.std.specs.Cmp.Lexicographic.{nat_list_eq_equiv}
 use Rattle.std.specs.Prelude.{bytes_eq, is_some, nat_eq, slice_get, if◌then◌else◌}
 use Rattle.std.specs.List.{list_any}
@@ -16,9 +16,9 @@ use Rattle.zone_pools.specs.Asked.{Asked}
 use Rattle.zone_pools.specs.Decisions.{asked_of}
 use Rattle.zone_pools.specs.Owned_lists.{mine}
 use Rattle.zone_pools.specs.Owners.{is_owner, owner}
-use Rattle.zone_pools.specs.Pools.{fits_asked, said_by_all}
+use Rattle.zone_pools.specs.Pools.{fits_asked, said_by_all, Pools}
 use Rattle.zone_pools.specs.declared.grant.Grant.{Grant}
-use Rattle.zone_pools.specs.declared.grant.Grant.TheVariants.{Nothing}
+use Rattle.zone_pools.specs.declared.grant.Grant.TheVariants.{Nothing, Number, Denied}
 use Rattle.zone_pools.specs.declared.owned.Owned.{Owned}
 use Rattle.zone_machine.proofs.Common_laws.{any_mine, any_own}
 use Rattle.zone_machine.proofs.Own_worlds.{leaves}
@@ -31,7 +31,8 @@ use Rattle.zone_machine.specs.Lines.{Line, line_of}
 use Rattle.zone_machine.specs.Machine.{decide, global_reply, named_subject, one, one_of, subject, subject_of_name}
 use Rattle.zone_machine.specs.Pools.{allowed, allowed_of, fits, fits_of, path_taken, pools_of}
 use Rattle.zone_machine.specs.State.{State, stored}
-use Rattle.zone_machine.specs.Steps.{CellAnswers, IsAllowed, IsAllowedCellStep, IsCellMisfit, IsCellStep, IsFit, IsFittingCellStep, IsStep, IsZoneState}
+use Rattle.zone_machine.specs.Rooms.{Alike}
+use Rattle.zone_machine.specs.Steps.{CellAnswers, IsAllowed, IsAllowedCellStep, IsCellMisfit, IsCellStep, IsFit, IsFittingCellStep, IsStep, IsZoneState, Answers, IsCellMisfitUnder, IsCellStepUnder, IsGrantFor, IsUnfit, IsMisfitUnder, IsStepUnder, IsTaken, Takes, AsItWas}
 use Rattle.zone_machine.specs.Worlds.{World, view, view_of, world}
 use Rattle.zone_machine.specs.declared.cell.Cell.{Cell}
 use Rattle.zone_machine.specs.declared.events.Entry.{Entry}
@@ -46,6 +47,11 @@ use Rattle.zone_machine.specs.declared.replies.Head.{Head}
 use Rattle.zone_machine.specs.declared.shared.Shared.{Shared}
 use Rattle.zone_machine.specs.Objects.{has_pid, has_zid}
 use Rattle.zone_machine.specs.Desks.{state_of}
+use Rattle.zone_machine.specs.Decided.{IsDecided, IsDecidedZone}
+use Rattle.zone_machine.specs.Decisions.{Decision}
+use Rattle.zone_machine.specs.Worlds.{View}
+use Rattle.zone_machine.specs.declared.parts.Decided.{Decided}
+use Rattle.zone_machine.specs.declared.parts.Decided.TheVariants as decided
 
 -- what the pools know
 module _ {A : Type 0} (p : A → Bool) where
@@ -82,23 +88,25 @@ module _ (S : State) (s : Shared) (z : Name) (w : World) (e : Event) (asked : Li
   unfolding fits
   fits-by g = ap (λ x. fits_of x S e g) of ∙ λ i. fits_asked (pools-stand S s h i) (asked-stands i) g
 
+-- the grant that a case takes
+module _ (S : State) (s : Shared) (z : Name) (w : World) (e : Event) (asked : List Asked) (h : SharedOf s (common S)) (here : world z S ≡ w) (of : subject S e ≡ Zone z) (asks : asked_of (decide (view_of z w) e) ≡ asked) where
+  pub takes-by : (stated : Option Grant) (g : Grant) → IsGrantFor z (pools_in s) asked stated g → Takes stated S e g
+  takes-by None g takes = takes ∙ allowed-by S s z w e asked h here of asks
+  takes-by (Some stated) g takes = (takes.0, fits-by S s z w e asked h here of asks stated ∙ takes.1)
+
 -- a step of a cell under the grant that its case takes
 module _ (z : Name) (c : Cell) (s : Shared) (e : Event) where
   pub IsCellStepUnder-by : (stated : Option Grant) (g : Grant) (entry : Entry) (d : Cell) (t : Shared) (asked : List Asked) → asked_of (decide_in z (row_in z s) c e) ≡ asked
       → IsGrantFor z (pools_in s) asked stated g → entry.grant ≡ g → IsCellStep z c s e g entry d t → IsCellStepUnder z stated c s e entry d t
-  IsCellStepUnder-by None g entry d t asked asks takes is steps S cell shared of = record {
-    takes = is ∙ (takes ∙ allowed-by S s z (cell_world (row_in z s) c) e asked shared (cell-stands z S c s cell shared) of asks);
-    answers = subst (λ g. CellAnswers z S e g entry d t) (sym is) (steps S cell shared of);
-  }
-  IsCellStepUnder-by (Some stated) g entry d t asked asks takes is steps S cell shared of = record {
-    takes = (is ∙ takes.0, fits-by S s z (cell_world (row_in z s) c) e asked shared (cell-stands z S c s cell shared) of asks stated ∙ takes.1);
+  IsCellStepUnder-by stated g entry d t asked asks takes is steps S cell shared of = record {
+    takes = subst (Takes stated S e) (sym is) (takes-by S s z (cell_world (row_in z s) c) e asked shared (cell-stands z S c s cell shared) of asks stated g takes);
     answers = subst (λ g. CellAnswers z S e g entry d t) (sym is) (steps S cell shared of);
   }
 
   pub IsCellMisfitUnder-by : (stated : Option Grant) (asked : List Asked) → asked_of (decide_in z (row_in z s) c e) ≡ asked → IsUnfit (pools_in s) asked stated → IsCellMisfitUnder z stated c s e c s
   IsCellMisfitUnder-by None asked asks unfit = absurd unfit
   IsCellMisfitUnder-by (Some stated) asked asks unfit =
-      (λ S cell shared of. fits-by S s z (cell_world (row_in z s) c) e asked shared (cell-stands z S c s cell shared) of asks stated ∙ unfit, (refl, refl))
+      (λ S cell shared of. fits-by S s z (cell_world (row_in z s) c) e asked shared (cell-stands z S c s cell shared) of asks stated ∙ unfit, refl, refl)
 
 -- a cell and a shared part that are alike stand for the same, and so a step of the ones is one of the others
 module _ (z : Name) (c : Cell) (s : Shared) (c' : Cell) (s' : Shared) (alike : Alike c s c' s') where
@@ -115,18 +123,21 @@ module _ (z : Name) (c : Cell) (s : Shared) (c' : Cell) (s' : Shared) (alike : A
 pub world-stands : (S : State) (m : Parts) (z : Name) → Stands S m → world z S ≡ world_or_empty (row_in z m.shared) (cell_at z m)
 world-stands S m z h = h.worlds z ∙ ap (λ row. world_or_empty row (cell_at z m)) (stored-stands S m.shared z h.shared)
 
--- the grant that the pools give an event
-pub IsAllowed-zone : (m : Parts) (z : Name) (e : Event) (g : Grant) (asked : List Asked) → subject_in m.shared e ≡ Zone z → asked_of (decide (view_of z (world_or_empty (row_in z m.shared) (cell_at z m))) e) ≡ asked
-    → g ≡ said_by_all (pools_in m.shared) z asked Nothing → IsAllowed m e g
-IsAllowed-zone m z e g asked is asks said S h =
-    said ∙ allowed-by S m.shared z (world_or_empty (row_in z m.shared) (cell_at z m)) e asked h.shared (world-stands S m z h) (subject-stands S m.shared e h.shared ∙ is) asks
+-- the same of the machine, by the cell that has a zone's world, and a stated grant that doesn't fit
+module _ (m : Parts) (z : Name) (e : Event) (c : Cell) (asked : List Asked) (is : subject_in m.shared e ≡ Zone z) (same : (row : Option Record) → world_or_empty row (cell_at z m) ≡ cell_world row c)
+    (asks : asked_of (decide (view_of z (cell_world (row_in z m.shared) c)) e) ≡ asked) where
+  pub IsTaken-cell : (stated : Option Grant) (g : Grant) → IsGrantFor z (pools_in m.shared) asked stated g → IsTaken m stated e g
+  IsTaken-cell stated g takes S h =
+      takes-by S m.shared z (cell_world (row_in z m.shared) c) e asked h.shared (world-stands S m z h ∙ same (row_in z m.shared)) (subject-stands S m.shared e h.shared ∙ is) asks stated g takes
+
+  pub IsMisfitUnder-cell : (stated : Option Grant) → IsUnfit (pools_in m.shared) asked stated → IsMisfitUnder stated m e m
+  IsMisfitUnder-cell None unfit = absurd unfit
+  IsMisfitUnder-cell (Some stated) unfit =
+      (λ S h. fits-by S m.shared z (cell_world (row_in z m.shared) c) e asked h.shared (world-stands S m z h ∙ same (row_in z m.shared)) (subject-stands S m.shared e h.shared ∙ is) asks stated ∙ unfit, refl)
 
 allowed-of : (S : State) (e : Event) (s : Subject) → subject S e ≡ s → allowed S e ≡ allowed_of s S e
 unfolding allowed
 allowed-of S e s is = ap (λ s. allowed_of s S e) is
-
-pub IsAllowed-global : (m : Parts) (e : Event) → subject_in m.shared e ≡ Global → IsAllowed m e Nothing
-IsAllowed-global m e is S h = sym (allowed-of S e Global (subject-stands S m.shared e h.shared ∙ is))
 
 fits-of : (S : State) (e : Event) (g : Grant) (s : Subject) → subject S e ≡ s → fits S e g ≡ fits_of s S e g
 unfolding fits
@@ -200,11 +211,10 @@ module _ (m u : Parts) (z : Name) (e : Event) (c d : Cell) (same : (row : Option
           let kept : world y (one S e g).state ≡ world y S = leaves y S e g (ap (concerns y) of ∙ other y k) in
           kept ∙ (h.worlds y ∙ (ap (λ row. world_or_empty row (cell_at y m)) (sym (ap (λ w. w.stored) kept)) ∙ sym (left_at y (stored y (one S e g).state.commits) false k)))
 
-  pub IsStepUnder-cell : (stated : Option Grant) (entry : Entry) → subject_in m.shared e ≡ Zone z → IsCellStepUnder z stated c m.shared e entry d u.shared → IsStepUnder stated m e entry u
-  IsStepUnder-cell stated entry is steps S h =
+  pub IsStep-cell : (g : Grant) (entry : Entry) → subject_in m.shared e ≡ Zone z → IsCellStep z c m.shared e g entry d u.shared → IsStep m e g entry u
+  IsStep-cell g entry is steps S h =
       let of : subject S e ≡ Zone z = subject-stands S m.shared e h.shared ∙ is in
-      let after = steps S (stands-cell S h) h.shared of in
-      record { takes = after.takes; answers = Stands-cell S entry.grant entry of h after.answers }
+      Stands-cell S g entry of h (steps S (stands-cell S h) h.shared of)
 
   -- where the cell and the shared part are alike to what they were, the machine is as it was
   pub AsItWas-cell : Alike c m.shared d u.shared → AsItWas m u
@@ -220,12 +230,11 @@ module _ (m u : Parts) (z : Name) (e : Event) (c d : Cell) (same : (row : Option
           at_zone true k = subst (λ x. world_or_empty row (cell_at x m) ≡ cell_world row d) (same_true z y k) (same row ∙ sym (alike.world row)) ∙ sym (left_at y row true k)
           at_zone false k = sym (left_at y row false k)
 
--- a stated grant that doesn't fit is a misfit of the machine
-pub IsMisfitUnder-cell : (m : Parts) (z : Name) (e : Event) (c d : Cell) (t : Shared) (stated : Option Grant) → ((row : Option Record) → world_or_empty row (cell_at z m) ≡ cell_world row c)
-    → subject_in m.shared e ≡ Zone z → IsCellMisfitUnder z stated c m.shared e d t → (u : Parts) → (d ≡ c → t ≡ m.shared → u ≡ m) → IsMisfitUnder stated m e u
-IsMisfitUnder-cell m z e c d t None same is misfit u whole = absurd misfit
-IsMisfitUnder-cell m z e c d t (Some g) same is misfit u whole =
-    (λ S h. misfit.0 S (h.worlds z ∙ same (stored z S.commits)) h.shared (subject-stands S m.shared e h.shared ∙ is), whole misfit.1.0 misfit.1.1)
+pub IsStepUnder-by : (m u : Parts) (e : Event) (stated : Option Grant) (g : Grant) (entry : Entry) → IsTaken m stated e g → entry.grant ≡ g → IsStep m e g entry u → IsStepUnder stated m e entry u
+IsStepUnder-by m u e stated g entry takes is steps S h = record {
+  takes = subst (Takes stated S e) (sym is) (takes S h);
+  answers = subst (λ g. Answers S e g entry u) (sym is) (steps S h);
+}
 
 -- an event of the global zone
 module _ (m : Parts) (e : Event) (is : subject_in m.shared e ≡ Global) where
@@ -236,33 +245,37 @@ module _ (m : Parts) (e : Event) (is : subject_in m.shared e ≡ Global) where
   unfolding one
   one-global S g h = ap (λ s. one_of s S e g) (of_global S h)
 
-  takes_nothing : (S : State) (stated : Option Grant) → Stands S m → unwrap_or stated Nothing ≡ Nothing → Takes stated S e Nothing
-  takes_nothing S None h none = sym (allowed-of S e Global (of_global S h))
-  takes_nothing S (Some g) h none = (sym none, fits-of S e g Global (of_global S h) ∙ ap (λ g. fits_asked (pools_of S) [] g) none)
+  pub IsTaken-global : (stated : Option Grant) → unwrap_or stated Nothing ≡ Nothing → IsTaken m stated e Nothing
+  IsTaken-global None none S h = sym (allowed-of S e Global (of_global S h))
+  IsTaken-global (Some g) none S h = (sym none, fits-of S e g Global (of_global S h) ∙ ap (λ g. fits_asked (pools_of S) [] g) none)
 
-  pub IsStepUnder-global : (stated : Option Grant) (head : Head) → ((S : State) → says head ≡ global_reply S e) → unwrap_or stated Nothing ≡ Nothing
-      → IsStepUnder stated m e (record { event = e; subject = Global; grant = Nothing; reply = record { head = head; body = No_body } }) (record m { shared = record m.shared { started = true } })
-  IsStepUnder-global stated head said none S h =
-      let steps = one-global S Nothing h in
+  pub IsMisfitUnder-global : (g : Grant) → ((S : State) → fits_asked (pools_of S) [] g ≡ false) → IsMisfitUnder (Some g) m e m
+  IsMisfitUnder-global g unfit = (λ S h. fits-of S e g Global (of_global S h) ∙ unfit S, refl)
+
+  pub IsStep-global : (g : Grant) (head : Head) → ((S : State) → says head ≡ global_reply S e)
+      → IsStep m e g (record { event = e; subject = Global; grant = g; reply = record { head = head; body = No_body } }) (record m { shared = record m.shared { started = true } })
+  IsStep-global g head said S h =
+      let steps = one-global S g h in
       record {
-        takes = takes_nothing S stated h none;
-        answers = record {
-          told = λ i. record { event = e; subject = sym (of_global S h) i; grant = Nothing; reply = (said S ∙ ap (λ r. r.reply) (sym steps)) i };
-          stands = subst (λ r. Stands r.state (record m { shared = record m.shared { started = true } })) (sym steps)
-              (record { worlds = h.worlds; shared = ap (λ (k : Common). record k { started = true }) h.shared });
-        };
+        told = λ i. record { event = e; subject = sym (of_global S h) i; grant = g; reply = (said S ∙ ap (λ r. r.reply) (sym steps)) i };
+        stands = subst (λ r. Stands r.state (record m { shared = record m.shared { started = true } })) (sym steps)
+            (record { worlds = h.worlds; shared = ap (λ (k : Common). record k { started = true }) h.shared });
       }
 
-  -- a stated grant that is something doesn't fit
-  pub IsMisfitUnder-global : (stated : Option Grant) → (unwrap_or stated Nothing ≡ Nothing → ⊥) → IsMisfitUnder stated m e m
-  IsMisfitUnder-global None some = absurd (some refl)
-  IsMisfitUnder-global (Some g) some = (λ S h. fits-of S e g Global (of_global S h) ∙ unfit g some, refl)
-    where
-      unfit : {P : Pools} (g : Grant) → (g ≡ Nothing → ⊥) → fits_asked P [] g ≡ false
-      unfit Nothing some = absurd (some refl)
-      unfit (Number n) some = refl
-      unfit Yes some = refl
-      unfit (Denied pool) some = refl
+pub some_is : {A : Type 0} (x y : A) → Some x ≡ Some y → x ≡ y
+some_is x y h = cc
+
+-- what was decided of an event as it was read is decided of the event
+pub decided_event : (p : Parts) (e : Event) (y : Name) (decides : View → Decision) (r : Decided) → subject_in p.shared e ≡ Zone y → ((v : View) → decides v ≡ decide v e) → IsDecidedZone p y decides r → IsDecided p e r
+decided_event p e y decides (decided.At at z case) of same (is, h) = (
+    of ∙ ap Zone (sym is),
+    record { index = h.index; cell = h.cell; here = h.here; value = h.value; unique = h.unique; decides = record { decided = sym (same _) ∙ h.decides.decided; of = h.decides.of; named = h.decides.named } },
+  )
+decided_event p e y decides (decided.New c key z case) of same (is, h) = (
+    of ∙ ap Zone (sym is),
+    record { none = h.none; keyed = h.keyed; nothing = h.nothing; decides = record { decided = sym (same _) ∙ h.decides.decided; of = h.decides.of; named = h.decides.named } },
+  )
+decided_event p e y decides (decided.Global head) of same h = absurd h
 
 -- no event is the whole system's yet
 never_named : (word : Option (List ℕ)) → Whole ≡ named_subject word → ⊥

@@ -157,6 +157,20 @@ pub record IsNamedWork (z : Name) (w : Work) : Type 0 where
   pub came : IfSome w.came (λ c. c.owner ≡ z)
   pub sits : IfSome w.sits (λ s. s.owner ≡ z)
 
+-- what becomes of the zone's objects, whatever is granted
+abbrev pub job_objects : JobCase → ObjectEdit
+job_objects (Pass p) = p.objects
+job_objects (Undo objects) = objects
+job_objects _ = Nothing
+
+abbrev pub turn_objects : TurnCase → ObjectEdit
+turn_objects (GoOn c) = job_objects c
+turn_objects _ = Nothing
+
+abbrev pub objects_of : Case → ObjectEdit
+objects_of (Turn c) = turn_objects c
+objects_of _ = Nothing
+
 -- who sits down
 abbrev pub sitting_of : Desk → Case → Option Sitting
 sitting_of d (Put kind owner) = Some (record { ticket = d.last + 1; owner = owner })

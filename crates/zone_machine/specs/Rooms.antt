@@ -7,7 +7,7 @@ use Rattle.zone_pools.specs.Decisions.{asked_of}
 use Rattle.zone_pools.specs.Owners.{owner}
 use Rattle.zone_pools.specs.Pools.{Pools, has_room}
 use Rattle.zone_machine.specs.Arrivals.{Arrival, New_id, New_process, New_record}
-use Rattle.zone_machine.specs.Cases.{HasRoomFor, case_seen}
+use Rattle.zone_machine.specs.Cases.{HasRoomFor, case_seen, objects_of}
 use Rattle.zone_machine.specs.Cells.{cell_world, common_in, pools_in}
 use Rattle.zone_machine.specs.declared.cases.Case.{Case}
 use Rattle.zone_machine.specs.declared.cases.Case.TheVariants as cases
@@ -47,12 +47,7 @@ IsFreeOf (Some (New_process p)) P = P.pid_used p.pid ≡ false
 IsFreeOf (Some (New_id i)) P = P.zid_used i.zid ≡ false
 IsFreeOf (Some (New_record row)) P = has_room P ≡ true
 
--- what becomes of the zone's objects
-abbrev pub objects_of : Case → ObjectEdit
-objects_of (cases.Turn (turns.GoOn (jobs.Pass p))) = p.objects
-objects_of (cases.Turn (turns.GoOn (jobs.Undo objects))) = objects
-objects_of _ = ObjectEdit.Nothing
-
+-- room for what becomes of the zone's objects
 abbrev pub HasRoomToChange : ObjectEdit → Cell → Type 0
 HasRoomToChange (Mount m) c = vec_len c.mounts < vec_capacity c.mounts
 HasRoomToChange _ c = Unit {0}

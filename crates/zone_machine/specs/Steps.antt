@@ -70,6 +70,9 @@ abbrev pub Takes : Option Grant → State → Event → Grant → Type 0
 Takes None S e g = g ≡ allowed S e
 Takes (Some stated) S e g = (g ≡ stated) × (fits S e stated ≡ true)
 
+abbrev pub IsTaken : Parts → Option Grant → Event → Grant → Type 0
+IsTaken t stated e g = (S : State) → Stands S t → Takes stated S e g
+
 pub record StepsUnder (stated : Option Grant) (S : State) (e : Event) (entry : Entry) (u : Parts) : Type 0 where
   pub takes : Takes stated S e entry.grant
   pub answers : Answers S e entry.grant entry u

@@ -17,6 +17,7 @@ ghost use Rattle.zone_machine.specs.Rooms.{HasRoom, HasRoomOf, HasRoomToChange, 
 use crate::cases::Case;
 use crate::cell::Cell;
 use crate::lists::{enter, unmount};
+use crate::maps::put;
 use crate::objects::{Id, Mount, Process};
 use crate::records::Record;
 use crate::replies::Head;
@@ -45,7 +46,10 @@ fn begin(cell: &mut Cell, shared: &mut Shared, process: Process, owner: ZoneName
     requires free { (pools_in shared.old).pid_used process.pid ≡ false }
     requires list { vec_len cell.old.processes < vec_capacity cell.old.processes }
     requires room { 0 < shared.old.pids.room }
-    ensures { Does owner (comes_world (New_process process)) (came_common owner (Some (New_process process))) cell.old shared.old cell.new shared.new }
+    ensures does { Does owner (comes_world (New_process process)) (came_common owner (Some (New_process process))) cell.old shared.old cell.new shared.new }
+    ensures mounts { cell.new.mounts ≡ cell.old.mounts }
+    ensures waits { cell.new.waits ≡ cell.old.waits }
+    ensures sessions { shared.new.sessions ≡ shared.old.sessions }
 {
     let pid = process.pid;
     take(&mut shared.pids, pid, owner);
@@ -58,7 +62,10 @@ fn give_id(cell: &mut Cell, shared: &mut Shared, id: Id, owner: ZoneName)
     requires free { (pools_in shared.old).zid_used id.zid ≡ false }
     requires list { vec_len cell.old.ids < vec_capacity cell.old.ids }
     requires room { 0 < shared.old.zids.room }
-    ensures { Does owner (comes_world (New_id id)) (came_common owner (Some (New_id id))) cell.old shared.old cell.new shared.new }
+    ensures does { Does owner (comes_world (New_id id)) (came_common owner (Some (New_id id))) cell.old shared.old cell.new shared.new }
+    ensures mounts { cell.new.mounts ≡ cell.old.mounts }
+    ensures waits { cell.new.waits ≡ cell.old.waits }
+    ensures sessions { shared.new.sessions ≡ shared.old.sessions }
 {
     take(&mut shared.zids, id.zid, owner);
     shared.last_zid = id.zid;
@@ -69,12 +76,10 @@ fn give_id(cell: &mut Cell, shared: &mut Shared, id: Id, owner: ZoneName)
 fn store(cell: &Cell, shared: &mut Shared, row: Record, owner: ZoneName)
     requires free { has_room (pools_in shared.old) ≡ true }
     requires room { 0 < spare shared.old.rows }
-    ensures { Does owner (comes_world (New_record (Some row))) (came_common owner (Some (New_record (Some row)))) cell.now shared.old cell.now shared.new }
+    ensures does { Does owner (comes_world (New_record (Some row))) (came_common owner (Some (New_record (Some row)))) cell.now shared.old cell.now shared.new }
+    ensures sessions { shared.new.sessions ≡ shared.old.sessions }
 {
-    match shared.rows.insert(owner, row) {
-        Ok(_) => {}
-        Err(_) => unreachable!(),
-    }
+    put(&mut shared.rows, owner, row);
     shared.serial += 1;
 }
 
@@ -82,7 +87,10 @@ fn store(cell: &Cell, shared: &mut Shared, row: Record, owner: ZoneName)
 fn take_in(cell: &mut Cell, shared: &mut Shared, coming: Coming)
     requires free { IsFreeOf (Some (arrival_of coming.it)) (pools_in shared.old) }
     requires room { HasRoomOf (Some (arrival_of coming.it)) cell.old shared.old }
-    ensures { Does coming.owner (comes_world (arrival_of coming.it)) (came_common coming.owner (Some (arrival_of coming.it))) cell.old shared.old cell.new shared.new }
+    ensures does { Does coming.owner (comes_world (arrival_of coming.it)) (came_common coming.owner (Some (arrival_of coming.it))) cell.old shared.old cell.new shared.new }
+    ensures mounts { cell.new.mounts ≡ cell.old.mounts }
+    ensures waits { cell.new.waits ≡ cell.old.waits }
+    ensures sessions { shared.new.sessions ≡ shared.old.sessions }
 {
     let Coming { it, owner } = coming;
     match it {
@@ -109,7 +117,9 @@ fn take_in_some(cell: &mut Cell, shared: &mut Shared, came: Option<Coming>)
 
 // All processes end.
 fn end_processes(cell: &mut Cell, shared: &mut Shared)
-    ensures { (z : Name) (n : Option ℕ) → Does z (edits_world n (map Of_objects (object_edits ObjectEdit.EndProcesses))) kept cell.old shared.old cell.new shared.new }
+    ensures does { (z : Name) (n : Option ℕ) → Does z (edits_world n (map Of_objects (object_edits ObjectEdit.EndProcesses))) kept cell.old shared.old cell.new shared.new }
+    ensures waits { cell.new.waits ≡ cell.old.waits }
+    ensures sessions { shared.new.sessions ≡ shared.old.sessions }
 {
     shared.pids.give_all_back(&cell.processes);
     cell.processes.clear();
@@ -117,7 +127,9 @@ fn end_processes(cell: &mut Cell, shared: &mut Shared)
 
 // The zone gives its id back.
 fn end_ids(cell: &mut Cell, shared: &mut Shared)
-    ensures { (z : Name) (n : Option ℕ) → Does z (edits_world n (map Of_objects (object_edits ObjectEdit.EndIds))) kept cell.old shared.old cell.new shared.new }
+    ensures does { (z : Name) (n : Option ℕ) → Does z (edits_world n (map Of_objects (object_edits ObjectEdit.EndIds))) kept cell.old shared.old cell.new shared.new }
+    ensures waits { cell.new.waits ≡ cell.old.waits }
+    ensures sessions { shared.new.sessions ≡ shared.old.sessions }
 {
     shared.zids.give_all_back(&cell.ids);
     cell.ids.clear();

@@ -16,6 +16,7 @@ mod line_cases;
 mod lines;
 mod lists;
 mod machine;
+mod maps;
 mod needs;
 mod numbers;
 mod objects;

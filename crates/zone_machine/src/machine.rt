@@ -54,7 +54,7 @@ impl Machine {
         ensures ok { IfOk result (IsAllowed self.now event.now) }
         ensures err { IsOkUnless result StepFault.Memory }
     {
-        Ok(self.parts.allowed(alloc, event)?)
+        self.parts.allowed(alloc, event)
     }
 
     /// An event is answered under the grant that the pools give it. Where memory runs out, the machine is as it

@@ -1,22 +1,21 @@
 //! The parts of the machine: a cell for each zone that has something, and what zones share. An event is decided before
 //! anything is changed.
-ghost use Rattle.std.specs.Prelude.{◌≡◌, ◌⊎◌, ◌<◌, [], IfOk, IsErrOf, None, OnErr, Option, bytes_eq};
+ghost use Rattle.std.specs.Prelude.{◌≡◌, ◌⊎◌, ◌<◌, [], IfOk, IsErrOf, IsOkUnless, Err, None, OnErr, bytes_eq};
 ghost use Rattle.indexmap.specs.IndexMap.{get_by, spare};
 ghost use Rattle.zone_machine.specs.Cells.{Keeps, Stands, cell_at, decide_read, row_in, world_or_empty};
-ghost use Rattle.zone_machine.specs.Decided.{IsDecided, IsDecidedZone};
+ghost use Rattle.zone_machine.specs.Decided.{IsDecided, IsDecidedZone, IsFreeFor};
 ghost use Rattle.zone_machine.specs.Desks.{state_of};
 ghost use Rattle.zone_machine.specs.Machine.{opening};
-ghost use Rattle.zone_machine.specs.Steps.{AsItWas, IsAllowed, IsMisfitUnder, IsStepUnder};
+ghost use Rattle.zone_machine.specs.Steps.{AsItWas, IsAllowed, IsMisfitUnder, IsStep, IsStepUnder, IsTaken};
 
 use crate::cases::Case;
 use crate::cell::Cell;
 use crate::events::{Entry, Event, Subject};
 use crate::faults::StepFault;
-use crate::needs::need_of;
-use crate::pools::grant_for;
+use crate::maps::put;
 use crate::replies::{Body, Head, Reply};
 use crate::shared::Shared;
-use crate::steps::{Read, case_of, do_case, global_head, read_event, subject};
+use crate::steps::{Read, answer, case_of, global_head, grant_of, read_event, subject};
 use indexmap::IndexMap;
 use std::alloc::{AllocError, Global};
 use zn_base::{ZoneName, ZoneState};
@@ -33,9 +32,9 @@ pub(crate) struct Parts {
 #[derive(Drop)]
 pub(crate) enum Decided {
     /// A case of a zone, whose cell stands at an index.
-    At(usize, ZoneName, Case),
+    At(usize, ZoneName, Box<Case>),
     /// A case of a zone that has no cell, the cell that it would have, and the name under which that would stand.
-    New(Cell, ZoneName, ZoneName, Case),
+    New(Cell, ZoneName, ZoneName, Box<Case>),
     /// The event is no zone's.
     Global(Head),
 }
@@ -46,12 +45,8 @@ fn keep(cells: &mut IndexMap<ZoneName, Cell>, zone: ZoneName, cell: Cell)
     requires room { 0 < spare cells.old }
     ensures { Keeps zone cell (λ y. get_by (bytes_eq y) cells.old) (λ y. get_by (bytes_eq y) cells.new) }
 {
-    if cell.is_empty() {
-        return;
-    }
-    match cells.insert(zone, cell) {
-        Ok(_) => {}
-        Err(_) => unreachable!(),
+    if !cell.is_empty() {
+        put(cells, zone, cell);
     }
 }
 
@@ -82,9 +77,10 @@ impl Parts {
                 Ok(Decided::At(at, zone, case))
             }
             None => {
+                let key = zone.copy(alloc)?;
                 let cell = Cell::new(alloc);
                 let case = case_of(alloc, &zone, &cell, row, read)?;
-                Ok(Decided::New(cell, zone.copy(alloc)?, zone, case))
+                Ok(Decided::New(cell, key, zone, case))
             }
         }
     }
@@ -101,15 +97,37 @@ impl Parts {
         }
     }
 
-    /// The grant that the pools give an event.
-    pub(crate) fn allowed(&self, alloc: Global, event: &Event) -> Result<Grant, AllocError>
-        ensures { IfOk result (IsAllowed self.now event.now) }
+    // The grant that the pools give what was decided of an event, or the one that is stated, where it fits.
+    fn grant(
+        &self,
+        event: &Event,
+        decided: &Decided,
+        stated: Option<Grant>,
+    ) -> Result<Grant, StepFault>
+        requires { IsDecided self.now event.now decided.now }
+        ensures takes { IfOk result (λ grant. IsTaken self.now stated event.now grant) }
+        ensures free { IfOk result (λ grant. IsFreeFor self.now decided.now grant) }
+        ensures misfit { OnErr result ((result ≡ Err StepFault.BadGrant) × IsMisfitUnder stated self.now event.now self.now) }
     {
-        match self.decide(alloc, event)? {
-            Decided::At(_, zone, case) => Ok(grant_for(&self.shared, &zone, &need_of(&case))),
-            Decided::New(_, _, zone, case) => Ok(grant_for(&self.shared, &zone, &need_of(&case))),
-            Decided::Global(_) => Ok(Grant::Nothing),
+        match decided {
+            Decided::At(at, zone, case) => {
+                grant_of(zone, &self.cells[*at], &self.shared, case, stated)
+            }
+            Decided::New(cell, _, zone, case) => grant_of(zone, cell, &self.shared, case, stated),
+            Decided::Global(_) => match stated {
+                None | Some(Grant::Nothing) => Ok(Grant::Nothing),
+                Some(_) => Err(StepFault::BadGrant),
+            },
         }
+    }
+
+    /// The grant that the pools give an event.
+    pub(crate) fn allowed(&self, alloc: Global, event: &Event) -> Result<Grant, StepFault>
+        ensures ok { IfOk result (IsAllowed self.now event.now) }
+        ensures err { IsOkUnless result StepFault.Memory }
+    {
+        let decided = self.decide(alloc, event)?;
+        self.grant(event, &decided, None)
     }
 
     // A case of a zone is done, whose cell stands at an index.
@@ -118,16 +136,23 @@ impl Parts {
         event: Event,
         at: usize,
         zone: ZoneName,
-        case: Case,
-        stated: Option<Grant>,
-    ) -> Result<Entry, StepFault>
-        requires { IsDecided self.old event (Decided.At at zone case) }
-        ensures ok { IfOk result (λ entry. IsStepUnder stated self.old event entry self.new) }
-        ensures memory { IsErrOf result StepFault.Memory → AsItWas self.old self.new }
-        ensures misfit { IsErrOf result StepFault.BadGrant → IsMisfitUnder stated self.old event self.new }
-        ensures fault { OnErr result (IsErrOf result StepFault.BadGrant ⊎ IsErrOf result StepFault.Memory) }
+        case: Box<Case>,
+        grant: Grant,
+    ) -> Result<Entry, AllocError>
+        requires decided { IsDecided self.old event (Decided.At at zone case) }
+        requires free { IsFreeFor self.old (Decided.At at zone case) grant }
+        ensures grant { IfOk result (λ entry. entry.grant ≡ grant) }
+        ensures step { IfOk result (λ entry. IsStep self.old event grant entry self.new) }
+        ensures memory { OnErr result (AsItWas self.old self.new) }
     {
-        do_case(&mut self.cells[at], &mut self.shared, event, zone, case, stated)
+        answer(
+            &mut self.cells[at],
+            &mut self.shared,
+            event,
+            zone,
+            case,
+            grant,
+        )
     }
 
     // A case of a zone is done that has no cell.
@@ -137,39 +162,30 @@ impl Parts {
         cell: Cell,
         key: ZoneName,
         zone: ZoneName,
-        case: Case,
-        stated: Option<Grant>,
-    ) -> Result<Entry, StepFault>
-        requires { IsDecided self.old event (Decided.New cell key zone case) }
-        ensures ok { IfOk result (λ entry. IsStepUnder stated self.old event entry self.new) }
-        ensures memory { IsErrOf result StepFault.Memory → AsItWas self.old self.new }
-        ensures misfit { IsErrOf result StepFault.BadGrant → IsMisfitUnder stated self.old event self.new }
-        ensures fault { OnErr result (IsErrOf result StepFault.BadGrant ⊎ IsErrOf result StepFault.Memory) }
+        case: Box<Case>,
+        grant: Grant,
+    ) -> Result<Entry, AllocError>
+        requires decided { IsDecided self.old event (Decided.New cell key zone case) }
+        requires free { IsFreeFor self.old (Decided.New cell key zone case) grant }
+        ensures grant { IfOk result (λ entry. entry.grant ≡ grant) }
+        ensures step { IfOk result (λ entry. IsStep self.old event grant entry self.new) }
+        ensures memory { OnErr result (AsItWas self.old self.new) }
     {
         let mut cell = cell;
         self.cells.reserve(1)?;
-        let entry = do_case(&mut cell, &mut self.shared, event, zone, case, stated)?;
+        let entry = answer(&mut cell, &mut self.shared, event, zone, case, grant)?;
         keep(&mut self.cells, key, cell);
         Ok(entry)
     }
 
-    // An event that is no zone's asks nothing and changes nothing.
-    fn do_global(
-        &mut self,
-        event: Event,
-        head: Head,
-        stated: Option<Grant>,
-    ) -> Result<Entry, StepFault>
+    // An event that is no zone's is answered.
+    fn do_global(&mut self, event: Event, head: Head, grant: Grant) -> Entry
         requires { IsDecided self.old event (Decided.Global head) }
-        ensures ok { IfOk result (λ entry. IsStepUnder stated self.old event entry self.new) }
-        ensures misfit { OnErr result ((result ≡ Err StepFault.BadGrant) × IsMisfitUnder stated self.old event self.new) }
+        ensures grant { result.grant ≡ grant }
+        ensures step { IsStep self.old event grant result self.new }
     {
-        let grant = stated.unwrap_or(Grant::Nothing);
-        if grant != Grant::Nothing {
-            return Err(StepFault::BadGrant);
-        }
         self.shared.started = true;
-        Ok(Entry {
+        Entry {
             event,
             subject: Subject::Global,
             grant,
@@ -177,28 +193,28 @@ impl Parts {
                 head,
                 body: Body::Nothing,
             },
-        })
+        }
     }
 
-    // What was decided is done.
+    // What was decided is done under its grant.
     fn perform(
         &mut self,
         event: Event,
         decided: Decided,
-        stated: Option<Grant>,
-    ) -> Result<Entry, StepFault>
-        requires { IsDecided self.old event decided }
-        ensures ok { IfOk result (λ entry. IsStepUnder stated self.old event entry self.new) }
-        ensures memory { IsErrOf result StepFault.Memory → AsItWas self.old self.new }
-        ensures misfit { IsErrOf result StepFault.BadGrant → IsMisfitUnder stated self.old event self.new }
-        ensures fault { OnErr result (IsErrOf result StepFault.BadGrant ⊎ IsErrOf result StepFault.Memory) }
+        grant: Grant,
+    ) -> Result<Entry, AllocError>
+        requires decided { IsDecided self.old event decided }
+        requires free { IsFreeFor self.old decided grant }
+        ensures grant { IfOk result (λ entry. entry.grant ≡ grant) }
+        ensures step { IfOk result (λ entry. IsStep self.old event grant entry self.new) }
+        ensures memory { OnErr result (AsItWas self.old self.new) }
     {
         match decided {
-            Decided::At(at, zone, case) => self.do_at(event, at, zone, case, stated),
+            Decided::At(at, zone, case) => self.do_at(event, at, zone, case, grant),
             Decided::New(cell, key, zone, case) => {
-                self.do_new(event, cell, key, zone, case, stated)
+                self.do_new(event, cell, key, zone, case, grant)
             }
-            Decided::Global(head) => self.do_global(event, head, stated),
+            Decided::Global(head) => Ok(self.do_global(event, head, grant)),
         }
     }
 
@@ -215,7 +231,8 @@ impl Parts {
         ensures fault { OnErr result (IsErrOf result StepFault.BadGrant ⊎ IsErrOf result StepFault.Memory) }
     {
         let decided = self.decide(alloc, &event)?;
-        self.perform(event, decided, stated)
+        let grant = self.grant(&event, &decided, stated)?;
+        Ok(self.perform(event, decided, grant)?)
     }
 
     fn active(&self, zone: &ZoneName) -> Option<ZoneState>

@@ -1,8 +1,8 @@
 //! Room for what a case puts into its cell and into the shared part, taken before anything is changed.
 ghost use Rattle.std.specs.Prelude.{◌≡◌, OnOk};
-ghost use Rattle.zone_machine.specs.Cases.{IsCaseOf, case_seen};
+ghost use Rattle.zone_machine.specs.Cases.{IsCaseOf, case_seen, objects_of};
 ghost use Rattle.zone_machine.specs.Needs_seen.{asked_by};
-ghost use Rattle.zone_machine.specs.Rooms.{Alike, HasRoom, HasRoomIfSits, HasRoomToChange, HasRoomToCome, objects_of};
+ghost use Rattle.zone_machine.specs.Rooms.{Alike, HasRoom, HasRoomIfSits, HasRoomToChange, HasRoomToCome};
 
 use crate::cases::{Case, JobCase, TurnCase};
 use crate::cell::Cell;

@@ -2,7 +2,7 @@
 ghost use Rattle.std.specs.Prelude.{◌+◌, ◌<◌, ◌≡◌, IfSome, None, Option, Some, drop, false, length, vec_capacity, vec_len, ℕ};
 ghost use Rattle.zn_base.specs.Names.{Name};
 ghost use Rattle.zone_machine.specs.Arrivals.{arrived};
-ghost use Rattle.zone_machine.specs.Cases.{HasJobRoom, HasRoomFor, HasTurnRoom, HasUndoRoom, IsCaseOf, IsJobCase, IsNamedCase, IsNamedJobCase, IsNamedTurn, IsNamedWork, IsTurnOf, Works, active_with, arrival_of, case_seen, comes_of, job_turn, made, shown_under, sitting_of, turn_seen, unless_ended, work_act};
+ghost use Rattle.zone_machine.specs.Cases.{HasJobRoom, HasRoomFor, HasTurnRoom, HasUndoRoom, IsCaseOf, IsJobCase, IsNamedCase, IsNamedJobCase, IsNamedTurn, IsNamedWork, IsTurnOf, Works, active_with, arrival_of, case_seen, comes_of, job_objects, job_turn, made, objects_of, shown_under, sitting_of, turn_objects, turn_seen, unless_ended, work_act};
 ghost use Rattle.zone_machine.specs.Decisions.{act_of, effects, turned};
 ghost use Rattle.zone_machine.specs.Desks as desks;
 ghost use Rattle.zone_machine.specs.Desks_seen.{desk_seen, job_seen};
@@ -68,6 +68,7 @@ fn shown_under(it: &Came, number: u32) -> Step
 fn ask(job: &mut Job, coming: Coming, next: usize, grant: Grant) -> Work
     requires { HasUndoRoom job.old }
     ensures act { (d : desks.Desk) → act_of (effects turned (job_turn d job.old (JobCase.Ask coming next))) grant ≡ work_act result (record d { job = unless_ended result.ended (job_seen job.new) }) }
+    ensures objects { result.objects ≡ ObjectEdit.Nothing }
     ensures sits { result.sits ≡ None }
     ensures owner { IfSome result.came (λ c. c.owner ≡ coming.owner) }
 {
@@ -97,6 +98,7 @@ fn settle_job(job: &mut Job, active: &mut Option<ZoneState>, case: JobCase, gran
     requires of { IsJobCase job.old case }
     requires room { HasJobRoom job.old case }
     ensures act { (d : desks.Desk) → d.active ≡ active.old → act_of (effects turned (job_turn d job.old case)) grant ≡ work_act result (record d { job = unless_ended result.ended (job_seen job.new); active = active.new }) }
+    ensures objects { result.objects ≡ job_objects case }
     ensures sits { result.sits ≡ None }
     ensures named { (z : Name) → IsNamedJobCase z case → IfSome result.came (λ c. c.owner ≡ z) }
 {
@@ -127,6 +129,7 @@ fn settle_turn(desk: &mut Desk, case: TurnCase, grant: Grant) -> Work
     requires of { IsTurnOf desk.old case }
     requires room { HasTurnRoom desk.old.job case }
     ensures act { act_of (effects turned (turn_seen desk.old case)) grant ≡ work_act result (desk_seen desk.new) }
+    ensures objects { result.objects ≡ turn_objects case }
     ensures sits { result.sits ≡ None }
     ensures named { (z : Name) → IsNamedTurn z case → IfSome result.came (λ c. c.owner ≡ z) }
 {
@@ -159,6 +162,7 @@ fn settle_turn(desk: &mut Desk, case: TurnCase, grant: Grant) -> Work
 // A zone is made, where the grant gives its record a number.
 fn make(row: Record, owner: ZoneName, grant: Grant) -> Work
     ensures works { (n : Option ℕ) (v : World) (d : desks.Desk) → v.desk ≡ d → Works n (act_of (made row) grant) v d result }
+    ensures objects { result.objects ≡ ObjectEdit.Nothing }
     ensures sits { result.sits ≡ None }
     ensures owner { IfSome result.came (λ c. c.owner ≡ owner) }
 {
@@ -199,6 +203,7 @@ pub(crate) fn settle(desk: &mut Desk, case: Case, grant: Grant) -> Work
     requires room { HasRoomFor desk.old case }
     ensures works { (n : Option ℕ) (v : World) → v.desk ≡ desk_seen desk.old
         → Works n (act_of (case_seen desk.old case) grant) v (desk_seen desk.new) result }
+    ensures objects { result.objects ≡ objects_of case }
     ensures sits { result.sits ≡ sitting_of desk.old case }
     ensures named { (z : Name) → IsNamedCase z case → IsNamedWork z result }
 {

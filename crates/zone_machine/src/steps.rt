@@ -126,9 +126,24 @@ pub(crate) fn global_head(alloc: Global, read: Read<'_>) -> Result<Head, AllocEr
     }
 }
 
-/// The case of an event of a zone, by its cell and what is stored of it.
-#[tactic(auto, unfolding(crate::specs::Worlds::view_of))]
+/// The case of an event of a zone, by its cell and what is stored of it. It is boxed, so that it crosses calls that may
+/// fail at little cost to their proofs.
 pub(crate) fn case_of(
+    alloc: Global,
+    zone: &ZoneName,
+    cell: &Cell,
+    row: Option<&Record>,
+    read: Read<'_>,
+) -> Result<Box<Case>, AllocError>
+    ensures { IfOk result (λ case. IsCaseIn zone.now (option_map (λ row. row.now) row.entry) cell.now (λ v. decide_read v read.entry) case.value) }
+{
+    let case = read_case(alloc, zone, cell, row, read)?;
+    Ok(Box::new(alloc, case)?)
+}
+
+// The same, where it is made.
+#[tactic(auto, unfolding(crate::specs::Worlds::view_of))]
+fn read_case(
     alloc: Global,
     zone: &ZoneName,
     cell: &Cell,
@@ -166,24 +181,30 @@ fn session_number(event: &Event) -> Option<u8>
     }
 }
 
-// A case is done under a grant that gives only what is free.
-fn answer(
+/// A case that was decided for an event is done under a grant that gives only what is free.
+pub(crate) fn answer(
     cell: &mut Cell,
     shared: &mut Shared,
     event: Event,
     zone: ZoneName,
-    case: Case,
+    case: Box<Case>,
     grant: Grant,
 ) -> Result<Entry, AllocError>
-    requires case { IsCaseIn zone (row_in zone shared.old) cell.old (λ v. decide v event) case }
-    requires free { IsFreeOf (act_of (case_seen cell.old.desk case) grant).came (pools_in shared.old) }
+    requires case { IsCaseIn zone (row_in zone shared.old) cell.old (λ v. decide v event) case.value }
+    requires free { IsFreeOf (act_of (case_seen cell.old.desk case.value) grant).came (pools_in shared.old) }
     ensures event { IfOk result (λ entry. entry.event ≡ event) }
     ensures grant { IfOk result (λ entry. entry.grant ≡ grant) }
     ensures step { IfOk result (λ entry. IsCellStep zone cell.old shared.old event grant entry cell.new shared.new) }
     ensures memory { OnErr result (Alike cell.old shared.old cell.new shared.new) }
 {
     make_room(cell, shared, &case)?;
-    let head = perform(cell, shared, session_number(&event), case, grant);
+    let head = perform(
+        cell,
+        shared,
+        session_number(&event),
+        Box::into_inner(case),
+        grant,
+    );
     shared.started = true;
     Ok(Entry {
         event,
@@ -196,8 +217,8 @@ fn answer(
     })
 }
 
-// The grant that the pools give a case, or the one that is stated, where it fits.
-fn grant_of(
+/// The grant that the pools give a case, or the one that is stated, where it fits.
+pub(crate) fn grant_of(
     zone: &ZoneName,
     cell: &Cell,
     shared: &Shared,
@@ -221,17 +242,17 @@ fn grant_of(
     }
 }
 
-/// A case that was decided for an event of the cell's zone is done, under the grant that the pools give, or under the one that
-/// is stated, where it fits.
-pub(crate) fn do_case(
+// A case that was decided for an event is done, under the grant that the pools give, or under the one that is stated,
+// where it fits.
+fn do_case(
     cell: &mut Cell,
     shared: &mut Shared,
     event: Event,
     zone: ZoneName,
-    case: Case,
+    case: Box<Case>,
     stated: Option<Grant>,
 ) -> Result<Entry, StepFault>
-    requires case { IsCaseIn zone (row_in zone shared.old) cell.old (λ v. decide v event) case }
+    requires case { IsCaseIn zone (row_in zone shared.old) cell.old (λ v. decide v event) case.value }
     ensures event { IfOk result (λ entry. entry.event ≡ event) }
     ensures ok { IfOk result (λ entry. IsCellStepUnder zone stated cell.old shared.old event entry cell.new shared.new) }
     ensures memory { IsErrOf result StepFault.Memory → Alike cell.old shared.old cell.new shared.new }

@@ -5,6 +5,7 @@ ghost use Rattle.zone_machine.specs.Cells.{is_wait_for, unless_ended, waits_ther
 ghost use Rattle.zone_machine.specs.Edits.{at_session};
 ghost use Rattle.zone_pools.specs.Owners.{owner};
 
+use crate::maps::put;
 use indexmap::IndexMap;
 use zone_pools::Owners;
 
@@ -16,10 +17,7 @@ pub(crate) fn wait(waits: &mut Waits, number: u8, ticket: u32)
     requires { 0 < spare waits.old }
     ensures { (k : ℕ) → get nat_eq waits.new k ≡ at_session (Some number) k (Some ticket) (get nat_eq waits.old k) }
 {
-    match waits.insert(number, ticket) {
-        Ok(_) => {}
-        Err(_) => unreachable!(),
-    }
+    put(waits, number, ticket);
 }
 
 // The session at an index is nobody's, where it waits for a ticket.

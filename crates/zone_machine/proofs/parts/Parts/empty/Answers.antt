@@ -1,4 +1,4 @@
-use Rattle.std.proofs.Common.{◌≡◌, None, [], ap, bytes_eq, subst, sym}
+use Rattle.std.proofs.Common.{◌≡◌, None, [], ap, bytes_eq, sym}
 use Rattle.std.specs.Map.{lookup}
 use Rattle.zn_base.specs.Names.{Name}
 use Rattle.zone_machine.specs.Cells.{world_or_empty}
@@ -10,6 +10,5 @@ returns c =
     let none : (z : Name) → lookup (bytes_eq z) c.new.result.entries ≡ None = λ z. ap (lookup (bytes_eq z)) c.new.ensures.empty in
     record {
       worlds = λ z. ap (world_or_empty (stored z [])) (sym (none z));
-      named = λ z. subst (IsNamed z) (sym (none z)) tt;
       shared = c.new-2.ensures;
     }
