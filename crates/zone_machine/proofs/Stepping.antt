@@ -52,6 +52,14 @@ use Rattle.zone_machine.specs.Decisions.{Decision}
 use Rattle.zone_machine.specs.Worlds.{View}
 use Rattle.zone_machine.specs.declared.parts.Decided.{Decided}
 use Rattle.zone_machine.specs.declared.parts.Decided.TheVariants as decided
+use Rattle.std.specs.Prelude.{Box}
+use Rattle.std.specs.Global.{Global as Alloc}
+use Rattle.zone_machine.proofs.Freeing.{asks_case, freed}
+use Rattle.zone_machine.specs.Cases.{case_seen}
+use Rattle.zone_machine.specs.Decided.{IsCaseIn, IsFreeFor}
+use Rattle.zone_machine.specs.Decisions.{act_of}
+use Rattle.zone_machine.specs.Rooms.{IsFreeOf}
+use Rattle.zone_machine.specs.declared.cases.Case.{Case}
 
 -- what the pools know
 module _ {A : Type 0} (p : A → Bool) where
@@ -245,12 +253,13 @@ module _ (m : Parts) (e : Event) (is : subject_in m.shared e ≡ Global) where
   unfolding one
   one-global S g h = ap (λ s. one_of s S e g) (of_global S h)
 
-  pub IsTaken-global : (stated : Option Grant) → unwrap_or stated Nothing ≡ Nothing → IsTaken m stated e Nothing
-  IsTaken-global None none S h = sym (allowed-of S e Global (of_global S h))
-  IsTaken-global (Some g) none S h = (sym none, fits-of S e g Global (of_global S h) ∙ ap (λ g. fits_asked (pools_of S) [] g) none)
+  pub IsTaken-global : (stated : Option Grant) (g : Grant) → ((P : Pools) (z : Name) → IsGrantFor z P [] stated g) → IsTaken m stated e g
+  IsTaken-global None g takes S h = takes (pools_of S) [] ∙ sym (allowed-of S e Global (of_global S h))
+  IsTaken-global (Some stated) g takes S h = let fit = takes (pools_of S) [] in (fit.0, fits-of S e stated Global (of_global S h) ∙ fit.1)
 
-  pub IsMisfitUnder-global : (g : Grant) → ((S : State) → fits_asked (pools_of S) [] g ≡ false) → IsMisfitUnder (Some g) m e m
-  IsMisfitUnder-global g unfit = (λ S h. fits-of S e g Global (of_global S h) ∙ unfit S, refl)
+  pub IsMisfitUnder-global : (stated : Option Grant) → ((P : Pools) → IsUnfit P [] stated) → IsMisfitUnder stated m e m
+  IsMisfitUnder-global None unfit = absurd (unfit (pools_in m.shared))
+  IsMisfitUnder-global (Some stated) unfit = (λ S h. fits-of S e stated Global (of_global S h) ∙ unfit (pools_of S), refl)
 
   pub IsStep-global : (g : Grant) (head : Head) → ((S : State) → says head ≡ global_reply S e)
       → IsStep m e g (record { event = e; subject = Global; grant = g; reply = record { head = head; body = No_body } }) (record m { shared = record m.shared { started = true } })
@@ -264,6 +273,51 @@ module _ (m : Parts) (e : Event) (is : subject_in m.shared e ≡ Global) where
 
 pub some_is : {A : Type 0} (x y : A) → Some x ≡ Some y → x ≡ y
 some_is x y h = cc
+
+-- the grant of what was decided
+module _ (m : Parts) (e : Event) (stated : Option Grant) where
+  granted_in : (z : Name) (c : Cell) (case : Case) → subject_in m.shared e ≡ Zone z → ((row : Option Record) → world_or_empty row (cell_at z m) ≡ cell_world row c) → IsCaseIn z (row_in z m.shared) c (λ v. decide v e) case
+      → (g : Grant) → IsGrantFor z (pools_in m.shared) (asked_of (case_seen c.desk case)) stated g → IsTaken m stated e g × IsFreeOf (act_of (case_seen c.desk case) g).came (pools_in m.shared)
+  granted_in z c case is same h g takes = (
+      IsTaken-cell m z e c (asked_of (case_seen c.desk case)) is same (ap asked_of h.decided) stated g takes,
+      freed (pools_in m.shared) z (case_seen c.desk case) stated g (asks_case c.desk case) takes,
+    )
+
+  unfit_in : (z : Name) (c : Cell) (case : Case) → subject_in m.shared e ≡ Zone z → ((row : Option Record) → world_or_empty row (cell_at z m) ≡ cell_world row c) → IsCaseIn z (row_in z m.shared) c (λ v. decide v e) case
+      → IsUnfit (pools_in m.shared) (asked_of (case_seen c.desk case)) stated → IsMisfitUnder stated m e m
+  unfit_in z c case is same h unfit = IsMisfitUnder-cell m z e c (asked_of (case_seen c.desk case)) is same (ap asked_of h.decided) stated unfit
+
+  module _ (at : ℕ) (z : Name) (case : Box Case Alloc) (cell : Cell) (value : slice_get (values m.cells) at ≡ Some cell) (h : IsDecided m e (decided.At at z case)) where
+    here_at : cell_at z m ≡ Some cell
+    here_at = h.1.here ∙ (sym h.1.value ∙ value)
+
+    case_at : IsCaseIn z (row_in z m.shared) cell (λ v. decide v e) case.value
+    case_at = subst (λ x. IsCaseIn z (row_in z m.shared) x (λ v. decide v e) case.value) (some_is h.1.cell cell (sym h.1.value ∙ value)) h.1.decides
+
+    pub granted_at : (g : Grant) → IsGrantFor z (pools_in m.shared) (asked_of (case_seen cell.desk case.value)) stated g → IsTaken m stated e g × IsFreeFor m (decided.At at z case) g
+    granted_at g takes =
+        let both = granted_in z cell case.value h.0 (λ row. ap (world_or_empty row) here_at) case_at g takes in (
+          both.0,
+          λ c is. subst (λ x. IsFreeOf (act_of (case_seen x.desk case.value) g).came (pools_in m.shared)) (some_is cell c (sym here_at ∙ is)) both.1,
+        )
+
+    pub unfit_at : IsUnfit (pools_in m.shared) (asked_of (case_seen cell.desk case.value)) stated → IsMisfitUnder stated m e m
+    unfit_at unfit = unfit_in z cell case.value h.0 (λ row. ap (world_or_empty row) here_at) case_at unfit
+
+  module _ (c : Cell) (key z : Name) (case : Box Case Alloc) (h : IsDecided m e (decided.New c key z case)) where
+    pub same_new : (row : Option Record) → world_or_empty row (cell_at z m) ≡ cell_world row c
+    same_new row = ap (world_or_empty row) h.1.none ∙ sym (h.1.nothing row)
+
+    pub granted_new : (g : Grant) → IsGrantFor z (pools_in m.shared) (asked_of (case_seen c.desk case.value)) stated g → IsTaken m stated e g × IsFreeFor m (decided.New c key z case) g
+    granted_new g takes = granted_in z c case.value h.0 same_new h.1.decides g takes
+
+    pub unfit_new : IsUnfit (pools_in m.shared) (asked_of (case_seen c.desk case.value)) stated → IsMisfitUnder stated m e m
+    unfit_new unfit = unfit_in z c case.value h.0 same_new h.1.decides unfit
+
+-- what is kept of a map in which room was made, under a key that is the zone
+pub Keeps-roomy : (m u : Parts) (z key : Name) (d : Cell) (roomy : Name → Option Cell) → key ≡ z → ((y : Name) → roomy y ≡ cell_at y m) → Keeps key d roomy (λ y. cell_at y u) → Keeps z d (λ y. cell_at y m) (λ y. cell_at y u)
+Keeps-roomy m u z key d roomy is same keeps row y =
+    keeps row y ∙ (ap (λ k. if bytes_eq k y then cell_world row d else world_or_empty row (roomy y)) is ∙ ap (λ o. if bytes_eq z y then cell_world row d else world_or_empty row o) (same y))
 
 -- what was decided of an event as it was read is decided of the event
 pub decided_event : (p : Parts) (e : Event) (y : Name) (decides : View → Decision) (r : Decided) → subject_in p.shared e ≡ Zone y → ((v : View) → decides v ≡ decide v e) → IsDecidedZone p y decides r → IsDecided p e r

@@ -2,11 +2,13 @@
 //! anything is changed.
 ghost use Rattle.std.specs.Prelude.{◌≡◌, ◌⊎◌, ◌<◌, [], IfOk, IsErrOf, IsOkUnless, Err, None, OnErr, bytes_eq};
 ghost use Rattle.indexmap.specs.IndexMap.{get_by, spare};
+ghost use Rattle.zn_base.specs.Names.{Name};
+ghost use Rattle.zone_pools.specs.Pools.{Pools};
 ghost use Rattle.zone_machine.specs.Cells.{Keeps, Stands, cell_at, decide_read, row_in, world_or_empty};
 ghost use Rattle.zone_machine.specs.Decided.{IsDecided, IsDecidedZone, IsFreeFor};
 ghost use Rattle.zone_machine.specs.Desks.{state_of};
 ghost use Rattle.zone_machine.specs.Machine.{opening};
-ghost use Rattle.zone_machine.specs.Steps.{AsItWas, IsAllowed, IsMisfitUnder, IsStep, IsStepUnder, IsTaken};
+ghost use Rattle.zone_machine.specs.Steps.{AsItWas, IsAllowed, IsGrantFor, IsMisfitUnder, IsStep, IsStepUnder, IsTaken, IsUnfit};
 
 use crate::cases::Case;
 use crate::cell::Cell;
@@ -47,6 +49,17 @@ fn keep(cells: &mut IndexMap<ZoneName, Cell>, zone: ZoneName, cell: Cell)
 {
     if !cell.is_empty() {
         put(cells, zone, cell);
+    }
+}
+
+// The grant of an event that asks nothing.
+fn nothing_of(stated: Option<Grant>) -> Result<Grant, StepFault>
+    ensures takes { IfOk result (λ grant. (P : Pools) (z : Name) → IsGrantFor z P [] stated grant) }
+    ensures misfit { OnErr result ((result ≡ Err StepFault.BadGrant) × ((P : Pools) → IsUnfit P [] stated)) }
+{
+    match stated {
+        None | Some(Grant::Nothing) => Ok(Grant::Nothing),
+        Some(Grant::Number(_) | Grant::Yes | Grant::Denied(_)) => Err(StepFault::BadGrant),
     }
 }
 
@@ -114,10 +127,7 @@ impl Parts {
                 grant_of(zone, &self.cells[*at], &self.shared, case, stated)
             }
             Decided::New(cell, _, zone, case) => grant_of(zone, cell, &self.shared, case, stated),
-            Decided::Global(_) => match stated {
-                None | Some(Grant::Nothing) => Ok(Grant::Nothing),
-                Some(_) => Err(StepFault::BadGrant),
-            },
+            Decided::Global(_) => nothing_of(stated),
         }
     }
 

@@ -1,0 +1,5 @@
+use Rattle.zone_machine.proofs.Stepping.{IsStep-global}
+use Rattle.zone_machine.proofs.parts.Parts.do_global.Goals as goal
+
+pub returns-clause-step : goal.returns-clause-step
+returns-clause-step c = IsStep-global c.args.self.now c.args.event c.requires.0 c.args.grant c.args.head c.requires.1
