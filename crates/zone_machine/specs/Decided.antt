@@ -18,6 +18,8 @@ use Rattle.zone_machine.specs.declared.parts.Decided.TheVariants as decided
 use Rattle.zone_machine.specs.declared.parts.Parts.{Parts}
 use Rattle.zone_machine.specs.declared.records.Record.{Record}
 use Rattle.zone_machine.specs.declared.replies.Head.{Head}
+use Rattle.zone_machine.specs.declared.replies.Head.TheVariants.{Ok, Refused}
+use Rattle.zone_machine.specs.declared.replies.Refusal.{Refusal}
 use Rattle.zone_machine.specs.Rooms.{IsFreeOf}
 use Rattle.zone_pools.specs.declared.grant.Grant.{Grant}
 
@@ -46,16 +48,21 @@ pub record IsCaseNew (p : Parts) (c : Cell) (key z : Name) (decides_so : View �
 abbrev pub IsDecidedZone : Parts → Name → (View → Decision) → Decided → Type 0
 IsDecidedZone p y decides (decided.At at z case) = (z ≡ y) × IsCaseAt p at z decides case
 IsDecidedZone p y decides (decided.New c key z case) = (z ≡ y) × IsCaseNew p c key z decides case
-IsDecidedZone p y decides (decided.Global head) = ⊥
+IsDecidedZone p y decides (decided.Global refusal) = ⊥
+
+-- the first line of the reply to an event that is no zone's
+abbrev pub head_of : Option Refusal → Head
+head_of None = Ok
+head_of (Some r) = Refused r
 
 -- what was decided of an event
 abbrev pub IsDecided : Parts → Event → Decided → Type 0
 IsDecided p e (decided.At at z case) = (subject_in p.shared e ≡ Zone z) × IsCaseAt p at z (λ v. decide v e) case
 IsDecided p e (decided.New c key z case) = (subject_in p.shared e ≡ Zone z) × IsCaseNew p c key z (λ v. decide v e) case
-IsDecided p e (decided.Global head) = (subject_in p.shared e ≡ Global) × ((S : State) → says head ≡ global_reply S e)
+IsDecided p e (decided.Global refusal) = (subject_in p.shared e ≡ Global) × ((S : State) → says (head_of refusal) ≡ global_reply S e)
 
 -- what comes with a grant is free
 abbrev pub IsFreeFor : Parts → Decided → Grant → Type 0
 IsFreeFor p (decided.At at z case) g = (c : Cell) → cell_at z p ≡ Some c → IsFreeOf (act_of (case_seen c.desk case.value) g).came (pools_in p.shared)
 IsFreeFor p (decided.New c key z case) g = IsFreeOf (act_of (case_seen c.desk case.value) g).came (pools_in p.shared)
-IsFreeFor p (decided.Global head) g = Unit {0}
+IsFreeFor p (decided.Global refusal) g = Unit {0}

@@ -10,7 +10,6 @@ use indexmap::IndexMap;
 use std::alloc::Global;
 
 /// Everything that one zone has, but for its name and what is stored of it.
-#[derive(Drop)]
 pub struct Cell {
     /// In the order of their numbers.
     pub(crate) processes: Vec<Process>,
@@ -18,6 +17,18 @@ pub struct Cell {
     pub(crate) ids: Vec<Id>,
     pub(crate) desk: Desk,
     pub(crate) waits: Waits,
+}
+
+impl Drop for Cell {
+    fn drop(self) {
+        let Cell {
+            processes: _processes,
+            mounts: _mounts,
+            ids: _ids,
+            desk: _desk,
+            waits: _waits,
+        } = self;
+    }
 }
 
 impl Cell {

@@ -14,9 +14,14 @@ use zn_base::{ZoneName, ZoneState};
 use zone_pools::Grant;
 
 /// The machine of all zones. Contracts see its parts, and say what they stand for.
-#[derive(Drop)]
 pub struct Machine {
     parts: Parts,
+}
+
+impl Drop for Machine {
+    fn drop(self) {
+        let Machine { parts: _parts } = self;
+    }
 }
 
 impl Model for Machine {

@@ -5,7 +5,7 @@ ghost use Rattle.indexmap.specs.IndexMap.{get_by, spare};
 ghost use Rattle.zn_base.specs.Names.{Name};
 ghost use Rattle.zone_pools.specs.Pools.{Pools};
 ghost use Rattle.zone_machine.specs.Cells.{Keeps, Stands, cell_at, decide_read, row_in, world_or_empty};
-ghost use Rattle.zone_machine.specs.Decided.{IsDecided, IsDecidedZone, IsFreeFor};
+ghost use Rattle.zone_machine.specs.Decided.{head_of, IsDecided, IsDecidedZone, IsFreeFor};
 ghost use Rattle.zone_machine.specs.Desks.{state_of};
 ghost use Rattle.zone_machine.specs.Machine.{opening};
 ghost use Rattle.zone_machine.specs.Steps.{AsItWas, IsAllowed, IsGrantFor, IsMisfitUnder, IsStep, IsStepUnder, IsTaken, IsUnfit};
@@ -15,9 +15,9 @@ use crate::cell::Cell;
 use crate::events::{Entry, Event, Subject};
 use crate::faults::StepFault;
 use crate::maps::put;
-use crate::replies::{Body, Head, Reply};
+use crate::replies::{Body, Head, Refusal, Reply};
 use crate::shared::Shared;
-use crate::steps::{Read, answer, case_of, global_head, grant_of, read_event, subject};
+use crate::steps::{Read, answer, case_of, global_refusal, grant_of, read_event, subject};
 use indexmap::IndexMap;
 use std::alloc::{AllocError, Global};
 use zn_base::{ZoneName, ZoneState};
@@ -37,8 +37,8 @@ pub(crate) enum Decided {
     At(usize, ZoneName, Box<Case>),
     /// A case of a zone that has no cell, the cell that it would have, and the name under which that would stand.
     New(Cell, ZoneName, ZoneName, Box<Case>),
-    /// The event is no zone's.
-    Global(Head),
+    /// The event is no zone's, and refused or not.
+    Global(Option<Refusal>),
 }
 
 // A zone's new cell is kept, where it has something.
@@ -60,6 +60,16 @@ fn nothing_of(stated: Option<Grant>) -> Result<Grant, StepFault>
     match stated {
         None | Some(Grant::Nothing) => Ok(Grant::Nothing),
         Some(Grant::Number(_) | Grant::Yes | Grant::Denied(_)) => Err(StepFault::BadGrant),
+    }
+}
+
+// The first line of a reply that says no more than whether a line is refused.
+fn answer_head(refusal: Option<Refusal>) -> Head
+    ensures { result ≡ head_of refusal }
+{
+    match refusal {
+        None => Head::Ok,
+        Some(refusal) => Head::Refused(refusal),
     }
 }
 
@@ -105,7 +115,7 @@ impl Parts {
         let read = read_event(event);
         match subject(&self.shared, alloc, read)? {
             Subject::Zone(zone) => self.decide_zone(alloc, zone, read),
-            Subject::Global => Ok(Decided::Global(global_head(alloc, read)?)),
+            Subject::Global => Ok(Decided::Global(global_refusal(alloc, read)?)),
             Subject::Whole => unreachable!(),
         }
     }
@@ -189,8 +199,8 @@ impl Parts {
     }
 
     // An event that is no zone's is answered.
-    fn do_global(&mut self, event: Event, head: Head, grant: Grant) -> Entry
-        requires { IsDecided self.old event (Decided.Global head) }
+    fn do_global(&mut self, event: Event, refusal: Option<Refusal>, grant: Grant) -> Entry
+        requires { IsDecided self.old event (Decided.Global refusal) }
         ensures grant { result.grant ≡ grant }
         ensures step { IsStep self.old event grant result self.new }
     {
@@ -200,7 +210,7 @@ impl Parts {
             subject: Subject::Global,
             grant,
             reply: Reply {
-                head,
+                head: answer_head(refusal),
                 body: Body::Nothing,
             },
         }
@@ -224,7 +234,7 @@ impl Parts {
             Decided::New(cell, key, zone, case) => {
                 self.do_new(event, cell, key, zone, case, grant)
             }
-            Decided::Global(head) => Ok(self.do_global(event, head, grant)),
+            Decided::Global(refusal) => Ok(self.do_global(event, refusal, grant)),
         }
     }
 

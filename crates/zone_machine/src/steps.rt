@@ -4,7 +4,7 @@ ghost use Rattle.std.specs.Prelude.{◌≡◌, ◌⊎◌, IfOk, IsErrOf, IsOkUnl
 ghost use Rattle.std.specs.Option.{option_map};
 ghost use Rattle.zone_machine.specs.Cases.{IsCaseOf, case_seen};
 ghost use Rattle.zone_machine.specs.Cells.{decide_read, global_read, number_read, pools_in, row_in, subject_in, subject_read};
-ghost use Rattle.zone_machine.specs.Decided.{IsCaseIn};
+ghost use Rattle.zone_machine.specs.Decided.{IsCaseIn, head_of};
 ghost use Rattle.zone_machine.specs.Decisions.{act_of, says};
 ghost use Rattle.zone_machine.specs.Lines_seen.{line_seen, word_seen};
 ghost use Rattle.zone_machine.specs.Machine.{decide, global_reply, named_subject, session_number};
@@ -103,26 +103,27 @@ fn badly_named(alloc: Global, word: Option<&[u8]>) -> Result<Refusal, AllocError
     }
 }
 
-// A line that belongs to no zone.
-fn global_line(alloc: Global, line: Line<'_>) -> Result<Head, AllocError>
-    ensures { IfOk result (λ head. says head ≡ global_line (line_seen line.entry)) }
+// Why a line is refused that belongs to no zone, if it is.
+fn global_line(alloc: Global, line: Line<'_>) -> Result<Option<Refusal>, AllocError>
+    ensures { IfOk result (λ refusal. says (head_of refusal) ≡ global_line (line_seen line.entry)) }
 {
     match line.command {
-        Command::Blank => Ok(Head::Ok),
-        Command::Unknown => Ok(Head::Refused(Refusal::Usage)),
-        Command::Make(_) | Command::Request(_) => {
-            Ok(Head::Refused(badly_named(alloc, line.zone)?))
-        }
+        Command::Blank => Ok(None),
+        Command::Unknown => Ok(Some(Refusal::Usage)),
+        Command::Make(_) | Command::Request(_) => Ok(Some(badly_named(alloc, line.zone)?)),
     }
 }
 
-/// What an event is answered that is no zone's.
-pub(crate) fn global_head(alloc: Global, read: Read<'_>) -> Result<Head, AllocError>
-    ensures { IfOk result (λ head. says head ≡ global_read read.entry) }
+/// Why an event is refused that is no zone's, if it is.
+pub(crate) fn global_refusal(
+    alloc: Global,
+    read: Read<'_>,
+) -> Result<Option<Refusal>, AllocError>
+    ensures { IfOk result (λ refusal. says (head_of refusal) ≡ global_read read.entry) }
 {
     match read {
         Read::Line(_, line) => global_line(alloc, line),
-        Read::Turn(_) => Ok(Head::Ok),
+        Read::Turn(_) => Ok(None),
     }
 }
 

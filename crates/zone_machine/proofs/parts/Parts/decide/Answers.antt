@@ -12,8 +12,8 @@ returns-in-Zone c =
     (λ r. decided_event c.args.self.now c.args.event.now c.in-Zone.zone _ r (sym (c.read_event-read.ensures.subject c.args.self.now.shared) ∙ (sym c.in_ok-zone.ensures ∙ c.in-Zone.is)) c.read_event-read.ensures.decide)
     c.decide_zone.ensures
 
-pub returns-in_ok-global_head-in-Global : goal.returns-in_ok-global_head-in-Global
-returns-in_ok-global_head-in-Global c = (
+pub returns-in_ok-global_refusal-in-Global : goal.returns-in_ok-global_refusal-in-Global
+returns-in_ok-global_refusal-in-Global c = (
     sym (c.read_event-read.ensures.subject c.args.self.now.shared) ∙ (sym c.in_ok-zone.ensures ∙ c.in-Global.is),
-    λ S. c.in_ok-global_head-in-Global.ensures ∙ c.read_event-read.ensures.global S,
+    λ S. c.in_ok-global_refusal-in-Global.ensures ∙ c.read_event-read.ensures.global S,
   )
