@@ -114,7 +114,10 @@ fn run_trace<S: Source, K: Sink, E: Sink>(
     ensures memory_line { result ≡ NO_MEMORY → TakesFront (E.holds err.old) (E.holds err.new) (E.faults err.old) (E.faults err.new) memory_line }
 {
     let mut machine = Machine::empty(alloc);
-    match trace_all(alloc, &mut machine, src, out) {
+    let ended = trace_all(alloc, &mut machine, src, out);
+    // The machine is let go before the outcome is reported.
+    drop(machine);
+    match ended {
         Ok(None) => DONE,
         Ok(Some(complaint)) => complain(alloc, err, complaint),
         Err(fault) => fail(err, fault),
