@@ -10,7 +10,7 @@ use Rattle.zn_base.specs.Names.{Name}
 use Rattle.zone_pools.proofs.Holding.{come_column, gone_column, kept_column}
 use Rattle.zone_pools.proofs.Owned_laws.{same_self, same_true}
 use Rattle.zone_pools.specs.Firsts.{placed}
-use Rattle.zone_pools.specs.Owned_lists.{Put, List_edit, edited, tag}
+use Rattle.zone_pools.specs.Owned_lists.{Put, edited, tag}
 use Rattle.zone_pools.specs.Owners as owners
 use Rattle.zone_pools.specs.Owners.{held_by, is_owner, owner}
 use Rattle.zone_pools.specs.declared.owned.Owned.{Owned}
@@ -18,7 +18,7 @@ use Rattle.zone_machine.proofs.Lists_laws.{any-push, any-put, none_left}
 use Rattle.zone_machine.proofs.Waits_laws.{some_wait}
 use Rattle.zone_machine.specs.Cells.{Agree, Does, cell_world, common_in, is_wait_for, kept, row_in, rows_in, unless_ended}
 use Rattle.zone_machine.specs.Common.{Common, came_common, holding, holds_pid, holds_zid}
-use Rattle.zone_machine.specs.Edits.{New_id, New_process, New_record, Of_mounts, at_session, below, comes_world, edits_world, swept_doing}
+use Rattle.zone_machine.specs.Edits.{New_id, New_process, New_record, at_session, below, comes_world, edits_world, swept_doing}
 use Rattle.zone_machine.specs.Pools.{has_zid}
 use Rattle.zone_machine.specs.State as state
 use Rattle.zone_machine.specs.Turns.{ticket_ended}
@@ -26,7 +26,6 @@ use Rattle.zone_machine.specs.Turns_seen.{object_edits, sits, sweeps}
 use Rattle.zone_machine.specs.Worlds.{World, has_pid}
 use Rattle.zone_machine.specs.declared.cell.Cell.{Cell}
 use Rattle.zone_machine.specs.declared.objects.Id.{Id}
-use Rattle.zone_machine.specs.declared.objects.Mount.{Mount}
 use Rattle.zone_machine.specs.declared.objects.Process.{Process}
 use Rattle.zone_machine.specs.declared.records.Record.{Record}
 use Rattle.zone_machine.specs.declared.shared.Shared.{Shared}
@@ -72,21 +71,6 @@ common_by z w g t waits pids zids sessions seen rows serial last_pid last_zid st
   last_pid = last_pid i;
   last_zid = last_zid i;
   started = started i;
-}
-
-pub does_nothing : (c : Cell) (s : Shared) → Does (λ w. w) kept c s c s
-does_nothing c s = record {
-  zone = refl;
-  world = refl;
-  common = λ a. common_by c.zone (cell_world (row_in c.zone s) c) (common_in s) s (get nat_eq c.waits) (same_pids c s a) (same_zids c s a) (same_sessions c s a) (λ n. holds_wait (get nat_eq c.waits n)) refl refl refl refl refl;
-}
-
--- the mounts change
-pub does_mounts : (e : List_edit Mount) (c : Cell) (s : Shared) (v : Vec Mount Global) → v.items ≡ edited e c.mounts.items → (n : Option ℕ) → Does (edits_world n (Of_mounts e ∷ [])) kept c s (record c { mounts = v }) s
-does_mounts e c s v h n = record {
-  zone = refl;
-  world = λ i. record (cell_world (row_in c.zone s) c) { mounts = h i };
-  common = λ a. common_by c.zone (record (cell_world (row_in c.zone s) c) { mounts = edited e c.mounts.items }) (common_in s) s (get nat_eq c.waits) (same_pids c s a) (same_zids c s a) (same_sessions c s a) (λ n. holds_wait (get nat_eq c.waits n)) refl refl refl refl refl;
 }
 
 -- a process comes, or all go; t is the shared part with the new owners

@@ -36,7 +36,8 @@ pub use daemon::{Change, ChangeKind, Outcome, RequestKind, Step, TurnReply};
 pub use events::{Entry, Event, SESSION_MAX, Subject};
 pub use faults::StepFault;
 pub use laws::{
-    allowed_by_what_is_common, changes_what_is_common, is_stored_in_common, subject_by_what_is_common,
+    allowed_by_what_is_common, changes_what_is_common, is_stored_in_common,
+    subject_by_what_is_common,
 };
 pub use machine::Machine;
 pub use objects::{Id, Mount, Process};

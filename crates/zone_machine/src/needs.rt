@@ -7,7 +7,6 @@ ghost use Rattle.zone_machine.specs.Desks_seen.{desk_seen, job_seen};
 ghost use Rattle.zone_machine.specs.Lines_seen.{line_seen};
 ghost use Rattle.zone_machine.specs.Needs_seen.{asked_by, plan_asks, step_asks};
 ghost use Rattle.zone_machine.specs.Cells.{cell_world, decide_in};
-ghost use Rattle.zone_machine.specs.State as state;
 ghost use Rattle.zone_machine.specs.Turns.{last_dir, turn, turn_at};
 ghost use Rattle.zone_machine.specs.Typed.{make, typed};
 ghost use Rattle.zone_machine.specs.Worlds.{View, view_of};

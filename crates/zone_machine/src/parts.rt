@@ -28,11 +28,7 @@ pub(crate) struct Parts {
 }
 
 // A zone's new cell is kept, where it has something.
-fn keep(
-    cells: &mut IndexMap<ZoneName, Cell>,
-    zone: ZoneName,
-    cell: Cell,
-) -> Result<(), AllocError>
+fn keep(cells: &mut IndexMap<ZoneName, Cell>, zone: ZoneName, cell: Cell) -> Result<(), AllocError>
     requires { get_by (bytes_eq zone) cells.old ≡ None }
     ensures { OnOk result (Keeps zone cell (λ y. get_by (bytes_eq y) cells.old) (λ y. get_by (bytes_eq y) cells.new)) }
 {
