@@ -1,7 +1,8 @@
 //! The zone machine: sessions type lines, zones' daemons take turns, and each such event has one subject,
 //! one grant and one reply. The definitions in `specs/` say what an event does to the state of all zones. A
 //! `Machine` stands for such a state: its `step` answers the entry that they give, and leaves it standing for
-//! the state after.
+//! the state after. It keeps a `Cell` for each zone that has something, and a part that zones share: an event of
+//! a zone needs these two alone, by `cell_step`.
 #![tactic(auto)]
 
 mod cell;
