@@ -1,7 +1,8 @@
 //! The zone machine: sessions type lines, zones' daemons take turns, and each such event has one subject,
 //! one grant and one reply. The definitions in `specs/` say what an event does to the state of all zones. A
 //! `Machine` stands for such a state: its `step` answers the entry that they give, and leaves it standing for
-//! the state after.
+//! the state after. It keeps a `Cell` for each zone that has something, and a part that zones share: an event of
+//! a zone needs these two alone, by `cell_step`.
 #![tactic(auto)]
 
 mod cases;
@@ -39,7 +40,8 @@ pub use daemon::{Change, ChangeKind, Outcome, RequestKind, Step, TurnReply};
 pub use events::{Entry, Event, SESSION_MAX, Subject};
 pub use faults::StepFault;
 pub use laws::{
-    allowed_by_what_is_common, changes_what_is_common, is_stored_in_common, subject_by_what_is_common,
+    allowed_by_what_is_common, changes_what_is_common, is_stored_in_common,
+    subject_by_what_is_common,
 };
 pub use machine::Machine;
 pub use objects::{Id, Mount, Process};
