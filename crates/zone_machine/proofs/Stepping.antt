@@ -7,6 +7,7 @@ use Rattle.std.specs.Prelude.{bytes_eq, is_some, nat_eq, slice_get, if◌then◌
 use Rattle.std.specs.List.{list_any}
 use Rattle.std.specs.Option.{option_map}
 use Rattle.std.proofs.lemmas.List.Quantifiers.{position-Some}
+use Rattle.std.proofs.lemmas.Bool.{true≢false}
 use Rattle.std.proofs.lemmas.Option.{get_or_from_slice_get, slice_get-get_or, slice_get-map}
 use Rattle.zn_base.specs.Names.{Name, name_of}
 use Rattle.zn_base.specs.declared.name.NameFault.{NameFault}
@@ -271,6 +272,10 @@ module _ (m : Parts) (e : Event) (is : subject_in m.shared e ≡ Global) where
             (record { worlds = h.worlds; shared = ap (λ (k : Common). record k { started = true }) h.shared });
       }
 
+pub none_is : {A : Type 0} (o : Option A) → is_some o ≡ false → o ≡ None
+none_is None h = refl
+none_is (Some x) h = absurd (true≢false h)
+
 pub some_is : {A : Type 0} (x y : A) → Some x ≡ Some y → x ≡ y
 some_is x y h = cc
 
@@ -304,15 +309,15 @@ module _ (m : Parts) (e : Event) (stated : Option Grant) where
     pub unfit_at : IsUnfit (pools_in m.shared) (asked_of (case_seen cell.desk case.value)) stated → IsMisfitUnder stated m e m
     unfit_at unfit = unfit_in z cell case.value h.0 (λ row. ap (world_or_empty row) here_at) case_at unfit
 
-  module _ (c : Cell) (key z : Name) (case : Box Case Alloc) (h : IsDecided m e (decided.New c key z case)) where
-    pub same_new : (row : Option Record) → world_or_empty row (cell_at z m) ≡ cell_world row c
+  module _ (c : Box Cell Alloc) (key z : Name) (case : Box Case Alloc) (h : IsDecided m e (decided.New c key z case)) where
+    pub same_new : (row : Option Record) → world_or_empty row (cell_at z m) ≡ cell_world row c.value
     same_new row = ap (world_or_empty row) h.1.none ∙ sym (h.1.nothing row)
 
-    pub granted_new : (g : Grant) → IsGrantFor z (pools_in m.shared) (asked_of (case_seen c.desk case.value)) stated g → IsTaken m stated e g × IsFreeFor m (decided.New c key z case) g
-    granted_new g takes = granted_in z c case.value h.0 same_new h.1.decides g takes
+    pub granted_new : (g : Grant) → IsGrantFor z (pools_in m.shared) (asked_of (case_seen c.value.desk case.value)) stated g → IsTaken m stated e g × IsFreeFor m (decided.New c key z case) g
+    granted_new g takes = granted_in z c.value case.value h.0 same_new h.1.decides g takes
 
-    pub unfit_new : IsUnfit (pools_in m.shared) (asked_of (case_seen c.desk case.value)) stated → IsMisfitUnder stated m e m
-    unfit_new unfit = unfit_in z c case.value h.0 same_new h.1.decides unfit
+    pub unfit_new : IsUnfit (pools_in m.shared) (asked_of (case_seen c.value.desk case.value)) stated → IsMisfitUnder stated m e m
+    unfit_new unfit = unfit_in z c.value case.value h.0 same_new h.1.decides unfit
 
 -- what is kept of a map in which room was made, under a key that is the zone
 pub Keeps-roomy : (m u : Parts) (z key : Name) (d : Cell) (roomy : Name → Option Cell) → key ≡ z → ((y : Name) → roomy y ≡ cell_at y m) → Keeps key d roomy (λ y. cell_at y u) → Keeps z d (λ y. cell_at y m) (λ y. cell_at y u)

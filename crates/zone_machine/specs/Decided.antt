@@ -39,11 +39,11 @@ pub record IsCaseAt (p : Parts) (at : ℕ) (z : Name) (decides_so : View → Dec
   pub decides : IsCaseIn z (row_in z p.shared) cell decides_so case.value
 
 -- the case is one of a new cell of z, which has none
-pub record IsCaseNew (p : Parts) (c : Cell) (key z : Name) (decides_so : View → Decision) (case : Box Case Alloc) : Type 0 where
+pub record IsCaseNew (p : Parts) (c : Box Cell Alloc) (key z : Name) (decides_so : View → Decision) (case : Box Case Alloc) : Type 0 where
   pub none : cell_at z p ≡ None
   pub keyed : key ≡ z
-  pub nothing : (row : Option Record) → cell_world row c ≡ empty_world row
-  pub decides : IsCaseIn z (row_in z p.shared) c decides_so case.value
+  pub nothing : (row : Option Record) → cell_world row c.value ≡ empty_world row
+  pub decides : IsCaseIn z (row_in z p.shared) c.value decides_so case.value
 
 abbrev pub IsDecidedZone : Parts → Name → (View → Decision) → Decided → Type 0
 IsDecidedZone p y decides (decided.At at z case) = (z ≡ y) × IsCaseAt p at z decides case
@@ -64,5 +64,5 @@ IsDecided p e (decided.Global refusal) = (subject_in p.shared e ≡ Global) × (
 -- what comes with a grant is free
 abbrev pub IsFreeFor : Parts → Decided → Grant → Type 0
 IsFreeFor p (decided.At at z case) g = (c : Cell) → cell_at z p ≡ Some c → IsFreeOf (act_of (case_seen c.desk case.value) g).came (pools_in p.shared)
-IsFreeFor p (decided.New c key z case) g = IsFreeOf (act_of (case_seen c.desk case.value) g).came (pools_in p.shared)
+IsFreeFor p (decided.New c key z case) g = IsFreeOf (act_of (case_seen c.value.desk case.value) g).came (pools_in p.shared)
 IsFreeFor p (decided.Global refusal) g = Unit {0}

@@ -36,7 +36,7 @@ pub(crate) enum Decided {
     /// A case of a zone, whose cell stands at an index.
     At(usize, ZoneName, Box<Case>),
     /// A case of a zone that has no cell, the cell that it would have, and the name under which that would stand.
-    New(Cell, ZoneName, ZoneName, Box<Case>),
+    New(Box<Cell>, ZoneName, ZoneName, Box<Case>),
     /// The event is no zone's, and refused or not.
     Global(Option<Refusal>),
 }
@@ -101,7 +101,7 @@ impl Parts {
             }
             None => {
                 let key = zone.copy(alloc)?;
-                let cell = Cell::new(alloc);
+                let cell = Box::new(alloc, Cell::new(alloc))?;
                 let case = case_of(alloc, &zone, &cell, row, read)?;
                 Ok(Decided::New(cell, key, zone, case))
             }
@@ -158,11 +158,12 @@ impl Parts {
         zone: ZoneName,
         case: Box<Case>,
         grant: Grant,
-    ) -> Result<Entry, AllocError>
+    ) -> Result<Entry, StepFault>
         requires decided { IsDecided self.old event (Decided.At at zone case) }
         requires free { IsFreeFor self.old (Decided.At at zone case) grant }
         ensures grant { IfOk result (λ entry. entry.grant ≡ grant) }
         ensures step { IfOk result (λ entry. IsStep self.old event grant entry self.new) }
+        ensures only { IsOkUnless result StepFault.Memory }
         ensures memory { OnErr result (AsItWas self.old self.new) }
     {
         answer(
@@ -179,20 +180,21 @@ impl Parts {
     fn do_new(
         &mut self,
         event: Event,
-        cell: Cell,
+        cell: Box<Cell>,
         key: ZoneName,
         zone: ZoneName,
         case: Box<Case>,
         grant: Grant,
-    ) -> Result<Entry, AllocError>
+    ) -> Result<Entry, StepFault>
         requires decided { IsDecided self.old event (Decided.New cell key zone case) }
         requires free { IsFreeFor self.old (Decided.New cell key zone case) grant }
         ensures grant { IfOk result (λ entry. entry.grant ≡ grant) }
         ensures step { IfOk result (λ entry. IsStep self.old event grant entry self.new) }
+        ensures only { IsOkUnless result StepFault.Memory }
         ensures memory { OnErr result (AsItWas self.old self.new) }
     {
-        let mut cell = cell;
         self.cells.reserve(1)?;
+        let mut cell = Box::into_inner(cell);
         let entry = answer(&mut cell, &mut self.shared, event, zone, case, grant)?;
         keep(&mut self.cells, key, cell);
         Ok(entry)
@@ -222,11 +224,12 @@ impl Parts {
         event: Event,
         decided: Decided,
         grant: Grant,
-    ) -> Result<Entry, AllocError>
+    ) -> Result<Entry, StepFault>
         requires decided { IsDecided self.old event decided }
         requires free { IsFreeFor self.old decided grant }
         ensures grant { IfOk result (λ entry. entry.grant ≡ grant) }
         ensures step { IfOk result (λ entry. IsStep self.old event grant entry self.new) }
+        ensures only { IsOkUnless result StepFault.Memory }
         ensures memory { OnErr result (AsItWas self.old self.new) }
     {
         match decided {
@@ -252,7 +255,7 @@ impl Parts {
     {
         let decided = self.decide(alloc, &event)?;
         let grant = self.grant(&event, &decided, stated)?;
-        Ok(self.perform(event, decided, grant)?)
+        self.perform(event, decided, grant)
     }
 
     fn active(&self, zone: &ZoneName) -> Option<ZoneState>

@@ -190,12 +190,13 @@ pub(crate) fn answer(
     zone: ZoneName,
     case: Box<Case>,
     grant: Grant,
-) -> Result<Entry, AllocError>
+) -> Result<Entry, StepFault>
     requires case { IsCaseIn zone (row_in zone shared.old) cell.old (λ v. decide v event) case.value }
     requires free { IsFreeOf (act_of (case_seen cell.old.desk case.value) grant).came (pools_in shared.old) }
     ensures event { IfOk result (λ entry. entry.event ≡ event) }
     ensures grant { IfOk result (λ entry. entry.grant ≡ grant) }
     ensures step { IfOk result (λ entry. IsCellStep zone cell.old shared.old event grant entry cell.new shared.new) }
+    ensures only { IsOkUnless result StepFault.Memory }
     ensures memory { OnErr result (Alike cell.old shared.old cell.new shared.new) }
 {
     make_room(cell, shared, &case)?;
@@ -261,7 +262,7 @@ fn do_case(
     ensures fault { OnErr result (IsErrOf result StepFault.BadGrant ⊎ IsErrOf result StepFault.Memory) }
 {
     let grant = grant_of(&zone, cell, shared, &case, stated)?;
-    Ok(answer(cell, shared, event, zone, case, grant)?)
+    answer(cell, shared, event, zone, case, grant)
 }
 
 // An event of a zone is answered.

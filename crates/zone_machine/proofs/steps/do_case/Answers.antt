@@ -1,6 +1,7 @@
 use Rattle.std.proofs.Common.{ap}
 use Rattle.zone_pools.specs.Decisions.{asked_of}
 use Rattle.zone_machine.proofs.Freeing.{asks_case, freed}
+use Rattle.zone_machine.proofs.Results.{and_ok}
 use Rattle.zone_machine.proofs.Stepping.{IsCellMisfitUnder-by, IsCellStepUnder-by}
 use Rattle.zone_machine.specs.Cases.{case_seen}
 use Rattle.zone_machine.specs.Cells.{pools_in}
@@ -16,5 +17,7 @@ answer-requires-clause-free c =
 
 pub returns-clause-ok : goal.returns-clause-ok
 returns-clause-ok c =
-    IsCellStepUnder-by c.args.zone c.args.cell.now c.args.shared.now c.args.event c.args.stated c.in_ok-grant.grant _ c.answer.new.cell c.answer.new.shared
-    (asked_of (case_seen c.args.cell.now.desk c.args.case.value)) (ap asked_of c.requires.case.decided) (rw c.deref.ensures at c.in_ok-grant.ensures.takes) c.in_ok-answer.ensures.grant c.in_ok-answer.ensures.step
+    and_ok c.answer.result _ _ _
+    (λ entry is steps. IsCellStepUnder-by c.args.zone c.args.cell.now c.args.shared.now c.args.event c.args.stated c.in_ok-grant.grant entry c.answer.new.cell c.answer.new.shared
+    (asked_of (case_seen c.args.cell.now.desk c.args.case.value)) (ap asked_of c.requires.case.decided) (rw c.deref.ensures at c.in_ok-grant.ensures.takes) is steps)
+    c.answer.ensures.grant c.answer.ensures.step

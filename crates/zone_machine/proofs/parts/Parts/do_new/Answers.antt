@@ -9,6 +9,6 @@ pub returns-clause-step : goal.returns-clause-step
 returns-clause-step c =
     let m = c.args.self.now in let z = c.args.zone in let h = c.requires.decided in
     let u : Parts = record { cells = c.keep.new.cells; shared = c.answer.new.shared } in
-    IsStep-cell m u z c.args.event c.args.cell c.answer.new.cell (same_new m c.args.event None c.args.cell c.args.key z c.args.case h)
+    IsStep-cell m u z c.args.event c.args.cell.value c.answer.new.cell (same_new m c.args.event None c.args.cell c.args.key z c.args.case h)
     (Keeps-roomy m u z c.args.key c.answer.new.cell (λ y. get_by (bytes_eq y) c.reserve.new.self) h.1.keyed (λ y. ap (lookup (bytes_eq y)) c.in_ok-reserve.ensures.entries) c.keep.ensures)
-    c.args.grant c.in_ok-entry.entry h.0 c.in_ok-entry.ensures.step
+    c.args.grant c.in_ok-entry.entry h.0 (rw c.into_inner-cell.ensures at c.in_ok-entry.ensures.step)

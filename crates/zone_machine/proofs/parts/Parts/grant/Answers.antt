@@ -24,19 +24,19 @@ returns-in-At-clause-misfit c =
 pub returns-in-New-clause-takes : goal.returns-in-New-clause-takes
 returns-in-New-clause-takes c =
     let m = c.args.self.now in let h = subst (IsDecided m c.args.event.now) c.in-New.is c.requires in
-    if_ok c.grant_of-in-New.result _ _ (λ g takes. (granted_new m c.args.event.now c.args.stated c.in-New.cell c.in-New.field-1 c.in-New.zone c.in-New.case h g takes).0) (rw c.deref-in-New.ensures at c.grant_of-in-New.ensures.takes)
+    if_ok c.grant_of-in-New.result _ _ (λ g takes. (granted_new m c.args.event.now c.args.stated c.in-New.cell c.in-New.field-1 c.in-New.zone c.in-New.case h g takes).0) (rw (c.deref-in-New.ensures, c.deref-in-New-2.ensures) at c.grant_of-in-New.ensures.takes)
 
 pub returns-in-New-clause-free : goal.returns-in-New-clause-free
 returns-in-New-clause-free c =
     let m = c.args.self.now in let h = subst (IsDecided m c.args.event.now) c.in-New.is c.requires in
     if_ok c.grant_of-in-New.result _ _
     (λ g takes. subst (λ d. IsFreeFor m d g) (sym c.in-New.is) (granted_new m c.args.event.now c.args.stated c.in-New.cell c.in-New.field-1 c.in-New.zone c.in-New.case h g takes).1)
-    (rw c.deref-in-New.ensures at c.grant_of-in-New.ensures.takes)
+    (rw (c.deref-in-New.ensures, c.deref-in-New-2.ensures) at c.grant_of-in-New.ensures.takes)
 
 pub returns-in-New-clause-misfit : goal.returns-in-New-clause-misfit
 returns-in-New-clause-misfit c =
     let m = c.args.self.now in let h = subst (IsDecided m c.args.event.now) c.in-New.is c.requires in
-    on_err c.grant_of-in-New.result _ _ (λ bad. (bad.0, unfit_new m c.args.event.now c.args.stated c.in-New.cell c.in-New.field-1 c.in-New.zone c.in-New.case h bad.1)) (rw c.deref-in-New.ensures at c.grant_of-in-New.ensures.misfit)
+    on_err c.grant_of-in-New.result _ _ (λ bad. (bad.0, unfit_new m c.args.event.now c.args.stated c.in-New.cell c.in-New.field-1 c.in-New.zone c.in-New.case h bad.1)) (rw (c.deref-in-New.ensures, c.deref-in-New-2.ensures) at c.grant_of-in-New.ensures.misfit)
 
 pub returns-in-Global-clause-takes : goal.returns-in-Global-clause-takes
 returns-in-Global-clause-takes c =
