@@ -5,7 +5,7 @@ use Rattle.std.specs.Prelude.{◌≢◌, Vec, bytes_eq, nat_eq, is_some, if◌th
 use Rattle.std.specs.Cmp.{nat_eq_equiv}
 use Rattle.std.specs.Option.{option_map}
 use Rattle.std.specs.List.{list_any}
-use Rattle.std.proofs.lemmas.Bool.{eqb-true, false≢true}
+use Rattle.std.proofs.lemmas.Bool.{eqb-true}
 use Rattle.zn_base.specs.Names.{Name}
 use Rattle.zone_pools.proofs.Holding.{column, come_column, gone_column, kept_column}
 use Rattle.zone_pools.proofs.Owned_laws.{same_self, same_true}

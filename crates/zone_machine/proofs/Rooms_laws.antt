@@ -1,5 +1,5 @@
 -- Room is taken, and a cell and the shared part are as they were.
-use Rattle.std.proofs.Common.{◌≡◌, ℕ, List, Option, Some, None, nat_eq, refl, sym, ap, ◌∙◌, length}
+use Rattle.std.proofs.Common.{◌≡◌, ℕ, nat_eq, refl, ap, ◌∙◌, length}
 use Rattle.std.specs.Prelude.{is_some}
 use Rattle.std.specs.Option.{option_map}
 use Rattle.indexmap.specs.IndexMap.{get}
@@ -10,10 +10,6 @@ use Rattle.zone_machine.specs.Pools.{path_taken}
 use Rattle.zone_machine.specs.Rooms.{Alike}
 use Rattle.zone_machine.specs.State.{Awaiting}
 use Rattle.zone_machine.specs.declared.cell.Cell.{Cell}
-use Rattle.zone_machine.specs.declared.objects.Id.{Id}
-use Rattle.zone_machine.specs.declared.objects.Mount.{Mount}
-use Rattle.zone_machine.specs.declared.objects.Process.{Process}
-use Rattle.zone_machine.specs.declared.records.Record.{Record}
 use Rattle.zone_machine.specs.declared.shared.Shared.{Shared}
 
 pub alike_same : (c : Cell) (s : Shared) → Alike c s c s
@@ -27,7 +23,7 @@ alike_then c d e s t u one two = record {
   pools = two.pools ∙ one.pools;
 }
 
--- room in one table; d and t are the cell and the shared part with the table then
+-- room in one part of the cell or of the shared part; d and t are the two with that part as it is then
 module _ (c d : Cell) (s t : Shared) where
   pub alike_processes : d.processes.items ≡ c.processes.items → Alike c s (record c { processes = d.processes }) s
   alike_processes h = record { world = λ row i. record (cell_world row c) { processes = h i }; rows = refl; common = refl; pools = refl }

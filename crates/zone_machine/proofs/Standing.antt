@@ -1,9 +1,8 @@
 -- What a cell and the shared part stand for, and what they stand for after an event of the cell's zone.
-use Rattle.std.proofs.Common.{◌≡◌, ◌∷◌, ◌++◌, [], ℕ, List, Bool, Option, Some, None, true, false, inl, inr, refl, ap, sym, subst, ◌∙◌, IfSome}
+use Rattle.std.proofs.Common.{◌≡◌, ◌∷◌, [], ℕ, List, Bool, Option, Some, None, true, false, inl, inr, refl, ap, sym, subst, ◌∙◌, IfSome}
 use Rattle.indexmap.specs.IndexMap.{get}
 use Rattle.std.specs.Map.{lookup}
 use Rattle.std.specs.Prelude.{bytes_eq, is_some, nat_eq}
-use Rattle.std.specs.Option.{option_map}
 use Rattle.std.specs.List.{list_any}
 use Rattle.std.proofs.lemmas.Bool.{true≢false}
 use Rattle.zone_pools.proofs.Owned_laws.{same_self, same_true}
@@ -16,11 +15,9 @@ use Rattle.zone_machine.proofs.Common_laws.{common-acts, stored-common}
 use Rattle.zone_machine.proofs.Doing_laws.{holds_wait}
 use Rattle.zone_machine.proofs.Acts_laws.{own-acts}
 use Rattle.zone_machine.proofs.Own_worlds.{own_session, view-world}
-use Rattle.zone_machine.specs.Cells.{Agree, CellOf, Does, SharedOf, cell_world, common_in, decide_in, row_in, rows_in, subject_at, subject_in, work_world}
-use Rattle.zone_machine.specs.Common.{Common, acts_common, came_common, common, holding}
-use Rattle.zone_machine.specs.Decisions.{Act, act_of, acts_world, after_came_world, says, sweeps}
-use Rattle.zone_machine.specs.Desks_seen.{desk_seen}
-use Rattle.zone_machine.specs.Edits.{Edit, Set_desk, edit_world, edits_world}
+use Rattle.zone_machine.specs.Cells.{Agree, CellOf, Does, SharedOf, cell_world, decide_in, row_in, rows_in, subject_at, subject_in}
+use Rattle.zone_machine.specs.Common.{Common, acts_common, came_common, common}
+use Rattle.zone_machine.specs.Decisions.{Act, act_of, acts_world, says}
 use Rattle.zone_machine.specs.Lines.{Line, line_of}
 use Rattle.zone_machine.specs.Machine.{decide, done_by, opening, one, one_of, session_number, session_subject, subject}
 use Rattle.zone_machine.specs.State as state
@@ -37,7 +34,6 @@ use Rattle.zone_machine.specs.declared.replies.Body.TheVariants.{Nothing as No_b
 use Rattle.zone_machine.specs.declared.replies.Head.{Head}
 use Rattle.zone_machine.specs.declared.shared.Shared.{Shared}
 use Rattle.zone_machine.specs.Objects.{has_pid, has_zid}
-use Rattle.zone_machine.specs.Cases.{Works, arrival_of, object_edits, sits, work_act}
 use Rattle.zone_machine.specs.Cases.{case_seen}
 use Rattle.zone_machine.specs.Rooms.{Alike, IsOpenTo}
 use Rattle.zone_machine.specs.declared.cases.Case.{Case}

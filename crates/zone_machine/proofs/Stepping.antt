@@ -1,5 +1,5 @@
 -- What the machine's parts say of a state that they stand for, and a step of them.
-use Rattle.std.proofs.Common.{◌≡◌, ◌<◌, ℕ, List, Bool, Option, Some, None, ◌⊎◌, inl, inr, Result, Ok as Right, Err, true, false, get_or, length, refl, ap, sym, subst, ◌∙◌, unwrap_or, []}
+use Rattle.std.proofs.Common.{◌≡◌, ◌<◌, ℕ, List, Bool, Option, Some, None, Result, Ok as Right, Err, true, false, get_or, length, refl, ap, sym, subst, ◌∙◌, []}
 use Rattle.indexmap.proofs.CallerLemmas.{updates-with_value_at}
 use Rattle.indexmap.specs.IndexMap.{IsUnique, get_by, index_of_by, keys, with_value_at, values}
 use Rattle.std.specs.Cmp.Lexicographic.{nat_list_eq_equiv}
@@ -19,12 +19,12 @@ use Rattle.zone_pools.specs.Owned_lists.{mine}
 use Rattle.zone_pools.specs.Owners.{is_owner, owner}
 use Rattle.zone_pools.specs.Pools.{fits_asked, said_by_all, Pools}
 use Rattle.zone_pools.specs.declared.grant.Grant.{Grant}
-use Rattle.zone_pools.specs.declared.grant.Grant.TheVariants.{Nothing, Number, Denied}
+use Rattle.zone_pools.specs.declared.grant.Grant.TheVariants.{Nothing}
 use Rattle.zone_pools.specs.declared.owned.Owned.{Owned}
 use Rattle.zone_machine.proofs.Common_laws.{any_mine, any_own}
 use Rattle.zone_machine.proofs.Own_worlds.{leaves}
 use Rattle.zone_machine.proofs.Standing.{cell-stands, decide-stands, stored-stands, subject-stands}
-use Rattle.zone_machine.specs.Cells.{CellOf, Keeps, SharedOf, Stands, cell_at, cell_world, decide_in, empty_world, pools_in, row_in, subject_at, subject_in, world_or_empty}
+use Rattle.zone_machine.specs.Cells.{CellOf, Keeps, SharedOf, Stands, cell_at, cell_world, decide_in, pools_in, row_in, subject_at, subject_in, world_or_empty}
 use Rattle.zone_machine.specs.Common.{Common, common}
 use Rattle.zone_machine.specs.Decisions.{says}
 use Rattle.zone_machine.specs.Histories.{concerns}
@@ -33,7 +33,7 @@ use Rattle.zone_machine.specs.Machine.{decide, global_reply, named_subject, one,
 use Rattle.zone_machine.specs.Pools.{allowed, allowed_of, fits, fits_of, path_taken, pools_of}
 use Rattle.zone_machine.specs.State.{State, stored}
 use Rattle.zone_machine.specs.Rooms.{Alike}
-use Rattle.zone_machine.specs.Steps.{CellAnswers, IsAllowed, IsAllowedCellStep, IsCellMisfit, IsCellStep, IsFit, IsFittingCellStep, IsStep, IsZoneState, Answers, IsCellMisfitUnder, IsCellStepUnder, IsGrantFor, IsUnfit, IsMisfitUnder, IsStepUnder, IsTaken, Takes, AsItWas}
+use Rattle.zone_machine.specs.Steps.{CellAnswers, IsCellStep, IsStep, IsZoneState, Answers, IsCellMisfitUnder, IsCellStepUnder, IsGrantFor, IsUnfit, IsMisfitUnder, IsStepUnder, IsTaken, Takes, AsItWas}
 use Rattle.zone_machine.specs.Worlds.{World, view, view_of, world}
 use Rattle.zone_machine.specs.declared.cell.Cell.{Cell}
 use Rattle.zone_machine.specs.declared.events.Entry.{Entry}

@@ -4,7 +4,7 @@ use Rattle.std.specs.Global.{Global as Alloc}
 use Rattle.indexmap.specs.IndexMap.{IsUnique, index_of_by, values}
 use Rattle.zn_base.specs.Names.{Name}
 use Rattle.zone_machine.specs.Cases.{IsCaseOf, IsNamedCase, case_seen}
-use Rattle.zone_machine.specs.Cells.{cell_at, cell_world, decide_in, decide_read, empty_world, global_read, pools_in, row_in, subject_in}
+use Rattle.zone_machine.specs.Cells.{cell_at, cell_world, empty_world, pools_in, row_in, subject_in}
 use Rattle.zone_machine.specs.Decisions.{Decision, act_of, says}
 use Rattle.zone_machine.specs.Machine.{decide, global_reply}
 use Rattle.zone_machine.specs.State.{State}

@@ -1,5 +1,5 @@
 -- Room that is taken before anything is changed, and that nothing is changed by taking it.
-use Rattle.std.specs.Prelude.{◌≡◌, ◌⊎◌, ◌<◌, List, [], ◌∷◌, Option, Some, None, IfSome, nat_eq, is_some, false, true, vec_capacity, vec_len}
+use Rattle.std.specs.Prelude.{◌≡◌, ◌⊎◌, ◌<◌, List, [], ◌∷◌, Option, Some, None, false, true, vec_capacity, vec_len}
 use Rattle.indexmap.specs.IndexMap.{spare}
 use Rattle.zn_base.specs.Names.{Name}
 use Rattle.zone_pools.specs.Asked.{A_pid, A_zid, Asked}
@@ -11,8 +11,6 @@ use Rattle.zone_machine.specs.Cases.{HasRoomFor, case_seen, objects_of}
 use Rattle.zone_machine.specs.Cells.{cell_world, common_in, pools_in}
 use Rattle.zone_machine.specs.declared.cases.Case.{Case}
 use Rattle.zone_machine.specs.declared.cases.Case.TheVariants as cases
-use Rattle.zone_machine.specs.declared.cases.JobCase.TheVariants as jobs
-use Rattle.zone_machine.specs.declared.cases.TurnCase.TheVariants as turns
 use Rattle.zone_machine.specs.declared.cell.Cell.{Cell}
 use Rattle.zone_machine.specs.declared.records.Record.{Record}
 use Rattle.zone_machine.specs.declared.shared.Shared.{Shared}

@@ -1,7 +1,6 @@
 -- A step of the machine, as the definitions have it.
 use Rattle.zone_pools.specs.Asked.{Asked}
-use Rattle.zone_pools.specs.Decisions.{asked_of}
-use Rattle.std.specs.Prelude.{◌≡◌, ◌⊎◌, List, [], Option, None, Bool, true, false, IsErrOf, Result, Some}
+use Rattle.std.specs.Prelude.{◌≡◌, ◌⊎◌, List, Option, None, Bool, true, false, IsErrOf, Result, Some}
 use Rattle.zn_base.specs.Names.{Name}
 use Rattle.zone_pools.specs.declared.grant.Grant.{Grant}
 use Rattle.zn_base.specs.declared.state.ZoneState.{ZoneState}
@@ -9,12 +8,12 @@ use Rattle.zone_machine.specs.Histories.{entry_at}
 use Rattle.zone_machine.specs.Machine.{one, subject}
 use Rattle.zone_machine.specs.Pools.{allowed, fits}
 use Rattle.zone_machine.specs.State.{State, zone_state}
-use Rattle.zone_machine.specs.Cells.{CellOf, SharedOf, Stands, cell_at}
+use Rattle.zone_machine.specs.Cells.{CellOf, SharedOf, Stands}
 use Rattle.zone_machine.specs.Common.{common}
 use Rattle.zone_machine.specs.declared.events.Entry.{Entry}
 use Rattle.zone_machine.specs.declared.events.Event.{Event}
 use Rattle.zone_machine.specs.declared.events.Subject.{Subject}
-use Rattle.zone_machine.specs.declared.events.Subject.TheVariants.{Zone, Global, Whole}
+use Rattle.zone_machine.specs.declared.events.Subject.TheVariants.{Zone}
 use Rattle.zone_machine.specs.declared.faults.StepFault.{StepFault}
 use Rattle.zone_machine.specs.declared.faults.StepFault.TheVariants.{Memory, BadGrant}
 use Rattle.zone_machine.specs.Worlds.{world}

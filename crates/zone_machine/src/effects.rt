@@ -7,7 +7,7 @@ ghost use Rattle.zn_base.specs.Names.{Name};
 ghost use Rattle.zone_pools.specs.Owners.{owner};
 ghost use Rattle.zone_pools.specs.Pools.{has_room};
 ghost use Rattle.zone_machine.specs.Cases.{IsCaseOf, IsNamedCase, IsNamedWork, arrival_of, case_seen, object_edits, sits};
-ghost use Rattle.zone_machine.specs.Cells.{Does, kept, pools_in, row_in, cell_world, work_world};
+ghost use Rattle.zone_machine.specs.Cells.{Does, kept, pools_in, work_world};
 ghost use Rattle.zone_machine.specs.Common.{came_common};
 ghost use Rattle.zone_machine.specs.Decisions.{act_of, acts_world, after_came_world, says, sweeps};
 ghost use Rattle.zone_machine.specs.Arrivals.{New_id, New_process, New_record};

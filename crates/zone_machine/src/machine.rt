@@ -1,8 +1,8 @@
 //! The machine.
-ghost use Rattle.std.specs.Prelude.{◌≡◌, ◌⊎◌, [], IfOk, IsErrOf, IsOkUnless, OnErr, OnOk, false, true};
+ghost use Rattle.std.specs.Prelude.{[], IfOk, IsErrOf, IsOkUnless, OnErr};
 ghost use Rattle.zone_machine.specs.Machine.{opening};
-ghost use Rattle.zone_machine.specs.Steps.{IsAllowed, IsAllowedStep, IsFit, IsFittingStep, IsMisfit, IsRefusedIfUnfit, IsStarted, IsSubject, IsZoneState, AsItWas};
-ghost use Rattle.zone_machine.specs.Cells.{Stands, subject_in};
+ghost use Rattle.zone_machine.specs.Steps.{IsAllowed, IsAllowedStep, IsFittingStep, IsMisfit, IsRefusedIfUnfit, IsStarted, IsSubject, IsZoneState, AsItWas};
+ghost use Rattle.zone_machine.specs.Cells.{Stands};
 
 use crate::events::{Entry, Event, Subject};
 use crate::faults::StepFault;

@@ -10,12 +10,11 @@ ghost use Rattle.zone_machine.specs.Lines_seen.{line_seen, word_seen};
 ghost use Rattle.zone_machine.specs.Machine.{decide, global_reply, named_subject, session_number};
 ghost use Rattle.zone_machine.specs.Rooms.{Alike, IsFreeOf};
 ghost use Rattle.zone_machine.specs.State.{State};
-ghost use Rattle.zone_machine.specs.Steps.{IsAllowedCellStep, IsCellMisfit, IsCellMisfitUnder, IsCellStep, IsCellStepUnder, IsFittingCellStep, Takes, IsGrantFor, IsUnfit};
+ghost use Rattle.zone_machine.specs.Steps.{IsAllowedCellStep, IsCellMisfit, IsCellMisfitUnder, IsCellStep, IsCellStepUnder, IsFittingCellStep, IsGrantFor, IsUnfit};
 ghost use Rattle.zone_machine.specs.Typed.{badly_named, global_line};
 ghost use Rattle.zone_machine.specs.Worlds.{View};
 ghost use Rattle.zone_machine.specs.declared.shared.Shared as shared_types;
 ghost use Rattle.zone_pools.specs.Decisions.{asked_of};
-ghost use Rattle.zone_pools.specs.Pools.{fits_asked};
 
 use crate::cases::Case;
 use crate::cell::Cell;

@@ -1,12 +1,10 @@
-use Rattle.std.proofs.Common.{◌≡◌, None, ap, refl, subst, sym, ◌∙◌}
-use Rattle.std.specs.Option.{option_map}
+use Rattle.std.proofs.Common.{None, ap, refl, subst, sym, ◌∙◌}
 use Rattle.zone_pools.specs.Decisions.{asked_of}
 use Rattle.zone_machine.proofs.Doing_laws.{does_work}
 use Rattle.zone_machine.proofs.Freeing.{asks_case, room_change, room_desk, roomy}
-use Rattle.zone_machine.specs.Cases.{Works, case_seen}
+use Rattle.zone_machine.specs.Cases.{case_seen}
 use Rattle.zone_machine.specs.Cells.{cell_world, pools_in, row_in}
 use Rattle.zone_machine.specs.Decisions.{act_of, says}
-use Rattle.zone_machine.specs.Desks_seen.{desk_seen}
 use Rattle.zone_machine.specs.Rooms.{HasRoomOf, HasRoomToChange, IsFreeOf}
 use Rattle.zone_machine.proofs.effects.perform.Goals as goal
 

@@ -2,10 +2,8 @@ use Rattle.std.proofs.Common.{◌≡◌, Some, ap, refl, subst, sym, ◌∙◌}
 use Rattle.indexmap.specs.IndexMap.{with_value_at}
 use Rattle.zone_machine.proofs.Results.{if_ok, on_err}
 use Rattle.zone_machine.proofs.Stepping.{AsItWas-cell, IsStep-cell, Keeps-at, some_is}
-use Rattle.zone_machine.specs.Cases.{case_seen}
-use Rattle.zone_machine.specs.Cells.{cell_at, pools_in, row_in, world_or_empty}
+use Rattle.zone_machine.specs.Cells.{cell_at, row_in, world_or_empty}
 use Rattle.zone_machine.specs.Decided.{IsCaseIn}
-use Rattle.zone_machine.specs.Decisions.{act_of}
 use Rattle.zone_machine.specs.Machine.{decide}
 use Rattle.zone_machine.specs.declared.parts.Parts.{Parts}
 use Rattle.zone_machine.proofs.parts.Parts.do_at.Goals as goal

@@ -1,4 +1,4 @@
-use Rattle.std.proofs.Common.{◌≡◌, refl, subst, sym}
+use Rattle.std.proofs.Common.{subst, sym}
 use Rattle.zone_machine.proofs.Results.{if_ok, on_err}
 use Rattle.zone_machine.proofs.Stepping.{IsMisfitUnder-global, IsTaken-global, granted_at, granted_new, unfit_at, unfit_new}
 use Rattle.zone_machine.specs.Decided.{IsDecided, IsFreeFor}
