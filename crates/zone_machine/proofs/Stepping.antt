@@ -228,9 +228,9 @@ module _ (m u : Parts) (z : Name) (e : Event) (c d : Cell) (same : (row : Option
   -- where the cell and the shared part are alike to what they were, the machine is as it was
   pub AsItWas-cell : Alike c m.shared d u.shared → AsItWas m u
   AsItWas-cell alike S = (
-      λ h. record { worlds = λ y. h.worlds y ∙ kept y (stored y S.commits); shared = h.shared ∙ sym alike.common },
-      λ h. record { worlds = λ y. h.worlds y ∙ sym (kept y (stored y S.commits)); shared = h.shared ∙ alike.common },
-    )
+    λ h. record { worlds = λ y. h.worlds y ∙ kept y (stored y S.commits); shared = h.shared ∙ sym alike.common },
+    λ h. record { worlds = λ y. h.worlds y ∙ sym (kept y (stored y S.commits)); shared = h.shared ∙ alike.common },
+  )
     where
       kept : (y : Name) (row : Option Record) → world_or_empty row (cell_at y m) ≡ world_or_empty row (cell_at y u)
       kept y row = at_zone (bytes_eq z y) refl
@@ -284,9 +284,9 @@ module _ (m : Parts) (e : Event) (stated : Option Grant) where
   granted_in : (z : Name) (c : Cell) (case : Case) → subject_in m.shared e ≡ Zone z → ((row : Option Record) → world_or_empty row (cell_at z m) ≡ cell_world row c) → IsCaseIn z (row_in z m.shared) c (λ v. decide v e) case
       → (g : Grant) → IsGrantFor z (pools_in m.shared) (asked_of (case_seen c.desk case)) stated g → IsTaken m stated e g × IsFreeOf (act_of (case_seen c.desk case) g).came (pools_in m.shared)
   granted_in z c case is same h g takes = (
-      IsTaken-cell m z e c (asked_of (case_seen c.desk case)) is same (ap asked_of h.decided) stated g takes,
-      freed (pools_in m.shared) z (case_seen c.desk case) stated g (asks_case c.desk case) takes,
-    )
+    IsTaken-cell m z e c (asked_of (case_seen c.desk case)) is same (ap asked_of h.decided) stated g takes,
+    freed (pools_in m.shared) z (case_seen c.desk case) stated g (asks_case c.desk case) takes,
+  )
 
   unfit_in : (z : Name) (c : Cell) (case : Case) → subject_in m.shared e ≡ Zone z → ((row : Option Record) → world_or_empty row (cell_at z m) ≡ cell_world row c) → IsCaseIn z (row_in z m.shared) c (λ v. decide v e) case
       → IsUnfit (pools_in m.shared) (asked_of (case_seen c.desk case)) stated → IsMisfitUnder stated m e m
@@ -327,13 +327,13 @@ Keeps-roomy m u z key d roomy is same keeps row y =
 -- what was decided of an event as it was read is decided of the event
 pub decided_event : (p : Parts) (e : Event) (y : Name) (decides : View → Decision) (r : Decided) → subject_in p.shared e ≡ Zone y → ((v : View) → decides v ≡ decide v e) → IsDecidedZone p y decides r → IsDecided p e r
 decided_event p e y decides (decided.At at z case) of same (is, h) = (
-    of ∙ ap Zone (sym is),
-    record { index = h.index; cell = h.cell; here = h.here; value = h.value; unique = h.unique; decides = record { decided = sym (same _) ∙ h.decides.decided; of = h.decides.of; named = h.decides.named } },
-  )
+  of ∙ ap Zone (sym is),
+  record { index = h.index; cell = h.cell; here = h.here; value = h.value; unique = h.unique; decides = record { decided = sym (same _) ∙ h.decides.decided; of = h.decides.of; named = h.decides.named } },
+)
 decided_event p e y decides (decided.New c key z case) of same (is, h) = (
-    of ∙ ap Zone (sym is),
-    record { none = h.none; keyed = h.keyed; nothing = h.nothing; decides = record { decided = sym (same _) ∙ h.decides.decided; of = h.decides.of; named = h.decides.named } },
-  )
+  of ∙ ap Zone (sym is),
+  record { none = h.none; keyed = h.keyed; nothing = h.nothing; decides = record { decided = sym (same _) ∙ h.decides.decided; of = h.decides.of; named = h.decides.named } },
+)
 decided_event p e y decides (decided.Global head) of same h = absurd h
 
 -- no event is the whole system's yet

@@ -219,12 +219,7 @@ impl Parts {
     }
 
     // What was decided is done under its grant.
-    fn perform(
-        &mut self,
-        event: Event,
-        decided: Decided,
-        grant: Grant,
-    ) -> Result<Entry, StepFault>
+    fn perform(&mut self, event: Event, decided: Decided, grant: Grant) -> Result<Entry, StepFault>
         requires decided { IsDecided self.old event decided }
         requires free { IsFreeFor self.old decided grant }
         ensures grant { IfOk result (λ entry. entry.grant ≡ grant) }

@@ -65,11 +65,7 @@ fn room_to_do(cell: &mut Cell, shared: &mut Shared, case: &Case) -> Result<(), A
 }
 
 /// Room for all that a case does. Nothing is changed by it, whether or not memory runs out.
-pub(crate) fn make_room(
-    cell: &mut Cell,
-    shared: &mut Shared,
-    case: &Case,
-) -> Result<(), AllocError>
+pub(crate) fn make_room(cell: &mut Cell, shared: &mut Shared, case: &Case) -> Result<(), AllocError>
     requires { IsCaseOf cell.old.desk case.now }
     ensures alike { Alike cell.old shared.old cell.new shared.new }
     ensures same { case_seen cell.new.desk case.now ≡ case_seen cell.old.desk case.now }

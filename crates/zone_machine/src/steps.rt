@@ -72,11 +72,7 @@ fn named_subject(alloc: Global, word: Option<&[u8]>) -> Result<Subject, AllocErr
 }
 
 /// Whose an event is: the zone that its session waits in, else the zone that its line names.
-pub(crate) fn subject(
-    shared: &Shared,
-    alloc: Global,
-    read: Read<'_>,
-) -> Result<Subject, AllocError>
+pub(crate) fn subject(shared: &Shared, alloc: Global, read: Read<'_>) -> Result<Subject, AllocError>
     ensures { IfOk result (λ subject. subject ≡ subject_read shared.now read.entry) }
 {
     match read {
@@ -114,10 +110,7 @@ fn global_line(alloc: Global, line: Line<'_>) -> Result<Option<Refusal>, AllocEr
 }
 
 /// Why an event is refused that is no zone's, if it is.
-pub(crate) fn global_refusal(
-    alloc: Global,
-    read: Read<'_>,
-) -> Result<Option<Refusal>, AllocError>
+pub(crate) fn global_refusal(alloc: Global, read: Read<'_>) -> Result<Option<Refusal>, AllocError>
     ensures { IfOk result (λ refusal. says (head_of refusal) ≡ global_read read.entry) }
 {
     match read {

@@ -11,13 +11,23 @@ fn typed(alloc: Global, line: &[u8]) -> Result<Event, TextFault> {
 }
 
 // What is done goes through helpers without contracts, so that no test's proof follows what the cell holds.
-fn is_made(alloc: Global, zone: &ZoneName, cell: &mut Cell, shared: &mut Shared) -> Result<bool, Fail> {
+fn is_made(
+    alloc: Global,
+    zone: &ZoneName,
+    cell: &mut Cell,
+    shared: &mut Shared,
+) -> Result<bool, Fail> {
     let line = b"zonecfg -z a create -b; set zonepath=/zones/a; set brand=ipkg";
     let entry = cell_step(alloc, zone, cell, shared, typed(alloc, line)?)?;
     Ok(entry.grant == Grant::Number(1) && matches!(entry.reply.head, Head::Ok))
 }
 
-fn is_asked_for(alloc: Global, zone: &ZoneName, cell: &mut Cell, shared: &mut Shared) -> Result<bool, Fail> {
+fn is_asked_for(
+    alloc: Global,
+    zone: &ZoneName,
+    cell: &mut Cell,
+    shared: &mut Shared,
+) -> Result<bool, Fail> {
     let event = typed(alloc, b"zoneadm -z a install")?;
     let entry = cell_step_given(alloc, zone, cell, shared, event, Grant::Nothing)?;
     Ok(matches!(entry.reply.head, Head::Ticket(1)))

@@ -14,6 +14,6 @@ returns-in-Zone c =
 
 pub returns-in_ok-global_refusal-in-Global : goal.returns-in_ok-global_refusal-in-Global
 returns-in_ok-global_refusal-in-Global c = (
-    sym (c.read_event-read.ensures.subject c.args.self.now.shared) ∙ (sym c.in_ok-zone.ensures ∙ c.in-Global.is),
-    λ S. c.in_ok-global_refusal-in-Global.ensures ∙ c.read_event-read.ensures.global S,
-  )
+  sym (c.read_event-read.ensures.subject c.args.self.now.shared) ∙ (sym c.in_ok-zone.ensures ∙ c.in-Global.is),
+  λ S. c.in_ok-global_refusal-in-Global.ensures ∙ c.read_event-read.ensures.global S,
+)
