@@ -24,6 +24,7 @@ from arguments import PROGRAM
 ROOT = pathlib.Path(__file__).resolve().parent.parent
 PAGE = ROOT / "docs/MEASURES.md"
 LENGTHS = (20000, 40000)
+SESSION_MAX = 64
 CLAUSE = re.compile(r"(ensures|requires|ghost)\b")
 
 
@@ -100,12 +101,31 @@ def script(lines):
     return made.stdout
 
 
-def trace(lines):
-    """A zone is made and installed, and then boots and halts; the last turns find nothing to do."""
-    text = ["S 1 zonecfg -z a create -b; set zonepath=/zones/a; set brand=ipkg", "S 1 zoneadm -z a install"] + ["D a"] * 10
-    cycle = ["S 1 zoneadm -z a boot"] + ["D a"] * 13 + ["S 1 zoneadm -z a halt"] + ["D a"] * 11
-    text += cycle * ((lines - len(text)) // len(cycle))
-    return ("\n".join(text + ["D a"] * (lines - len(text))) + "\n").encode()
+BOOT_AND_HALT = ["zoneadm -z %s boot"] + [None] * 13 + ["zoneadm -z %s halt"] + [None] * 11
+
+
+def line_of(zone, session, typed):
+    return "S %d %s" % (session, typed % zone) if typed else "D %s" % zone
+
+
+def trace(zones):
+    """Zones are made and installed, and then boot and halt over and over: as many as there are sessions take turns line by
+    line, and more of them one after the other; the last turns find nothing to do."""
+    made = ["z%d" % number for number in range(zones)]
+
+    def text(lines):
+        out = []
+        for zone in made:
+            out.append(line_of(zone, 1, "zonecfg -z %%s create -b; set zonepath=/zones/%s; set brand=ipkg" % zone))
+            out += [line_of(zone, 1, "zoneadm -z %s install")] + [line_of(zone, 1, None)] * 10
+        if zones <= SESSION_MAX:
+            cycle = [line_of(zone, place + 1, it) for it in BOOT_AND_HALT for place, zone in enumerate(made)]
+        else:
+            cycle = [line_of(zone, 1, it) for zone in made for it in BOOT_AND_HALT]
+        out += cycle * ((lines - len(out)) // len(cycle))
+        return ("\n".join(out + [line_of(made[0], 1, None)] * (lines - len(out))) + "\n").encode()
+
+    return text
 
 
 def instructions(program, word, data):
@@ -123,7 +143,9 @@ def instructions(program, word, data):
 def speed(text, args):
     rows = [
         ("a line of `export`, over a configuration of 256 resources", "export", script),
-        ("a line of `trace`, with its reply, of a zone that boots and halts over and over", "trace", trace),
+        ("a line of `trace`, with its reply, of a zone that boots and halts over and over", "trace", trace(1)),
+        ("the same of 60 zones that take turns", "trace", trace(60)),
+        ("the same of 250 zones, one after the other", "trace", trace(250)),
     ]
     made = []
     try:

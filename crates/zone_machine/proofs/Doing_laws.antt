@@ -1,148 +1,320 @@
--- Changes of the tables, as each zone's world sees them.
-use Rattle.zone_machine.specs.declared.replies.Head.TheVariants.{Ticket}
-use Rattle.zone_machine.specs.Acts_seen.{Puts}
-use Rattle.zone_machine.specs.declared.daemon.RequestKind.{RequestKind}
-use Rattle.zone_machine.specs.Typed.{put_request, with_request}
-use Rattle.zone_machine.specs.Decisions.{acts_world, says}
-use Rattle.zone_machine.specs.declared.sessions.Session.TheVariants.{Idle, Awaiting}
+-- Changes of a cell and the shared part.
+use Rattle.std.proofs.Common.{◌≡◌, ◌∷◌, ◌++◌, [], ℕ, List, Bool, Option, Some, None, true, false, not, ◌&&◌, ◌||◌, inl, inr, refl, ap, sym, subst, ◌∙◌, ◌+◌, Global, map, true≢false}
+use Rattle.indexmap.specs.IndexMap.{get, insert_entry}
+use Rattle.std.specs.Prelude.{◌≢◌, Vec, bytes_eq, nat_eq, is_some, if◌then◌else◌}
+use Rattle.std.specs.Cmp.{nat_eq_equiv}
+use Rattle.std.specs.Option.{option_map}
+use Rattle.std.specs.List.{list_any}
 use Rattle.std.proofs.lemmas.Bool.{eqb-true}
-use Rattle.zone_machine.proofs.Sessions_laws.{session_at-swept, doing_at-swept, other_doing-swept}
-use Rattle.zone_machine.specs.Turns.{ticket_ended}
-use Rattle.zone_machine.specs.declared.sessions.Session.{Session}
+use Rattle.zn_base.specs.Names.{Name}
+use Rattle.zone_pools.proofs.Holding.{column, come_column, gone_column, kept_column}
+use Rattle.zone_pools.proofs.Owned_laws.{same_self, same_true}
+use Rattle.zone_pools.specs.Firsts.{placed}
+use Rattle.zone_pools.specs.Owned_lists.{Put, List_edit, edited, tag}
+use Rattle.zone_pools.specs.Owners as owners
+use Rattle.zone_pools.specs.Owners.{held_by, is_owner, owner}
+use Rattle.zone_pools.specs.declared.owned.Owned.{Owned}
+use Rattle.zone_machine.proofs.Acts_laws.{same_other}
+use Rattle.zone_machine.proofs.Lists_laws.{any-push, any-put, none_left}
+use Rattle.zone_machine.proofs.Waits_laws.{some_wait}
+use Rattle.zone_machine.specs.Cells.{Agree, Does, cell_world, common_in, is_wait_for, kept, row_in, rows_in, unless_ended, work_world}
+use Rattle.zone_machine.specs.Common.{Common, came_common, holding, holds_pid, holds_zid}
+use Rattle.zone_machine.specs.Edits.{Edit, Of_objects, Set_desk, at_session, comes_world, edit_world, edits_world, swept_doing}
 use Rattle.zone_machine.specs.State as state
-use Rattle.zone_machine.specs.State.{Doing}
-use Rattle.zone_machine.specs.Sessions_seen.{doing_at, session_at, ended, swept_session}
-use Rattle.zone_machine.specs.Edits.{New_id, New_process, New_record, below, comes_world, swept_doing, edits_world, Sweep, Here, at_session, Set_desk}
-use Rattle.zone_machine.specs.declared.records.Record.{Record}
+use Rattle.zone_machine.specs.Worlds.{World}
+use Rattle.zone_machine.specs.declared.cell.Cell.{Cell}
 use Rattle.zone_machine.specs.declared.objects.Id.{Id}
 use Rattle.zone_machine.specs.declared.objects.Mount.{Mount}
-use Rattle.std.proofs.Common.{◌≡◌, ◌∷◌, [], ℕ, Option, Some, None, Bool, true, false, ap, refl, sym, ◌∙◌, ◌+◌, Global}
-use Rattle.std.specs.Prelude.{◌≢◌, Vec, map, nat_eq, if◌then◌else◌}
-use Rattle.zone_pools.proofs.Owned_laws.{mine-edit, other-list, same_self, other_tag}
-use Rattle.zone_pools.proofs.Firsts_laws.{first-placed, other-placed}
-use Rattle.zn_base.specs.Names.{Name}
-use Rattle.zone_pools.specs.Owned_lists.{Come, List_edit, edit_list, edited, mine, Put}
-use Rattle.zone_pools.specs.Firsts.{first_of, placed}
-use Rattle.zone_pools.specs.declared.owned.Owned.{Owned}
-use Rattle.zone_machine.specs.Desks_seen.{desk_seen}
-use Rattle.zone_machine.specs.Tables.{Does, Rest, came_rest, desk_or_empty, kept_rest, rest_of, world_of, Acts}
-use Rattle.zone_machine.specs.Worlds.{World}
-use Rattle.zone_machine.specs.declared.desks.Desk.{Desk}
 use Rattle.zone_machine.specs.declared.objects.Process.{Process}
-use Rattle.zone_machine.specs.declared.tables.Tables.{Tables}
+use Rattle.zone_machine.specs.declared.records.Record.{Record}
+use Rattle.zone_machine.specs.declared.shared.Shared.{Shared}
+use Rattle.zone_machine.specs.declared.work.ObjectEdit.TheVariants.{EndIds, EndProcesses}
+use Rattle.zone_machine.specs.declared.work.ObjectEdit.TheVariants as object
+use Rattle.zone_machine.specs.Arrivals.{Arrival, New_id, New_process, New_record}
+use Rattle.zone_machine.specs.Objects.{Of_mounts, below, has_pid, has_zid}
+use Rattle.zone_machine.specs.Decisions.{Act, acts_world, after_came_world, sweeps, ticket_ended}
+use Rattle.zone_machine.specs.Rooms.{IsOpenTo}
+use Rattle.zone_machine.specs.declared.work.Sitting.{Sitting}
+use Rattle.zone_machine.specs.declared.work.Coming.{Coming}
+use Rattle.zone_machine.specs.declared.work.Work.{Work}
+use Rattle.zone_machine.specs.declared.work.ObjectEdit.{ObjectEdit}
+use Rattle.zone_machine.specs.declared.desks.Desk.{Desk}
+use Rattle.zone_machine.specs.Desks as desks
+use Rattle.zone_machine.specs.Desks_seen.{desk_seen}
+use Rattle.zone_machine.specs.Cases.{Works, arrival_of, object_edits, sits, work_act}
 
-pub does_nothing : (z : Name) (t : Tables) → Does z (λ w. w) kept_rest t t
-does_nothing z t = record { own = refl; others = λ y n. refl; rest = refl; started = refl }
+-- the columns that stay
+module _ (z : Name) (c : Cell) (s : Shared) (agree : Agree z c s) where
+  pub same_pids : (y : Name) (n : ℕ) → held_by (owner nat_eq s.pids) y n ≡ owners.holding z (λ n. list_any (has_pid n) c.processes.items) (held_by (owner nat_eq s.pids)) y n
+  same_pids = kept_column z (λ n. list_any (has_pid n) c.processes.items) (owner nat_eq s.pids) agree.pids
+
+  pub same_zids : (y : Name) (n : ℕ) → held_by (owner nat_eq s.zids) y n ≡ owners.holding z (λ n. list_any (has_zid n) c.ids.items) (held_by (owner nat_eq s.zids)) y n
+  same_zids = kept_column z (λ n. list_any (has_zid n) c.ids.items) (owner nat_eq s.zids) agree.zids
+
+  pub same_sessions : (y : Name) (n : ℕ) → held_by (owner nat_eq s.sessions) y n ≡ owners.holding z (λ n. is_some (get nat_eq c.waits n)) (held_by (owner nat_eq s.sessions)) y n
+  same_sessions = kept_column z (λ n. is_some (get nat_eq c.waits n)) (owner nat_eq s.sessions) agree.sessions
+
+-- nobody holds a key that is this one
+free_at : (o : ℕ → Option Name) (n : ℕ) → o n ≡ None → (k : ℕ) → nat_eq n k ≡ true → o k ≡ None
+free_at o n free k e = subst (λ m. o m ≡ None) (eqb-true n k e) free
+
+pub none_owner : (o : Option Name) → is_some o ≡ false → o ≡ None
+none_owner None h = refl
+none_owner (Some y) h = absurd (true≢false h)
+
+none_of : (b : Bool) → false ≡ (b && not b)
+none_of true = refl
+none_of false = refl
+
+pub holds_wait : (o : Option ℕ) → is_some (option_map state.Awaiting o) ≡ is_some o
+holds_wait None = refl
+holds_wait (Some t) = refl
+
+-- what is common, by its columns
+common_by : (z : Name) (w : World) (g : Common) (t : Shared) (waits : ℕ → Option ℕ)
+    → ((y : Name) (n : ℕ) → held_by (owner nat_eq t.pids) y n ≡ owners.holding z (holds_pid w) g.pids y n)
+    → ((y : Name) (n : ℕ) → held_by (owner nat_eq t.zids) y n ≡ owners.holding z (holds_zid w) g.zids y n)
+    → ((y : Name) (n : ℕ) → held_by (owner nat_eq t.sessions) y n ≡ owners.holding z (λ n. is_some (waits n)) g.sessions y n)
+    → ((n : ℕ) → is_some (w.sessions n) ≡ is_some (waits n))
+    → rows_in t.rows.entries ≡ g.rows → t.serial ≡ g.serial → t.last_pid ≡ g.last_pid → t.last_zid ≡ g.last_zid → t.started ≡ g.started
+    → common_in t ≡ holding z w g
+common_by z w g t waits pids zids sessions seen rows serial last_pid last_zid started = λ i. record {
+  pids = λ y n. pids y n i;
+  zids = λ y n. zids y n i;
+  sessions = λ y n. (sessions y n ∙ ap (λ b. if bytes_eq z y then b else g.sessions y n) (sym (seen n))) i;
+  rows = rows i;
+  serial = serial i;
+  last_pid = last_pid i;
+  last_zid = last_zid i;
+  started = started i;
+}
+
+pub does_nothing : (z : Name) (c : Cell) (s : Shared) → Does z (λ w. w) kept c s c s
+does_nothing z c s = record {
+  world = refl;
+  common = λ a. common_by z (cell_world (row_in z s) c) (common_in s) s (get nat_eq c.waits) (same_pids z c s a) (same_zids z c s a) (same_sessions z c s a) (λ n. holds_wait (get nat_eq c.waits n)) refl refl refl refl refl;
+}
+
+-- the mounts change
+pub does_mounts : (z : Name) (e : List_edit Mount) (c : Cell) (s : Shared) (v : Vec Mount Global) → v.items ≡ edited e c.mounts.items → (n : Option ℕ) → Does z (edits_world n (Of_objects (Of_mounts e) ∷ [])) kept c s (record c { mounts = v }) s
+does_mounts z e c s v h n = record {
+  world = λ i. record (cell_world (row_in z s) c) { mounts = h i };
+  common = λ a. common_by z (record (cell_world (row_in z s) c) { mounts = edited e c.mounts.items }) (common_in s) s (get nat_eq c.waits) (same_pids z c s a) (same_zids z c s a) (same_sessions z c s a) (λ n. holds_wait (get nat_eq c.waits n)) refl refl refl refl refl;
+}
+
+-- a process comes, or all go; t is the shared part with the new owners
+pub does_process : (z : Name) (c : Cell) (s t : Shared) (p : Process) (v : Vec Process Global) → owner nat_eq s.pids p.pid ≡ None
+    → ((n : ℕ) → owner nat_eq t.pids n ≡ (if nat_eq p.pid n then Some z else owner nat_eq s.pids n)) → v.items ≡ edited (Put (below p.pid) p) c.processes.items
+    → Does z (comes_world (New_process p)) (came_common z (Some (New_process p))) c s (record c { processes = v }) (record s { pids = t.pids; last_pid = p.pid })
+does_process z c s t p v free taken h = record {
+  world = λ i. record (cell_world (row_in z s) c) { processes = h i };
+  common = λ a. common_by z (record (cell_world (row_in z s) c) { processes = edited (Put (below p.pid) p) c.processes.items }) (record (common_in s) { last_pid = p.pid })
+      (record s { pids = t.pids; last_pid = p.pid }) (get nat_eq c.waits)
+      (come_column z (λ n. list_any (has_pid n) c.processes.items) (λ n. list_any (has_pid n) (edited (Put (below p.pid) p) c.processes.items)) (owner nat_eq s.pids) (owner nat_eq t.pids) (nat_eq p.pid)
+      a.pids (free_at (owner nat_eq s.pids) p.pid free) taken (λ n. any-put (has_pid n) (below p.pid) p c.processes.items))
+      (same_zids z c s a) (same_sessions z c s a) (λ n. holds_wait (get nat_eq c.waits n)) refl refl refl refl refl;
+}
+
+pub does_end_processes : (z : Name) (c : Cell) (s t : Shared) (v : Vec Process Global) → v.items ≡ []
+    → ((n : ℕ) → owner nat_eq t.pids n ≡ (if list_any (has_pid n) c.processes.items then None else owner nat_eq s.pids n))
+    → (n : Option ℕ) → Does z (edits_world n (map Of_objects (object_edits EndProcesses))) kept c s (record c { processes = v }) (record s { pids = t.pids })
+does_end_processes z c s t v h given n = record {
+  world = λ i. record (cell_world (row_in z s) c) { processes = (h ∙ sym (none_left c.processes.items)) i };
+  common = λ a. rw (none_left c.processes.items) (common_by z (record (cell_world (row_in z s) c) { processes = [] }) (common_in s) (record s { pids = t.pids }) (get nat_eq c.waits)
+      (gone_column z (λ n. list_any (has_pid n) c.processes.items) (λ n. false) (λ n. list_any (has_pid n) c.processes.items) (owner nat_eq s.pids) (owner nat_eq t.pids)
+      a.pids (λ n e. e) given (λ n. none_of (list_any (has_pid n) c.processes.items)))
+      (same_zids z c s a) (same_sessions z c s a) (λ n. holds_wait (get nat_eq c.waits n)) refl refl refl refl refl);
+}
+
+-- an id comes, or all go
+pub does_id : (z : Name) (c : Cell) (s t : Shared) (d : Id) (v : Vec Id Global) → owner nat_eq s.zids d.zid ≡ None
+    → ((n : ℕ) → owner nat_eq t.zids n ≡ (if nat_eq d.zid n then Some z else owner nat_eq s.zids n)) → v.items ≡ c.ids.items ++ d ∷ []
+    → Does z (comes_world (New_id d)) (came_common z (Some (New_id d))) c s (record c { ids = v }) (record s { zids = t.zids; last_zid = d.zid })
+does_id z c s t d v free taken h = record {
+  world = λ i. record (cell_world (row_in z s) c) { ids = h i };
+  common = λ a. common_by z (record (cell_world (row_in z s) c) { ids = c.ids.items ++ d ∷ [] }) (record (common_in s) { last_zid = d.zid })
+      (record s { zids = t.zids; last_zid = d.zid }) (get nat_eq c.waits) (same_pids z c s a)
+      (come_column z (λ n. list_any (has_zid n) c.ids.items) (λ n. list_any (has_zid n) (c.ids.items ++ d ∷ [])) (owner nat_eq s.zids) (owner nat_eq t.zids) (nat_eq d.zid)
+      a.zids (free_at (owner nat_eq s.zids) d.zid free) taken (λ n. any-push (has_zid n) c.ids.items d))
+      (same_sessions z c s a) (λ n. holds_wait (get nat_eq c.waits n)) refl refl refl refl refl;
+}
+
+pub does_end_ids : (z : Name) (c : Cell) (s t : Shared) (v : Vec Id Global) → v.items ≡ []
+    → ((n : ℕ) → owner nat_eq t.zids n ≡ (if list_any (has_zid n) c.ids.items then None else owner nat_eq s.zids n))
+    → (n : Option ℕ) → Does z (edits_world n (map Of_objects (object_edits EndIds))) kept c s (record c { ids = v }) (record s { zids = t.zids })
+does_end_ids z c s t v h given n = record {
+  world = λ i. record (cell_world (row_in z s) c) { ids = (h ∙ sym (none_left c.ids.items)) i };
+  common = λ a. rw (none_left c.ids.items) (common_by z (record (cell_world (row_in z s) c) { ids = [] }) (common_in s) (record s { zids = t.zids }) (get nat_eq c.waits) (same_pids z c s a)
+      (gone_column z (λ n. list_any (has_zid n) c.ids.items) (λ n. false) (λ n. list_any (has_zid n) c.ids.items) (owner nat_eq s.zids) (owner nat_eq t.zids)
+      a.zids (λ n e. e) given (λ n. none_of (list_any (has_zid n) c.ids.items)))
+      (same_sessions z c s a) (λ n. holds_wait (get nat_eq c.waits n)) refl refl refl refl refl);
+}
+
+-- a session waits, or those of a ticket wait no more; d is the cell with what sessions wait for then
+pub does_sits : (z : Name) (c d : Cell) (s t : Shared) (k : ℕ) (x : Sitting) → IsOpenTo z (owner nat_eq s.sessions k)
+    → ((n : ℕ) → owner nat_eq t.sessions n ≡ (if nat_eq k n then Some z else owner nat_eq s.sessions n))
+    → ((n : ℕ) → get nat_eq d.waits n ≡ at_session (Some k) n (Some x.ticket) (get nat_eq c.waits n))
+    → Does z (edits_world (Some k) (sits (Some x))) kept c s (record c { waits = d.waits }) (record s { sessions = t.sessions })
+does_sits z c d s t k x is_open taken h = record {
+  world = λ i. record (cell_world (row_in z s) c) { sessions = λ n. waits n i };
+  common = λ a. common_by z (record (cell_world (row_in z s) c) { sessions = λ n. at_session (Some k) n (Some (state.Awaiting x.ticket)) (option_map state.Awaiting (get nat_eq c.waits n)) }) (common_in s)
+      (record s { sessions = t.sessions }) (get nat_eq d.waits) (same_pids z c s a) (same_zids z c s a)
+      (column z (λ n. is_some (get nat_eq d.waits n)) (owner nat_eq s.sessions) (owner nat_eq t.sessions)
+      (λ n. ap (is_owner z) (taken n) ∙ (here a n (nat_eq k n) ∙ sym (ap is_some (h n) ∙ more (nat_eq k n) (get nat_eq c.waits n)))) (λ y ne n. ap (is_owner y) (taken n) ∙ there y ne n (nat_eq k n) refl))
+      (λ n. ap is_some (sym (waits n)) ∙ holds_wait (get nat_eq d.waits n)) refl refl refl refl refl;
+}
+  where
+    mapped : (b : Bool) (o : Option ℕ) → option_map state.Awaiting (if b then Some x.ticket else o) ≡ (if b then Some (state.Awaiting x.ticket) else option_map state.Awaiting o)
+    mapped true o = refl
+    mapped false o = refl
+
+    waits : (n : ℕ) → option_map state.Awaiting (get nat_eq d.waits n) ≡ at_session (Some k) n (Some (state.Awaiting x.ticket)) (option_map state.Awaiting (get nat_eq c.waits n))
+    waits n = ap (option_map state.Awaiting) (h n) ∙ mapped (nat_eq k n) (get nat_eq c.waits n)
+
+    more : (b : Bool) (o : Option ℕ) → is_some (if b then Some x.ticket else o) ≡ (b || is_some o)
+    more true o = refl
+    more false o = refl
+
+    here : Agree z c s → (n : ℕ) (b : Bool) → is_owner z (if b then Some z else owner nat_eq s.sessions n) ≡ (b || is_some (get nat_eq c.waits n))
+    here a n true = same_self z
+    here a n false = sym (a.sessions n)
+
+    not_mine : (y : Name) → y ≢ z → (o : Option Name) → IsOpenTo z o → is_owner y o ≡ false
+    not_mine y ne None is_open = refl
+    not_mine y ne (Some w) (inl none) = absurd (cc)
+    not_mine y ne (Some w) (inr some) = let same : w ≡ z = cc in ap (bytes_eq y) same ∙ same_other y z ne
+
+    there : (y : Name) → y ≢ z → (n : ℕ) (b : Bool) → nat_eq k n ≡ b → is_owner y (if b then Some z else owner nat_eq s.sessions n) ≡ is_owner y (owner nat_eq s.sessions n)
+    there y ne n true e = same_other y z ne ∙ sym (subst (λ m. is_owner y (owner nat_eq s.sessions m) ≡ false) (eqb-true k n e) (not_mine y ne (owner nat_eq s.sessions k) is_open))
+    there y ne n false e = refl
+
+pub does_ends : (z : Name) (c d : Cell) (s t : Shared) (ticket : ℕ) → ((n : ℕ) → get nat_eq d.waits n ≡ unless_ended ticket (get nat_eq c.waits n))
+    → ((n : ℕ) → owner nat_eq t.sessions n ≡ (if is_wait_for ticket (get nat_eq c.waits n) then None else owner nat_eq s.sessions n))
+    → (n : Option ℕ) → Does z (edits_world n (sweeps (Some ticket))) kept c s (record c { waits = d.waits }) (record s { sessions = t.sessions })
+does_ends z c d s t ticket h given n = record {
+  world = λ i. record (cell_world (row_in z s) c) { sessions = λ n. waits n i };
+  common = λ a. common_by z (record (cell_world (row_in z s) c) { sessions = λ n. swept_doing (ticket_ended ticket) (option_map state.Awaiting (get nat_eq c.waits n)) }) (common_in s)
+      (record s { sessions = t.sessions }) (get nat_eq d.waits) (same_pids z c s a) (same_zids z c s a)
+      (gone_column z (λ n. is_some (get nat_eq c.waits n)) (λ n. is_some (get nat_eq d.waits n)) (λ n. is_wait_for ticket (get nat_eq c.waits n)) (owner nat_eq s.sessions) (owner nat_eq t.sessions)
+      a.sessions (λ n. some_wait ticket (get nat_eq c.waits n)) given (λ n. ap is_some (h n) ∙ less (get nat_eq c.waits n)))
+      (λ n. ap is_some (sym (waits n)) ∙ holds_wait (get nat_eq d.waits n)) refl refl refl refl refl;
+}
+  where
+    mapped : (o : Option ℕ) → option_map state.Awaiting (unless_ended ticket o) ≡ swept_doing (ticket_ended ticket) (option_map state.Awaiting o)
+    mapped None = refl
+    mapped (Some u) = rw (nat_eq_equiv.symm u ticket) (at_test (nat_eq ticket u))
+      where
+        at_test : (b : Bool) → option_map state.Awaiting (if b then None else Some u) ≡ (if b then None else Some (state.Awaiting u))
+        at_test true = refl
+        at_test false = refl
+
+    waits : (n : ℕ) → option_map state.Awaiting (get nat_eq d.waits n) ≡ swept_doing (ticket_ended ticket) (option_map state.Awaiting (get nat_eq c.waits n))
+    waits n = ap (option_map state.Awaiting) (h n) ∙ mapped (get nat_eq c.waits n)
+
+    less : (o : Option ℕ) → is_some (unless_ended ticket o) ≡ (is_some o && not (is_wait_for ticket o))
+    less None = refl
+    less (Some u) = at_test (nat_eq u ticket)
+      where
+        at_test : (b : Bool) → is_some (if b then None else Some u) ≡ not b
+        at_test true = refl
+        at_test false = refl
+
+-- a record is stored
+pub placed_is : (z : Name) (row : Record) (es : List (Name × Record)) → rows_in (insert_entry bytes_eq es z row) ≡ placed z row (rows_in es)
+placed_is z row [] = refl
+placed_is z row (e ∷ es) = at_head (placed_is z row es) (bytes_eq z e.0) refl
+  where
+    at_head : rows_in (insert_entry bytes_eq es z row) ≡ placed z row (rows_in es) → (b : Bool) → bytes_eq z e.0 ≡ b → rows_in (insert_entry bytes_eq (e ∷ es) z row) ≡ placed z row (rows_in (e ∷ es))
+    at_head ih true h = simp h (ap (λ (y : Name). tag y row ∷ rows_in es) (sym (same_true z e.0 h)))
+    at_head ih false h = simp h (ap (λ (rows : List (Owned Record)). tag e.0 e.1 ∷ rows) ih)
+
+pub does_record : (z : Name) (c : Cell) (s t : Shared) (r : Record) → t.rows.entries ≡ insert_entry bytes_eq s.rows.entries z r → row_in z t ≡ Some r
+    → Does z (comes_world (New_record (Some r))) (came_common z (Some (New_record (Some r)))) c s c (record s { rows = t.rows; serial = s.serial + 1 })
+does_record z c s t r h found = record {
+  world = λ i. record (cell_world (row_in z s) c) { stored = found i };
+  common = λ a. common_by z (record (cell_world (row_in z s) c) { stored = Some r }) (record (common_in s) { rows = placed z r (rows_in s.rows.entries); serial = s.serial + 1 })
+      (record s { rows = t.rows; serial = s.serial + 1 }) (get nat_eq c.waits) (same_pids z c s a) (same_zids z c s a) (same_sessions z c s a) (λ n. holds_wait (get nat_eq c.waits n))
+      (ap rows_in h ∙ placed_is z r s.rows.entries) refl refl refl refl;
+}
 
 -- one after another
-pub does_then : (z : Name) (f f' : World → World) (g g' : Rest → Rest) (t u v : Tables) → Does z f g t u → Does z f' g' u v → Does z (λ w. f' (f w)) (λ r. g' (g r)) t v
-does_then z f f' g g' t u v a b = record {
-  own = b.own ∙ ap f' a.own;
-  others = λ y n. b.others y n ∙ a.others y n;
-  rest = b.rest ∙ ap g' a.rest;
-  started = b.started ∙ a.started;
-}
-
--- a change that is the same in other words
-pub does_same : (z : Name) (f f' : World → World) (g g' : Rest → Rest) (t u : Tables) → f (world_of z t) ≡ f' (world_of z t) → g (rest_of t) ≡ g' (rest_of t) → Does z f g t u → Does z f' g' t u
-does_same z f f' g g' t u e h a = record { own = a.own ∙ e; others = a.others; rest = a.rest ∙ h; started = a.started }
-
--- one table changes
-pub does_processes : (z : Name) (e : List_edit Process) (t : Tables) (v : Vec (Owned Process) Global) → v.items ≡ edit_list z e t.processes.items → Does z (λ w. record w { processes = edited e w.processes }) kept_rest t (record t { processes = v })
-does_processes z e t v h = record {
-  own = λ i. record (world_of z t) { processes = (ap (mine z) h ∙ mine-edit z e t.processes.items) i };
-  others = λ y n. λ i. record (world_of y t) { processes = (ap (mine y) h ∙ other-list z y (λ s. n (sym s)) e t.processes.items) i };
-  rest = refl;
-  started = refl;
-}
-
-pub does_mounts : (z : Name) (e : List_edit Mount) (t : Tables) (v : Vec (Owned Mount) Global) → v.items ≡ edit_list z e t.mounts.items → Does z (λ w. record w { mounts = edited e w.mounts }) kept_rest t (record t { mounts = v })
-does_mounts z e t v h = record {
-  own = λ i. record (world_of z t) { mounts = (ap (mine z) h ∙ mine-edit z e t.mounts.items) i };
-  others = λ y n. λ i. record (world_of y t) { mounts = (ap (mine y) h ∙ other-list z y (λ s. n (sym s)) e t.mounts.items) i };
-  rest = refl;
-  started = refl;
-}
-
-pub does_ids : (z : Name) (e : List_edit Id) (t : Tables) (v : Vec (Owned Id) Global) → v.items ≡ edit_list z e t.ids.items → Does z (λ w. record w { ids = edited e w.ids }) kept_rest t (record t { ids = v })
-does_ids z e t v h = record {
-  own = λ i. record (world_of z t) { ids = (ap (mine z) h ∙ mine-edit z e t.ids.items) i };
-  others = λ y n. λ i. record (world_of y t) { ids = (ap (mine y) h ∙ other-list z y (λ s. n (sym s)) e t.ids.items) i };
-  rest = refl;
-  started = refl;
-}
-
-pub does_desk : (z : Name) (d : Desk) (t : Tables) (v : Vec (Owned Desk) Global) → v.items ≡ placed z d t.desks.items → Does z (λ w. record w { desk = desk_seen d }) kept_rest t (record t { desks = v })
-does_desk z d t v h = record {
-  own = λ i. record (world_of z t) { desk = (ap (λ os. desk_or_empty (first_of (mine z os))) h ∙ ap desk_or_empty (first-placed z d t.desks.items)) i };
-  others = λ y n. λ i. record (world_of y t) { desk = (ap (λ os. desk_or_empty (first_of (mine y os))) h ∙ ap (λ os. desk_or_empty (first_of os)) (other-placed z y (λ s. n (sym s)) d t.desks.items)) i };
-  rest = refl;
-  started = refl;
-}
-
-pub does_record : (z : Name) (r : Record) (t : Tables) (v : Vec (Owned Record) Global) → v.items ≡ placed z r t.rows.items → Does z (comes_world (New_record (Some r))) (came_rest z (Some (New_record (Some r)))) t (record t { rows = v; serial = t.serial + 1 })
-does_record z r t v h = record {
-  own = λ i. record (world_of z t) { stored = (ap (λ os. first_of (mine z os)) h ∙ first-placed z r t.rows.items) i };
-  others = λ y n. λ i. record (world_of y t) { stored = (ap (λ os. first_of (mine y os)) h ∙ ap first_of (other-placed z y (λ s. n (sym s)) r t.rows.items)) i };
-  rest = λ i. record (rest_of t) { rows = h i; serial = t.serial + 1 };
-  started = refl;
-}
-
-pub does_process : (z : Name) (p : Process) (t : Tables) (v : Vec (Owned Process) Global) → v.items ≡ edit_list z (Put (below p.pid) p) t.processes.items → Does z (comes_world (New_process p)) (came_rest z (Some (New_process p))) t (record t { processes = v; last_pid = p.pid })
-does_process z p t v h = record {
-  own = λ i. record (world_of z t) { processes = (ap (mine z) h ∙ mine-edit z (Put (below p.pid) p) t.processes.items) i };
-  others = λ y n. λ i. record (world_of y t) { processes = (ap (mine y) h ∙ other-list z y (λ s. n (sym s)) (Put (below p.pid) p) t.processes.items) i };
-  rest = refl;
-  started = refl;
-}
-
-pub does_id : (z : Name) (d : Id) (t : Tables) (v : Vec (Owned Id) Global) → v.items ≡ edit_list z (Come d) t.ids.items → Does z (comes_world (New_id d)) (came_rest z (Some (New_id d))) t (record t { ids = v; last_zid = d.zid })
-does_id z d t v h = record {
-  own = λ i. record (world_of z t) { ids = (ap (mine z) h ∙ mine-edit z (Come d) t.ids.items) i };
-  others = λ y n. λ i. record (world_of y t) { ids = (ap (mine y) h ∙ other-list z y (λ s. n (sym s)) (Come d) t.ids.items) i };
-  rest = refl;
-  started = refl;
-}
-
-pub does_sessions : (z : Name) (f : ℕ → Option Doing → Option Doing) (t : Tables) (v : Vec Session Global)
-    → ((k : ℕ) → doing_at z (session_at v.items k) ≡ f k (doing_at z (session_at t.sessions.items k)))
-    → ((y : Name) → y ≢ z → (k : ℕ) → doing_at y (session_at v.items k) ≡ doing_at y (session_at t.sessions.items k))
-    → Does z (λ w. record w { sessions = λ k. f k (w.sessions k) }) kept_rest t (record t { sessions = v })
-does_sessions z f t v own others = record {
-  own = λ i. record (world_of z t) { sessions = λ k. own k i };
-  others = λ y n. λ i. record (world_of y t) { sessions = λ k. others y n k i };
-  rest = refl;
-  started = refl;
-}
-
--- whoever waits for a ticket is idle again
-pub does_ends : (z : Name) (ticket : ℕ) (t : Tables) (v : Vec Session Global) → v.items ≡ map (swept_session z (ended ticket)) t.sessions.items → Does z (edits_world None (Sweep (ticket_ended ticket) ∷ [])) kept_rest t (record t { sessions = v })
-does_ends z ticket t v h = does_sessions z (λ k. swept_doing (ticket_ended ticket)) t v
-    (λ k. rw h (ap (doing_at z) (session_at-swept t.sessions.items z (ended ticket) k) ∙ doing_at-swept z ticket (session_at t.sessions.items k)))
-    (λ y n k. rw h (ap (doing_at y) (session_at-swept t.sessions.items z (ended ticket) k) ∙ other_doing-swept z y n ticket (session_at t.sessions.items k)))
-
--- an idle session waits for a ticket of z
-pub does_waits : (z : Name) (n ticket : ℕ) (t : Tables) (v : Vec Session Global) → session_at t.sessions.items n ≡ Idle
-    → ((k : ℕ) → session_at v.items k ≡ at_session (Some n) k (Awaiting z ticket) (session_at t.sessions.items k))
-    → Does z (edits_world (Some n) (Here (Some (state.Awaiting ticket)) ∷ [])) kept_rest t (record t { sessions = v })
-does_waits z n ticket t v idle h = does_sessions z (λ k. at_session (Some n) k (Some (state.Awaiting ticket))) t v
-    (λ k. rw (h k) (own (session_at t.sessions.items k) (nat_eq n k)))
-    (λ y ne k. rw (h k) (other y ne k (nat_eq n k) refl))
+same_again : (z y : Name) (a b d : Bool) → (if bytes_eq z y then a else (if bytes_eq z y then b else d)) ≡ (if bytes_eq z y then a else d)
+same_again z y a b d = at_zone (bytes_eq z y)
   where
-    own : (s : Session) (b : Bool) → doing_at z (if b then Awaiting z ticket else s) ≡ (if b then Some (state.Awaiting ticket) else doing_at z s)
-    own s true = simp (same_self z)
-    own s false = refl
+    at_zone : (e : Bool) → (if e then a else (if e then b else d)) ≡ (if e then a else d)
+    at_zone true = refl
+    at_zone false = refl
 
-    other : (y : Name) → y ≢ z → (k : ℕ) (b : Bool) → nat_eq n k ≡ b → doing_at y (if b then Awaiting z ticket else session_at t.sessions.items k) ≡ doing_at y (session_at t.sessions.items k)
-    other y ne k true e = rw (← eqb-true n k e, idle) (simp (other_tag z y z (λ s. ne (sym s)) (same_self z)))
-    other y ne k false e = refl
+pub holding_again : (z : Name) (v w : World) (c : Common) → holding z w (holding z v c) ≡ holding z w c
+holding_again z v w c = λ i. record c {
+  pids = λ y n. same_again z y (list_any (has_pid n) w.processes) (list_any (has_pid n) v.processes) (c.pids y n) i;
+  zids = λ y n. same_again z y (list_any (has_zid n) w.ids) (list_any (has_zid n) v.ids) (c.zids y n) i;
+  sessions = λ y n. same_again z y (is_some (w.sessions n)) (is_some (v.sessions n)) (c.sessions y n) i;
+}
 
--- a request is put on z's desk, and an idle session waits for its ticket
-pub does_request : (z : Name) (kind : RequestKind) (n ticket : ℕ) (row : Record) (t : Tables) (v : Vec (Owned Desk) Global) (w : Vec Session Global) → Puts z kind ticket t.desks.items v.items
-    → session_at t.sessions.items n ≡ Idle → ((k : ℕ) → session_at w.items k ≡ at_session (Some n) k (Awaiting z ticket) (session_at t.sessions.items k))
-    → Acts z (Some n) (record { came = None; effect = put_request (world_of z t).desk kind (Some row) }) t (record t { desks = v; sessions = w })
-does_request z kind n ticket row t v w puts idle h =
-    let both = does_then z (λ w. record w { desk = desk_seen puts.desk }) (edits_world (Some n) (Here (Some (state.Awaiting ticket)) ∷ [])) kept_rest kept_rest t (record t { desks = v }) (record t { desks = v; sessions = w })
-    (does_desk z puts.desk t v puts.placed) (does_waits z n ticket (record t { desks = v }) w idle h) in
-    rw puts.room (does_same z _ (acts_world (Some n) (record { came = None; effect = record { edits = Set_desk (with_request (world_of z t).desk kind) ∷ Here (Some (state.Awaiting ((world_of z t).desk.last + 1))) ∷ []; reply = says (Ticket ((world_of z t).desk.last + 1)) } })) _ kept_rest t _
-    (rw (puts.seen, puts.number) refl) refl both)
+own_if : (z : Name) (a b : Bool) → (if bytes_eq z z then a else b) ≡ a
+own_if z a b = ap (λ e. if e then a else b) (same_self z)
+
+-- the shared part still agrees with the cell
+pub does_agree : (z : Name) (f : World → World) (g : Common → Common) (c d : Cell) (s t : Shared) → Does z f g c s d t → Agree z c s → Agree z d t
+does_agree z f g c d s t does a = record {
+  pids = λ n. ap (λ w. list_any (has_pid n) w.processes) does.world ∙ sym (ap (λ k. k.pids z n) (does.common a) ∙ own_if z _ _);
+  zids = λ n. ap (λ w. list_any (has_zid n) w.ids) does.world ∙ sym (ap (λ k. k.zids z n) (does.common a) ∙ own_if z _ _);
+  sessions = λ n. sym (holds_wait (get nat_eq d.waits n)) ∙ (ap (λ w. is_some (w.sessions n)) does.world ∙ sym (ap (λ k. k.sessions z n) (does.common a) ∙ own_if z _ _));
+}
+
+pub does_then : (z : Name) (f f' : World → World) (g : Common → Common) (c d e : Cell) (s t u : Shared) → Does z f g c s d t → Does z f' kept d t e u → Does z (λ w. f' (f w)) g c s e u
+does_then z f f' g c d e s t u one two = record {
+  world = two.world ∙ ap f' one.world;
+  common = λ a.
+      two.common (does_agree z f g c d s t one a)
+      ∙ (ap (λ w. holding z (f' w) (common_in t)) one.world
+      ∙ (ap (holding z (f' (f (cell_world (row_in z s) c)))) (one.common a)
+      ∙ holding_again z (f (cell_world (row_in z s) c)) (f' (f (cell_world (row_in z s) c))) (g (common_in s))));
+}
+
+-- what is taken after it was given back
+pub retaken : (b : Bool) (z : Name) (o : Option Name) → (if b then Some z else (if b then None else o)) ≡ (if b then Some z else o)
+retaken true z o = refl
+retaken false z o = refl
+
+-- the act of some work on a world whose desk is changed already
+edits-then : (n : Option ℕ) (xs ys : List Edit) (w : World) → edits_world n (xs ++ ys) w ≡ edits_world n ys (edits_world n xs w)
+edits-then n [] ys w = refl
+edits-then n (x ∷ xs) ys w = edits-then n xs ys (edit_world n x w)
+
+desk-came : (c : Option Arrival) (w : World) (d : desks.Desk) → after_came_world c (record w { desk = d }) ≡ record (after_came_world c w) { desk = d }
+desk-came None w d = refl
+desk-came (Some (New_process p)) w d = refl
+desk-came (Some (New_id i)) w d = refl
+desk-came (Some (New_record r)) w d = refl
+
+desk-objects : (n : Option ℕ) (o : ObjectEdit) (w : World) (d : desks.Desk) → edits_world n (map Of_objects (object_edits o)) (record w { desk = d }) ≡ record (edits_world n (map Of_objects (object_edits o)) w) { desk = d }
+desk-objects n object.Nothing w d = refl
+desk-objects n object.EndProcesses w d = refl
+desk-objects n (object.Mount m) w d = refl
+desk-objects n (object.Unmount dir) w d = refl
+desk-objects n object.EndIds w d = refl
+
+work-desk : (n : Option ℕ) (w : World) (d : desks.Desk) (work : Work) → work_world n work (record w { desk = d }) ≡ acts_world n (work_act work d) w
+work-desk n w d work =
+    let came = option_map (λ (c : Coming). arrival_of c.it) work.came in
+    let objects = map Of_objects (object_edits work.objects) in
+    let after = after_came_world came w in
+    ap (λ (v : World). edits_world n (sweeps work.ended) (edits_world n (sits work.sits) v)) (ap (edits_world n objects) (desk-came came w d) ∙ desk-objects n work.objects after d)
+    ∙ sym (edits-then n objects (Set_desk d ∷ (sits work.sits ++ sweeps work.ended)) after
+    ∙ edits-then n (sits work.sits) (sweeps work.ended) (record (edits_world n objects after) { desk = d }))
+
+-- so work that does what an act says does it, where the desk is changed before
+pub does_work : (z : Name) (n : Option ℕ) (a : Act) (work : Work) (c d : Cell) (desk : Desk) (s t : Shared) → Works n a (cell_world (row_in z s) c) (desk_seen desk) work
+    → Does z (work_world n work) (came_common z (option_map (λ (c : Coming). arrival_of c.it) work.came)) (record c { desk = desk }) s d t → Does z (acts_world n a) (came_common z a.came) c s d t
+does_work z n a work c d desk s t works does =
+    let w = cell_world (row_in z s) c in
+    let lasts : work_world n work (record w { desk = desk_seen desk }) ≡ acts_world n a w = work-desk n w (desk_seen desk) work ∙ works.world in
+    record {
+      world = does.world ∙ lasts;
+      common = λ agree.
+          does.common (record { pids = agree.pids; zids = agree.zids; sessions = agree.sessions })
+          ∙ (ap (λ v. holding z v (came_common z (option_map (λ (c : Coming). arrival_of c.it) work.came) (common_in s))) lasts
+          ∙ ap (λ x. holding z (acts_world n a w) (came_common z x (common_in s))) works.came);
+    }

@@ -1,150 +1,160 @@
--- What stands for a state after an act of one zone, and what the tables say of the state.
-use Rattle.std.proofs.Common.{◌≡◌, ◌+◌, ◌∷◌, ◌++◌, [], ℕ, List, Bool, Option, Some, None, true, false, length, refl, ap, sym, subst, ◌∙◌, length-append}
-use Rattle.std.specs.Prelude.{◌≢◌, bytes_eq}
+-- What a cell and the shared part stand for, and what they stand for after an event of the cell's zone.
+use Rattle.std.proofs.Common.{◌≡◌, ◌∷◌, [], ℕ, List, Bool, Option, Some, None, true, false, inl, inr, refl, ap, sym, subst, ◌∙◌, IfSome}
+use Rattle.indexmap.specs.IndexMap.{get}
+use Rattle.std.specs.Map.{lookup}
+use Rattle.std.specs.Prelude.{bytes_eq, is_some, nat_eq}
 use Rattle.std.specs.List.{list_any}
-use Rattle.std.proofs.lemmas.Bool.{false≢true, true≢false}
+use Rattle.std.proofs.lemmas.Bool.{true≢false}
 use Rattle.zone_pools.proofs.Owned_laws.{same_self, same_true}
 use Rattle.zn_base.specs.Names.{Name}
+use Rattle.zone_pools.specs.declared.grant.Grant.{Grant}
+use Rattle.zone_pools.specs.Firsts.{first_of}
 use Rattle.zone_pools.specs.Owned_lists.{mine}
-use Rattle.zone_pools.specs.declared.owned.Owned.{Owned}
-use Rattle.zone_machine.proofs.Laws.{OwnSession, other-acts, own-acts}
-use Rattle.zone_machine.proofs.Own_worlds.{view-world}
-use Rattle.zone_machine.specs.Decisions.{Act, acts, acts_world, after_came}
-use Rattle.zone_machine.specs.Edits.{Arrival, Edit, New_id, New_process, New_record, Processes_go, comes, edit, edits}
+use Rattle.zone_pools.specs.Owners.{held_by, is_owner, owner}
+use Rattle.zone_machine.proofs.Common_laws.{common-acts, stored-common}
+use Rattle.zone_machine.proofs.Doing_laws.{holds_wait}
+use Rattle.zone_machine.proofs.Acts_laws.{own-acts}
+use Rattle.zone_machine.proofs.Own_worlds.{own_session, view-world}
+use Rattle.zone_machine.specs.Cells.{Agree, CellOf, Does, SharedOf, cell_world, decide_in, row_in, rows_in, subject_at, subject_in}
+use Rattle.zone_machine.specs.Common.{Common, acts_common, came_common, common}
+use Rattle.zone_machine.specs.Decisions.{Act, act_of, acts_world, says}
 use Rattle.zone_machine.specs.Lines.{Line, line_of}
-use Rattle.zone_machine.specs.Machine.{decide, session_subject, started, subject}
-use Rattle.zone_machine.specs.Pools.{has_zid, path_taken, pools_of}
-use Rattle.zone_machine.specs.Sessions_seen.{doing_at, session_at}
+use Rattle.zone_machine.specs.Machine.{decide, done_by, opening, one, one_of, session_number, session_subject, subject}
 use Rattle.zone_machine.specs.State as state
-use Rattle.zone_machine.specs.State.{State, rows_from, rows_of, with_stored}
-use Rattle.zone_machine.specs.Tables.{Acts, Stands, came_rest, decide_in, pools_in, rest, subject_at, subject_in, world_of}
-use Rattle.zone_machine.specs.Worlds.{doing, has_pid, view, view_of, world}
+use Rattle.zone_machine.specs.State.{State, stored}
+use Rattle.zone_machine.specs.Steps.{IsCellStep}
+use Rattle.zone_machine.specs.Worlds.{World, doing, view, view_of, world}
+use Rattle.zone_machine.specs.declared.cell.Cell.{Cell}
 use Rattle.zone_machine.specs.declared.events.Event.{Event}
 use Rattle.zone_machine.specs.declared.events.Event.TheVariants as event
+use Rattle.zone_machine.specs.declared.events.Subject.{Subject}
 use Rattle.zone_machine.specs.declared.events.Subject.TheVariants.{Zone}
-use Rattle.zone_machine.specs.declared.records.Commit.{Commit}
 use Rattle.zone_machine.specs.declared.records.Record.{Record}
-use Rattle.zone_machine.specs.declared.sessions.Session.{Session}
-use Rattle.zone_machine.specs.declared.sessions.Session.TheVariants.{Idle, Awaiting}
-use Rattle.zone_machine.specs.declared.tables.Tables.{Tables}
+use Rattle.zone_machine.specs.declared.replies.Body.TheVariants.{Nothing as No_body}
+use Rattle.zone_machine.specs.declared.replies.Head.{Head}
+use Rattle.zone_machine.specs.declared.shared.Shared.{Shared}
+use Rattle.zone_machine.specs.Objects.{has_pid, has_zid}
+use Rattle.zone_machine.specs.Cases.{case_seen}
+use Rattle.zone_machine.specs.Rooms.{Alike, IsOpenTo}
+use Rattle.zone_machine.specs.declared.cases.Case.{Case}
 
--- what no world shows, after an act
-rest-edit : (z : Name) (n : Option ℕ) (e : Edit) (S : State) → rest (edit z n e S) ≡ rest S
-unfolding edit
-rest-edit z n (Processes_go p) S = refl
-rest-edit z n _ S = refl
-
-rest-edits : (z : Name) (n : Option ℕ) (es : List Edit) (S : State) → rest (edits z n es S) ≡ rest S
-rest-edits z n [] S = refl
-rest-edits z n (e ∷ es) S = rest-edits z n es (edit z n e S) ∙ rest-edit z n e S
-
-rows-append : (rows : List (Owned Record)) (commits : List Commit) (c : Commit) → rows_from rows (commits ++ c ∷ []) ≡ with_stored c.zone c.stored (rows_from rows commits)
-rows-append rows [] c = refl
-rows-append rows (d ∷ commits) c = rows-append (with_stored d.zone d.stored rows) commits c
-
-rest-came : (z : Name) (a : Option Arrival) (S : State) → rest (after_came z a S) ≡ came_rest z a (rest S)
-unfolding comes
-rest-came z None S = refl
-rest-came z (Some (New_process p)) S = refl
-rest-came z (Some (New_id i)) S = refl
-rest-came z (Some (New_record row)) S =
-    let c : Commit = record { zone = z; stored = row } in
-    let rows = rows-append [] S.commits c in
-    let count : length (S.commits ++ c ∷ []) ≡ length S.commits + 1 = length-append S.commits (c ∷ []) in
-    λ i. record { rows = rows i; serial = count i; last_pid = S.last_pid; last_zid = S.last_zid }
-
-started-acts : (z : Name) (n : Option ℕ) (a : Act) (S : State) → rest (acts z n a S) ≡ came_rest z a.came (rest S)
-started-acts z n a S = rest-edits z n a.effect.edits (after_came z a.came S) ∙ rest-came z a.came S
-
--- tables on which an act was done stand for the state after it
-pub Stands-acts : (S : State) (t u : Tables) (z : Name) (n : Option ℕ) (a : Act) → OwnSession z n S → Stands S t → Acts z n a t u → Stands (started (acts z n a S)) (record u { started = true })
-Stands-acts S t u z n a own s h = record {
-  worlds = λ y. at_zone y (bytes_eq z y) refl;
-  rest = started-acts z n a S ∙ (ap (came_rest z a.came) s.rest ∙ sym h.rest);
-  started = refl;
-}
+-- what is stored of a zone is its row of the shared part
+row_is : (z : Name) (es : List (Name × Record)) → first_of (mine z (rows_in es)) ≡ lookup (bytes_eq z) es
+row_is z [] = refl
+row_is z (e ∷ es) = at_head (row_is z es) (bytes_eq z e.0) refl
   where
-    at_zone : (y : Name) (b : Bool) → bytes_eq z y ≡ b → world y (acts z n a S) ≡ world_of y u
-    at_zone y true e =
-        let here : world z (acts z n a S) ≡ world_of z u = own-acts z n a S ∙ (ap (acts_world n a) (s.worlds z) ∙ sym h.own) in
-        subst (λ x. world x (acts z n a S) ≡ world_of x u) (same_true z y e) here
-    at_zone y false e =
-        let ne : z ≢ y = λ k. true≢false (sym (subst (λ x. bytes_eq z x ≡ true) k (same_self z)) ∙ e) in
-        other-acts z y ne n a S own ∙ (s.worlds y ∙ sym (h.others y (λ k. ne (sym k))))
+    at_head : first_of (mine z (rows_in es)) ≡ lookup (bytes_eq z) es → (b : Bool) → bytes_eq z e.0 ≡ b → first_of (mine z (rows_in (e ∷ es))) ≡ lookup (bytes_eq z) (e ∷ es)
+    at_head ih true h = simp h
+    at_head ih false h = simp h ih
 
--- so they do where nothing was done
-pub Stands-started : (S : State) (t : Tables) → Stands S t → Stands (started S) (record t { started = true })
-Stands-started S t s = record { worlds = s.worlds; rest = s.rest; started = refl }
+pub stored-stands : (S : State) (s : Shared) (z : Name) → SharedOf s (common S) → stored z S.commits ≡ row_in z s
+stored-stands S s z h = stored-common z S ∙ (ap (λ k. first_of (mine z k.rows)) h ∙ row_is z s.rows.entries)
 
--- the view, and with it the case of an event
-pub view-stands : (S : State) (t : Tables) (z : Name) → Stands S t → view z S ≡ view_of z (world_of z t)
-view-stands S t z s = view-world z S ∙ ap (view_of z) (s.worlds z)
+-- so a cell has its zone's world with that row
+pub cell-stands : (z : Name) (S : State) (c : Cell) (s : Shared) → CellOf c (world z S) → SharedOf s (common S) → world z S ≡ cell_world (row_in z s) c
+cell-stands z S c s cell shared = cell ∙ ap (λ row. cell_world row c) (stored-stands S s z shared)
 
-pub decide-stands : (S : State) (t : Tables) (z : Name) (e : Event) → Stands S t → decide (view z S) e ≡ decide_in z t e
-decide-stands S t z e s = ap (λ v. decide v e) (view-stands S t z s)
+pub cell-of : (w : World) (row : Option Record) (c : Cell) → w ≡ cell_world row c → CellOf c w
+cell-of w row c h = h ∙ ap (λ row. cell_world row c) (sym (ap (λ w. w.stored) h))
+
+-- the shared part agrees with each cell
+pub agrees : (z : Name) (S : State) (c : Cell) (s : Shared) → CellOf c (world z S) → SharedOf s (common S) → Agree z c s
+agrees z S c s cell shared = record {
+  pids = λ n. ap (λ w. list_any (has_pid n) w.processes) (sym cell) ∙ ap (λ k. k.pids z n) shared;
+  zids = λ n. ap (λ w. list_any (has_zid n) w.ids) (sym cell) ∙ ap (λ k. k.zids z n) shared;
+  sessions = λ n. sym (holds_wait (get nat_eq c.waits n)) ∙ (ap (λ w. is_some (w.sessions n)) (sym cell) ∙ ap (λ k. k.sessions z n) shared);
+}
+
+-- before any event nobody holds anything
+held_nowhere : (o : ℕ → Option Name) → ((n : ℕ) → o n ≡ None) → (z : Name) (n : ℕ) → false ≡ held_by o z n
+held_nowhere o none z n = sym (ap (is_owner z) (none n))
+
+pub nothing-shared : (s : Shared) → ((n : ℕ) → owner nat_eq s.pids n ≡ None) → ((n : ℕ) → owner nat_eq s.zids n ≡ None) → ((n : ℕ) → owner nat_eq s.sessions n ≡ None)
+    → s.rows.entries ≡ [] → s.serial ≡ 0 → s.last_pid ≡ 1 → s.last_zid ≡ 0 → s.started ≡ false → SharedOf s (common (opening []))
+nothing-shared s pids zids sessions rows serial last_pid last_zid started = λ i. record {
+  pids = λ z n. held_nowhere (owner nat_eq s.pids) pids z n i;
+  zids = λ z n. held_nowhere (owner nat_eq s.zids) zids z n i;
+  sessions = λ z n. held_nowhere (owner nat_eq s.sessions) sessions z n i;
+  rows = ap rows_in (sym rows) i;
+  serial = sym serial i;
+  last_pid = sym last_pid i;
+  last_zid = sym last_zid i;
+  started = sym started i;
+}
 
 -- whose an event is
-session-stands : (line : Line) (S : state.Session) (c : Session) → ((z : Name) → doing z S ≡ doing_at z c) → session_subject line S ≡ subject_at line c
-session-stands line state.Idle Idle h = refl
-session-stands line (state.At x d) Idle h = let e : doing x (state.At x d) ≡ None = h x in let some : Some d ≡ None = simp (same_self x) at e in absurd (cc)
-session-stands line state.Idle (Awaiting y t) h = let e : None ≡ doing_at y (Awaiting y t) = h y in let some : None ≡ Some (state.Awaiting t) = simp (same_self y) at e in absurd (cc)
-session-stands line (state.At x d) (Awaiting y t) h = at_zone (bytes_eq y x) refl
+session-stands : (line : Line) (m : state.Session) (o : Option Name) → ((z : Name) → is_some (doing z m) ≡ is_owner z o) → session_subject line m ≡ subject_at line o
+session-stands line state.Idle None h = refl
+session-stands line (state.At x d) None h = let e : is_some (doing x (state.At x d)) ≡ false = h x in absurd (true≢false (simp (same_self x) at e))
+session-stands line state.Idle (Some y) h = absurd (true≢false (sym (h y ∙ same_self y)))
+session-stands line (state.At x d) (Some y) h = ap Zone (at_zone (bytes_eq x y) refl)
   where
-    at_zone : (b : Bool) → bytes_eq y x ≡ b → Zone x ≡ Zone y
-    at_zone true e = ap Zone (sym (same_true y x e))
-    at_zone false e = let f : doing y (state.At x d) ≡ doing_at y (Awaiting y t) = h y in let some : None ≡ Some (state.Awaiting t) = simp (e, same_self y) at f in absurd (cc)
+    at_zone : (b : Bool) → bytes_eq x y ≡ b → x ≡ y
+    at_zone true e = same_true x y e
+    at_zone false e = let f : is_some (doing x (state.At x d)) ≡ bytes_eq x y = h x in absurd (true≢false (simp (same_self x) at f ∙ e))
 
-pub subject-stands : (S : State) (t : Tables) (e : Event) → Stands S t → subject S e ≡ subject_in t e
+pub subject-stands : (S : State) (s : Shared) (e : Event) → SharedOf s (common S) → subject S e ≡ subject_in s e
 unfolding subject
-subject-stands S t (event.Session n text) s = session-stands (line_of text) (S.sessions n) (session_at t.sessions.items n) (λ z. ap (λ w. w.sessions n) (s.worlds z))
-subject-stands S t (event.Turn z) s = refl
+subject-stands S s (event.Session n text) h = session-stands (line_of text) (S.sessions n) (owner nat_eq s.sessions n) (λ z. ap (λ k. k.sessions z n) h)
+subject-stands S s (event.Turn z) h = refl
 
--- what the pools know
-module _ {A : Type 0} (p : A → Bool) where
-  -- a thing that passes is some zone's
-  any_own : (os : List (Owned A)) → list_any (λ o. p o.it) os ≡ true → (z : Name) × (list_any p (mine z os) ≡ true)
-  any_own [] h = absurd (false≢true h)
-  any_own (o ∷ os) h = at_head (any_own os) (p o.it) refl
-    where
-      at_rest : p o.it ≡ false → (z : Name) → list_any p (mine z os) ≡ true → (b : Bool) → bytes_eq z o.zone ≡ b → list_any p (mine z (o ∷ os)) ≡ true
-      at_rest e z found true f = simp (f, e, found)
-      at_rest e z found false f = simp (f, found)
+-- the case of an event
+pub decide-stands : (S : State) (z : Name) (w : World) (e : Event) → world z S ≡ w → decide (view z S) e ≡ decide (view_of z w) e
+decide-stands S z w e h = ap (λ v. decide v e) (view-world z S ∙ ap (view_of z) h)
 
-      at_head : (list_any (λ o. p o.it) os ≡ true → (z : Name) × (list_any p (mine z os) ≡ true)) → (b : Bool) → p o.it ≡ b → (z : Name) × (list_any p (mine z (o ∷ os)) ≡ true)
-      at_head ih true e = (o.zone, simp (same_self o.zone, e))
-      at_head ih false e = let found = ih (simp e at h) in (found.0, at_rest e found.0 found.1 (bytes_eq found.0 o.zone) refl)
+-- the session of an event of z is nobody's or z's
+pub open-to : (z : Name) (s : Shared) (e : Event) → subject_in s e ≡ Zone z → IfSome (session_number e) (λ n. IsOpenTo z (owner nat_eq s.sessions n))
+open-to z s (event.Turn y) is = tt
+open-to z s (event.Session n text) is = at_owner (owner nat_eq s.sessions n) is
+  where
+    at_owner : (o : Option Name) → subject_at (line_of text) o ≡ Zone z → IsOpenTo z o
+    at_owner None h = inl refl
+    at_owner (Some y) h = inr (ap Some (same h))
+      where
+        same : Zone y ≡ Zone z → y ≡ z
+        same h = cc
 
-  any_mine : (z : Name) (os : List (Owned A)) → list_any p (mine z os) ≡ true → list_any (λ o. p o.it) os ≡ true
-  any_mine z [] h = h
-  any_mine z (o ∷ os) h = at_tests (any_mine z os) (bytes_eq z o.zone) (p o.it) refl refl h
-    where
-      at_tests : (list_any p (mine z os) ≡ true → list_any (λ o. p o.it) os ≡ true) → (b q : Bool) → bytes_eq z o.zone ≡ b → p o.it ≡ q → list_any p (mine z (o ∷ os)) ≡ true → list_any (λ o. p o.it) (o ∷ os) ≡ true
-      at_tests ih b true e f h = simp f
-      at_tests ih true false e f h = simp f (ih (simp (e, f) at h))
-      at_tests ih false false e f h = simp f (ih (simp e at h))
+-- an event, by its subject
+one-of : (S : State) (e : Event) (g : Grant) (s : Subject) → subject S e ≡ s → one S e g ≡ one_of s S e g
+unfolding one
+one-of S e g s is = ap (λ s. one_of s S e g) is
 
-  -- lists that look alike to every zone have the same among them
-  same_any : (os ps : List (Owned A)) → ((z : Name) → mine z os ≡ mine z ps) → list_any (λ o. p o.it) os ≡ list_any (λ o. p o.it) ps
-  same_any os ps h = at_tests (list_any (λ o. p o.it) os) (list_any (λ o. p o.it) ps) refl refl
-    where
-      passes : (xs ys : List (Owned A)) → ((z : Name) → mine z xs ≡ mine z ys) → list_any (λ o. p o.it) xs ≡ true → list_any (λ o. p o.it) ys ≡ true
-      passes xs ys same e = let found = any_own xs e in any_mine found.0 ys (subst (λ ms. list_any p ms ≡ true) (same found.0) found.1)
+-- an event of z, whose case on the cell c and the shared part s was done and left d and t
+module _ (z : Name) (c d : Cell) (s t : Shared) (e : Event) (g : Grant) (head : Head) where
+  abbrev done_in : Act
+  done_in = act_of (decide_in z (row_in z s) c e) g
 
-      at_tests : (b c : Bool) → list_any (λ o. p o.it) os ≡ b → list_any (λ o. p o.it) ps ≡ c → b ≡ c
-      at_tests true true e f = refl
-      at_tests false false e f = refl
-      at_tests true false e f = sym (passes os ps h e) ∙ f
-      at_tests false true e f = sym e ∙ passes ps os (λ z. sym (h z)) f
+  pub cell-answered : says head ≡ done_in.effect.reply
+      → (IfSome (session_number e) (λ n. IsOpenTo z (owner nat_eq s.sessions n)) → Does z (acts_world (session_number e) done_in) (came_common z done_in.came) c s d t)
+      → IsCellStep z c s e g (record { event = e; subject = Zone z; grant = g; reply = record { head = head; body = No_body } }) d (record t { started = true })
+  cell-answered said done S has shares is =
+      let n = session_number e in let w = cell_world (row_in z s) c in let a = done_in in
+      let here : world z S ≡ w = cell-stands z S c s has shares in
+      let does = done (open-to z s e (sym (subject-stands S s e shares) ∙ is)) in
+      let case : decide (view z S) e ≡ decide_in z (row_in z s) c e = decide-stands S z w e here in
+      let steps : one S e g ≡ done_by z n a S = one-of S e g (Zone z) is ∙ ap (λ x. done_by z n (act_of x g) S) case in
+      let told : says head ≡ (one S e g).reply = said ∙ ap (λ x. x.reply) (sym steps) in
+      let left : world z (done_by z n a S).state ≡ cell_world (row_in z t) d = own-acts z n a S ∙ (ap (acts_world n a) here ∙ sym does.world) in
+      record {
+        told = λ i. record { event = e; subject = sym is i; grant = g; reply = told i };
+        cell = subst (λ x. CellOf d (world z x.state)) (sym steps) (cell-of (world z (done_by z n a S).state) (row_in z t) d left);
+        shared = subst (λ x. SharedOf (record t { started = true }) (common x.state)) (sym steps)
+            (common-acts z n a S (own_session S e z is) ∙ (ap (λ x. acts_common z n a x (common S)) here
+            ∙ (ap (acts_common z n a w) shares ∙ ap (λ (x : Common). record x { started = true }) (sym (does.common (agrees z S c s has shares))))));
+      }
 
-pub pools-stand : (S : State) (t : Tables) → Stands S t → pools_of S ≡ pools_in t
-pools-stand S t s =
-    let r = s.rest in
-    λ i. record {
-      pid_used = λ n. same_any (has_pid n) S.processes t.processes.items (λ z. ap (λ w. w.processes) (s.worlds z)) i;
-      zid_used = λ n. same_any (has_zid n) S.ids t.ids.items (λ z. ap (λ w. w.ids) (s.worlds z)) i;
-      last_pid = (r i).last_pid;
-      last_zid = (r i).last_zid;
-      zones = length (r i).rows;
-      path_taken = path_taken (r i).rows;
-      serial = (r i).serial;
-    }
+-- the same, where room was taken between: c and s are as they were, c' and s' with the room
+module _ (z : Name) (c : Cell) (s : Shared) (c' d : Cell) (s' t : Shared) (e : Event) (g : Grant) (head : Head) (case : Case) (alike : Alike c s c' s') where
+  row_alike : row_in z s' ≡ row_in z s
+  row_alike = ap (lookup (bytes_eq z)) alike.rows
+
+  pub answered : decide_in z (row_in z s) c e ≡ case_seen c.desk case → case_seen c'.desk case ≡ case_seen c.desk case → says head ≡ (act_of (case_seen c'.desk case) g).effect.reply
+      → (IfSome (session_number e) (λ n. IsOpenTo z (owner nat_eq s'.sessions n)) → Does z (acts_world (session_number e) (act_of (case_seen c'.desk case) g)) (came_common z (act_of (case_seen c'.desk case) g).came) c' s' d t)
+      → IsCellStep z c s e g (record { event = e; subject = Zone z; grant = g; reply = record { head = head; body = No_body } }) d (record t { started = true })
+  answered decided same said done S cell shared is =
+      let here : decide_in z (row_in z s') c' e ≡ case_seen c'.desk case =
+      ap (λ (w : World). decide (view_of z w) e) (ap (λ row. cell_world row c') row_alike ∙ alike.world (row_in z s)) ∙ (decided ∙ sym same) in
+      cell-answered z c' d s' t e g head
+      (said ∙ ap (λ x. (act_of x g).effect.reply) (sym here))
+      (λ opens. subst (λ x. Does z (acts_world (session_number e) (act_of x g)) (came_common z (act_of x g).came) c' s' d t) (sym here) (done opens))
+      S (cell ∙ sym (alike.world (world z S).stored)) (shared ∙ sym alike.common) is

@@ -1,71 +1,340 @@
--- A step of the tables is the definitions' step.
-use Rattle.std.proofs.Common.{◌≡◌, ℕ, List, Option, Some, None, Result, Ok as Right, Err, true, refl, ap, sym, subst, ◌∙◌}
+-- What the machine's parts say of a state that they stand for, and a step of them.
+use Rattle.std.proofs.Common.{◌≡◌, ◌<◌, ℕ, List, Bool, Option, Some, None, Result, Ok as Right, Err, true, false, get_or, length, refl, ap, sym, subst, ◌∙◌, []}
+use Rattle.indexmap.proofs.CallerLemmas.{updates-with_value_at}
+use Rattle.indexmap.specs.IndexMap.{IsUnique, get_by, index_of_by, keys, with_value_at, values}
+use Rattle.std.specs.Cmp.Lexicographic.{nat_list_eq_equiv}
+use Rattle.std.specs.Prelude.{bytes_eq, is_some, nat_eq, slice_get, if◌then◌else◌}
+use Rattle.std.specs.List.{list_any}
+use Rattle.std.specs.Option.{option_map}
+use Rattle.std.proofs.lemmas.List.Quantifiers.{position-Some}
+use Rattle.std.proofs.lemmas.Bool.{true≢false}
+use Rattle.std.proofs.lemmas.Option.{get_or_from_slice_get, slice_get-get_or, slice_get-map}
 use Rattle.zn_base.specs.Names.{Name, name_of}
-use Rattle.zone_pools.specs.declared.grant.Grant.{Grant}
 use Rattle.zn_base.specs.declared.name.NameFault.{NameFault}
-use Rattle.zone_machine.proofs.Own_worlds.{own_session}
-use Rattle.zone_machine.proofs.Standing.{Stands-acts, Stands-started, decide-stands, subject-stands}
-use Rattle.zone_machine.specs.Decisions.{act_of, says}
+use Rattle.zn_base.specs.declared.state.ZoneState.{ZoneState}
+use Rattle.zone_pools.proofs.Owned_laws.{same_self, same_true}
+use Rattle.zone_pools.specs.Asked.{Asked}
+use Rattle.zone_pools.specs.Decisions.{asked_of}
+use Rattle.zone_pools.specs.Owned_lists.{mine}
+use Rattle.zone_pools.specs.Owners.{is_owner, owner}
+use Rattle.zone_pools.specs.Pools.{fits_asked, said_by_all, Pools}
+use Rattle.zone_pools.specs.declared.grant.Grant.{Grant}
+use Rattle.zone_pools.specs.declared.grant.Grant.TheVariants.{Nothing}
+use Rattle.zone_pools.specs.declared.owned.Owned.{Owned}
+use Rattle.zone_machine.proofs.Common_laws.{any_mine, any_own}
+use Rattle.zone_machine.proofs.Own_worlds.{leaves}
+use Rattle.zone_machine.proofs.Standing.{cell-stands, decide-stands, stored-stands, subject-stands}
+use Rattle.zone_machine.specs.Cells.{CellOf, Keeps, SharedOf, Stands, cell_at, cell_world, decide_in, pools_in, row_in, subject_at, subject_in, world_or_empty}
+use Rattle.zone_machine.specs.Common.{Common, common}
+use Rattle.zone_machine.specs.Decisions.{says}
+use Rattle.zone_machine.specs.Histories.{concerns}
 use Rattle.zone_machine.specs.Lines.{Line, line_of}
-use Rattle.zone_machine.specs.Machine.{Answered, decide, done_by, global_reply, named_subject, one, one_of, session_number, subject, subject_of_name}
-use Rattle.zone_machine.specs.Sessions_seen.{session_at}
-use Rattle.zone_machine.specs.State.{State}
-use Rattle.zone_machine.specs.Steps.{Heads, IsHead, IsStep}
-use Rattle.zone_machine.specs.Tables.{Acts, Stands, decide_in, subject_at, subject_in, world_of}
-use Rattle.zone_machine.specs.Typed.{global_line, typed}
-use Rattle.zone_machine.specs.Worlds.{view, view_of}
+use Rattle.zone_machine.specs.Machine.{decide, global_reply, named_subject, one, one_of, subject, subject_of_name}
+use Rattle.zone_machine.specs.Pools.{allowed, allowed_of, fits, fits_of, path_taken, pools_of}
+use Rattle.zone_machine.specs.State.{State, stored}
+use Rattle.zone_machine.specs.Rooms.{Alike}
+use Rattle.zone_machine.specs.Steps.{CellAnswers, IsCellStep, IsStep, IsZoneState, Answers, IsCellMisfitUnder, IsCellStepUnder, IsGrantFor, IsUnfit, IsMisfitUnder, IsStepUnder, IsTaken, Takes, AsItWas}
+use Rattle.zone_machine.specs.Worlds.{World, view, view_of, world}
+use Rattle.zone_machine.specs.declared.cell.Cell.{Cell}
+use Rattle.zone_machine.specs.declared.events.Entry.{Entry}
 use Rattle.zone_machine.specs.declared.events.Event.{Event}
 use Rattle.zone_machine.specs.declared.events.Event.TheVariants as event
 use Rattle.zone_machine.specs.declared.events.Subject.{Subject}
 use Rattle.zone_machine.specs.declared.events.Subject.TheVariants.{Zone, Global, Whole}
+use Rattle.zone_machine.specs.declared.parts.Parts.{Parts}
+use Rattle.zone_machine.specs.declared.records.Record.{Record}
 use Rattle.zone_machine.specs.declared.replies.Body.TheVariants.{Nothing as No_body}
 use Rattle.zone_machine.specs.declared.replies.Head.{Head}
-use Rattle.zone_machine.specs.declared.sessions.Session.{Session}
-use Rattle.zone_machine.specs.declared.sessions.Session.TheVariants.{Idle, Awaiting}
-use Rattle.zone_machine.specs.declared.tables.Tables.{Tables}
+use Rattle.zone_machine.specs.declared.shared.Shared.{Shared}
+use Rattle.zone_machine.specs.Objects.{has_pid, has_zid}
+use Rattle.zone_machine.specs.Desks.{state_of}
+use Rattle.zone_machine.specs.Decided.{IsDecided, IsDecidedZone}
+use Rattle.zone_machine.specs.Decisions.{Decision}
+use Rattle.zone_machine.specs.Worlds.{View}
+use Rattle.zone_machine.specs.declared.parts.Decided.{Decided}
+use Rattle.zone_machine.specs.declared.parts.Decided.TheVariants as decided
+use Rattle.std.specs.Prelude.{Box}
+use Rattle.std.specs.Global.{Global as Alloc}
+use Rattle.zone_machine.proofs.Freeing.{asks_case, freed}
+use Rattle.zone_machine.specs.Cases.{case_seen}
+use Rattle.zone_machine.specs.Decided.{IsCaseIn, IsFreeFor}
+use Rattle.zone_machine.specs.Decisions.{act_of}
+use Rattle.zone_machine.specs.Rooms.{IsFreeOf}
+use Rattle.zone_machine.specs.declared.cases.Case.{Case}
 
--- the case of a line
-pub decide-session : (z : Name) (t : Tables) (n : ℕ) (text : List ℕ) → decide_in z t (event.Session n text) ≡ typed (view_of z (world_of z t)) ((world_of z t).sessions n) (line_of text)
-unfolding decide view_of
-decide-session z t n text = refl
+-- what the pools know
+module _ {A : Type 0} (p : A → Bool) where
+  -- a number is used exactly where it has an owner
+  used-stands : (os : List (Owned A)) (o : Option Name) → ((z : Name) → list_any p (mine z os) ≡ is_owner z o) → list_any (λ o. p o.it) os ≡ is_some o
+  used-stands os (Some y) h = any_mine p y os (h y ∙ same_self y)
+  used-stands os None h = at_test (list_any (λ o. p o.it) os) refl
+    where
+      at_test : (b : Bool) → list_any (λ o. p o.it) os ≡ b → b ≡ false
+      at_test false e = refl
+      at_test true e = let found = any_own p os e in sym found.1 ∙ h found.0
 
--- an event, by what the definitions answer it
-heads-by : (S : State) (e : Event) (g : Grant) (head : Head) (u : Tables) (r : Answered) → one S e g ≡ r → says head ≡ r.reply → Stands r.state (record u { started = true }) → Heads S e g head u
-heads-by S e g head u r is said stands = record {
-  says = said ∙ ap (λ r. r.reply) (sym is);
-  stands = subst (λ r. Stands r.state (record u { started = true })) (sym is) stands;
+pub pools-stand : (S : State) (s : Shared) → SharedOf s (common S) → pools_of S ≡ pools_in s
+pools-stand S s h = λ i. record {
+  pid_used = λ n. used-stands (has_pid n) S.processes (owner nat_eq s.pids n) (λ z. ap (λ k. k.pids z n) h) i;
+  zid_used = λ n. used-stands (has_zid n) S.ids (owner nat_eq s.zids n) (λ z. ap (λ k. k.zids z n) h) i;
+  last_pid = (h i).last_pid;
+  last_zid = (h i).last_zid;
+  zones = length (h i).rows;
+  path_taken = path_taken (h i).rows;
+  serial = (h i).serial;
 }
 
-one-of : (S : State) (e : Event) (g : Grant) (s : Subject) → subject S e ≡ s → one S e g ≡ one_of s S e g
-unfolding one
-one-of S e g s is = ap (λ s. one_of s S e g) is
+-- what the pools give, and whether a stated grant fits
+module _ (S : State) (s : Shared) (z : Name) (w : World) (e : Event) (asked : List Asked) (h : SharedOf s (common S)) (here : world z S ≡ w) (of : subject S e ≡ Zone z) (asks : asked_of (decide (view_of z w) e) ≡ asked) where
+  asked-stands : asked_of (decide (view z S) e) ≡ asked
+  asked-stands = ap asked_of (decide-stands S z w e here) ∙ asks
 
--- an event of a zone
-pub IsHead-zone : (t u : Tables) (z : Name) (e : Event) (g : Grant) (head : Head) → subject_in t e ≡ Zone z → says head ≡ (act_of (decide_in z t e) g).effect.reply → Acts z (session_number e) (act_of (decide_in z t e) g) t u → IsHead t e g head u
-IsHead-zone t u z e g head is said acts S s =
-    let of : subject S e ≡ Zone z = subject-stands S t e s ∙ is in
-    let case : decide (view z S) e ≡ decide_in z t e = decide-stands S t z e s in
-    let does = ap (λ d. done_by z (session_number e) (act_of d g) S) case in
-    heads-by S e g head u (done_by z (session_number e) (act_of (decide_in z t e) g) S) (one-of S e g (Zone z) of ∙ does) said
-    (Stands-acts S t u z (session_number e) (act_of (decide_in z t e) g) (own_session S e z of) s acts)
+  pub allowed-by : said_by_all (pools_in s) z asked Nothing ≡ allowed S e
+  unfolding allowed
+  allowed-by = sym (ap (λ x. allowed_of x S e) of ∙ λ i. said_by_all (pools-stand S s h i) z (asked-stands i) Nothing)
+
+  pub fits-by : (g : Grant) → fits S e g ≡ fits_asked (pools_in s) asked g
+  unfolding fits
+  fits-by g = ap (λ x. fits_of x S e g) of ∙ λ i. fits_asked (pools-stand S s h i) (asked-stands i) g
+
+-- the grant that a case takes
+module _ (S : State) (s : Shared) (z : Name) (w : World) (e : Event) (asked : List Asked) (h : SharedOf s (common S)) (here : world z S ≡ w) (of : subject S e ≡ Zone z) (asks : asked_of (decide (view_of z w) e) ≡ asked) where
+  pub takes-by : (stated : Option Grant) (g : Grant) → IsGrantFor z (pools_in s) asked stated g → Takes stated S e g
+  takes-by None g takes = takes ∙ allowed-by S s z w e asked h here of asks
+  takes-by (Some stated) g takes = (takes.0, fits-by S s z w e asked h here of asks stated ∙ takes.1)
+
+-- a step of a cell under the grant that its case takes
+module _ (z : Name) (c : Cell) (s : Shared) (e : Event) where
+  pub IsCellStepUnder-by : (stated : Option Grant) (g : Grant) (entry : Entry) (d : Cell) (t : Shared) (asked : List Asked) → asked_of (decide_in z (row_in z s) c e) ≡ asked
+      → IsGrantFor z (pools_in s) asked stated g → entry.grant ≡ g → IsCellStep z c s e g entry d t → IsCellStepUnder z stated c s e entry d t
+  IsCellStepUnder-by stated g entry d t asked asks takes is steps S cell shared of = record {
+    takes = subst (Takes stated S e) (sym is) (takes-by S s z (cell_world (row_in z s) c) e asked shared (cell-stands z S c s cell shared) of asks stated g takes);
+    answers = subst (λ g. CellAnswers z S e g entry d t) (sym is) (steps S cell shared of);
+  }
+
+  pub IsCellMisfitUnder-by : (stated : Option Grant) (asked : List Asked) → asked_of (decide_in z (row_in z s) c e) ≡ asked → IsUnfit (pools_in s) asked stated → IsCellMisfitUnder z stated c s e c s
+  IsCellMisfitUnder-by None asked asks unfit = absurd unfit
+  IsCellMisfitUnder-by (Some stated) asked asks unfit =
+      (λ S cell shared of. fits-by S s z (cell_world (row_in z s) c) e asked shared (cell-stands z S c s cell shared) of asks stated ∙ unfit, refl, refl)
+
+-- a cell and a shared part that are alike stand for the same, and so a step of the ones is one of the others
+module _ (z : Name) (c : Cell) (s : Shared) (c' : Cell) (s' : Shared) (alike : Alike c s c' s') where
+  pub alike-cell : (w : World) → CellOf c w → CellOf c' w
+  alike-cell w h = h ∙ sym (alike.world w.stored)
+
+  pub alike-shared : (k : Common) → SharedOf s k → SharedOf s' k
+  alike-shared k h = h ∙ sym alike.common
+
+  pub IsCellStep-alike : (e : Event) (g : Grant) (entry : Entry) (d : Cell) (t : Shared) → IsCellStep z c' s' e g entry d t → IsCellStep z c s e g entry d t
+  IsCellStep-alike e g entry d t steps S cell shared of = steps S (alike-cell (world z S) cell) (alike-shared (common S) shared) of
+
+-- the world of each zone
+pub world-stands : (S : State) (m : Parts) (z : Name) → Stands S m → world z S ≡ world_or_empty (row_in z m.shared) (cell_at z m)
+world-stands S m z h = h.worlds z ∙ ap (λ row. world_or_empty row (cell_at z m)) (stored-stands S m.shared z h.shared)
+
+-- the same of the machine, by the cell that has a zone's world, and a stated grant that doesn't fit
+module _ (m : Parts) (z : Name) (e : Event) (c : Cell) (asked : List Asked) (is : subject_in m.shared e ≡ Zone z) (same : (row : Option Record) → world_or_empty row (cell_at z m) ≡ cell_world row c)
+    (asks : asked_of (decide (view_of z (cell_world (row_in z m.shared) c)) e) ≡ asked) where
+  pub IsTaken-cell : (stated : Option Grant) (g : Grant) → IsGrantFor z (pools_in m.shared) asked stated g → IsTaken m stated e g
+  IsTaken-cell stated g takes S h =
+      takes-by S m.shared z (cell_world (row_in z m.shared) c) e asked h.shared (world-stands S m z h ∙ same (row_in z m.shared)) (subject-stands S m.shared e h.shared ∙ is) asks stated g takes
+
+  pub IsMisfitUnder-cell : (stated : Option Grant) → IsUnfit (pools_in m.shared) asked stated → IsMisfitUnder stated m e m
+  IsMisfitUnder-cell None unfit = absurd unfit
+  IsMisfitUnder-cell (Some stated) unfit =
+      (λ S h. fits-by S m.shared z (cell_world (row_in z m.shared) c) e asked h.shared (world-stands S m z h ∙ same (row_in z m.shared)) (subject-stands S m.shared e h.shared ∙ is) asks stated ∙ unfit, refl)
+
+allowed-of : (S : State) (e : Event) (s : Subject) → subject S e ≡ s → allowed S e ≡ allowed_of s S e
+unfolding allowed
+allowed-of S e s is = ap (λ s. allowed_of s S e) is
+
+fits-of : (S : State) (e : Event) (g : Grant) (s : Subject) → subject S e ≡ s → fits S e g ≡ fits_of s S e g
+unfolding fits
+fits-of S e g s is = ap (λ s. fits_of s S e g) is
+
+-- a zone's state
+pub IsZoneState-in : (m : Parts) (z : Name) (s : Option ZoneState) → s ≡ state_of (row_in z m.shared) (world_or_empty (row_in z m.shared) (cell_at z m)).desk → IsZoneState m z s
+IsZoneState-in m z s is S h = is ∙ (ap (λ (w : World). state_of (row_in z m.shared) w.desk) (sym (world-stands S m z h)) ∙ ap (λ row. state_of row (S.desks z)) (sym (stored-stands S m.shared z h.shared)))
+
+-- a zone's new cell is kept, or it has nothing
+pub Keeps-new : (z : Name) (d : Cell) (old new : Name → Option Cell) → ((y : Name) → new y ≡ (if bytes_eq z y then Some d else old y)) → Keeps z d old new
+Keeps-new z d old new now = λ row y. ap (world_or_empty row) (now y) ∙ at_world row y (bytes_eq z y)
+  where
+    at_world : (row : Option Record) (y : Name) (b : Bool) → world_or_empty row (if b then Some d else old y) ≡ (if b then cell_world row d else world_or_empty row (old y))
+    at_world row y true = refl
+    at_world row y false = refl
+
+pub Keeps-same : (z : Name) (d : Cell) (old : Name → Option Cell) → ((row : Option Record) → cell_world row d ≡ world_or_empty row (old z)) → Keeps z d old old
+Keeps-same z d old same = λ row y. at_zone row y (bytes_eq z y) refl
+  where
+    at_zone : (row : Option Record) (y : Name) (b : Bool) → bytes_eq z y ≡ b → world_or_empty row (old y) ≡ (if b then cell_world row d else world_or_empty row (old y))
+    at_zone row y true e = ap (λ y. world_or_empty row (old y)) (sym (same_true z y e)) ∙ sym (same row)
+    at_zone row y false e = refl
+
+-- the cell at an index is changed, and all others stay
+pub Keeps-at : (m u : Parts) (z : Name) (i : ℕ) (d : Cell) → IsUnique bytes_eq m.cells → index_of_by (bytes_eq z) m.cells ≡ Some i → u.cells ≡ with_value_at m.cells i d
+    → Keeps z d (λ y. cell_at y m) (λ y. cell_at y u)
+Keeps-at m u z i d unique found now = Keeps-new z d (λ y. cell_at y m) (λ y. cell_at y u) (λ y. ap (get_by (bytes_eq y)) now ∙ at_entry (slice_get m.cells.entries i) refl y)
+  where
+    within : i < length (keys m.cells)
+    within = (position-Some (bytes_eq z) (keys m.cells) i z found).0
+
+    is_key : bytes_eq z (get_or (keys m.cells) i z) ≡ true
+    is_key = (position-Some (bytes_eq z) (keys m.cells) i z found).1
+
+    key_at : (o : Option (Name × Cell)) → slice_get m.cells.entries i ≡ o → slice_get (keys m.cells) i ≡ option_map (λ e. e.0) o
+    key_at o e = slice_get-map (λ e. e.0) m.cells.entries i ∙ ap (option_map (λ (e : Name × Cell). e.0)) e
+
+    at_entry : (o : Option (Name × Cell)) → slice_get m.cells.entries i ≡ o → (y : Name) → get_by (bytes_eq y) (with_value_at m.cells i d) ≡ (if bytes_eq z y then Some d else cell_at y m)
+    at_entry (Some e) here y =
+        let same : z ≡ e.0 = same_true z e.0 (ap (bytes_eq z) (sym (get_or_from_slice_get (keys m.cells) i e.0 z (key_at (Some e) here))) ∙ is_key) in
+        subst (λ x. get_by (bytes_eq y) (with_value_at m.cells i d) ≡ (if bytes_eq x y then Some d else cell_at y m)) (sym same) ((updates-with_value_at m.cells i d nat_list_eq_equiv unique e.0 e.1 here).0 y)
+    at_entry None none y = absurd (past (sym (slice_get-get_or (keys m.cells) i z within) ∙ key_at None none))
+      where
+        past : Some (get_or (keys m.cells) i z) ≡ None → ⊥
+        past h = cc
+
+-- a step of the machine, by a step of a cell
+module _ (m u : Parts) (z : Name) (e : Event) (c d : Cell) (same : (row : Option Record) → world_or_empty row (cell_at z m) ≡ cell_world row c) (keeps : Keeps z d (λ y. cell_at y m) (λ y. cell_at y u)) where
+  left_at : (y : Name) (row : Option Record) (b : Bool) → bytes_eq z y ≡ b → world_or_empty row (cell_at y u) ≡ (if b then cell_world row d else world_or_empty row (cell_at y m))
+  left_at y row b k = keeps row y ∙ ap (λ b. if b then cell_world row d else world_or_empty row (cell_at y m)) k
+
+  pub stands-cell : (S : State) → Stands S m → CellOf c (world z S)
+  stands-cell S h = h.worlds z ∙ same (stored z S.commits)
+
+  pub Stands-cell : (S : State) (g : Grant) (entry : Entry) → subject S e ≡ Zone z → Stands S m → CellAnswers z S e g entry d u.shared → Answers S e g entry u
+  Stands-cell S g entry of h after =
+      record {
+        told = after.told;
+        stands = record { worlds = λ y. at_zone y (bytes_eq z y) refl; shared = after.shared };
+      }
+    where
+      other : (y : Name) → bytes_eq z y ≡ false → bytes_eq y z ≡ false
+      other y k = nat_list_eq_equiv.symm y z ∙ k
+
+      at_zone : (y : Name) (b : Bool) → bytes_eq z y ≡ b → world y (one S e g).state ≡ world_or_empty (stored y (one S e g).state.commits) (cell_at y u)
+      at_zone y true k =
+          subst (λ x. world x (one S e g).state ≡ cell_world (stored x (one S e g).state.commits) d) (same_true z y k) after.cell
+          ∙ sym (left_at y (stored y (one S e g).state.commits) true k)
+      at_zone y false k =
+          let kept : world y (one S e g).state ≡ world y S = leaves y S e g (ap (concerns y) of ∙ other y k) in
+          kept ∙ (h.worlds y ∙ (ap (λ row. world_or_empty row (cell_at y m)) (sym (ap (λ w. w.stored) kept)) ∙ sym (left_at y (stored y (one S e g).state.commits) false k)))
+
+  pub IsStep-cell : (g : Grant) (entry : Entry) → subject_in m.shared e ≡ Zone z → IsCellStep z c m.shared e g entry d u.shared → IsStep m e g entry u
+  IsStep-cell g entry is steps S h =
+      let of : subject S e ≡ Zone z = subject-stands S m.shared e h.shared ∙ is in
+      Stands-cell S g entry of h (steps S (stands-cell S h) h.shared of)
+
+  -- where the cell and the shared part are alike to what they were, the machine is as it was
+  pub AsItWas-cell : Alike c m.shared d u.shared → AsItWas m u
+  AsItWas-cell alike S = (
+    λ h. record { worlds = λ y. h.worlds y ∙ kept y (stored y S.commits); shared = h.shared ∙ sym alike.common },
+    λ h. record { worlds = λ y. h.worlds y ∙ sym (kept y (stored y S.commits)); shared = h.shared ∙ alike.common },
+  )
+    where
+      kept : (y : Name) (row : Option Record) → world_or_empty row (cell_at y m) ≡ world_or_empty row (cell_at y u)
+      kept y row = at_zone (bytes_eq z y) refl
+        where
+          at_zone : (b : Bool) → bytes_eq z y ≡ b → world_or_empty row (cell_at y m) ≡ world_or_empty row (cell_at y u)
+          at_zone true k = subst (λ x. world_or_empty row (cell_at x m) ≡ cell_world row d) (same_true z y k) (same row ∙ sym (alike.world row)) ∙ sym (left_at y row true k)
+          at_zone false k = sym (left_at y row false k)
+
+pub IsStepUnder-by : (m u : Parts) (e : Event) (stated : Option Grant) (g : Grant) (entry : Entry) → IsTaken m stated e g → entry.grant ≡ g → IsStep m e g entry u → IsStepUnder stated m e entry u
+IsStepUnder-by m u e stated g entry takes is steps S h = record {
+  takes = subst (Takes stated S e) (sym is) (takes S h);
+  answers = subst (λ g. Answers S e g entry u) (sym is) (steps S h);
+}
 
 -- an event of the global zone
-pub IsHead-global : (t : Tables) (e : Event) (g : Grant) (head : Head) → subject_in t e ≡ Global → ((S : State) → says head ≡ global_reply S e) → IsHead t e g head t
-IsHead-global t e g head is said S s =
-    let of : subject S e ≡ Global = subject-stands S t e s ∙ is in
-    heads-by S e g head t (one_of Global S e g) (one-of S e g Global of) (said S) (Stands-started S t s)
+module _ (m : Parts) (e : Event) (is : subject_in m.shared e ≡ Global) where
+  of_global : (S : State) → Stands S m → subject S e ≡ Global
+  of_global S h = subject-stands S m.shared e h.shared ∙ is
 
-pub IsHead-session : (t : Tables) (e : Event) (n : ℕ) (text : List ℕ) (head : Head) → e ≡ event.Session n text → subject_in t e ≡ Global → says head ≡ global_line (line_of text) → (g : Grant) → IsHead t e g head t
-IsHead-session t e n text head which is said g =
-    subst (λ e. IsHead t e g head t) (sym which) (IsHead-global t (event.Session n text) g head (subst (λ e. subject_in t e ≡ Global) which is) (λ S. said))
+  one-global : (S : State) (g : Grant) → Stands S m → one S e g ≡ one_of Global S e g
+  unfolding one
+  one-global S g h = ap (λ s. one_of s S e g) (of_global S h)
 
--- the entry
-pub IsStep-head : (t u : Tables) (e : Event) (g : Grant) (s : Subject) (head : Head) → s ≡ subject_in t e → IsHead t e g head u
-    → IsStep t e g (record { event = e; subject = s; grant = g; reply = record { head = head; body = No_body } }) (record u { started = true })
-IsStep-head t u e g s head is heads S stands =
-    let h = heads S stands in
-    let of : s ≡ subject S e = is ∙ sym (subject-stands S t e stands) in
-    record { told = λ i. record { event = e; subject = of i; grant = g; reply = h.says i }; stands = h.stands }
+  pub IsTaken-global : (stated : Option Grant) (g : Grant) → ((P : Pools) (z : Name) → IsGrantFor z P [] stated g) → IsTaken m stated e g
+  IsTaken-global None g takes S h = takes (pools_of S) [] ∙ sym (allowed-of S e Global (of_global S h))
+  IsTaken-global (Some stated) g takes S h = let fit = takes (pools_of S) [] in (fit.0, fits-of S e stated Global (of_global S h) ∙ fit.1)
+
+  pub IsMisfitUnder-global : (stated : Option Grant) → ((P : Pools) → IsUnfit P [] stated) → IsMisfitUnder stated m e m
+  IsMisfitUnder-global None unfit = absurd (unfit (pools_in m.shared))
+  IsMisfitUnder-global (Some stated) unfit = (λ S h. fits-of S e stated Global (of_global S h) ∙ unfit (pools_of S), refl)
+
+  pub IsStep-global : (g : Grant) (head : Head) → ((S : State) → says head ≡ global_reply S e)
+      → IsStep m e g (record { event = e; subject = Global; grant = g; reply = record { head = head; body = No_body } }) (record m { shared = record m.shared { started = true } })
+  IsStep-global g head said S h =
+      let steps = one-global S g h in
+      record {
+        told = λ i. record { event = e; subject = sym (of_global S h) i; grant = g; reply = (said S ∙ ap (λ r. r.reply) (sym steps)) i };
+        stands = subst (λ r. Stands r.state (record m { shared = record m.shared { started = true } })) (sym steps)
+            (record { worlds = h.worlds; shared = ap (λ (k : Common). record k { started = true }) h.shared });
+      }
+
+pub none_is : {A : Type 0} (o : Option A) → is_some o ≡ false → o ≡ None
+none_is None h = refl
+none_is (Some x) h = absurd (true≢false h)
+
+pub some_is : {A : Type 0} (x y : A) → Some x ≡ Some y → x ≡ y
+some_is x y h = cc
+
+-- the grant of what was decided
+module _ (m : Parts) (e : Event) (stated : Option Grant) where
+  granted_in : (z : Name) (c : Cell) (case : Case) → subject_in m.shared e ≡ Zone z → ((row : Option Record) → world_or_empty row (cell_at z m) ≡ cell_world row c) → IsCaseIn z (row_in z m.shared) c (λ v. decide v e) case
+      → (g : Grant) → IsGrantFor z (pools_in m.shared) (asked_of (case_seen c.desk case)) stated g → IsTaken m stated e g × IsFreeOf (act_of (case_seen c.desk case) g).came (pools_in m.shared)
+  granted_in z c case is same h g takes = (
+    IsTaken-cell m z e c (asked_of (case_seen c.desk case)) is same (ap asked_of h.decided) stated g takes,
+    freed (pools_in m.shared) z (case_seen c.desk case) stated g (asks_case c.desk case) takes,
+  )
+
+  unfit_in : (z : Name) (c : Cell) (case : Case) → subject_in m.shared e ≡ Zone z → ((row : Option Record) → world_or_empty row (cell_at z m) ≡ cell_world row c) → IsCaseIn z (row_in z m.shared) c (λ v. decide v e) case
+      → IsUnfit (pools_in m.shared) (asked_of (case_seen c.desk case)) stated → IsMisfitUnder stated m e m
+  unfit_in z c case is same h unfit = IsMisfitUnder-cell m z e c (asked_of (case_seen c.desk case)) is same (ap asked_of h.decided) stated unfit
+
+  module _ (at : ℕ) (z : Name) (case : Box Case Alloc) (cell : Cell) (value : slice_get (values m.cells) at ≡ Some cell) (h : IsDecided m e (decided.At at z case)) where
+    here_at : cell_at z m ≡ Some cell
+    here_at = h.1.here ∙ (sym h.1.value ∙ value)
+
+    case_at : IsCaseIn z (row_in z m.shared) cell (λ v. decide v e) case.value
+    case_at = subst (λ x. IsCaseIn z (row_in z m.shared) x (λ v. decide v e) case.value) (some_is h.1.cell cell (sym h.1.value ∙ value)) h.1.decides
+
+    pub granted_at : (g : Grant) → IsGrantFor z (pools_in m.shared) (asked_of (case_seen cell.desk case.value)) stated g → IsTaken m stated e g × IsFreeFor m (decided.At at z case) g
+    granted_at g takes =
+        let both = granted_in z cell case.value h.0 (λ row. ap (world_or_empty row) here_at) case_at g takes in (
+          both.0,
+          λ c is. subst (λ x. IsFreeOf (act_of (case_seen x.desk case.value) g).came (pools_in m.shared)) (some_is cell c (sym here_at ∙ is)) both.1,
+        )
+
+    pub unfit_at : IsUnfit (pools_in m.shared) (asked_of (case_seen cell.desk case.value)) stated → IsMisfitUnder stated m e m
+    unfit_at unfit = unfit_in z cell case.value h.0 (λ row. ap (world_or_empty row) here_at) case_at unfit
+
+  module _ (c : Box Cell Alloc) (key z : Name) (case : Box Case Alloc) (h : IsDecided m e (decided.New c key z case)) where
+    pub same_new : (row : Option Record) → world_or_empty row (cell_at z m) ≡ cell_world row c.value
+    same_new row = ap (world_or_empty row) h.1.none ∙ sym (h.1.nothing row)
+
+    pub granted_new : (g : Grant) → IsGrantFor z (pools_in m.shared) (asked_of (case_seen c.value.desk case.value)) stated g → IsTaken m stated e g × IsFreeFor m (decided.New c key z case) g
+    granted_new g takes = granted_in z c.value case.value h.0 same_new h.1.decides g takes
+
+    pub unfit_new : IsUnfit (pools_in m.shared) (asked_of (case_seen c.value.desk case.value)) stated → IsMisfitUnder stated m e m
+    unfit_new unfit = unfit_in z c.value case.value h.0 same_new h.1.decides unfit
+
+-- what is kept of a map in which room was made, under a key that is the zone
+pub Keeps-roomy : (m u : Parts) (z key : Name) (d : Cell) (roomy : Name → Option Cell) → key ≡ z → ((y : Name) → roomy y ≡ cell_at y m) → Keeps key d roomy (λ y. cell_at y u) → Keeps z d (λ y. cell_at y m) (λ y. cell_at y u)
+Keeps-roomy m u z key d roomy is same keeps row y =
+    keeps row y ∙ (ap (λ k. if bytes_eq k y then cell_world row d else world_or_empty row (roomy y)) is ∙ ap (λ o. if bytes_eq z y then cell_world row d else world_or_empty row o) (same y))
+
+-- what was decided of an event as it was read is decided of the event
+pub decided_event : (p : Parts) (e : Event) (y : Name) (decides : View → Decision) (r : Decided) → subject_in p.shared e ≡ Zone y → ((v : View) → decides v ≡ decide v e) → IsDecidedZone p y decides r → IsDecided p e r
+decided_event p e y decides (decided.At at z case) of same (is, h) = (
+  of ∙ ap Zone (sym is),
+  record { index = h.index; cell = h.cell; here = h.here; value = h.value; unique = h.unique; decides = record { decided = sym (same _) ∙ h.decides.decided; of = h.decides.of; named = h.decides.named } },
+)
+decided_event p e y decides (decided.New c key z case) of same (is, h) = (
+  of ∙ ap Zone (sym is),
+  record { none = h.none; keyed = h.keyed; nothing = h.nothing; decides = record { decided = sym (same _) ∙ h.decides.decided; of = h.decides.of; named = h.decides.named } },
+)
+decided_event p e y decides (decided.Global head) of same h = absurd h
 
 -- no event is the whole system's yet
 never_named : (word : Option (List ℕ)) → Whole ≡ named_subject word → ⊥
@@ -76,10 +345,10 @@ never_named (Some word) h = at_name (name_of word) h
     at_name (Right z) h = cc
     at_name (Err fault) h = cc
 
-never_at : (line : Line) (s : Session) → Whole ≡ subject_at line s → ⊥
-never_at line Idle h = never_named line.zone h
-never_at line (Awaiting y t) h = cc
+never_at : (line : Line) (o : Option Name) → Whole ≡ subject_at line o → ⊥
+never_at line None h = never_named line.zone h
+never_at line (Some y) h = cc
 
-pub never_whole : (t : Tables) (e : Event) → Whole ≡ subject_in t e → ⊥
-never_whole t (event.Session n text) h = never_at (line_of text) (session_at t.sessions.items n) h
-never_whole t (event.Turn z) h = cc
+pub never_whole : (s : Shared) (e : Event) → Whole ≡ subject_in s e → ⊥
+never_whole s (event.Session n text) h = never_at (line_of text) (owner nat_eq s.sessions n) h
+never_whole s (event.Turn z) h = cc

@@ -1,35 +1,38 @@
-//! Lists of the processes and mounts of all zones.
-ghost use Rattle.std.specs.Prelude.{◌≡◌, OnOk, position};
-ghost use Rattle.zone_pools.specs.Owned_lists.{Go, Put, edit_list};
-ghost use Rattle.zone_machine.specs.Edits.{below};
-ghost use Rattle.zone_machine.specs.Lists_seen.{is_above};
-ghost use Rattle.zone_machine.specs.Turns.{is_at};
+//! Lists of what a zone has.
+ghost use Rattle.std.specs.Prelude.{◌≡◌, ◌<◌, ◌≤◌, insert, not, position, vec_capacity, vec_len};
+ghost use Rattle.zone_pools.specs.Owned_lists.{Go, Put, edited};
+ghost use Rattle.zone_machine.specs.Objects.{below, is_at};
 
 use crate::objects::{Mount, Process};
-use std::alloc::AllocError;
-use zn_base::{AbsPath, ZoneName};
-use zone_pools::Owned;
+use zn_base::AbsPath;
 
-fn place_above(list: &[Owned<Process>], zone: &ZoneName, pid: u32) -> Option<usize>
-    ensures { result ≡ position (λ o. is_above zone.now pid o) list.now }
+fn place_above(list: &[Process], pid: u32) -> Option<usize>
+    ensures { result ≡ position (λ p. not (below pid p)) list.now }
 {
-    list.iter()
-        .position(|owned| *zone == owned.zone && owned.it.pid >= pid)
+    list.iter().position(|process| process.pid >= pid)
 }
 
-/// A process comes before those of its zone that have a greater number.
-pub(crate) fn enter(
-    list: &mut Vec<Owned<Process>>,
-    zone: ZoneName,
-    process: Process,
-) -> Result<(), AllocError>
-    ensures { OnOk result (list.new.items ≡ edit_list zone (Put (below process.pid) process) list.old.items) }
+// Something comes to a place, for which there is room.
+fn insert<T: Drop>(list: &mut Vec<T>, at: usize, it: T)
+    requires place { at ≤ vec_len list.old }
+    requires room { vec_len list.old < vec_capacity list.old }
+    ensures { list.new.items ≡ insert list.old.items at it }
 {
-    match place_above(list, &zone, process.pid) {
-        Some(at) => list.insert(at, Owned { zone, it: process })?,
-        None => list.push(Owned { zone, it: process })?,
+    match list.insert(at, it) {
+        Ok(()) => {}
+        Err(_) => unreachable!(),
     }
-    Ok(())
+}
+
+/// A process comes before the first that doesn't stand below its number. There is room for it.
+pub(crate) fn enter(list: &mut Vec<Process>, process: Process)
+    requires { vec_len list.old < vec_capacity list.old }
+    ensures { list.new.items ≡ edited (Put (below process.pid) process) list.old.items }
+{
+    match place_above(list, process.pid) {
+        Some(at) => insert(list, at, process),
+        None => list.push_reserved(process),
+    }
 }
 
 fn is_at(dir: &AbsPath, mount: &Mount) -> bool
@@ -39,8 +42,8 @@ fn is_at(dir: &AbsPath, mount: &Mount) -> bool
 }
 
 /// The mount at a directory goes.
-pub(crate) fn unmount(list: &mut Vec<Owned<Mount>>, zone: &ZoneName, dir: &AbsPath)
-    ensures { list.new.items ≡ edit_list zone.now (Go (is_at dir.now)) list.old.items }
+pub(crate) fn unmount(list: &mut Vec<Mount>, dir: &AbsPath)
+    ensures { list.new.items ≡ edited (Go (is_at dir.now)) list.old.items }
 {
-    list.retain(|owned| !(*zone == owned.zone && is_at(dir, &owned.it)));
+    list.retain(|mount| !is_at(dir, mount));
 }

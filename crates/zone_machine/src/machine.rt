@@ -1,29 +1,38 @@
 //! The machine.
-ghost use Rattle.std.specs.Prelude.{◌≡◌, ◌⊎◌, [], IfOk, IsErrOf, IsOkUnless, OnErr, OnOk, false, true};
+ghost use Rattle.std.specs.Prelude.{[], IfOk, IsErrOf, IsOkUnless, OnErr};
 ghost use Rattle.zone_machine.specs.Machine.{opening};
-ghost use Rattle.zone_machine.specs.Steps.{IsAllowed, IsAllowedStep, IsFit, IsFittingStep, IsMisfit, IsRefusedIfUnfit, IsStarted, IsSubject, IsZoneState};
-ghost use Rattle.zone_machine.specs.Tables.{Stands, subject_in};
+ghost use Rattle.zone_machine.specs.Steps.{IsAllowed, IsAllowedStep, IsFittingStep, IsMisfit, IsRefusedIfUnfit, IsStarted, IsSubject, IsZoneState, AsItWas};
+ghost use Rattle.zone_machine.specs.Cells.{Stands};
 
 use crate::events::{Entry, Event, Subject};
 use crate::faults::StepFault;
-use crate::tables::Tables;
+use crate::parts::Parts;
+use crate::steps::{read_event, subject};
 use std::alloc::Global;
 use std::marker::Model;
 use zn_base::{ZoneName, ZoneState};
 use zone_pools::Grant;
 
-/// The machine of all zones. Contracts see its tables, and say what they stand for.
-#[derive(Drop)]
+/// The machine of all zones. Contracts see its parts, and say what they stand for.
 pub struct Machine {
-    tables: Tables,
+    parts: Parts,
+}
+
+impl Drop for Machine {
+    fn drop(self) {
+        let Machine { parts: _parts } = self;
+    }
 }
 
 impl Model for Machine {
-    ghost use Rattle.zone_machine.specs.declared.tables.Tables.{Tables};
+    ghost use Rattle.zone_machine.specs.contracts.parts.Parts.{the_row};
+    ghost use Rattle.zone_machine.specs.declared.parts.Parts.{Parts};
 
-    ghost Value = { Tables };
+    ghost Value = { Parts };
 
-    ghost view = { λ m. m.tables };
+    ghost coded = { the_row.coded };
+
+    ghost view = { λ m. m.parts };
 }
 
 impl Machine {
@@ -32,7 +41,7 @@ impl Machine {
         ensures { Stands (opening []) result }
     {
         Self {
-            tables: Tables::empty(alloc),
+            parts: Parts::empty(alloc),
         }
     }
 
@@ -42,7 +51,7 @@ impl Machine {
         ensures ok { IfOk result (IsSubject self.now event.now) }
         ensures err { IsOkUnless result StepFault.Memory }
     {
-        Ok(self.tables.subject(alloc, event)?)
+        Ok(subject(&self.parts.shared, alloc, read_event(event))?)
     }
 
     /// The grant that the pools give an event.
@@ -50,48 +59,21 @@ impl Machine {
         ensures ok { IfOk result (IsAllowed self.now event.now) }
         ensures err { IsOkUnless result StepFault.Memory }
     {
-        let subject = self.tables.subject(alloc, event)?;
-        Ok(self.tables.allowed(alloc, event, &subject)?)
+        self.parts.allowed(alloc, event)
     }
 
-    // Whose an event is, and the grant that the pools give it.
-    fn granted(&self, alloc: Global, event: &Event) -> Result<(Subject, Grant), StepFault>
-        ensures subject { IfOk result (λ r. r.0 ≡ subject_in self.now event.now) }
-        ensures grant { IfOk result (λ r. IsAllowed self.now event.now r.1) }
-        ensures err { IsOkUnless result StepFault.Memory }
-    {
-        let subject = self.tables.subject(alloc, event)?;
-        let grant = self.tables.allowed(alloc, event, &subject)?;
-        Ok((subject, grant))
-    }
-
-    // Whose an event is, where a stated grant fits it.
-    fn fitting(&self, alloc: Global, event: &Event, grant: Grant) -> Result<Subject, StepFault>
-        ensures subject { IfOk result (λ subject. subject ≡ subject_in self.now event.now) }
-        ensures fits { OnOk result (IsFit self.now event.now grant true) }
-        ensures misfit { IsErrOf result StepFault.BadGrant → IsFit self.now event.now grant false }
-        ensures fault { OnErr result (IsErrOf result StepFault.BadGrant ⊎ IsErrOf result StepFault.Memory) }
-    {
-        let subject = self.tables.subject(alloc, event)?;
-        if self.tables.is_fit(alloc, event, &subject, grant)? {
-            Ok(subject)
-        } else {
-            Err(StepFault::BadGrant)
-        }
-    }
-
-    /// An event is answered under the grant that the pools give it. Where memory runs out, nothing is said of
-    /// the machine.
+    /// An event is answered under the grant that the pools give it. Where memory runs out, the machine is as it
+    /// was.
     pub fn step(&mut self, alloc: Global, event: Event) -> Result<Entry, StepFault>
         ensures ok { IfOk result (λ entry. IsAllowedStep self.old event entry self.new) }
         ensures err { IsOkUnless result StepFault.Memory }
+        ensures memory { OnErr result (AsItWas self.old self.new) }
     {
-        let (subject, grant) = self.granted(alloc, &event)?;
-        Ok(self.tables.answer(alloc, event, subject, grant)?)
+        self.parts.step(alloc, event, None)
     }
 
     /// An event is answered under a stated grant, where it fits, as when a recorded trace is run again. Where
-    /// memory runs out, nothing is said of the machine.
+    /// memory runs out, the machine is as it was.
     pub fn step_given(
         &mut self,
         alloc: Global,
@@ -101,22 +83,22 @@ impl Machine {
         ensures ok { IfOk result (λ entry. IsFittingStep self.old event grant entry self.new) }
         ensures misfit { IsErrOf result StepFault.BadGrant → IsMisfit self.old event grant self.new }
         ensures unfit { IsRefusedIfUnfit self.old event grant result }
+        ensures memory { IsErrOf result StepFault.Memory → AsItWas self.old self.new }
     {
-        let subject = self.fitting(alloc, &event, grant)?;
-        Ok(self.tables.answer(alloc, event, subject, grant)?)
+        self.parts.step(alloc, event, Some(grant))
     }
 
     /// The state of a zone, where it is stored.
     pub fn state(&self, zone: &ZoneName) -> Option<ZoneState>
         ensures { IsZoneState self.now zone.now result }
     {
-        self.tables.state(zone)
+        self.parts.state(zone)
     }
 
     /// Whether an event has come.
     pub fn started(&self) -> bool
         ensures { IsStarted self.now result }
     {
-        self.tables.started
+        self.parts.shared.started
     }
 }

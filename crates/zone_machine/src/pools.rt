@@ -1,135 +1,119 @@
 //! What the pools give that all zones share, and which grants may be stated.
-ghost use Rattle.std.specs.Prelude.{◌≡◌, ◌&&◌, ◌∷◌, [], ◌+◌, IfOk, bytes_eq, map, not, if◌then◌else◌};
+ghost use Rattle.std.specs.Prelude.{◌≡◌, ◌&&◌, ◌∷◌, [], ◌+◌, bytes_eq, not, slice_get, if◌then◌else◌};
 ghost use Rattle.std.specs.List.{list_any};
 ghost use Rattle.zone_pools.specs.Asked.{A_path, A_pid, A_serial, A_zid, A_zone};
+ghost use Rattle.zone_machine.specs.Cells.{pools_in, rows_in, takes_path};
 ghost use Rattle.zone_machine.specs.Needs_seen.{asked_by};
-ghost use Rattle.zone_machine.specs.Numbers_seen.{is_among};
-ghost use Rattle.zone_machine.specs.Pools.{has_zid, path_taken};
+ghost use Rattle.zone_machine.specs.Pools.{path_taken};
 ghost use Rattle.zone_pools.specs.Pools.{fits_asked, fits_pool, has_place, has_room, is_pool, next_free, numbered, said_by_all};
-ghost use Rattle.zone_machine.specs.Tables.{pools_in};
-ghost use Rattle.zone_machine.specs.Worlds.{has_pid};
 
 use crate::needs::Need;
 use crate::numbers::next_free;
-use crate::objects::{Id, Process};
 use crate::records::Record;
-use crate::tables::Tables;
-use std::alloc::{AllocError, Global};
+use crate::shared::Shared;
+use indexmap::IndexMap;
 use zn_base::{AbsPath, ZoneName};
 use zone_pools::{
-    Grant, Owned, PID_MAX, PID_MIN, Pool, SERIAL_MAX, ZID_MAX, ZID_MIN, ZONES_MAX, numbered,
+    Grant, PID_MAX, PID_MIN, Pool, SERIAL_MAX, ZID_MAX, ZID_MIN, ZONES_MAX, numbered,
 };
 
-fn pids(alloc: Global, processes: &[Owned<Process>]) -> Result<Vec<u32>, AllocError>
-    ensures { IfOk result (λ v. v.items ≡ map (λ o. o.it.pid) processes.now) }
+fn has_path(zone: &ZoneName, path: &AbsPath, owner: &ZoneName, row: &Record) -> bool
+    ensures { result ≡ (not (bytes_eq zone.now owner.now) && bytes_eq path.now row.now.config.zonepath) }
 {
-    processes.iter().map(|owned| owned.it.pid).collect(alloc)
+    zone != owner && path.bytes() == row.config.zonepath.bytes()
 }
 
-fn zids(alloc: Global, ids: &[Owned<Id>]) -> Result<Vec<u32>, AllocError>
-    ensures { IfOk result (λ v. v.items ≡ map (λ o. o.it.zid) ids.now) }
+fn is_taken_at(
+    rows: &IndexMap<ZoneName, Record>,
+    at: usize,
+    zone: &ZoneName,
+    path: &AbsPath,
+) -> bool
+    ensures { result ≡ takes_path zone.now path.now (slice_get rows.now.entries at) }
 {
-    ids.iter().map(|owned| owned.it.zid).collect(alloc)
+    match rows.get_index(at) {
+        Some((owner, row)) => has_path(zone, path, owner, row),
+        None => false,
+    }
 }
 
-fn has_path(zone: &ZoneName, path: &AbsPath, row: &Owned<Record>) -> bool
-    ensures { result ≡ (not (bytes_eq zone.now row.now.zone) && bytes_eq path.now row.now.it.config.zonepath) }
+fn path_taken(rows: &IndexMap<ZoneName, Record>, zone: &ZoneName, path: &AbsPath) -> bool
+    ensures { result ≡ path_taken (rows_in rows.now.entries) zone.now path.now }
 {
-    *zone != row.zone && path.bytes() == row.it.config.zonepath.bytes()
-}
-
-fn path_taken(rows: &[Owned<Record>], zone: &ZoneName, path: &AbsPath) -> bool
-    ensures { result ≡ path_taken rows.now zone.now path.now }
-{
-    rows.iter().any(|row| has_path(zone, path, row))
-}
-
-impl Tables {
-    fn next_pid(&self, alloc: Global) -> Result<Grant, AllocError>
-        ensures { IfOk result (λ grant. grant ≡ numbered Pool.Pids (next_free (pools_in self.now).pid_used PID_MIN PID_MAX self.now.last_pid)) }
-    {
-        let used = pids(alloc, &self.processes)?;
-        Ok(numbered(
-            Pool::Pids,
-            next_free(&used, PID_MIN, PID_MAX, self.last_pid),
-        ))
-    }
-
-    fn next_zid(&self, alloc: Global) -> Result<Grant, AllocError>
-        ensures { IfOk result (λ grant. grant ≡ numbered Pool.Zids (next_free (pools_in self.now).zid_used ZID_MIN ZID_MAX self.now.last_zid)) }
-    {
-        let used = zids(alloc, &self.ids)?;
-        Ok(numbered(
-            Pool::Zids,
-            next_free(&used, ZID_MIN, ZID_MAX, self.last_zid),
-        ))
-    }
-
-    // Whether a new zone still has a place.
-    fn has_place(&self) -> bool
-        ensures { result ≡ has_place (pools_in self.now) }
-    {
-        self.rows.len() < ZONES_MAX
-    }
-
-    /// Whether one more record can be counted.
-    pub(crate) fn has_room(&self) -> bool
-        ensures { result ≡ has_room (pools_in self.now) }
-    {
-        self.serial < SERIAL_MAX
-    }
-
-    fn next_serial(&self) -> Grant
-        ensures { result ≡ (if has_room (pools_in self.now) then Grant.Number (self.now.serial + 1) else Grant.Denied Pool.Store) }
-    {
-        if self.has_room() {
-            Grant::Number(self.serial + 1)
-        } else {
-            Grant::Denied(Pool::Store)
+    for at in 0..rows.len() {
+        if is_taken_at(rows, at, zone, path) {
+            return true;
         }
     }
+    false
+}
 
-    fn new_zone(&self, zone: &ZoneName, path: &AbsPath) -> Grant
-        ensures { result ≡ said_by_all (pools_in self.now) zone.now (A_zone ∷ A_path path.now ∷ A_serial ∷ []) Grant.Nothing }
-    {
-        if !self.has_place() {
-            return Grant::Denied(Pool::Zones);
-        }
-        if path_taken(&self.rows, zone, path) {
-            return Grant::Denied(Pool::Paths);
-        }
-        self.next_serial()
-    }
+fn next_pid(shared: &Shared) -> Grant
+    ensures { result ≡ numbered Pool.Pids (next_free (pools_in shared.now).pid_used PID_MIN PID_MAX shared.now.last_pid) }
+{
+    numbered(
+        Pool::Pids,
+        next_free(&shared.pids, PID_MIN, PID_MAX, shared.last_pid),
+    )
+}
 
-    /// What the pools give for a need.
-    pub(crate) fn grant_for(
-        &self,
-        alloc: Global,
-        zone: &ZoneName,
-        need: &Need,
-    ) -> Result<Grant, AllocError>
-        ensures { IfOk result (λ grant. grant ≡ said_by_all (pools_in self.now) zone.now (asked_by need.now) Grant.Nothing) }
-    {
-        match need {
-            Need::Nothing => Ok(Grant::Nothing),
-            Need::Pid => self.next_pid(alloc),
-            Need::Zid => self.next_zid(alloc),
-            Need::Record => Ok(self.next_serial()),
-            Need::NewZone(path) => Ok(self.new_zone(zone, path)),
-        }
+fn next_zid(shared: &Shared) -> Grant
+    ensures { result ≡ numbered Pool.Zids (next_free (pools_in shared.now).zid_used ZID_MIN ZID_MAX shared.now.last_zid) }
+{
+    numbered(
+        Pool::Zids,
+        next_free(&shared.zids, ZID_MIN, ZID_MAX, shared.last_zid),
+    )
+}
+
+// Whether a new zone still has a place.
+#[tactic(auto, using(crate::proofs::Pools_laws::count_rows))]
+fn has_place(shared: &Shared) -> bool
+    ensures { result ≡ has_place (pools_in shared.now) }
+{
+    shared.rows.len() < ZONES_MAX
+}
+
+/// Whether one more record can be counted.
+pub(crate) fn has_room(shared: &Shared) -> bool
+    ensures { result ≡ has_room (pools_in shared.now) }
+{
+    shared.serial < SERIAL_MAX
+}
+
+fn next_serial(shared: &Shared) -> Grant
+    ensures { result ≡ (if has_room (pools_in shared.now) then Grant.Number (shared.now.serial + 1) else Grant.Denied Pool.Store) }
+{
+    if has_room(shared) {
+        Grant::Number(shared.serial + 1)
+    } else {
+        Grant::Denied(Pool::Store)
     }
 }
 
-fn pid_used(processes: &[Owned<Process>], pid: u32) -> bool
-    ensures { result ≡ list_any (λ o. has_pid pid o.it) processes.now }
+fn new_zone(shared: &Shared, zone: &ZoneName, path: &AbsPath) -> Grant
+    ensures { result ≡ said_by_all (pools_in shared.now) zone.now (A_zone ∷ A_path path.now ∷ A_serial ∷ []) Grant.Nothing }
 {
-    processes.iter().any(|owned| owned.it.pid == pid)
+    if !has_place(shared) {
+        return Grant::Denied(Pool::Zones);
+    }
+    if path_taken(&shared.rows, zone, path) {
+        return Grant::Denied(Pool::Paths);
+    }
+    next_serial(shared)
 }
 
-fn zid_used(ids: &[Owned<Id>], zid: u32) -> bool
-    ensures { result ≡ list_any (λ o. has_zid zid o.it) ids.now }
+/// What the pools give for a need.
+pub(crate) fn grant_for(shared: &Shared, zone: &ZoneName, need: &Need) -> Grant
+    ensures { result ≡ said_by_all (pools_in shared.now) zone.now (asked_by need.now) Grant.Nothing }
 {
-    ids.iter().any(|owned| owned.it.zid == zid)
+    match need {
+        Need::Nothing => Grant::Nothing,
+        Need::Pid => next_pid(shared),
+        Need::Zid => next_zid(shared),
+        Need::Record => next_serial(shared),
+        Need::NewZone(path) => new_zone(shared, zone, path),
+    }
 }
 
 fn asks_pool(need: &Need, pool: Pool) -> bool
@@ -144,46 +128,44 @@ fn asks_pool(need: &Need, pool: Pool) -> bool
     }
 }
 
-impl Tables {
-    fn pid_fits(&self, number: u32) -> bool
-        ensures { result ≡ fits_pool (pools_in self.now) number A_pid }
-    {
-        (PID_MIN..=PID_MAX).contains(&number) && !pid_used(&self.processes, number)
-    }
+fn pid_fits(shared: &Shared, number: u32) -> bool
+    ensures { result ≡ fits_pool (pools_in shared.now) number A_pid }
+{
+    (PID_MIN..=PID_MAX).contains(&number) && !shared.pids.is_held(&number)
+}
 
-    fn zid_fits(&self, number: u32) -> bool
-        ensures { result ≡ fits_pool (pools_in self.now) number A_zid }
-    {
-        (ZID_MIN..=ZID_MAX).contains(&number) && !zid_used(&self.ids, number)
-    }
+fn zid_fits(shared: &Shared, number: u32) -> bool
+    ensures { result ≡ fits_pool (pools_in shared.now) number A_zid }
+{
+    (ZID_MIN..=ZID_MAX).contains(&number) && !shared.zids.is_held(&number)
+}
 
-    fn serial_fits(&self, number: u32) -> bool
-        ensures { result ≡ fits_pool (pools_in self.now) number A_serial }
-    {
-        number >= 1 && self.has_room()
-    }
+fn serial_fits(shared: &Shared, number: u32) -> bool
+    ensures { result ≡ fits_pool (pools_in shared.now) number A_serial }
+{
+    number >= 1 && has_room(shared)
+}
 
-    fn number_fits(&self, need: &Need, number: u32) -> bool
-        ensures { result ≡ fits_asked (pools_in self.now) (asked_by need.now) (Grant.Number number) }
-    {
-        match need {
-            Need::Nothing => false,
-            Need::Pid => self.pid_fits(number),
-            Need::Zid => self.zid_fits(number),
-            Need::Record => self.serial_fits(number),
-            Need::NewZone(_) => self.has_place() && self.serial_fits(number),
-        }
+fn number_fits(shared: &Shared, need: &Need, number: u32) -> bool
+    ensures { result ≡ fits_asked (pools_in shared.now) (asked_by need.now) (Grant.Number number) }
+{
+    match need {
+        Need::Nothing => false,
+        Need::Pid => pid_fits(shared, number),
+        Need::Zid => zid_fits(shared, number),
+        Need::Record => serial_fits(shared, number),
+        Need::NewZone(_) => has_place(shared) && serial_fits(shared, number),
     }
+}
 
-    /// Whether a grant may be stated for a need.
-    pub(crate) fn fits(&self, need: &Need, grant: Grant) -> bool
-        ensures { result ≡ fits_asked (pools_in self.now) (asked_by need.now) grant }
-    {
-        match grant {
-            Grant::Nothing => matches!(need, Need::Nothing),
-            Grant::Number(number) => self.number_fits(need, number),
-            Grant::Yes => false,
-            Grant::Denied(pool) => asks_pool(need, pool),
-        }
+/// Whether a grant may be stated for a need.
+pub(crate) fn fits(shared: &Shared, need: &Need, grant: Grant) -> bool
+    ensures { result ≡ fits_asked (pools_in shared.now) (asked_by need.now) grant }
+{
+    match grant {
+        Grant::Nothing => matches!(need, Need::Nothing),
+        Grant::Number(number) => number_fits(shared, need, number),
+        Grant::Yes => false,
+        Grant::Denied(pool) => asks_pool(need, pool),
     }
 }

@@ -1,95 +1,15 @@
 -- What a decision asks goes with what comes, and so what the pools say fits.
-use Rattle.std.proofs.Common.{◌≡◌, ◌∷◌, ◌≤◌, [], ℕ, List, Bool, true, false, Option, Some, None, refl}
+use Rattle.std.proofs.Common.{◌≡◌, ◌∷◌, ◌≤◌, [], List, true, refl}
 use Rattle.std.proofs.lemmas.Bool.{false≢true}
 use Rattle.zn_base.specs.Names.{Name}
-use Rattle.zn_base.specs.Path.{path_of}
 use Rattle.zone_pools.specs.declared.grant.Grant.TheVariants.{Nothing}
 use Rattle.zone_pools.proofs.Pools_laws.{pid-fits, serial-fits, zid-fits, zone-fits}
-use Rattle.zone_machine.specs.Decisions.{Decision}
+use Rattle.zone_machine.proofs.Asking.{asks_rightly}
+use Rattle.zone_machine.proofs.Of_turns.{is_asked_for}
+use Rattle.zone_machine.specs.Arrivals.{A_process, A_record, An_id, Comes}
 use Rattle.zone_pools.specs.Asked.{A_path, A_pid, A_serial, A_zid, A_zone, Asked}
-use Rattle.zone_pools.specs.Decisions.{Ask, Just, asked_of}
-use Rattle.zone_machine.specs.Edits.{A_process, A_record, An_id, Comes}
-use Rattle.zone_machine.specs.Lines.{Blank, Command, Line, Make, Request, Unknown, line_of}
-use Rattle.zone_machine.specs.Machine.{decide}
+use Rattle.zone_pools.specs.Decisions.{Ask, Decision, Just, asked_of}
 use Rattle.zone_pools.specs.Pools.{Pools, fits_asked, said_by_all}
-use Rattle.zone_machine.specs.State.{Awaiting, Desk, Doing, Job}
-use Rattle.zone_machine.specs.Turns.{goes_on, last_dir, step, turn, turn_at, turn_of, unmount}
-use Rattle.zone_machine.specs.Typed.{idle_line, make, make_at, typed, usable_path}
-use Rattle.zone_machine.specs.Worlds.{View}
-use Rattle.zone_machine.specs.declared.daemon.Outcome.{Outcome}
-use Rattle.zone_machine.specs.declared.daemon.Step.{Step}
-use Rattle.zone_machine.specs.declared.daemon.Step.TheVariants.{Hook, Record as Record_step, Copy, Zid, Limits, Devices, Root, State as State_step, Init, Kill, Unmount, Clear, ZidBack}
-use Rattle.zone_machine.specs.declared.events.Event.{Event}
-use Rattle.zone_machine.specs.declared.events.Event.TheVariants.{Session, Turn}
-use Rattle.zone_machine.specs.declared.records.Record.{Record}
-
--- what comes takes its number from the pool of its kind
-abbrev pub is_asked_for : Comes → List Asked → Bool
-is_asked_for (A_process p) (A_pid ∷ []) = true
-is_asked_for (An_id i) (A_zid ∷ []) = true
-is_asked_for (A_record row) (A_serial ∷ []) = true
-is_asked_for (A_record row) (A_zone ∷ A_path path ∷ A_serial ∷ []) = true
-is_asked_for _ _ = false
-
-abbrev pub asks_rightly : Decision → Bool
-asks_rightly (Just e) = true
-asks_rightly (Ask c asked denied given) = is_asked_for c asked
-
-asks-unmount : (d : Desk) (j : Job) (left : List Step) (next : Decision) (dir : Option (List ℕ)) → asks_rightly next ≡ true → asks_rightly (unmount d j left next dir) ≡ true
-asks-unmount d j left next None h = h
-asks-unmount d j left next (Some dir) h = refl
-
-asks-step : (v : View) (d : Desk) (j : Job) (row : Record) (left : List Step) → asks_rightly (step v d j row left) ≡ true
-asks-step v d j row [] = refl
-asks-step v d j row (Hook change ∷ rest) = refl
-asks-step v d j row (Record_step s ∷ rest) = refl
-asks-step v d j row (Copy k ∷ rest) = refl
-asks-step v d j row (Zid n ∷ rest) = refl
-asks-step v d j row (Limits ∷ rest) = refl
-asks-step v d j row (Devices n ∷ rest) = refl
-asks-step v d j row (Root ∷ rest) = refl
-asks-step v d j row (State_step s ∷ rest) = refl
-asks-step v d j row (Init n ∷ rest) = refl
-asks-step v d j row (Kill n ∷ rest) = refl
-asks-step v d j row (Unmount dir ∷ rest) = asks-unmount d j (Unmount dir ∷ rest) (step v d j row rest) (last_dir v.world.mounts) (asks-step v d j row rest)
-asks-step v d j row (Clear ∷ rest) = refl
-asks-step v d j row (ZidBack n ∷ rest) = refl
-
-asks-on : (v : View) (d : Desk) (j : Job) (row : Record) (ending : Option Outcome) → asks_rightly (goes_on v d j row ending) ≡ true
-asks-on v d j row None = asks-step v d j row j.left
-asks-on v d j row (Some outcome) = refl
-
-asks-turn_at : (v : View) (d : Desk) (j : Option Job) (row : Record) → asks_rightly (turn_at v d j row) ≡ true
-asks-turn_at v d None row = refl
-asks-turn_at v d (Some j) row = asks-on v d j row j.ending
-
-asks-turn_of : (v : View) (row : Option Record) → asks_rightly (turn_of v row) ≡ true
-asks-turn_of v None = refl
-asks-turn_of v (Some row) = asks-turn_at v v.world.desk v.world.desk.job row
-
-asks-make_at : (path : Option (List ℕ)) → asks_rightly (make_at path) ≡ true
-asks-make_at None = refl
-asks-make_at (Some path) = refl
-
-asks-make : (row : Option Record) (word : List ℕ) → asks_rightly (make row word) ≡ true
-asks-make (Some row) word = refl
-asks-make None word = asks-make_at (usable_path (path_of word))
-
-asks-line : (v : View) (c : Command) → asks_rightly (idle_line v c) ≡ true
-asks-line v Blank = refl
-asks-line v (Make word) = asks-make v.world.stored word
-asks-line v (Request kind) = refl
-asks-line v Unknown = refl
-
-asks-typed : (v : View) (d : Option Doing) (line : Line) → asks_rightly (typed v d line) ≡ true
-unfolding typed
-asks-typed v None line = asks-line v line.command
-asks-typed v (Some (Awaiting t)) line = refl
-
-pub asks-decide : (v : View) (e : Event) → asks_rightly (decide v e) ≡ true
-unfolding decide turn
-asks-decide v (Session n text) = asks-typed v (v.world.sessions n) (line_of text)
-asks-decide v (Turn z) = asks-turn_of v v.world.stored
 
 pub said-fits : (P : Pools) (z : Name) (c : Comes) (asked : List Asked) → is_asked_for c asked ≡ true → 1 ≤ P.last_pid → fits_asked P asked (said_by_all P z asked Nothing) ≡ true
 said-fits P z (A_process p) (A_pid ∷ []) h last = pid-fits P z last
@@ -98,6 +18,6 @@ said-fits P z (A_record row) (A_serial ∷ []) h last = serial-fits P z
 said-fits P z (A_record row) (A_zone ∷ A_path path ∷ A_serial ∷ []) h last = zone-fits P z path
 said-fits P z c asked h last = absurd (false≢true h)
 
-pub decision-fits : (P : Pools) (z : Name) (d : Decision) → asks_rightly d ≡ true → 1 ≤ P.last_pid → fits_asked P (asked_of d) (said_by_all P z (asked_of d) Nothing) ≡ true
+pub decision-fits : {E : Type 0} (P : Pools) (z : Name) (d : Decision Comes E) → asks_rightly d ≡ true → 1 ≤ P.last_pid → fits_asked P (asked_of d) (said_by_all P z (asked_of d) Nothing) ≡ true
 decision-fits P z (Just e) h last = refl
 decision-fits P z (Ask c asked denied given) h last = said-fits P z c asked h last

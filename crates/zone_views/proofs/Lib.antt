@@ -1,6 +1,7 @@
 mod Examples
 pub mod Purge
 pub mod Runs
+pub mod Deciding
 pub mod Steady
 pub mod Ending
 pub mod Differing

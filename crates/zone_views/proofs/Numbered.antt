@@ -7,12 +7,15 @@ use Rattle.zone_pools.proofs.Same_laws.{grant-Decides}
 use Rattle.zn_base.specs.Names.{Name}
 use Rattle.zone_pools.specs.declared.grant.Grant.{Grant}
 use Rattle.zone_pools.specs.declared.grant.Grant.TheVariants.{Nothing, Number, Yes, Denied}
+use Rattle.zone_machine.proofs.Of_turns.{is_asked_for}
+use Rattle.zone_machine.specs.Arrivals.{A_process, A_record, An_id, Comes, arrived}
 use Rattle.zone_machine.specs.Decisions.{Decision, act_of, acts, after_came}
 use Rattle.zone_pools.specs.Asked.{A_pid, A_zid, Asked}
 use Rattle.zone_pools.specs.Decisions.{Ask, Just, asked_of}
-use Rattle.zone_machine.specs.Edits.{A_process, A_record, An_id, Comes, Edit, Here, Ids_go, Of_mounts, Processes_go, Set_desk, Sweep, arrived, below, comes, edit, edits}
+use Rattle.zone_machine.specs.Edits.{Edit, Of_objects, comes, edit, edits}
 use Rattle.zone_machine.specs.Histories.{after, after_entry, is_allowed, is_history, is_legal, is_told}
 use Rattle.zone_machine.specs.Machine.{decide, one, one_of, opening, session_number, subject}
+use Rattle.zone_machine.specs.Objects.{Ids_go, Processes_go, below}
 use Rattle.zone_machine.specs.Pools.{allowed, allowed_of, fits, fits_of, pools_of}
 use Rattle.zone_pools.specs.Pools.{fits_asked, fits_pool}
 use Rattle.zone_machine.specs.State.{State}
@@ -23,7 +26,8 @@ use Rattle.zone_machine.specs.declared.events.Subject.{Subject}
 use Rattle.zone_machine.specs.declared.events.Subject.TheVariants.{Zone, Global, Whole}
 use Rattle.zone_machine.specs.declared.records.Commit.{Commit}
 use Rattle.zone_views.proofs.Differing.{differ-come, differ-filter, differ-put}
-use Rattle.zone_views.proofs.Granting.{asks-decide, asks_rightly, decision-fits, is_asked_for}
+use Rattle.zone_machine.proofs.Asking.{asks-decide, asks_rightly}
+use Rattle.zone_views.proofs.Granting.{decision-fits}
 use Rattle.zone_views.specs.Numbers.{AllDiffer, pids, zids}
 
 pub record AreNumbered (S : State) : Type 0 where
@@ -34,12 +38,9 @@ pub record AreNumbered (S : State) : Type 0 where
 -- what goes leaves it so
 numbered-edit : (z : Name) (n : Option ℕ) (e : Edit) (S : State) → AreNumbered S → AreNumbered (edit z n e S)
 unfolding edit
-numbered-edit z n (Processes_go p) S h = record { pids = differ-filter (λ p. p.pid) (λ o. not (bytes_eq z o.zone && p o.it)) S.processes h.pids; zids = h.zids; last = h.last }
-numbered-edit z n (Of_mounts e) S h = record { pids = h.pids; zids = h.zids; last = h.last }
-numbered-edit z n (Ids_go p) S h = record { pids = h.pids; zids = differ-filter (λ i. i.zid) (λ o. not (bytes_eq z o.zone && p o.it)) S.ids h.zids; last = h.last }
-numbered-edit z n (Set_desk d) S h = record { pids = h.pids; zids = h.zids; last = h.last }
-numbered-edit z n (Here d) S h = record { pids = h.pids; zids = h.zids; last = h.last }
-numbered-edit z n (Sweep f) S h = record { pids = h.pids; zids = h.zids; last = h.last }
+numbered-edit z n (Of_objects (Processes_go p)) S h = record { pids = differ-filter (λ p. p.pid) (λ o. not (bytes_eq z o.zone && p o.it)) S.processes h.pids; zids = h.zids; last = h.last }
+numbered-edit z n (Of_objects (Ids_go p)) S h = record { pids = h.pids; zids = differ-filter (λ i. i.zid) (λ o. not (bytes_eq z o.zone && p o.it)) S.ids h.zids; last = h.last }
+numbered-edit z n _ S h = record { pids = h.pids; zids = h.zids; last = h.last }
 
 numbered-edits : (z : Name) (n : Option ℕ) (es : List Edit) (S : State) → AreNumbered S → AreNumbered (edits z n es S)
 numbered-edits z n [] S h = h

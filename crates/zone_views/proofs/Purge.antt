@@ -6,16 +6,19 @@ use Rattle.std.proofs.lemmas.Bool.{and_parts, false≢true}
 use Rattle.zone_pools.proofs.Owned_laws.{same_self, same_true}
 use Rattle.zn_base.specs.Names.{Name}
 use Rattle.zone_pools.specs.declared.grant.Grant.{Grant}
-use Rattle.zone_machine.proofs.Laws.{IsOwn, IsOwn-of, IsOwn-swept}
+use Rattle.zone_machine.proofs.Acts_laws.{IsOwn, IsOwn-of, IsOwn-swept}
 use Rattle.zone_machine.proofs.Own_worlds.{leaves, reply-whole, reply-world, world-one, world_by-other}
 use Rattle.zone_machine.proofs.Same_laws.{reply-Decides, subject-Decides}
+use Rattle.zone_machine.specs.Arrivals.{Arrival, New_process}
 use Rattle.zone_machine.specs.Decisions.{Act, act_of, acts, after_came}
-use Rattle.zone_machine.specs.Edits.{Edit, Here, Set_desk, Sweep, at_session, comes, edit, edits, session_of, Arrival, New_process}
+use Rattle.zone_machine.specs.Edits.{Edit, Here, Of_objects, Sweep, at_session, comes, edit, edits, session_of}
+use Rattle.zone_machine.specs.Desks.{empty_desk}
 use Rattle.zone_machine.specs.Histories.{after, after_entry, any_grant, asked, concerns, entry_at, is_history, is_of, is_told, only, replay, replies, run, world_by, world_one}
 use Rattle.zone_machine.specs.Lines.{line_of}
 use Rattle.zone_machine.specs.Machine.{decide, one, one_of, opening, session_number, session_subject, subject}
+use Rattle.zone_machine.specs.Objects.{Processes_go}
 use Rattle.zone_machine.specs.Same.{same_reply, same_subject}
-use Rattle.zone_machine.specs.State.{At, Idle, Session as Session_mode, State, empty_desk, stored}
+use Rattle.zone_machine.specs.State.{At, Idle, Session as Session_mode, State, stored}
 use Rattle.zone_machine.specs.Worlds.{World, doing, view, world}
 use Rattle.zone_machine.specs.declared.events.Entry.{Entry}
 use Rattle.zone_machine.specs.declared.events.Event.{Event}
@@ -41,7 +44,7 @@ IsPurged-edit y z n (Here d) S same is = record { sessions = λ k. at_number n k
     at_number None k = is.sessions k
     at_number (Some m) k = at_test k (nat_eq m k)
 IsPurged-edit y z n (Sweep f) S same is = record { sessions = λ k. IsOwn-swept y z f (S.sessions k) (is.sessions k) }
-IsPurged-edit y z n (Set_desk d) S same is = record { sessions = is.sessions }
+IsPurged-edit y z n (Of_objects (Processes_go p)) S same is = record { sessions = is.sessions }
 IsPurged-edit y z n _ S same is = record { sessions = is.sessions }
 
 IsPurged-edits : (y z : Name) (n : Option ℕ) (es : List Edit) (S : State) → y ≡ z → IsPurged z S → IsPurged z (edits y n es S)

@@ -5,45 +5,37 @@ use Rattle.std.specs.Prelude.{bytes_eq, is_none, unwrap_or, if◌then◌else◌}
 use Rattle.std.proofs.lemmas.Bool.{and_from, and_parts, false≢true}
 use Rattle.zn_base.specs.Moves.{may_move}
 use Rattle.zn_base.specs.Names.{Name}
-use Rattle.zn_base.specs.Path.{path_of}
 use Rattle.zn_base.specs.Same.{same_state}
 use Rattle.zn_base.proofs.Same_laws.{state-Decides}
 use Rattle.zone_pools.specs.declared.grant.Grant.{Grant}
-use Rattle.zone_pools.specs.declared.grant.Grant.TheVariants.{Nothing, Number, Yes, Denied}
-use Rattle.zone_pools.specs.declared.grant.Pool.{Pool}
-use Rattle.zone_pools.specs.declared.grant.Pool.TheVariants.{Store}
 use Rattle.zn_base.specs.States.{is_stored}
 use Rattle.zn_base.specs.declared.state.ZoneState.{ZoneState}
 use Rattle.zn_base.specs.declared.state.ZoneState.TheVariants.{Configured, Installed, Ready, Running, ShuttingDown, Down}
 use Rattle.zone_pools.proofs.Owned_laws.{same_true}
 use Rattle.zone_machine.proofs.Own_worlds.{world-one}
-use Rattle.zone_machine.specs.Decisions.{Decision, act_of, acts_world}
-use Rattle.zone_pools.specs.Decisions.{Ask, Just}
-use Rattle.zone_machine.specs.Edits.{comes_world, edits_world, arrived}
+use Rattle.zone_machine.proofs.Turned_laws.{In, in-act, stored_after}
+use Rattle.zone_machine.specs.Decisions.{act_of, acts_world}
+use Rattle.zone_machine.specs.Desks.{Desk, Job, empty_desk, state_of}
 use Rattle.zone_machine.specs.Histories.{after, after_entry, world_by}
-use Rattle.zone_machine.specs.Lines.{Blank, Command, Line, Make, Request, Unknown, line_of}
 use Rattle.zone_machine.specs.Machine.{decide, one, opening, session_number, subject}
+use Rattle.zone_machine.specs.Objects.{Objects, last_dir}
 use Rattle.zone_machine.specs.Plans.{may_begin, plan}
-use Rattle.zone_machine.specs.State.{Awaiting, Desk, Doing, Job, State, empty_desk, state_of, stored, stored_from}
-use Rattle.zone_machine.specs.Turns.{active_after, goes_on, last_dir, next_request, step, turn, undo, unmount}
-use Rattle.zone_machine.specs.Typed.{idle_line, is_full, make_at, put_request, typed, usable_path}
-use Rattle.zone_machine.specs.Worlds.{World, view_of, world}
+use Rattle.zone_machine.specs.State.{State, stored, stored_from}
+use Rattle.zone_machine.specs.Turns.{Turn_decision, Turned, active_after, goes_on, next_request, step, turn, turn_at, undo, unmount}
+use Rattle.zone_machine.specs.Typed.{new_record, with_request}
+use Rattle.zone_machine.specs.Worlds.{World, objects_of, view_of, world}
 use Rattle.zone_machine.specs.declared.daemon.Outcome.{Outcome}
 use Rattle.zone_machine.specs.declared.daemon.RequestKind.{RequestKind}
 use Rattle.zone_machine.specs.declared.daemon.RequestKind.TheVariants.{Install, Boot, Halt}
 use Rattle.zone_machine.specs.declared.daemon.Step.{Step}
-use Rattle.zone_machine.specs.declared.daemon.Step.TheVariants.{Hook, Record as Record_step, Copy, Zid, Limits, Devices, Root, State as State_step, Init, Kill, Unmount, Clear, ZidBack}
+use Rattle.zone_machine.specs.declared.daemon.Step.TheVariants.{Record as Record_step, Zid, State as State_step, Init, Unmount}
 use Rattle.zone_machine.specs.declared.events.Entry.{Entry}
 use Rattle.zone_machine.specs.declared.events.Event.{Event}
-use Rattle.zone_machine.specs.declared.events.Event.TheVariants.{Session, Turn}
 use Rattle.zone_machine.specs.declared.events.Subject.{Subject}
 use Rattle.zone_machine.specs.declared.events.Subject.TheVariants.{Zone, Global, Whole}
-use Rattle.zone_machine.specs.declared.objects.Id.{Id}
-use Rattle.zone_machine.specs.declared.objects.Mount.{Mount}
-use Rattle.zone_machine.specs.declared.objects.Process.{Process}
 use Rattle.zone_machine.specs.declared.records.Commit.{Commit}
-use Rattle.zone_machine.specs.declared.records.Config.{Config}
 use Rattle.zone_machine.specs.declared.records.Record.{Record}
+use Rattle.zone_views.proofs.Deciding.{of_event}
 use Rattle.zone_views.specs.Storable.{are_storable, is_storable}
 
 abbrev is_active_state : ZoneState → Bool
@@ -77,23 +69,10 @@ abbrev pub steady : Option Record → Desk → Bool
 steady None d = is_none d.active && is_none d.job
 steady (Some row) d = fits_stored d.active row.state && desk_leads d.job d.active row.state
 
--- a world stays steady, and its state stays or moves along the table
-pub record Keeps (w v : World) : Type 0 where
-  pub steady : steady v.stored v.desk ≡ true
-  pub moves : (state_of v.stored v.desk ≡ state_of w.stored w.desk) ⊎ (may_move (state_of w.stored w.desk) (state_of v.stored v.desk) ≡ true)
-
--- what a decision does keeps a world so, whatever is granted
-abbrev pub KeepsIn : World → Decision → Type 0
-KeepsIn w (Just e) = (n : Option ℕ) → Keeps w (edits_world n e.edits w)
-KeepsIn w (Ask c asked denied given) =
-    ((n : Option ℕ) (p : Pool) → Keeps w (edits_world n (denied p).edits w)) × ((n : Option ℕ) (k : ℕ) → Keeps w (edits_world n (given k).edits (comes_world (arrived c k) w)))
-
-keeps-act : (w : World) (d : Decision) (n : Option ℕ) (g : Grant) → KeepsIn w d → Keeps w (acts_world n (act_of d g) w)
-keeps-act w (Just e) n g h = h n
-keeps-act w (Ask c asked denied given) n (Number k) h = h.1 n k
-keeps-act w (Ask c asked denied given) n Yes h = h.1 n 0
-keeps-act w (Ask c asked denied given) n (Denied p) h = h.0 n p
-keeps-act w (Ask c asked denied given) n Nothing h = h.0 n Store
+-- where the record and the desk were row and d, they are steady now, and the state stays or moves along the table
+record Keeps (row : Option Record) (d : Desk) (new : Option Record) (e : Desk) : Type 0 where
+  steady : steady new e ≡ true
+  moves : (state_of new e ≡ state_of row d) ⊎ (may_move (state_of row d) (state_of new e) ≡ true)
 
 -- a request that may begin leads along the table
 active_leads : (kind : RequestKind) (a : ZoneState) → is_active_state a ≡ true → may_begin kind a ≡ true → leads (Some a) Installed (plan kind a) ≡ true
@@ -118,139 +97,97 @@ begin_leads kind (Some a) s f m =
     let parts = and_parts (is_active_state a) (same_state s Installed) f in
     subst (λ t. leads (Some a) t (plan kind a) ≡ true) (sym ((state-Decides s Installed).0 parts.1)) (active_leads kind a parts.0 m)
 
--- a world by its parts
-module _ (ps : List Process) (ms : List Mount) (is : List Id) (sessions : ℕ → Option Doing) (last : ℕ) where
-  abbrev W : Option Record → List (ℕ × RequestKind) → Option Job → Option ZoneState → World
-  W row waiting job active = record {
-    processes = ps;
-    mounts = ms;
-    ids = is;
-    stored = row;
-    sessions = sessions;
-    desk = record { last = last; waiting = waiting; job = job; active = active };
-  }
+-- what a turn decides keeps them so
+abbrev KeepsIn : Option Record → Desk → Turn_decision → Type 0
+KeepsIn row d decision = In (λ c (t : Turned). Keeps row d (stored_after c row) t.desk) decision
 
-  abbrev J : ℕ → Config → List Step → ℕ → List Step → Option Outcome → Job
-  J t config left place undo ending = record { ticket = t; config = config; left = left; place = place; undo = undo; ending = ending }
-
+module _ (o : Objects) (row : Record) where
   -- the step of a request under way
-  keeps_step : (z : Name) (row : Record) (waiting : List (ℕ × RequestKind)) (t : ℕ) (config : Config) (left all : List Step) (place : ℕ) (undone : List Step) (active : Option ZoneState)
-      → fits_stored active row.state ≡ true → leads active row.state left ≡ true
-      → let w = W (Some row) waiting (Some (J t config all place undone None)) active in KeepsIn w (step (view_of z w) w.desk (J t config all place undone None) row left)
-  unfolding view_of
-  keeps_step z row waiting t config [] all place undone active f l = λ n. record { steady = and_from _ _ f refl; moves = inl refl }
-  keeps_step z row waiting t config (Hook change ∷ rest) all place undone active f l = λ n. record { steady = and_from _ _ f l; moves = inl refl }
-  keeps_step z row waiting t config (Record_step s ∷ rest) all place undone active f l =
-      let last_part = and_parts (is_none active && is_stored s && may_move (Some row.state) (Some s)) (leads active s rest) l in
-      let mid_part = and_parts (is_none active && is_stored s) (may_move (Some row.state) (Some s)) last_part.0 in
-      let first_part = and_parts (is_none active) (is_stored s) mid_part.0 in
-      at_active active first_part.0 first_part.1 mid_part.1 last_part.1 f
+  keeps_step : (d : Desk) (j : Job) (left : List Step) → fits_stored d.active row.state ≡ true → leads d.active row.state left ≡ true
+      → KeepsIn (Some row) d (step o d (record j { ending = None }) row left)
+  keeps_step d j [] f l = record { steady = and_from _ _ f refl; moves = inl refl }
+  keeps_step d j (Record_step s ∷ rest) f l =
+      let last_part = and_parts (is_none d.active && is_stored s && may_move (Some row.state) (Some s)) (leads d.active s rest) l in
+      let mid_part = and_parts (is_none d.active && is_stored s) (may_move (Some row.state) (Some s)) last_part.0 in
+      let first_part = and_parts (is_none d.active) (is_stored s) mid_part.0 in
+      at_active d.active first_part.0 first_part.1 mid_part.1 last_part.1 f
     where
       at_active : (active : Option ZoneState) → is_none active ≡ true → is_stored s ≡ true → may_move (Some row.state) (Some s) ≡ true → leads active s rest ≡ true → fits_stored active row.state ≡ true
-          → let w = W (Some row) waiting (Some (J t config all place undone None)) active in KeepsIn w (step (view_of z w) w.desk (J t config all place undone None) row (Record_step s ∷ rest))
-      at_active None i st m r f = (λ n p. record { steady = and_from _ _ f refl; moves = inl refl }, λ n k. record { steady = and_from _ _ st r; moves = inr m })
+          → let e = record d { active = active } in KeepsIn (Some row) e (step o e (record j { ending = None }) row (Record_step s ∷ rest))
+      at_active None i st m r f = (λ pool. record { steady = and_from _ _ f refl; moves = inl refl }, λ n. record { steady = and_from _ _ st r; moves = inr m })
       at_active (Some a) i st m r f = absurd (false≢true i)
-  keeps_step z row waiting t config (Copy k ∷ rest) all place undone active f l = λ n. record { steady = and_from _ _ f l; moves = inl refl }
-  keeps_step z row waiting t config (Zid _ ∷ rest) all place undone active f l = (λ n p. record { steady = and_from _ _ f refl; moves = inl refl }, λ n k. record { steady = and_from _ _ f l; moves = inl refl })
-  keeps_step z row waiting t config (Limits ∷ rest) all place undone active f l = λ n. record { steady = and_from _ _ f l; moves = inl refl }
-  keeps_step z row waiting t config (Devices _ ∷ rest) all place undone active f l = λ n. record { steady = and_from _ _ f l; moves = inl refl }
-  keeps_step z row waiting t config (Root ∷ rest) all place undone active f l = λ n. record { steady = and_from _ _ f l; moves = inl refl }
-  keeps_step z row waiting t config (State_step s ∷ rest) all place undone active f l =
-      let last_part = and_parts (same_state row.state Installed && fits_stored (active_after s) row.state && may_move (Some (unwrap_or active row.state)) (Some s)) (leads (active_after s) row.state rest) l in
-      let mid_part = and_parts (same_state row.state Installed && fits_stored (active_after s) row.state) (may_move (Some (unwrap_or active row.state)) (Some s)) last_part.0 in
+  keeps_step d j (Zid _ ∷ rest) f l = (λ pool. record { steady = and_from _ _ f refl; moves = inl refl }, λ n. record { steady = and_from _ _ f l; moves = inl refl })
+  keeps_step d j (State_step s ∷ rest) f l =
+      let last_part = and_parts (same_state row.state Installed && fits_stored (active_after s) row.state && may_move (Some (unwrap_or d.active row.state)) (Some s)) (leads (active_after s) row.state rest) l in
+      let mid_part = and_parts (same_state row.state Installed && fits_stored (active_after s) row.state) (may_move (Some (unwrap_or d.active row.state)) (Some s)) last_part.0 in
       let first_part = and_parts (same_state row.state Installed) (fits_stored (active_after s) row.state) mid_part.0 in
       let now : unwrap_or (active_after s) row.state ≡ s = now_at s row.state ((state-Decides row.state Installed).0 first_part.0) in
-      λ n. record { steady = and_from _ _ first_part.1 last_part.1; moves = inr (rw now mid_part.1) }
+      record { steady = and_from _ _ first_part.1 last_part.1; moves = inr (rw now mid_part.1) }
     where
       now_at : (s t : ZoneState) → t ≡ Installed → unwrap_or (active_after s) t ≡ s
       now_at Installed t e = e
       now_at _ t e = refl
-  keeps_step z row waiting t config (Init _ ∷ rest) all place undone active f l = (λ n p. record { steady = and_from _ _ f refl; moves = inl refl }, λ n k. record { steady = and_from _ _ f l; moves = inl refl })
-  keeps_step z row waiting t config (Kill _ ∷ rest) all place undone active f l = λ n. record { steady = and_from _ _ f l; moves = inl refl }
-  keeps_step z row waiting t config (Unmount dir ∷ rest) all place undone active f l = at_mount (last_dir ms) (keeps_step z row waiting t config rest all place undone active f l)
+  keeps_step d j (Init _ ∷ rest) f l = (λ pool. record { steady = and_from _ _ f refl; moves = inl refl }, λ n. record { steady = and_from _ _ f l; moves = inl refl })
+  keeps_step d j (Unmount dir ∷ rest) f l = at_mount (last_dir o.mounts) (keeps_step d j rest f l)
     where
-      at_mount : (m : Option (List ℕ)) → (let w = W (Some row) waiting (Some (J t config all place undone None)) active in KeepsIn w (step (view_of z w) w.desk (J t config all place undone None) row rest))
-          → let w = W (Some row) waiting (Some (J t config all place undone None)) active in KeepsIn w (unmount w.desk (J t config all place undone None) (Unmount dir ∷ rest) (step (view_of z w) w.desk (J t config all place undone None) row rest) m)
+      at_mount : (m : Option (List ℕ)) → KeepsIn (Some row) d (step o d (record j { ending = None }) row rest)
+          → let k = record j { ending = None } in KeepsIn (Some row) d (unmount d k (Unmount dir ∷ rest) (step o d k row rest) m)
       at_mount None ih = ih
-      at_mount (Some m) ih = λ n. record { steady = and_from _ _ f l; moves = inl refl }
-  keeps_step z row waiting t config (Clear ∷ rest) all place undone active f l = λ n. record { steady = and_from _ _ f l; moves = inl refl }
-  keeps_step z row waiting t config (ZidBack _ ∷ rest) all place undone active f l = λ n. record { steady = and_from _ _ f l; moves = inl refl }
+      at_mount (Some m) ih = record { steady = and_from _ _ f l; moves = inl refl }
+  keeps_step d j (_ ∷ rest) f l = record { steady = and_from _ _ f l; moves = inl refl }
 
   -- a step back
-  keeps_undo : (row : Record) (waiting : List (ℕ × RequestKind)) (t : ℕ) (config : Config) (left : List Step) (place : ℕ) (undone all : List Step) (outcome : Outcome) (active : Option ZoneState)
-      → fits_stored active row.state ≡ true
-      → let w = W (Some row) waiting (Some (J t config left place all (Some outcome))) active in KeepsIn w (Just (undo w.desk (J t config left place all (Some outcome)) outcome undone))
-  keeps_undo row waiting t config left place [] all outcome active f = λ n. record { steady = and_from _ _ f refl; moves = inl refl }
-  keeps_undo row waiting t config left place (Zid k ∷ rest) all outcome active f = λ n. record { steady = and_from _ _ f refl; moves = inl refl }
-  keeps_undo row waiting t config left place (Root ∷ rest) all outcome active f = λ n. record { steady = and_from _ _ f refl; moves = inl refl }
-  keeps_undo row waiting t config left place (_ ∷ rest) all outcome active f = λ n. record { steady = and_from _ _ f refl; moves = inl refl }
+  keeps_undo : (d : Desk) (j : Job) (outcome : Outcome) (undone : List Step) → fits_stored d.active row.state ≡ true → Keeps (Some row) d (Some row) (undo d (record j { ending = Some outcome }) outcome undone).desk
+  keeps_undo d j outcome [] f = record { steady = and_from _ _ f refl; moves = inl refl }
+  keeps_undo d j outcome (s ∷ rest) f = record { steady = and_from _ _ f refl; moves = inl refl }
 
   -- a request begins, or ends at once
-  keeps_next : (row : Record) (waiting : List (ℕ × RequestKind)) (active : Option ZoneState) → fits_stored active row.state ≡ true
-      → let w = W (Some row) waiting None active in KeepsIn w (Just (next_request w.desk waiting row))
-  keeps_next row [] active f = λ n. record { steady = and_from _ _ f refl; moves = inl refl }
-  keeps_next row (r ∷ waiting) active f = at_test (may_begin r.1 (unwrap_or active row.state)) refl
+  keeps_next : (d : Desk) (waiting : List (ℕ × RequestKind)) → fits_stored d.active row.state ≡ true → let e = record d { job = None } in Keeps (Some row) e (Some row) (next_request e waiting row).desk
+  keeps_next d [] f = record { steady = and_from _ _ f refl; moves = inl refl }
+  keeps_next d (r ∷ waiting) f = at_test (may_begin r.1 (unwrap_or d.active row.state)) refl
     where
-      at_test : (b : Bool) → may_begin r.1 (unwrap_or active row.state) ≡ b → let w = W (Some row) (r ∷ waiting) None active in KeepsIn w (Just (next_request w.desk (r ∷ waiting) row))
-      at_test true m = simp m (λ n. record { steady = and_from _ _ f (begin_leads r.1 active row.state f m); moves = inl refl })
-      at_test false m = simp m (λ n. record { steady = and_from _ _ f refl; moves = inl refl })
+      at_test : (b : Bool) → may_begin r.1 (unwrap_or d.active row.state) ≡ b → let e = record d { job = None } in Keeps (Some row) e (Some row) (next_request e (r ∷ waiting) row).desk
+      at_test true m = simp m (record { steady = and_from _ _ f (begin_leads r.1 d.active row.state f m); moves = inl refl })
+      at_test false m = simp m (record { steady = and_from _ _ f refl; moves = inl refl })
 
-  keeps_job : (z : Name) (row : Record) (waiting : List (ℕ × RequestKind)) (t : ℕ) (config : Config) (left : List Step) (place : ℕ) (undone : List Step) (ending : Option Outcome) (active : Option ZoneState)
-      → fits_stored active row.state ≡ true → job_leads ending active row.state left ≡ true
-      → let w = W (Some row) waiting (Some (J t config left place undone ending)) active in KeepsIn w (goes_on (view_of z w) w.desk (J t config left place undone ending) row ending)
-  keeps_job z row waiting t config left place undone None active f l = keeps_step z row waiting t config left left place undone active f l
-  keeps_job z row waiting t config left place undone (Some outcome) active f l = keeps_undo row waiting t config left place undone undone outcome active f
+  keeps_job : (d : Desk) (j : Job) (ending : Option Outcome) → fits_stored d.active row.state ≡ true → job_leads ending d.active row.state j.left ≡ true
+      → KeepsIn (Some row) d (goes_on o d (record j { ending = ending }) row ending)
+  keeps_job d j None f l = keeps_step d j j.left f l
+  keeps_job d j (Some outcome) f l = keeps_undo d j outcome j.undo f
 
-  -- a turn
-  keeps_turn : (z : Name) (row : Option Record) (waiting : List (ℕ × RequestKind)) (job : Option Job) (active : Option ZoneState)
-      → let w = W row waiting job active in steady row w.desk ≡ true → KeepsIn w (turn (view_of z w))
-  unfolding turn view_of
-  keeps_turn z None waiting job active h = λ n. record { steady = h; moves = inl refl }
-  keeps_turn z (Some row) waiting None active h = keeps_next row waiting active (and_parts (fits_stored active row.state) true h).0
-  keeps_turn z (Some row) waiting (Some j) active h =
-      let parts = and_parts (fits_stored active row.state) (job_leads j.ending active row.state j.left) h in
-      keeps_job z row waiting j.ticket j.config j.left j.place j.undo j.ending active parts.0 parts.1
+  keeps_turn_at : (d : Desk) (job : Option Job) → let e = record d { job = job } in steady (Some row) e ≡ true → KeepsIn (Some row) e (turn_at o e job row)
+  keeps_turn_at d None h = keeps_next d d.waiting (and_parts (fits_stored d.active row.state) true h).0
+  keeps_turn_at d (Some j) h =
+      let parts = and_parts (fits_stored d.active row.state) (job_leads j.ending d.active row.state j.left) h in
+      keeps_job (record d { job = Some j }) j j.ending parts.0 parts.1
 
-  -- a line
-  keeps_make : (path : Option (List ℕ)) (waiting : List (ℕ × RequestKind)) (job : Option Job) (active : Option ZoneState)
-      → let w = W None waiting job active in steady None w.desk ≡ true → KeepsIn w (make_at path)
-  keeps_make None waiting job active h = λ n. record { steady = h; moves = inl refl }
-  keeps_make (Some path) waiting None None h = (λ n p. record { steady = refl; moves = inl refl }, λ n k. record { steady = refl; moves = inr refl })
-  keeps_make (Some path) waiting (Some j) None h = absurd (false≢true h)
-  keeps_make (Some path) waiting job (Some a) h = absurd (false≢true h)
+-- a turn
+keeps_turn : (o : Objects) (row : Option Record) (d : Desk) → steady row d ≡ true → KeepsIn row d (turn o row d)
+unfolding turn
+keeps_turn o None d h = record { steady = h; moves = inl refl }
+keeps_turn o (Some row) d h = keeps_turn_at o row d d.job h
 
-  keeps_request : (row : Record) (kind : RequestKind) (waiting : List (ℕ × RequestKind)) (job : Option Job) (active : Option ZoneState)
-      → let w = W (Some row) waiting job active in steady (Some row) w.desk ≡ true → KeepsIn w (Just (put_request w.desk kind (Some row)))
-  keeps_request row kind waiting job active h = at_test (is_full (W (Some row) waiting job active).desk) refl
-    where
-      at_test : (b : Bool) → is_full (W (Some row) waiting job active).desk ≡ b → let w = W (Some row) waiting job active in KeepsIn w (Just (put_request w.desk kind (Some row)))
-      at_test true e = simp e (λ n. record { steady = h; moves = inl refl })
-      at_test false e = simp e (λ n. record { steady = h; moves = inl refl })
+-- a zone that is made has an idle desk
+keeps-made : (row : Option Record) (d : Desk) (path : List ℕ) (k : ℕ) → row ≡ None → steady row d ≡ true → Keeps row d (Some (new_record path k)) d
+keeps-made None d path k e h = at_desk d.active d.job h
+  where
+    at_desk : (active : Option ZoneState) (job : Option Job) → let e = record d { active = active; job = job } in steady None e ≡ true → Keeps None e (Some (new_record path k)) e
+    at_desk None None h = record { steady = refl; moves = inr refl }
+    at_desk None (Some j) h = absurd (false≢true h)
+    at_desk (Some a) job h = absurd (false≢true h)
+keeps-made (Some row) d path k e h = cc
 
-  keeps_line : (z : Name) (command : Command) (row : Option Record) (waiting : List (ℕ × RequestKind)) (job : Option Job) (active : Option ZoneState)
-      → let w = W row waiting job active in steady row w.desk ≡ true → KeepsIn w (idle_line (view_of z w) command)
-  unfolding view_of
-  keeps_line z Blank row waiting job active h = λ n. record { steady = h; moves = inl refl }
-  keeps_line z Unknown row waiting job active h = λ n. record { steady = h; moves = inl refl }
-  keeps_line z (Make word) (Some row) waiting job active h = λ n. record { steady = h; moves = inl refl }
-  keeps_line z (Make word) None waiting job active h = keeps_make (usable_path (path_of word)) waiting job active h
-  keeps_line z (Request kind) None waiting job active h = λ n. record { steady = h; moves = inl refl }
-  keeps_line z (Request kind) (Some row) waiting job active h = keeps_request row kind waiting job active h
-
-  keeps_typed : (z : Name) (d : Option Doing) (line : Line) (row : Option Record) (waiting : List (ℕ × RequestKind)) (job : Option Job) (active : Option ZoneState)
-      → let w = W row waiting job active in steady row w.desk ≡ true → KeepsIn w (typed (view_of z w) d line)
-  unfolding typed view_of
-  keeps_typed z None line row waiting job active h = keeps_line z line.command row waiting job active h
-  keeps_typed z (Some (Awaiting t)) line row waiting job active h = λ n. record { steady = h; moves = inl refl }
+-- a request that waits changes nothing of that
+keeps-asked : (row : Option Record) (d : Desk) (kind : RequestKind) → steady row d ≡ true → Keeps row d row (with_request d kind)
+keeps-asked None d kind h = record { steady = h; moves = inl refl }
+keeps-asked (Some row) d kind h = record { steady = h; moves = inl refl }
 
 -- an event of a zone
-pub keeps-decide : (z : Name) (w : World) (e : Event) → steady w.stored w.desk ≡ true → KeepsIn w (decide (view_of z w) e)
-unfolding decide view_of
-keeps-decide z w (Session n text) h = keeps_typed w.processes w.mounts w.ids w.sessions w.desk.last z (w.sessions n) (line_of text) w.stored w.desk.waiting w.desk.job w.desk.active h
-keeps-decide z w (Turn y) h = keeps_turn w.processes w.mounts w.ids w.sessions w.desk.last z w.stored w.desk.waiting w.desk.job w.desk.active h
-
-pub keeps-event : (z : Name) (w : World) (e : Event) (g : Grant) → steady w.stored w.desk ≡ true → Keeps w (acts_world (session_number e) (act_of (decide (view_of z w) e) g) w)
-keeps-event z w e g h = keeps-act w (decide (view_of z w) e) (session_number e) g (keeps-decide z w e h)
+keeps-event : (z : Name) (w : World) (e : Event) (g : Grant) → steady w.stored w.desk ≡ true
+    → let v = acts_world (session_number e) (act_of (decide (view_of z w) e) g) w in Keeps w.stored w.desk v.stored v.desk
+keeps-event z w e g h =
+    of_event (λ row ms d. Keeps w.stored w.desk row d) z w (record { steady = h; moves = inl refl }) (λ path k none. keeps-made w.stored w.desk path k none h) (λ kind. keeps-asked w.stored w.desk kind h) g
+    (in-act (λ c (t : Turned). Keeps w.stored w.desk (stored_after c w.stored) t.desk) (turn (objects_of w) w.stored w.desk) g (keeps_turn (objects_of w) w.stored w.desk h)) e
 
 -- every zone's world is steady
 abbrev pub IsSteady : State → Type 0
@@ -266,7 +203,7 @@ goes_by z Global w e g h = record { steady = h; moves = inl refl }
 goes_by z Whole w e g h = record { steady = h; moves = inl refl }
 goes_by z (Zone y) w e g h = at_test (bytes_eq z y) refl
   where
-    with_subject : Zone y ≡ Zone z → (v : World) → Keeps w v → Goes z (Zone y) w v
+    with_subject : Zone y ≡ Zone z → (v : World) → Keeps w.stored w.desk v.stored v.desk → Goes z (Zone y) w v
     with_subject same v k = record { steady = k.steady; moves = at_move k.moves }
       where
         at_move : (state_of v.stored v.desk ≡ state_of w.stored w.desk) ⊎ (may_move (state_of w.stored w.desk) (state_of v.stored v.desk) ≡ true)

@@ -1,5 +1,5 @@
 //! The laws, over every state or every history.
-ghost use Rattle.std.specs.Prelude.{◌<◌, ◌≡◌, ◌≢◌, ◌⊎◌, Bool, List, None, Some, false, true, ℕ};
+ghost use Rattle.std.specs.Prelude.{◌<◌, ◌≡◌, ◌≢◌, ◌⊎◌, Bool, List, None, false, true, ℕ};
 ghost use Rattle.std.specs.List.{list_all};
 ghost use Rattle.zn_base.specs.Moves.{may_move};
 ghost use Rattle.zn_base.specs.Names.{Name};

@@ -16,6 +16,8 @@ use Rattle.zone_machine.specs.State.{State}
 use Rattle.zone_machine.specs.declared.events.Entry.{Entry}
 use Rattle.zone_machine.specs.declared.events.Event.{Event}
 use Rattle.zn_base.specs.Lines.{is_newline, lines_of, with_first}
+use Rattle.zones_run.specs.Complaints.{complaint_text}
+use Rattle.zones_run.specs.Output.{Output}
 use Rattle.zones_run.specs.Reading.{FirstIsLong}
 use Rattle.zones_run.specs.Taking.{BeginsLine, TakesPiece}
 use Rattle.zones_run.specs.Run.{HasFront, run_fault_of}
@@ -247,6 +249,12 @@ pub whole_front : (complaint : Option Complaint) (held holds : Option (List ℕ)
 whole_front complaint held holds None tells = tt
 whole_front complaint held holds (Some bytes) tells =
     record { count = length (traced bytes).out; taken = tells.taken ∙ ap (after_known held) (sym (take-length (traced bytes).out)) }
+
+-- what holds of the line of a complaint holds of the line that the definition has
+pub told_line : (complaint : Complaint) (ended : Option Complaint) (held holds : Option (List ℕ)) (input : Option (List ℕ)) (P : List ℕ → Type 0) → ended ≡ Some complaint
+    → IfSome input (λ bytes. Tells ended held holds (traced bytes)) → P (complaint_text complaint) → IfSome input (λ bytes. P (traced bytes).err)
+told_line complaint ended held holds None P is tells line = tt
+told_line complaint ended held holds (Some bytes) P is tells line = subst P (ap (λ (o : Output). o.err) (sym (ap left_to_tell is) ∙ tells.rest)) line
 
 refusal_alone : (text : List ℕ) (refused : Option ℕ) → record (told_refusal [] refused) { out = [] } ≡ record (told_refusal text refused) { out = [] }
 refusal_alone text None = refl

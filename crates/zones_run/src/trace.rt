@@ -4,7 +4,7 @@
 ghost use Rattle.std.specs.Prelude.{◌≡◌, ◌≢◌, ◌<◌, ◌≤◌, ◌⊎◌, ℕ, List, [], Err, IfErr, length, IfOk, IfSome, IsErrOf, OnErr, OnOk, Option};
 ghost use Rattle.zn_io.specs.Streams.{Rose, after_known};
 ghost use Rattle.zone_machine.specs.Machine.{opening};
-ghost use Rattle.zone_machine.specs.Tables.{Stands};
+ghost use Rattle.zone_machine.specs.Cells.{Stands};
 ghost use Rattle.trace_text.specs.Lines.{event_of};
 ghost use Rattle.zones_run.specs.Run.{HasFront};
 ghost use Rattle.zones_run.specs.Tracing.{AnswersAs, HasReplies, HasWritten, IsAnswered, Stops, TakesEvent, Tells, is_refusal, is_refused_outcome, is_refused_turn, left_to_tell, run_of, told_refusal, traced};
@@ -13,7 +13,7 @@ use crate::fault::RunFault;
 use crate::lines::{Ahead, Got, LINES_MAX, next_line};
 use crate::outcome::Complaint;
 use std::alloc::{AllocError, Global};
-use trace_text::{LineFault, print_reply, read_line};
+use trace_text::{LineFault, push_reply, read_line};
 use zn_io::{Sink, Source, write_all};
 use zone_machine::{Event, Head, Machine, Outcome, StepFault, TurnReply};
 
@@ -47,11 +47,12 @@ fn ended(refused: Option<u64>) -> Option<Complaint>
     refused.map(Complaint::FirstRefused)
 }
 
-// One event: its reply waits to be written, and the answer is whether it is a refusal.
+// One event: its reply waits to be written, and the answer is whether it is a refusal. `text` is room for the reply.
 fn answer(
     alloc: Global,
     machine: &mut Machine,
     event: Event,
+    text: &mut Vec<u8>,
     waiting: &mut Vec<u8>,
 ) -> Result<bool, AllocError>
     ensures answered { IfOk result (λ refusal. (held : Option (List ℕ)) → IsAnswered (λ S. Stands S machine.old) (λ S. Stands S machine.new) event refusal (after_known held waiting.old.items) (after_known held waiting.new.items)) }
@@ -62,10 +63,9 @@ fn answer(
         Err(StepFault::Memory) => return Err(AllocError),
         Err(StepFault::BadGrant) => unreachable!(),
     };
-    let Ok(text) = print_reply(alloc, &entry.subject, &entry.reply) else {
-        return Err(AllocError);
-    };
-    waiting.extend_from_slice(&text)?;
+    text.clear();
+    push_reply(text, &entry.subject, &entry.reply)?;
+    waiting.extend_from_slice(text)?;
     Ok(is_refusal(&entry.reply.head))
 }
 
@@ -82,6 +82,7 @@ fn take_line(
     line: &[u8],
     number: u64,
     refused: Option<u64>,
+    text: &mut Vec<u8>,
     waiting: &mut Vec<u8>,
 ) -> Result<Option<u64>, Stop>
     requires { length line.now ≤ 4096 }
@@ -91,7 +92,7 @@ fn take_line(
 {
     match read_line(alloc, line) {
         Ok(None) => Ok(refused),
-        Ok(Some(event)) => match answer(alloc, machine, event, waiting) {
+        Ok(Some(event)) => match answer(alloc, machine, event, text, waiting) {
             Ok(true) => Ok(refused.or(Some(number))),
             Ok(false) => Ok(refused),
             Err(AllocError) => Err(Stop::Memory),
@@ -140,6 +141,7 @@ fn take_lines<S: Source, K: Sink>(
     alloc: Global,
     machine: &mut Machine,
     source: &mut S,
+    text: &mut Vec<u8>,
     waiting: &mut Vec<u8>,
     out: &mut K,
 ) -> Result<Option<Complaint>, RunFault>
@@ -166,7 +168,7 @@ fn take_lines<S: Source, K: Sink>(
             Got::TooLong => return Ok(Some(Complaint::Limit(before + 1))),
             Got::Line => {}
         }
-        match take_line(alloc, machine, &line, before + 1, refused, waiting) {
+        match take_line(alloc, machine, &line, before + 1, refused, text, waiting) {
             Ok(now) => refused = now,
             Err(Stop::Memory) => return Err(RunFault::Memory),
             Err(Stop::Grammar(fault)) => return Ok(Some(Complaint::Grammar(before + 1, fault))),
@@ -196,8 +198,9 @@ pub fn trace_all<S: Source, K: Sink>(
     ensures taken { IfSome (S.left source.old) (λ _. AnswersAs result (S.left source.old) (S.left source.new) (K.holds out.old) (K.holds out.new)) }
     ensures later { S.faults source.old ≤ S.faults source.new }
 {
+    let mut text = Vec::new(alloc);
     let mut waiting = Vec::new(alloc);
-    let ended = take_lines(alloc, machine, source, &mut waiting, out);
+    let ended = take_lines(alloc, machine, source, &mut text, &mut waiting, out);
     write_waiting(&mut waiting, out)?;
     ended
 }

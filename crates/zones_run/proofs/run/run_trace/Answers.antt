@@ -1,5 +1,6 @@
 use Rattle.std.proofs.Common.{Err}
-use Rattle.zones_run.proofs.TraceEnds.{lines_run, memory_ended, read_ended, runs_anyway, whole_front, whole_replies}
+use Rattle.zn_io.specs.Streams.{TakesFront}
+use Rattle.zones_run.proofs.TraceEnds.{lines_run, memory_ended, read_ended, runs_anyway, told_line, whole_front, whole_replies}
 use Rattle.zones_run.proofs.run.run_trace.Goals as goal
 
 pub returns-in-Ok-None-clause-taken : goal.returns-in-Ok-None-clause-taken
@@ -7,6 +8,12 @@ returns-in-Ok-None-clause-taken g c = lines_run _ _ _ _ c.in-Ok-None.ensures.tak
 
 pub returns-in-Ok-Some-clause-taken : goal.returns-in-Ok-Some-clause-taken
 returns-in-Ok-Some-clause-taken g c = lines_run _ _ _ _ c.in-Ok-Some.ensures.taken
+
+pub returns-in-Ok-Some-clause-line : goal.returns-in-Ok-Some-clause-line
+returns-in-Ok-Some-clause-line g c = λ decided.
+    told_line c.in-Ok-Some.complaint _ _ _ _
+    (λ text. TakesFront (g.E.Sink.holds c.args.err.now) (g.E.Sink.holds c.complain.new.err) (g.E.Sink.faults c.args.err.now) (g.E.Sink.faults c.complain.new.err) text)
+    c.in-Ok-Some.field-0-is c.in-Ok-Some.ensures.told (c.complain.ensures.line decided)
 
 pub returns-in-Ok-Some-clause-memory_taken : goal.returns-in-Ok-Some-clause-memory_taken
 returns-in-Ok-Some-clause-memory_taken g c = λ _. c.in-Ok-Some.ensures.taken

@@ -1,6 +1,6 @@
+use Rattle.std.proofs.Common.{sym, ◌∙◌}
+use Rattle.zone_machine.proofs.Standing.{subject-stands}
 use Rattle.zone_machine.proofs.machine.Machine.subject.Goals as goal
-use Rattle.zone_machine.proofs.Granting.{IsSubject-in}
 
--- src/machine.rt:39:5
 pub returns-clause-ok : goal.returns-clause-ok
-returns-clause-ok c = rw (← c.self.view_is) (IsSubject-in c.self.inside.tables c.args.event.now c.in_ok-subject.field-0 c.in_ok-subject.ensures)
+returns-clause-ok c = rw (← c.self.view_is) (λ S h. c.in_ok-subject.ensures ∙ (c.read_event.ensures.subject c.self.inside.parts.shared ∙ sym (subject-stands S c.self.inside.parts.shared c.args.event.now h.shared)))

@@ -1,0 +1,210 @@
+-- What an event of one zone does to what is common, and what it takes from there. Nothing here opens a case of the machine.
+use Rattle.std.proofs.Common.{◌≡◌, ◌+◌, ◌∷◌, ◌++◌, [], ℕ, List, Bool, Option, Some, None, true, false, length, not, refl, ap, sym, subst, ◌∙◌, length-append}
+use Rattle.std.specs.Prelude.{bytes_eq, filter, is_some, if◌then◌else◌}
+use Rattle.std.specs.List.{list_any}
+use Rattle.std.proofs.lemmas.Bool.{false≢true, true≢false}
+use Rattle.zn_base.specs.Names.{Name}
+use Rattle.zone_pools.proofs.Firsts_laws.{first-placed, other-placed}
+use Rattle.zone_pools.proofs.Holding.{not_same}
+use Rattle.zone_pools.proofs.Owned_laws.{mine-edit, other-list, same_self, same_true}
+use Rattle.zone_pools.specs.Decisions.{asked_of}
+use Rattle.zone_pools.specs.Firsts.{first_of}
+use Rattle.zone_pools.specs.Owned_lists.{Go, mine}
+use Rattle.zone_pools.specs.Pools.{fits_asked, said_by_all}
+use Rattle.zone_pools.specs.declared.grant.Grant.{Grant}
+use Rattle.zone_pools.specs.declared.grant.Grant.TheVariants.{Nothing}
+use Rattle.zone_pools.specs.declared.owned.Owned.{Owned}
+use Rattle.zone_machine.proofs.Acts_laws.{OwnSession, other-acts, own-acts}
+use Rattle.zone_machine.proofs.Own_worlds.{decide-world, need-world, own_session, view-world}
+use Rattle.zone_machine.specs.Arrivals.{Arrival, New_id, New_process, New_record}
+use Rattle.zone_machine.specs.Common.{Common, acts_common, came_common, common, holds_pid, holds_session, holds_zid}
+use Rattle.zone_machine.specs.Decisions.{Act, act_of, acts, acts_world, after_came}
+use Rattle.zone_machine.specs.Edits.{Edit, Of_objects, comes, edit, edits}
+use Rattle.zone_machine.specs.Lines.{Line, line_of}
+use Rattle.zone_machine.specs.Machine.{decide, need, one, one_of, session_number, session_subject, started, subject}
+use Rattle.zone_machine.specs.Objects.{Processes_go, has_pid, has_zid}
+use Rattle.zone_machine.specs.Pools.{allowed, allowed_of, fits, fits_of, path_taken, pools_of}
+use Rattle.zone_machine.specs.State.{At, Idle, Session as Session_mode, State, rows_from, rows_of, stored, stored_from, with_stored}
+use Rattle.zone_machine.specs.Worlds.{World, doing, view, view_of, world}
+use Rattle.zone_machine.specs.declared.events.Event.{Event}
+use Rattle.zone_machine.specs.declared.events.Event.TheVariants.{Session, Turn}
+use Rattle.zone_machine.specs.declared.events.Subject.TheVariants.{Global, Zone}
+use Rattle.zone_machine.specs.declared.records.Commit.{Commit}
+use Rattle.zone_machine.specs.declared.records.Record.{Record}
+
+-- what no world shows
+record Rest : Type 0 where
+  rows : List (Owned Record)
+  serial : ℕ
+  last_pid : ℕ
+  last_zid : ℕ
+
+abbrev rest : State → Rest
+rest S = record { rows = rows_of S.commits; serial = length S.commits; last_pid = S.last_pid; last_zid = S.last_zid }
+
+abbrev rest_in : Common → Rest
+rest_in c = record { rows = c.rows; serial = c.serial; last_pid = c.last_pid; last_zid = c.last_zid }
+
+rest-edit : (z : Name) (n : Option ℕ) (e : Edit) (S : State) → rest (edit z n e S) ≡ rest S
+unfolding edit
+rest-edit z n (Of_objects (Processes_go p)) S = refl
+rest-edit z n _ S = refl
+
+rest-edits : (z : Name) (n : Option ℕ) (es : List Edit) (S : State) → rest (edits z n es S) ≡ rest S
+rest-edits z n [] S = refl
+rest-edits z n (e ∷ es) S = rest-edits z n es (edit z n e S) ∙ rest-edit z n e S
+
+rows-append : (rows : List (Owned Record)) (commits : List Commit) (c : Commit) → rows_from rows (commits ++ c ∷ []) ≡ with_stored c.zone c.stored (rows_from rows commits)
+rows-append rows [] c = refl
+rows-append rows (d ∷ commits) c = rows-append (with_stored d.zone d.stored rows) commits c
+
+rest-came : (z : Name) (a : Option Arrival) (S : State) → rest (after_came z a S) ≡ rest_in (came_common z a (common S))
+unfolding comes
+rest-came z None S = refl
+rest-came z (Some (New_process p)) S = refl
+rest-came z (Some (New_id i)) S = refl
+rest-came z (Some (New_record row)) S =
+    let c : Commit = record { zone = z; stored = row } in
+    let rows = rows-append [] S.commits c in
+    let count : length (S.commits ++ c ∷ []) ≡ length S.commits + 1 = length-append S.commits (c ∷ []) in
+    λ i. record { rows = rows i; serial = count i; last_pid = S.last_pid; last_zid = S.last_zid }
+
+-- what comes is held only once its world shows it
+held-came : (z : Name) (a : Option Arrival) (S : State) → record (came_common z a (common S)) { rows = rows_of S.commits; serial = length S.commits; last_pid = S.last_pid; last_zid = S.last_zid } ≡ common S
+held-came z None S = refl
+held-came z (Some (New_process p)) S = refl
+held-came z (Some _) S = refl
+
+-- each zone's world after an act of z, as what it holds
+spread : {A : Type 0} (of : World → A) (y z : Name) (n : Option ℕ) (a : Act) (S : State) → OwnSession z n S → of (world y (acts z n a S)) ≡ (if bytes_eq z y then of (acts_world n a (world z S)) else of (world y S))
+spread of y z n a S own = at_zone (bytes_eq z y) refl
+  where
+    at_zone : (b : Bool) → bytes_eq z y ≡ b → of (world y (acts z n a S)) ≡ (if b then of (acts_world n a (world z S)) else of (world y S))
+    at_zone true e = ap of (subst (λ x. world x (acts z n a S) ≡ acts_world n a (world z S)) (same_true z y e) (own-acts z n a S))
+    at_zone false e = ap of (other-acts z y (λ w. not_same z y e (sym w)) n a S own)
+
+-- what is common after an act of z is a function of z's world, the act, and what was common
+pub common-acts : (z : Name) (n : Option ℕ) (a : Act) (S : State) → OwnSession z n S → common (started (acts z n a S)) ≡ acts_common z n a (world z S) (common S)
+common-acts z n a S own =
+    let r : rest (acts z n a S) ≡ rest_in (came_common z a.came (common S)) = rest-edits z n a.effect.edits (after_came z a.came S) ∙ rest-came z a.came S in
+    let w = acts_world n a (world z S) in
+    let held = sym (held-came z a.came S) in
+    λ i. record {
+      pids = λ y k. (spread (λ v. holds_pid v k) y z n a S own ∙ ap (λ (c : Common). if bytes_eq z y then holds_pid w k else c.pids y k) held) i;
+      zids = λ y k. (spread (λ v. holds_zid v k) y z n a S own ∙ ap (λ (c : Common). if bytes_eq z y then holds_zid w k else c.zids y k) held) i;
+      sessions = λ y k. (spread (λ v. holds_session v k) y z n a S own ∙ ap (λ (c : Common). if bytes_eq z y then holds_session w k else c.sessions y k) held) i;
+      rows = (r i).rows;
+      serial = (r i).serial;
+      last_pid = (r i).last_pid;
+      last_zid = (r i).last_zid;
+      started = true;
+    }
+
+-- the stored record of a zone is among the stored zones
+none_left : {A : Type 0} (xs : List A) → filter (λ x. not true) xs ≡ []
+none_left [] = refl
+none_left (x ∷ xs) = none_left xs
+
+first-stored : (y z : Name) (row : Option Record) (rows : List (Owned Record)) → first_of (mine z (with_stored y row rows)) ≡ (if bytes_eq z y then row else first_of (mine z rows))
+first-stored y z row rows = at_zone (bytes_eq z y) refl row
+  where
+    at_zone : (b : Bool) → bytes_eq z y ≡ b → (row : Option Record) → first_of (mine z (with_stored y row rows)) ≡ (if b then row else first_of (mine z rows))
+    at_zone true e (Some r) = subst (λ x. first_of (mine z (with_stored x (Some r) rows)) ≡ Some r) (same_true z y e) (first-placed z r rows)
+    at_zone true e None = subst (λ x. first_of (mine z (with_stored x None rows)) ≡ None) (same_true z y e) (ap first_of (mine-edit z (Go (λ row. true)) rows ∙ none_left (mine z rows)))
+    at_zone false e (Some r) = ap first_of (other-placed y z (not_same z y e) r rows)
+    at_zone false e None = ap first_of (other-list y z (not_same z y e) (Go (λ row. true)) rows)
+
+stored-from : (z : Name) (rows : List (Owned Record)) (commits : List Commit) → stored_from (first_of (mine z rows)) z commits ≡ first_of (mine z (rows_from rows commits))
+stored-from z rows [] = refl
+stored-from z rows (c ∷ commits) = ap (λ row. stored_from row z commits) (sym (first-stored c.zone z c.stored rows)) ∙ stored-from z (with_stored c.zone c.stored rows) commits
+
+pub stored-common : (z : Name) (S : State) → stored z S.commits ≡ first_of (mine z (common S).rows)
+stored-common z S = stored-from z [] S.commits
+
+-- the same of an event
+pub common-one : (z : Name) (S : State) (e : Event) (g : Grant) → subject S e ≡ Zone z
+    → common (one S e g).state ≡ acts_common z (session_number e) (act_of (decide (view_of z (world z S)) e) g) (world z S) (common S)
+unfolding one
+common-one z S e g is =
+    ap (λ s. common (one_of s S e g).state) is
+    ∙ (common-acts z (session_number e) (act_of (decide (view z S) e) g) S (own_session S e z is)
+    ∙ ap (λ v. acts_common z (session_number e) (act_of (decide v e) g) (world z S) (common S)) (view-world z S))
+
+pub common-global : (S : State) (e : Event) (g : Grant) → subject S e ≡ Global → common (one S e g).state ≡ record (common S) { started = true }
+unfolding one
+common-global S e g is = ap (λ s. common (one_of s S e g).state) is
+
+-- lists with the same held by each zone have the same among them
+module _ {A : Type 0} (p : A → Bool) where
+  pub any_own : (os : List (Owned A)) → list_any (λ o. p o.it) os ≡ true → (z : Name) × (list_any p (mine z os) ≡ true)
+  any_own [] h = absurd (false≢true h)
+  any_own (o ∷ os) h = at_head (any_own os) (p o.it) refl
+    where
+      at_rest : p o.it ≡ false → (z : Name) → list_any p (mine z os) ≡ true → (b : Bool) → bytes_eq z o.zone ≡ b → list_any p (mine z (o ∷ os)) ≡ true
+      at_rest e z found true f = simp (f, e, found)
+      at_rest e z found false f = simp (f, found)
+
+      at_head : (list_any (λ o. p o.it) os ≡ true → (z : Name) × (list_any p (mine z os) ≡ true)) → (b : Bool) → p o.it ≡ b → (z : Name) × (list_any p (mine z (o ∷ os)) ≡ true)
+      at_head ih true e = (o.zone, simp (same_self o.zone, e))
+      at_head ih false e = let found = ih (simp e at h) in (found.0, at_rest e found.0 found.1 (bytes_eq found.0 o.zone) refl)
+
+  pub any_mine : (z : Name) (os : List (Owned A)) → list_any p (mine z os) ≡ true → list_any (λ o. p o.it) os ≡ true
+  any_mine z [] h = h
+  any_mine z (o ∷ os) h = at_tests (any_mine z os) (bytes_eq z o.zone) (p o.it) refl refl h
+    where
+      at_tests : (list_any p (mine z os) ≡ true → list_any (λ o. p o.it) os ≡ true) → (b q : Bool) → bytes_eq z o.zone ≡ b → p o.it ≡ q → list_any p (mine z (o ∷ os)) ≡ true → list_any (λ o. p o.it) (o ∷ os) ≡ true
+      at_tests ih b true e f h = simp f
+      at_tests ih true false e f h = simp f (ih (simp (e, f) at h))
+      at_tests ih false false e f h = simp f (ih (simp e at h))
+
+  pub same_any : (os ps : List (Owned A)) → ((z : Name) → list_any p (mine z os) ≡ list_any p (mine z ps)) → list_any (λ o. p o.it) os ≡ list_any (λ o. p o.it) ps
+  same_any os ps h = at_tests (list_any (λ o. p o.it) os) (list_any (λ o. p o.it) ps) refl refl
+    where
+      passes : (xs ys : List (Owned A)) → ((z : Name) → list_any p (mine z xs) ≡ list_any p (mine z ys)) → list_any (λ o. p o.it) xs ≡ true → list_any (λ o. p o.it) ys ≡ true
+      passes xs ys same e = let found = any_own xs e in any_mine found.0 ys (sym (same found.0) ∙ found.1)
+
+      at_tests : (b c : Bool) → list_any (λ o. p o.it) os ≡ b → list_any (λ o. p o.it) ps ≡ c → b ≡ c
+      at_tests true true e f = refl
+      at_tests false false e f = refl
+      at_tests true false e f = sym (passes os ps h e) ∙ f
+      at_tests false true e f = sym e ∙ passes ps os (λ z. sym (h z)) f
+
+-- what the pools know, whose an event is, and what is allowed and fits, from what is common and the zone's world
+pub pools-common : (S T : State) → common S ≡ common T → pools_of S ≡ pools_of T
+pools-common S T h = λ i. record {
+  pid_used = λ n. same_any (has_pid n) S.processes T.processes (λ z. ap (λ k. k.pids z n) h) i;
+  zid_used = λ n. same_any (has_zid n) S.ids T.ids (λ z. ap (λ k. k.zids z n) h) i;
+  last_pid = (h i).last_pid;
+  last_zid = (h i).last_zid;
+  zones = length (h i).rows;
+  path_taken = path_taken (h i).rows;
+  serial = (h i).serial;
+}
+
+session-common : (line : Line) (m n : Session_mode) → ((z : Name) → is_some (doing z m) ≡ is_some (doing z n)) → session_subject line m ≡ session_subject line n
+session-common line Idle Idle h = refl
+session-common line (At x d) Idle h = let e : is_some (doing x (At x d)) ≡ false = h x in absurd (true≢false (simp (same_self x) at e))
+session-common line Idle (At y d) h = let e : false ≡ is_some (doing y (At y d)) = h y in absurd (false≢true (simp (same_self y) at e))
+session-common line (At x c) (At y d) h = ap Zone (at_zone (bytes_eq x y) refl)
+  where
+    at_zone : (b : Bool) → bytes_eq x y ≡ b → x ≡ y
+    at_zone true e = same_true x y e
+    at_zone false e = let f : is_some (doing x (At x c)) ≡ is_some (doing x (At y d)) = h x in absurd (true≢false (simp (same_self x, e) at f))
+
+pub subject-common : (S T : State) (e : Event) → common S ≡ common T → subject S e ≡ subject T e
+unfolding subject
+subject-common S T (Session n text) h = session-common (line_of text) (S.sessions n) (T.sessions n) (λ z. ap (λ k. k.sessions z n) h)
+subject-common S T (Turn z) h = refl
+
+pub need-common : (z : Name) (S T : State) (e : Event) → subject S e ≡ Zone z → common S ≡ common T → world z S ≡ world z T → need S e ≡ need T e
+need-common z S T e is h w = need-world z S T e is (sym (subject-common S T e h) ∙ is) w
+
+pub allowed-common : (z : Name) (S T : State) (e : Event) → subject S e ≡ Zone z → common S ≡ common T → world z S ≡ world z T → allowed S e ≡ allowed T e
+unfolding allowed
+allowed-common z S T e is h w =
+    ap (λ x. allowed_of x S e) is ∙ ((λ i. said_by_all (pools-common S T h i) z (asked_of (decide-world z S T e w i)) Nothing) ∙ sym (ap (λ x. allowed_of x T e) (sym (subject-common S T e h) ∙ is)))
+
+pub fits-common : (z : Name) (S T : State) (e : Event) (g : Grant) → subject S e ≡ Zone z → common S ≡ common T → world z S ≡ world z T → fits S e g ≡ fits T e g
+unfolding fits
+fits-common z S T e g is h w =
+    ap (λ x. fits_of x S e g) is ∙ ((λ i. fits_asked (pools-common S T h i) (asked_of (decide-world z S T e w i)) g) ∙ sym (ap (λ x. fits_of x T e g) (sym (subject-common S T e h) ∙ is)))

@@ -1,0 +1,216 @@
+-- What comes with a grant that the pools give, or that fits, is free.
+use Rattle.std.proofs.Common.{◌≡◌, ◌∷◌, ◌+◌, ◌-◌, ◌&&◌, [], ℕ, zero, suc, List, Bool, drop, true, false, Option, Some, None, Result, Ok as Right, Err, refl, sym, ◌∙◌, subst}
+use Rattle.std.specs.Prelude.{nat_le, not, if◌then◌else◌}
+use Rattle.std.proofs.lemmas.Bool.{false≢true}
+use Rattle.zn_base.specs.Names.{Name}
+use Rattle.zone_pools.proofs.Pools_laws.{said_one}
+use Rattle.zone_pools.specs.Asked.{A_path, A_pid, A_serial, A_zid, A_zone, Asked}
+use Rattle.zone_pools.specs.Decisions as decisions
+use Rattle.zone_pools.specs.Decisions.{Ask, Just, asked_of, number_in}
+use Rattle.zone_pools.specs.Pools.{Pools, first_free, fits_asked, has_place, has_room, next_free, numbered, or_else, said_by_all}
+use Rattle.zone_pools.specs.declared.grant.Grant.{Grant}
+use Rattle.zone_pools.specs.declared.grant.Grant.TheVariants.{Nothing, Number, Yes, Denied}
+use Rattle.zone_pools.specs.declared.grant.Pool.{Pool}
+use Rattle.zone_pools.specs.declared.grant.Pool.TheVariants.{Paths, Pids, Store, Zids, Zones}
+use Rattle.zone_pools.specs.declared.limits.TheConstants.{PID_MAX, PID_MIN, ZID_MAX, ZID_MIN}
+use Rattle.zone_machine.proofs.Asking.{asks_rightly}
+use Rattle.zone_machine.proofs.Of_turns.{is_asked_for}
+use Rattle.zone_machine.specs.Arrivals.{A_process, A_record, An_id, Arrival, Comes, arrived}
+use Rattle.zone_machine.specs.Decisions.{Decision, act_of, effects, turned}
+use Rattle.zone_machine.specs.Rooms.{HasRoomOf, HasRoomToChange, HasRoomToCome, IsFreeOf}
+use Rattle.zone_machine.specs.Steps.{IsGrantFor}
+use Rattle.zone_machine.specs.declared.cell.Cell.{Cell}
+use Rattle.zone_machine.specs.declared.shared.Shared.{Shared}
+use Rattle.zone_machine.specs.Cases.{asked_for, case_seen, comes_of, job_turn, object_edits, on_job, shown_under, turn_seen, undo_with}
+use Rattle.zone_machine.specs.Desks as desks
+use Rattle.zone_machine.specs.Desks_seen.{desk_seen, job_seen}
+use Rattle.zone_machine.specs.Objects.{Object_edit}
+use Rattle.zone_machine.specs.Turns.{Turn_decision, asking}
+use Rattle.zone_machine.specs.declared.cases.Case.{Case}
+use Rattle.zone_machine.specs.declared.cases.Case.TheVariants as cases
+use Rattle.zone_machine.specs.declared.cases.JobCase.{JobCase}
+use Rattle.zone_machine.specs.declared.cases.JobCase.TheVariants as jobs
+use Rattle.zone_machine.specs.declared.cases.TurnCase.{TurnCase}
+use Rattle.zone_machine.specs.declared.cases.TurnCase.TheVariants as turns
+use Rattle.zone_machine.specs.declared.daemon.Step.{Step}
+use Rattle.zone_machine.specs.declared.desks.Desk.{Desk}
+use Rattle.zone_machine.specs.declared.desks.Job.{Job}
+use Rattle.zone_machine.specs.declared.work.Came.{Came}
+use Rattle.zone_machine.specs.declared.work.Came.TheVariants as came_type
+use Rattle.zone_machine.specs.declared.work.ObjectEdit.{ObjectEdit}
+use Rattle.zone_machine.specs.declared.work.ObjectEdit.TheVariants as object
+
+-- a number that is found isn't used
+unused_found : (used : ℕ → Bool) (from count n : ℕ) → first_free used from count ≡ Some n → used n ≡ false
+unfolding first_free
+unused_found used from zero n h = cc
+unused_found used from (suc count) n h = at_test (used from) refl h (unused_found used (from + 1) count n)
+  where
+    at_test : (b : Bool) → used from ≡ b → elim b as (λ b. Option ℕ) [ true ↦ first_free used (from + 1) count | false ↦ Some from ] ≡ Some n
+        → (first_free used (from + 1) count ≡ Some n → used n ≡ false) → used n ≡ false
+    at_test true e h later = later h
+    at_test false e h later = let same : from ≡ n = cc in rw (← same) e
+
+unused_next : (used : ℕ → Bool) (low high last n : ℕ) → next_free used low high last ≡ Some n → used n ≡ false
+unused_next used low high last n h = at_upper (first_free used (last + 1) (high - last)) refl h
+  where
+    at_upper : (upper : Option ℕ) → first_free used (last + 1) (high - last) ≡ upper → or_else upper (first_free used low (high + 1 - low)) ≡ Some n → used n ≡ false
+    at_upper (Some x) e h = unused_found used (last + 1) (high - last) n (e ∙ h)
+    at_upper None e h = unused_found used low (high + 1 - low) n h
+
+-- what comes under a grant
+abbrev came : Comes → Result ℕ Pool → Option Arrival
+came c (Right n) = Some (arrived c n)
+came c (Err pool) = None
+
+-- what the pools say is free
+module _ (P : Pools) where
+  free_pid : (c : Comes) (p : ℕ → ℕ) (found : Option ℕ) → ((n : ℕ) → P.pid_used n ≡ false → IsFreeOf (Some (arrived c n)) P) → next_free P.pid_used PID_MIN PID_MAX P.last_pid ≡ found
+      → IsFreeOf (came c (number_in (numbered Pids found))) P
+  free_pid c p None is e = tt
+  free_pid c p (Some n) is e = is n (unused_next P.pid_used PID_MIN PID_MAX P.last_pid n e)
+
+  free_zid : (c : Comes) (found : Option ℕ) → ((n : ℕ) → P.zid_used n ≡ false → IsFreeOf (Some (arrived c n)) P) → next_free P.zid_used ZID_MIN ZID_MAX P.last_zid ≡ found
+      → IsFreeOf (came c (number_in (numbered Zids found))) P
+  free_zid c None is e = tt
+  free_zid c (Some n) is e = is n (unused_next P.zid_used ZID_MIN ZID_MAX P.last_zid n e)
+
+  free_serial : (c : Comes) (room : Bool) → ((n : ℕ) → has_room P ≡ true → IsFreeOf (Some (arrived c n)) P) → has_room P ≡ room
+      → IsFreeOf (came c (number_in (if room then Number (P.serial + 1) else Denied Store))) P
+  free_serial c false is e = tt
+  free_serial c true is e = is (P.serial + 1) e
+
+  free_zone : (c : Comes) (place taken room : Bool) → ((n : ℕ) → has_room P ≡ true → IsFreeOf (Some (arrived c n)) P) → has_room P ≡ room
+      → IsFreeOf (came c (number_in (elim (if place then Yes else Denied Zones) as (λ g. Grant) [
+        | Denied pool ↦ Denied pool
+        | g ↦ elim (if taken then Denied Paths else Yes) as (λ g. Grant) [
+          | Denied pool ↦ Denied pool
+          | g ↦ elim (if room then Number (P.serial + 1) else Denied Store) as (λ g. Grant) [ Denied pool ↦ Denied pool | g ↦ g ]
+        ]
+      ]))) P
+  free_zone c false taken room is e = tt
+  free_zone c true true room is e = tt
+  free_zone c true false false is e = tt
+  free_zone c true false true is e = is (P.serial + 1) e
+
+  said_free : (z : Name) (c : Comes) (asked : List Asked) → is_asked_for c asked ≡ true → IsFreeOf (came c (number_in (said_by_all P z asked Nothing))) P
+  said_free z (A_process p) (A_pid ∷ []) h = rw (said_one P z A_pid) (free_pid (A_process p) (λ n. n) (next_free P.pid_used PID_MIN PID_MAX P.last_pid) (λ n e. e) refl)
+  said_free z (An_id i) (A_zid ∷ []) h = rw (said_one P z A_zid) (free_zid (An_id i) (next_free P.zid_used ZID_MIN ZID_MAX P.last_zid) (λ n e. e) refl)
+  said_free z (A_record row) (A_serial ∷ []) h = rw (said_one P z A_serial) (free_serial (A_record row) (has_room P) (λ n e. e) refl)
+  said_free z (A_record row) (A_zone ∷ A_path path ∷ A_serial ∷ []) h = free_zone (A_record row) (has_place P) (P.path_taken z path) (has_room P) (λ n e. e) refl
+  said_free z c asked h = absurd (false≢true h)
+
+  -- and so is what fits
+  last_of_three : (a b c : Bool) → ((a && b && not c) && true) ≡ true → c ≡ false
+  last_of_three true true false h = refl
+  last_of_three true true true h = absurd (false≢true h)
+  last_of_three true false c h = absurd (false≢true h)
+  last_of_three false b c h = absurd (false≢true h)
+
+  room_of_two : (a b : Bool) → ((a && b) && true) ≡ true → b ≡ true
+  room_of_two true true h = refl
+  room_of_two true false h = absurd (false≢true h)
+  room_of_two false b h = absurd (false≢true h)
+
+  room_of_zone : (p a b : Bool) → (p && (true && ((a && b) && true))) ≡ true → b ≡ true
+  room_of_zone true true true h = refl
+  room_of_zone true true false h = absurd (false≢true h)
+  room_of_zone true false b h = absurd (false≢true h)
+  room_of_zone false a b h = absurd (false≢true h)
+
+  fit_free : (c : Comes) (asked : List Asked) (n : ℕ) → is_asked_for c asked ≡ true → fits_asked P asked (Number n) ≡ true → IsFreeOf (Some (arrived c n)) P
+  fit_free (A_process p) (A_pid ∷ []) n h fit = last_of_three (nat_le PID_MIN n) (nat_le n PID_MAX) (P.pid_used n) fit
+  fit_free (An_id i) (A_zid ∷ []) n h fit = last_of_three (nat_le ZID_MIN n) (nat_le n ZID_MAX) (P.zid_used n) fit
+  fit_free (A_record row) (A_serial ∷ []) n h fit = room_of_two (nat_le 1 n) (has_room P) fit
+  fit_free (A_record row) (A_zone ∷ A_path path ∷ A_serial ∷ []) n h fit = room_of_zone (has_place P) (nat_le 1 n) (has_room P) fit
+  fit_free c asked n h fit = absurd (false≢true h)
+
+  no_yes : (asked : List Asked) → fits_asked P asked Yes ≡ true → ⊥
+  no_yes [] fit = false≢true fit
+  no_yes (a ∷ asked) fit = false≢true fit
+
+  grant_free : (c : Comes) (asked : List Asked) (g : Grant) → is_asked_for c asked ≡ true → fits_asked P asked g ≡ true → IsFreeOf (came c (number_in g)) P
+  grant_free c asked (Number n) h fit = fit_free c asked n h fit
+  grant_free c asked Yes h fit = absurd (no_yes asked fit)
+  grant_free c asked (Denied pool) h fit = tt
+  grant_free c asked Nothing h fit = tt
+
+came_is : {E : Type 0} (c : Comes) (asked : List Asked) (denied : Pool → E) (given : ℕ → E) (g : Grant) → (decisions.act_of arrived (Ask c asked denied given) g).came ≡ came c (number_in g)
+came_is c asked denied given g = at_number (number_in g)
+  where
+    at_number : (r : Result ℕ Pool) → (decisions.granted arrived c denied given r).came ≡ came c r
+    at_number (Right n) = refl
+    at_number (Err pool) = refl
+
+-- what a decision brings under the grant that is taken
+pub freed : (P : Pools) (z : Name) (d : Decision) (stated : Option Grant) (g : Grant) → asks_rightly d ≡ true → IsGrantFor z P (asked_of d) stated g → IsFreeOf (act_of d g).came P
+freed P z (Just e) stated g h takes = tt
+freed P z (Ask c asked denied given) None g h takes =
+    subst (λ o. IsFreeOf o P) (sym (came_is c asked denied given g)) (subst (λ g. IsFreeOf (came c (number_in g)) P) (sym takes) (said_free P z c asked h))
+freed P z (Ask c asked denied given) (Some stated) g h takes =
+    subst (λ o. IsFreeOf o P) (sym (came_is c asked denied given g)) (subst (λ g. IsFreeOf (came c (number_in g)) P) (sym takes.0) (grant_free P c asked stated h takes.1))
+
+-- room for what comes, by what is asked
+room_came : (c : Comes) (asked : List Asked) (r : Result ℕ Pool) (cell : Cell) (s : Shared) → is_asked_for c asked ≡ true → HasRoomToCome asked cell s → HasRoomOf (came c r) cell s
+room_came c asked (Err pool) cell s h room = tt
+room_came (A_process p) (A_pid ∷ []) (Right n) cell s h room = room
+room_came (An_id i) (A_zid ∷ []) (Right n) cell s h room = room
+room_came (A_record row) (A_serial ∷ []) (Right n) cell s h room = room
+room_came (A_record row) (A_zone ∷ A_path path ∷ A_serial ∷ []) (Right n) cell s h room = room
+room_came c asked (Right n) cell s h room = absurd (false≢true h)
+
+pub roomy : (d : Decision) (g : Grant) (cell : Cell) (s : Shared) → asks_rightly d ≡ true → HasRoomToCome (asked_of d) cell s → HasRoomOf (act_of d g).came cell s
+roomy (Just e) g cell s h room = tt
+roomy (Ask c asked denied given) g cell s h room = subst (λ o. HasRoomOf o cell s) (sym (came_is c asked denied given g)) (room_came c asked (number_in g) cell s h room)
+
+-- what a case of the code asks goes with what comes
+asks_turn : (d : Turn_decision) → asks_rightly d ≡ true → asks_rightly (effects turned d) ≡ true
+asks_turn (Just t) h = h
+asks_turn (Ask c asked denied given) h = h
+
+asks_came : (d : desks.Desk) (j : desks.Job) (rest : List Step) (c : Came) → asks_rightly (asking d j rest (comes_of c) (asked_for c) (shown_under c)) ≡ true
+asks_came d j rest (came_type.Process p) = refl
+asks_came d j rest (came_type.Id i) = refl
+asks_came d j rest (came_type.Record r) = refl
+
+asks_undo : (d : desks.Desk) (j : desks.Job) (edits : List Object_edit) (undo : List Step) → asks_rightly (undo_with d j edits undo) ≡ true
+asks_undo d j edits [] = refl
+asks_undo d j edits (s ∷ rest) = refl
+
+asks_job : (d : desks.Desk) (j : Job) (c : JobCase) → asks_rightly (job_turn d j c) ≡ true
+asks_job d j (jobs.Finish outcome) = refl
+asks_job d j (jobs.Pass p) = refl
+asks_job d j (jobs.Ask c next) = asks_came d (job_seen j) (drop next j.steps.items) c.it
+asks_job d j (jobs.Undo objects) = asks_undo d (job_seen j) (object_edits objects) (job_seen j).undo
+
+asks_on : (d : Desk) (o : Option Job) (c : JobCase) → asks_rightly (on_job d o c) ≡ true
+asks_on d None c = refl
+asks_on d (Some j) c = asks_job (desk_seen d) j c
+
+asks_turn_case : (d : Desk) (c : TurnCase) → asks_rightly (turn_seen d c) ≡ true
+asks_turn_case d turns.Idle = refl
+asks_turn_case d (turns.Begin job kind) = refl
+asks_turn_case d (turns.Refuse ticket s) = refl
+asks_turn_case d (turns.GoOn c) = asks_on d d.job c
+
+pub asks_case : (d : Desk) (c : Case) → asks_rightly (case_seen d c) ≡ true
+asks_case d (cases.Says head) = refl
+asks_case d (cases.Make row owner) = refl
+asks_case d (cases.Put kind owner) = refl
+asks_case d (cases.Turn c) = asks_turn (turn_seen d c) (asks_turn_case d c)
+
+-- room doesn't go by the desk
+pub room_desk : (asked : List Asked) (c : Cell) (d : Desk) (s : Shared) → HasRoomToCome asked c s → HasRoomToCome asked (record c { desk = d }) s
+room_desk [] c d s h = h
+room_desk (A_pid ∷ asked) c d s h = h
+room_desk (A_zid ∷ asked) c d s h = h
+room_desk (A_zone ∷ asked) c d s h = h
+room_desk (A_path path ∷ asked) c d s h = h
+room_desk (A_serial ∷ asked) c d s h = h
+
+pub room_change : (o : ObjectEdit) (c : Cell) (d : Desk) → HasRoomToChange o c → HasRoomToChange o (record c { desk = d })
+room_change object.Nothing c d h = h
+room_change object.EndProcesses c d h = h
+room_change (object.Mount m) c d h = h
+room_change (object.Unmount dir) c d h = h
+room_change object.EndIds c d h = h

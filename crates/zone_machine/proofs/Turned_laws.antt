@@ -1,0 +1,96 @@
+-- What a turn of a zone's daemon replies and leaves of the zone's world, whatever is granted.
+use Rattle.std.proofs.Common.{◌≡◌, ◌∷◌, ◌++◌, [], ℕ, List, Option, Some, None, ap, map, refl, ◌∙◌}
+use Rattle.zn_base.specs.Names.{Name}
+use Rattle.zone_pools.specs.Decisions as decisions
+use Rattle.zone_pools.specs.Decisions.{Ask, Just}
+use Rattle.zone_pools.specs.Owned_lists.{edited}
+use Rattle.zone_pools.specs.declared.grant.Grant.{Grant}
+use Rattle.zone_pools.specs.declared.grant.Grant.TheVariants.{Nothing, Number, Yes, Denied}
+use Rattle.zone_pools.specs.declared.grant.Pool.{Pool}
+use Rattle.zone_pools.specs.declared.grant.Pool.TheVariants.{Store}
+use Rattle.zone_machine.proofs.Acts_laws.{own-acts}
+use Rattle.zone_machine.proofs.Own_worlds.{view-world}
+use Rattle.zone_machine.specs.Arrivals.{Arrival, Comes, New_process, New_record, arrived}
+use Rattle.zone_machine.specs.Decisions.{Act, act_of, acts_world, after_came_world, effects, says, sweeps, turned}
+use Rattle.zone_machine.specs.Desks.{Desk}
+use Rattle.zone_machine.specs.Edits.{Of_objects, Set_desk, comes_world, edit_world, edits_world}
+use Rattle.zone_machine.specs.Machine.{Answered, decide, done_by, one, subject}
+use Rattle.zone_machine.specs.Objects.{Object_edit, Of_mounts, Processes_go}
+use Rattle.zone_machine.specs.State.{State}
+use Rattle.zone_machine.specs.Turns.{Turned, turn}
+use Rattle.zone_machine.specs.Worlds.{World, objects_of, view_of, world}
+use Rattle.zone_machine.specs.declared.events.Event.TheVariants.{Turn}
+use Rattle.zone_machine.specs.declared.objects.Mount.{Mount}
+use Rattle.zone_machine.specs.declared.records.Record.{Record}
+use Rattle.zone_machine.specs.declared.replies.Head.TheVariants.{Turned as Told}
+
+-- what a decision comes to is so, whatever is granted
+abbrev pub In : {E : Type 0} → (Option Arrival → E → Type 0) → decisions.Decision Comes E → Type 0
+In P (Just e) = P None e
+In P (Ask c asked denied given) = ((pool : Pool) → P None (denied pool)) × ((n : ℕ) → P (Some (arrived c n)) (given n))
+
+pub in-act : {E : Type 0} (P : Option Arrival → E → Type 0) (d : decisions.Decision Comes E) (g : Grant) → In P d → let a = decisions.act_of arrived d g in P a.came a.effect
+in-act P (Just e) g h = h
+in-act P (Ask c asked denied given) (Number n) h = h.1 n
+in-act P (Ask c asked denied given) Yes h = h.1 0
+in-act P (Ask c asked denied given) (Denied pool) h = h.0 pool
+in-act P (Ask c asked denied given) Nothing h = h.0 Store
+
+-- a turn's act is what the turn decides, as the machine does it
+abbrev pub turned_act : decisions.Act Arrival Turned → Act
+turned_act a = record { came = a.came; effect = turned a.effect }
+
+pub act-turned : (d : decisions.Decision Comes Turned) (g : Grant) → decisions.act_of arrived (effects turned d) g ≡ turned_act (decisions.act_of arrived d g)
+act-turned (Just t) g = refl
+act-turned (Ask c asked denied given) (Number n) = refl
+act-turned (Ask c asked denied given) g = refl
+
+-- what a turn of the zone comes to under a grant
+abbrev pub turn_act : World → Grant → decisions.Act Arrival Turned
+turn_act w g = decisions.act_of arrived (turn (objects_of w) w.stored w.desk) g
+
+pub decide-turn : (z y : Name) (w : World) (g : Grant) → act_of (decide (view_of z w) (Turn y)) g ≡ turned_act (turn_act w g)
+unfolding decide view_of
+decide-turn z y w g = act-turned (turn (objects_of w) w.stored w.desk) g
+
+-- a turn of the zone, what it replies, and what it leaves of the zone's world
+pub one-turn : (z : Name) (S : State) (g : Grant) → one S (Turn z) g ≡ done_by z None (turned_act (turn_act (world z S) g)) S
+unfolding one subject
+one-turn z S g = ap (λ v. done_by z None (act_of (decide v (Turn z)) g) S) (view-world z S) ∙ ap (λ (a : Act). done_by z None a S) (decide-turn z z (world z S) g)
+
+pub turn-reply : (z : Name) (S : State) (g : Grant) → (one S (Turn z) g).reply ≡ says (Told (turn_act (world z S) g).effect.reply)
+turn-reply z S g = ap (λ (r : Answered). r.reply) (one-turn z S g)
+
+pub turn-world : (z : Name) (S : State) (g : Grant) → world z (one S (Turn z) g).state ≡ acts_world None (turned_act (turn_act (world z S) g)) (world z S)
+turn-world z S g = ap (λ (r : Answered). world z r.state) (one-turn z S g) ∙ own-acts z None (turned_act (turn_act (world z S) g)) S
+
+-- the stored record and the mounts after a turn
+abbrev pub stored_after : Option Arrival → Option Record → Option Record
+stored_after (Some (New_record row)) old = row
+stored_after _ old = old
+
+abbrev pub mounts_after : List Object_edit → List Mount → List Mount
+mounts_after [] ms = ms
+mounts_after (Of_mounts e ∷ es) ms = mounts_after es (edited e ms)
+mounts_after (_ ∷ es) ms = mounts_after es ms
+
+-- this stands in a world
+pub record Has (row : Option Record) (ms : List Mount) (d : Desk) (w : World) : Type 0 where
+  pub stored : w.stored ≡ row
+  pub mounts : w.mounts ≡ ms
+  pub desk : w.desk ≡ d
+
+has-edits : (n : Option ℕ) (es : List Object_edit) (d : Desk) (ended : Option ℕ) (w : World)
+    → Has w.stored (mounts_after es w.mounts) d (edits_world n (map Of_objects es ++ Set_desk d ∷ sweeps ended) w)
+has-edits n [] d None w = record { stored = refl; mounts = refl; desk = refl }
+has-edits n [] d (Some t) w = record { stored = refl; mounts = refl; desk = refl }
+has-edits n (Processes_go p ∷ es) d ended w = has-edits n es d ended (edit_world n (Of_objects (Processes_go p)) w)
+has-edits n (e ∷ es) d ended w = has-edits n es d ended (edit_world n (Of_objects e) w)
+
+pub has-turned : (n : Option ℕ) (a : decisions.Act Arrival Turned) (w : World)
+    → Has (stored_after a.came w.stored) (mounts_after a.effect.objects w.mounts) a.effect.desk (acts_world n (turned_act a) w)
+has-turned n a w = at_came a.came
+  where
+    at_came : (c : Option Arrival) → Has (stored_after c w.stored) (mounts_after a.effect.objects w.mounts) a.effect.desk (acts_world n (turned_act (record a { came = c })) w)
+    at_came (Some (New_process p)) = has-edits n a.effect.objects a.effect.desk a.effect.ended (comes_world (New_process p) w)
+    at_came c = has-edits n a.effect.objects a.effect.desk a.effect.ended (after_came_world c w)

@@ -1,0 +1,7 @@
+use Rattle.std.proofs.Common.{◌≡◌, false, take}
+use Rattle.zone_machine.specs.Cells.{rows_in}
+use Rattle.zone_machine.specs.Pools.{path_taken}
+use Rattle.zone_machine.proofs.pools.path_taken.Given as goal
+
+abbrev pub invariant-loop-at : goal.invariant-loop-at
+invariant-loop-at l = path_taken (rows_in (take l.at l.rows.entries)) l.zone l.path ≡ false

@@ -1,0 +1,21 @@
+-- What comes with a grant, and takes its number from there: nothing else can make these.
+use Rattle.std.specs.Prelude.{ℕ, Option}
+use Rattle.zone_machine.specs.declared.objects.Id.{Id}
+use Rattle.zone_machine.specs.declared.objects.Process.{Process}
+use Rattle.zone_machine.specs.declared.records.Record.{Record}
+
+pub data Comes : Type 0 where
+  A_process : Process → Comes
+  An_id : Id → Comes
+  A_record : (ℕ → Option Record) → Comes
+
+-- what came, with its number
+pub data Arrival : Type 0 where
+  New_process : Process → Arrival
+  New_id : Id → Arrival
+  New_record : Option Record → Arrival
+
+abbrev pub arrived : Comes → ℕ → Arrival
+arrived (A_process p) n = New_process (record p { pid = n })
+arrived (An_id i) n = New_id (record i { zid = n })
+arrived (A_record row) n = New_record (row n)
