@@ -9,6 +9,7 @@ pub mod Asking
 pub mod Freeing
 pub mod Common_laws
 pub mod Local_laws
+pub mod Local_doing
 pub mod Words
 pub mod Results
 pub mod Last

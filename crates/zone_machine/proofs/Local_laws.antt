@@ -1,10 +1,10 @@
--- Turns that change their zone's mounts and desk alone, and turns of a zone that has work.
-use Rattle.std.proofs.Common.{◌≡◌, ◌∷◌, ◌++◌, [], ◌&&◌, ℕ, List, Option, Some, None, true, false, map, not, refl, ap, sym, ◌∙◌}
-use Rattle.std.specs.Prelude.{◌≢◌, is_none}
+-- Local turns change their zone's mounts and desk alone; and a zone that has work has a turn.
+use Rattle.std.proofs.Common.{◌≡◌, ◌∷◌, ◌++◌, [], ◌&&◌, ℕ, List, Bool, Option, Some, None, true, false, map, refl, ap, subst, sym, ◌∙◌}
+use Rattle.std.specs.Prelude.{◌≢◌, if◌then◌else◌}
 use Rattle.std.specs.List.{list_all}
 use Rattle.std.proofs.lemmas.Bool.{and_from, and_parts, false≢true, not-true, true≢false}
 use Rattle.zn_base.specs.Names.{Name}
-use Rattle.zone_pools.proofs.Owned_laws.{same_true}
+use Rattle.zone_pools.proofs.Owned_laws.{same_self, same_true}
 use Rattle.zone_pools.proofs.Same_laws.{grant-Decides}
 use Rattle.zone_pools.specs.Decisions as decisions
 use Rattle.zone_pools.specs.Decisions.{Ask, Just, asked_of}
@@ -15,22 +15,32 @@ use Rattle.zone_pools.specs.declared.grant.Grant.TheVariants.{Nothing}
 use Rattle.zone_machine.proofs.Acts_laws.{own-acts}
 use Rattle.zone_machine.proofs.Same_laws.{reply-Decides, subject-Decides}
 use Rattle.zone_machine.proofs.Of_turns.{of_turn}
-use Rattle.zone_machine.proofs.Turned_laws.{In, in-act, mounts_after, one-turn, turn-reply, turn_act, turned_act}
+use Rattle.zone_machine.proofs.Turned_laws.{In, in-act, one-turn, turn-reply, turn_act, turned_act}
 use Rattle.zone_machine.specs.Arrivals.{Arrival, arrived}
-use Rattle.zone_machine.specs.Common.{Common, common, is_busy, is_idle, is_local, is_of_mounts, is_turn_of, tells_local}
+use Rattle.zone_machine.specs.Common.{Common, common}
+use Rattle.zone_machine.specs.Local.{is_busy, is_idle, is_local, is_local_reply, is_local_step, is_local_turn, is_local_undo, is_turn_of, tells_local}
 use Rattle.zone_machine.specs.Decisions.{effects, says, sweeps, turned}
-use Rattle.zone_machine.specs.Desks.{Desk}
+use Rattle.zone_machine.specs.Desks.{Desk, Job, state_now}
 use Rattle.zone_machine.specs.Edits.{Of_objects, Set_desk, edit, edit_world, edits, edits_world}
 use Rattle.zone_machine.specs.Histories.{is_allowed, is_told}
 use Rattle.zone_machine.specs.Machine.{Answered, decide, done_by, one, started, subject}
-use Rattle.zone_machine.specs.Objects.{Object_edit, Of_mounts}
+use Rattle.zone_machine.specs.Objects.{Object_edit, Objects, Of_mounts, last_dir, mounts_after}
+use Rattle.zone_machine.specs.Plans.{may_begin}
 use Rattle.zone_machine.specs.Pools.{allowed, pools_of}
 use Rattle.zone_machine.specs.Same.{same_reply, same_subject}
 use Rattle.zone_machine.specs.State.{State}
-use Rattle.zone_machine.specs.Turns.{Turn_decision, Turned, turn}
+use Rattle.zone_machine.specs.Turns.{Turn_decision, Turned, begin, goes_on, next_request, step, turn, turn_at, undo, unmount}
 use Rattle.zone_machine.specs.Worlds.{World, objects_of, view, world}
+use Rattle.zn_base.specs.declared.state.ZoneState.{ZoneState}
+use Rattle.zone_machine.specs.declared.daemon.Outcome.{Outcome}
+use Rattle.zone_machine.specs.declared.daemon.Outcome.TheVariants.{WrongState}
+use Rattle.zone_machine.specs.declared.daemon.RequestKind.{RequestKind}
+use Rattle.zone_machine.specs.declared.daemon.Step.{Step}
+use Rattle.zone_machine.specs.declared.daemon.Step.TheVariants.{Hook, Record as Record_step, Copy, Zid, Limits, Devices, Root, Init, Unmount}
 use Rattle.zone_machine.specs.declared.daemon.TurnReply.{TurnReply}
-use Rattle.zone_machine.specs.declared.daemon.TurnReply.TheVariants.{Idle}
+use Rattle.zone_machine.specs.declared.daemon.TurnReply.TheVariants.{Idle, Began, Finished}
+use Rattle.zone_machine.specs.declared.records.Config.{Config}
+use Rattle.zone_machine.specs.declared.records.Record.{Record}
 use Rattle.zone_machine.specs.declared.events.Entry.{Entry}
 use Rattle.zone_machine.specs.declared.events.Event.{Event}
 use Rattle.zone_machine.specs.declared.events.Event.TheVariants.{Session, Turn}
@@ -38,16 +48,82 @@ use Rattle.zone_machine.specs.declared.events.Subject.TheVariants.{Zone}
 use Rattle.zone_machine.specs.declared.objects.Mount.{Mount}
 use Rattle.zone_machine.specs.declared.replies.Head.TheVariants.{Turned as Told}
 
+-- an edit of the zone's mounts
+abbrev is_of_mounts : Object_edit → Bool
+is_of_mounts (Of_mounts e) = true
+is_of_mounts _ = false
+
+-- of the zone's objects a turn changes the mounts alone, it ends no ticket, and it isn't idle
+pub record Stays (t : Turned) : Type 0 where
+  pub mounts : list_all is_of_mounts t.objects ≡ true
+  pub ended : t.ended ≡ None
+  pub busy : is_idle t.reply ≡ false
+
+-- so does a turn that has the reply of a local one
+abbrev If_local : Turn_decision → Type 0
+If_local (Just t) = is_local_reply t.reply ≡ true → Stays t
+If_local (Ask c asked denied given) = Unit {0}
+
+stays-undo : (d : Desk) (j : Job) (outcome : Outcome) (undone : List Step) → If_local (Just (undo d j outcome undone))
+stays-undo d j outcome [] h = absurd (false≢true h)
+stays-undo d j outcome (Limits ∷ rest) h = record { mounts = refl; ended = refl; busy = refl }
+stays-undo d j outcome (Devices count ∷ rest) h = record { mounts = refl; ended = refl; busy = refl }
+stays-undo d j outcome (Root ∷ rest) h = record { mounts = refl; ended = refl; busy = refl }
+stays-undo d j outcome (_ ∷ rest) h = absurd (false≢true h)
+
+stays-step : (o : Objects) (d : Desk) (j : Job) (row : Record) (left : List Step) → If_local (step o d j row left)
+stays-step o d j row [] = λ h. absurd (false≢true h)
+stays-step o d j row (Hook change ∷ rest) = λ h. record { mounts = refl; ended = refl; busy = refl }
+stays-step o d j row (Record_step s ∷ rest) = tt
+stays-step o d j row (Copy part ∷ rest) = λ h. record { mounts = refl; ended = refl; busy = refl }
+stays-step o d j row (Zid _ ∷ rest) = tt
+stays-step o d j row (Limits ∷ rest) = λ h. record { mounts = refl; ended = refl; busy = refl }
+stays-step o d j row (Root ∷ rest) = λ h. record { mounts = refl; ended = refl; busy = refl }
+stays-step o d j row (Init _ ∷ rest) = tt
+stays-step o d j row (Unmount dir ∷ rest) = at_mount (last_dir o.mounts) (stays-step o d j row rest)
+  where
+    at_mount : (m : Option (List ℕ)) → If_local (step o d j row rest) → If_local (unmount d j (Unmount dir ∷ rest) (step o d j row rest) m)
+    at_mount None ih = ih
+    at_mount (Some m) ih = λ h. record { mounts = refl; ended = refl; busy = refl }
+stays-step o d j row (_ ∷ rest) = λ h. absurd (false≢true h)
+
+begun : (d : Desk) (t : ℕ) (kind : RequestKind) (s : ZoneState) (config : Config) → is_local_reply (begin d t kind s config).reply ≡ false
+begun d t kind s config = at_test (may_begin kind s) refl
+  where
+    at_test : (b : Bool) → may_begin kind s ≡ b → is_local_reply (begin d t kind s config).reply ≡ false
+    at_test true e = simp e
+    at_test false e = simp e
+
+stays-turn : (o : Objects) (row : Option Record) (d : Desk) → If_local (turn o row d)
+unfolding turn
+stays-turn o None d = λ h. absurd (false≢true h)
+stays-turn o (Some row) d = at_job d.job
+  where
+    at_ending : (j : Job) (ending : Option Outcome) → If_local (goes_on o d j row ending)
+    at_ending j None = stays-step o d j row j.left
+    at_ending j (Some outcome) = stays-undo d j outcome j.undo
+
+    at_waiting : (waiting : List (ℕ × RequestKind)) → If_local (Just (next_request d waiting row))
+    at_waiting [] h = absurd (false≢true h)
+    at_waiting (w ∷ ws) h = absurd (false≢true (sym (begun (record d { waiting = ws }) w.0 w.1 (state_now row d) row.config) ∙ h))
+
+    at_job : (job : Option Job) → If_local (turn_at o d job row)
+    at_job None = at_waiting d.waiting
+    at_job (Some j) = at_ending j j.ending
+
 -- what a local entry says, with what its turn does
 pub record Local (z : Name) (w : World) (e : Entry) (t : Turned) : Type 0 where
   pub event : e.event ≡ Turn z
   pub subject : e.subject ≡ Zone z
   pub grant : e.grant ≡ Nothing
   pub decided : turn (objects_of w) w.stored w.desk ≡ Just t
-  pub mounts : list_all is_of_mounts t.objects ≡ true
-  pub ended : t.ended ≡ None
-  pub busy : is_idle t.reply ≡ false
+  pub local : is_local_reply t.reply ≡ true
+  pub stays : Stays t
   pub reply : e.reply ≡ says (Told t.reply)
+
+-- a turn that the world decides is such
+pub stays : (w : World) (t : Turned) → turn (objects_of w) w.stored w.desk ≡ Just t → is_local_reply t.reply ≡ true → Stays t
+stays w t is h = subst If_local is (stays-turn (objects_of w) w.stored w.desk) h
 
 pub local-turn : (z : Name) (w : World) (e : Entry) → is_local z w e ≡ true → (t : Turned) × Local z w e t
 local-turn z w e h =
@@ -61,34 +137,44 @@ local-turn z w e h =
     turn_of (Session n text) h = absurd (false≢true h)
     turn_of (Turn y) h = ap Turn (sym (same_true z y h))
 
-    none : (o : Option ℕ) → is_none o ≡ true → o ≡ None
-    none None h = refl
-    none (Some t) h = absurd (false≢true h)
-
     at_decision : (d : Turn_decision) → turn (objects_of w) w.stored w.desk ≡ d → e.event ≡ Turn z → e.subject ≡ Zone z → e.grant ≡ Nothing → tells_local d e.reply ≡ true → (t : Turned) × Local z w e t
     at_decision (Just t) is event subject grant h =
-        let outer = and_parts (list_all is_of_mounts t.objects && is_none t.ended && not (is_idle t.reply)) (same_reply e.reply (says (Told t.reply))) h in
-        let mid = and_parts (list_all is_of_mounts t.objects && is_none t.ended) (not (is_idle t.reply)) outer.0 in
-        let inner = and_parts (list_all is_of_mounts t.objects) (is_none t.ended) mid.0 in (
+        let parts = and_parts (is_local_reply t.reply) (same_reply e.reply (says (Told t.reply))) h in (
           t,
           record {
             event = event;
             subject = subject;
             grant = grant;
             decided = is;
-            mounts = inner.0;
-            ended = none t.ended inner.1;
-            busy = not-true (is_idle t.reply) mid.1;
-            reply = (reply-Decides e.reply (says (Told t.reply))).0 outer.1;
+            local = parts.0;
+            stays = stays w t is parts.0;
+            reply = (reply-Decides e.reply (says (Told t.reply))).0 parts.1;
           },
         )
     at_decision (Ask c asked denied given) is event subject grant h = absurd (false≢true h)
+
+-- and what says so is local
+pub is-local : (z : Name) (w : World) (e : Entry) (t : Turned) → Local z w e t → is_local z w e ≡ true
+is-local z w e t l =
+    and_from _ _
+    (and_from _ _ (and_from _ _ (ap (is_turn_of z) l.event ∙ same_self z) ((subject-Decides e.subject (Zone z)).1 l.subject)) ((grant-Decides e.grant Nothing).1 l.grant))
+    (ap (λ d. tells_local d e.reply) l.decided ∙ and_from _ _ l.local ((reply-Decides e.reply (says (Told t.reply))).1 l.reply))
+
+-- no entry is local where the turn isn't
+pub not-local : (z : Name) (w : World) (e : Entry) → is_local_turn (turn (objects_of w) w.stored w.desk) ≡ false → is_local z w e ≡ false
+not-local z w e h = at_test (is_local z w e) refl
+  where
+    at_test : (b : Bool) → is_local z w e ≡ b → b ≡ false
+    at_test false is = refl
+    at_test true is =
+        let found = local-turn z w e is in
+        absurd (false≢true (sym h ∙ (ap is_local_turn found.1.decided ∙ found.1.local)))
 
 pub local-one : (z : Name) (S : State) (e : Entry) (t : Turned) → Local z (world z S) e t → one S e.event e.grant ≡ done_by z None (turned_act (record { came = None; effect = t })) S
 local-one z S e t l = ap (λ x. one S x e.grant) l.event ∙ (one-turn z S e.grant ∙ ap (λ (d : Turn_decision). done_by z None (turned_act (decisions.act_of arrived d e.grant)) S) l.decided)
 
 -- it is told as it is, and under the grant that the pools give
-subject-turn : (S : State) (z : Name) → subject S (Turn z) ≡ Zone z
+pub subject-turn : (S : State) (z : Name) → subject S (Turn z) ≡ Zone z
 unfolding subject
 subject-turn S z = refl
 
@@ -117,8 +203,8 @@ pub local-common : (z : Name) (S : State) (e : Entry) → is_local z (world z S)
 local-common z S e h =
     let found = local-turn z (world z S) e h in let t = found.0 in let l = found.1 in
     ap (λ (r : Answered). common r.state) (local-one z S e t l)
-    ∙ (ap (λ o. common (started (edits z None (map Of_objects t.objects ++ Set_desk t.desk ∷ sweeps o) S))) l.ended
-    ∙ ap (λ (c : Common). record c { started = true }) (common-edits z t.objects t.desk S l.mounts))
+    ∙ (ap (λ o. common (started (edits z None (map Of_objects t.objects ++ Set_desk t.desk ∷ sweeps o) S))) l.stays.ended
+    ∙ ap (λ (c : Common). record c { started = true }) (common-edits z t.objects t.desk S l.stays.mounts))
 
 -- of the zone's world it changes the mounts and the desk alone
 world-edits : (es : List Object_edit) (d : Desk) (w : World) → list_all is_of_mounts es ≡ true → edits_world None (map Of_objects es ++ Set_desk d ∷ []) w ≡ record w { mounts = mounts_after es w.mounts; desk = d }
@@ -126,22 +212,23 @@ world-edits [] d w h = refl
 world-edits (Of_mounts e ∷ es) d w h = world-edits es d (edit_world None (Of_objects (Of_mounts e)) w) h
 world-edits (_ ∷ es) d w h = absurd (false≢true h)
 
+pub world-after : (z : Name) (S : State) (e : Entry) (t : Turned) → Local z (world z S) e t
+    → world z (one S e.event e.grant).state ≡ record (world z S) { mounts = mounts_after t.objects (world z S).mounts; desk = t.desk }
+world-after z S e t l =
+    let w = world z S in
+    ap (λ (r : Answered). world z r.state) (local-one z S e t l)
+    ∙ (own-acts z None (turned_act (record { came = None; effect = t })) S
+    ∙ (ap (λ o. edits_world None (map Of_objects t.objects ++ Set_desk t.desk ∷ sweeps o) w) l.stays.ended ∙ world-edits t.objects t.desk w l.stays.mounts))
+
 pub local-world : (z : Name) (S : State) (e : Entry) → is_local z (world z S) e ≡ true → (ms : List Mount) × (d : Desk) × (world z (one S e.event e.grant).state ≡ record (world z S) { mounts = ms; desk = d })
-local-world z S e h =
-    let w = world z S in let found = local-turn z w e h in let t = found.0 in let l = found.1 in (
-      mounts_after t.objects w.mounts,
-      t.desk,
-      ap (λ (r : Answered). world z r.state) (local-one z S e t l)
-          ∙ (own-acts z None (turned_act (record { came = None; effect = t })) S
-          ∙ (ap (λ o. edits_world None (map Of_objects t.objects ++ Set_desk t.desk ∷ sweeps o) w) l.ended ∙ world-edits t.objects t.desk w l.mounts)),
-    )
+local-world z S e h = let found = local-turn z (world z S) e h in (mounts_after found.0.objects (world z S).mounts, found.0.desk, world-after z S e found.0 found.1)
 
 -- it isn't idle
 awake : (r : TurnReply) → is_idle r ≡ false → says (Told r) ≢ says (Told Idle)
 awake r h same = let head : Told r ≡ Told Idle = ap (λ r. r.head) same in let e : r ≡ Idle = cc in false≢true (sym h ∙ ap is_idle e)
 
 pub local-awake : (z : Name) (w : World) (e : Entry) → is_local z w e ≡ true → e.reply ≢ says (Told Idle)
-local-awake z w e h same = let found = local-turn z w e h in let l = found.1 in awake found.0.reply l.busy (sym l.reply ∙ same)
+local-awake z w e h same = let found = local-turn z w e h in let l = found.1 in awake found.0.reply l.stays.busy (sym l.reply ∙ same)
 
 -- nor is a turn of a zone that has work
 abbrev Awake : Option Arrival → Turned → Type 0

@@ -6,7 +6,7 @@ use Rattle.zone_pools.specs.Decisions.{Just}
 use Rattle.zone_pools.specs.Firsts.{is_nil}
 use Rattle.zn_base.specs.declared.state.ZoneState.{ZoneState}
 use Rattle.zone_machine.specs.Arrivals.{A_process, A_record, An_id, Comes}
-use Rattle.zone_machine.specs.Common.{is_idle}
+use Rattle.zone_machine.specs.Local.{is_idle}
 use Rattle.zone_machine.specs.Desks.{Desk, Job, state_now}
 use Rattle.zone_machine.specs.Objects.{Objects, last_dir}
 use Rattle.zone_machine.specs.Plans.{may_begin}

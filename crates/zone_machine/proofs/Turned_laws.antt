@@ -15,7 +15,7 @@ use Rattle.zone_machine.specs.Decisions.{Act, act_of, acts_world, after_came_wor
 use Rattle.zone_machine.specs.Desks.{Desk}
 use Rattle.zone_machine.specs.Edits.{Of_objects, Set_desk, comes_world, edit_world, edits_world}
 use Rattle.zone_machine.specs.Machine.{Answered, decide, done_by, one, subject}
-use Rattle.zone_machine.specs.Objects.{Object_edit, Of_mounts, Processes_go}
+use Rattle.zone_machine.specs.Objects.{Object_edit, Processes_go, mounts_after}
 use Rattle.zone_machine.specs.State.{State}
 use Rattle.zone_machine.specs.Turns.{Turned, turn}
 use Rattle.zone_machine.specs.Worlds.{World, objects_of, view_of, world}
@@ -64,15 +64,10 @@ turn-reply z S g = ap (λ (r : Answered). r.reply) (one-turn z S g)
 pub turn-world : (z : Name) (S : State) (g : Grant) → world z (one S (Turn z) g).state ≡ acts_world None (turned_act (turn_act (world z S) g)) (world z S)
 turn-world z S g = ap (λ (r : Answered). world z r.state) (one-turn z S g) ∙ own-acts z None (turned_act (turn_act (world z S) g)) S
 
--- the stored record and the mounts after a turn
+-- the stored record after a turn
 abbrev pub stored_after : Option Arrival → Option Record → Option Record
 stored_after (Some (New_record row)) old = row
 stored_after _ old = old
-
-abbrev pub mounts_after : List Object_edit → List Mount → List Mount
-mounts_after [] ms = ms
-mounts_after (Of_mounts e ∷ es) ms = mounts_after es (edited e ms)
-mounts_after (_ ∷ es) ms = mounts_after es ms
 
 -- this stands in a world
 pub record Has (row : Option Record) (ms : List Mount) (d : Desk) (w : World) : Type 0 where

@@ -1,30 +1,15 @@
--- What more than one zone may ask of the state: who holds which number, what is stored, and the last numbers given; and
--- which events leave it as it is.
-use Rattle.std.specs.Prelude.{ℕ, ◌+◌, List, Option, Some, None, Bool, true, false, is_none, is_some, length, not, ◌&&◌, ◌||◌, bytes_eq}
-use Rattle.std.specs.List.{list_all, list_any}
+-- What more than one zone may ask of the state: who holds which number, what is stored, and the last numbers given.
+use Rattle.std.specs.Prelude.{ℕ, ◌+◌, List, Option, Some, None, Bool, true, is_some, length}
+use Rattle.std.specs.List.{list_any}
 use Rattle.zn_base.specs.Names.{Name}
-use Rattle.zone_pools.specs.Decisions.{Ask, Just}
-use Rattle.zone_pools.specs.Firsts.{is_nil}
 use Rattle.zone_pools.specs.Owners as owners
-use Rattle.zone_pools.specs.Same.{same_grant}
-use Rattle.zone_pools.specs.declared.grant.Grant.TheVariants.{Nothing}
 use Rattle.zone_pools.specs.declared.owned.Owned.{Owned}
 use Rattle.zone_machine.specs.Arrivals.{Arrival, New_id, New_process, New_record}
-use Rattle.zone_machine.specs.Decisions.{Act, acts_world, says}
-use Rattle.zone_machine.specs.Objects.{Object_edit, Of_mounts, has_pid, has_zid}
-use Rattle.zone_machine.specs.Same.{same_reply, same_subject}
+use Rattle.zone_machine.specs.Decisions.{Act, acts_world}
+use Rattle.zone_machine.specs.Objects.{has_pid, has_zid}
 use Rattle.zone_machine.specs.State.{State, rows_of, with_stored}
-use Rattle.zone_machine.specs.Turns.{Turn_decision, turn}
-use Rattle.zone_machine.specs.Worlds.{World, objects_of, world}
-use Rattle.zone_machine.specs.declared.daemon.TurnReply.{TurnReply}
-use Rattle.zone_machine.specs.declared.daemon.TurnReply.TheVariants.{Idle}
-use Rattle.zone_machine.specs.declared.events.Entry.{Entry}
-use Rattle.zone_machine.specs.declared.events.Event.{Event}
-use Rattle.zone_machine.specs.declared.events.Event.TheVariants.{Session, Turn}
-use Rattle.zone_machine.specs.declared.events.Subject.TheVariants.{Zone}
+use Rattle.zone_machine.specs.Worlds.{World, world}
 use Rattle.zone_machine.specs.declared.records.Record.{Record}
-use Rattle.zone_machine.specs.declared.replies.Head.TheVariants.{Turned}
-use Rattle.zone_machine.specs.declared.replies.Reply.{Reply}
 
 pub record Common : Type 0 where
   -- whether a zone holds a process number, an id, a session
@@ -77,28 +62,3 @@ came_common z (Some (New_record row)) c = record c { rows = with_stored z row c.
 -- an act of an event of z, from z's world and what was common
 abbrev pub acts_common : Name → Option ℕ → Act → World → Common → Common
 acts_common z n a w c = record (holding z (acts_world n a w) (came_common z a.came c)) { started = true }
-
--- the zone is stored, and a request waits or is under way
-abbrev pub is_busy : World → Bool
-is_busy w = is_some w.stored && (is_some w.desk.job || not (is_nil w.desk.waiting))
-
-abbrev pub is_idle : TurnReply → Bool
-is_idle Idle = true
-is_idle _ = false
-
-abbrev pub is_of_mounts : Object_edit → Bool
-is_of_mounts (Of_mounts e) = true
-is_of_mounts _ = false
-
--- a turn that isn't idle, asks no pool, ends no ticket and changes no process or id has this reply
-abbrev pub tells_local : Turn_decision → Reply → Bool
-tells_local (Just t) reply = list_all is_of_mounts t.objects && is_none t.ended && not (is_idle t.reply) && same_reply reply (says (Turned t.reply))
-tells_local (Ask c asked denied given) reply = false
-
-abbrev pub is_turn_of : Name → Event → Bool
-is_turn_of z (Session n text) = false
-is_turn_of z (Turn y) = bytes_eq z y
-
--- the entry of such a turn of z: it changes z's mounts and its desk alone
-abbrev pub is_local : Name → World → Entry → Bool
-is_local z w e = is_turn_of z e.event && same_subject e.subject (Zone z) && same_grant e.grant Nothing && tells_local (turn (objects_of w) w.stored w.desk) e.reply

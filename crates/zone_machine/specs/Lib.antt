@@ -18,6 +18,7 @@ pub mod Machine
 pub mod Pools
 pub mod Same
 pub mod Common
+pub mod Local
 -- many events
 pub mod Histories
 pub mod Turns_left
@@ -29,4 +30,5 @@ pub mod Cases
 pub mod Cells
 pub mod Rooms
 pub mod Steps
+pub mod Local_turns
 pub mod Decided

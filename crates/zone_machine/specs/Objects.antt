@@ -2,7 +2,7 @@
 use Rattle.std.specs.Prelude.{ℕ, List, [], ◌∷◌, Option, Some, None, Bool, true, bytes_eq, is_some, nat_eq, nat_lt, if◌then◌else◌}
 use Rattle.std.specs.Option.{option_map}
 use Rattle.zone_pools.specs.Firsts.{first_of}
-use Rattle.zone_pools.specs.Owned_lists.{List_edit}
+use Rattle.zone_pools.specs.Owned_lists.{List_edit, edited}
 use Rattle.zone_machine.specs.declared.objects.Id.{Id}
 use Rattle.zone_machine.specs.declared.objects.Mount.{Mount}
 use Rattle.zone_machine.specs.declared.objects.Process.{Process}
@@ -17,6 +17,12 @@ pub data Object_edit : Type 0 where
   Processes_go : (Process → Bool) → Object_edit
   Of_mounts : List_edit Mount → Object_edit
   Ids_go : (Id → Bool) → Object_edit
+
+-- the mounts after edits
+abbrev pub mounts_after : List Object_edit → List Mount → List Mount
+mounts_after [] ms = ms
+mounts_after (Of_mounts e ∷ es) ms = mounts_after es (edited e ms)
+mounts_after (_ ∷ es) ms = mounts_after es ms
 
 abbrev pub all_of : {A : Type 0} → A → Bool
 all_of x = true

@@ -1,15 +1,23 @@
 //! The laws of what zones share, over every state. Each is the contract of a function that does nothing.
-ghost use Rattle.std.specs.Prelude.{◌≡◌, true};
+ghost use Rattle.std.specs.Prelude.{◌≡◌, ◌≢◌, List, true};
 ghost use Rattle.zn_base.specs.Names.{Name};
 ghost use Rattle.zone_pools.specs.Firsts.{first_of};
 ghost use Rattle.zone_pools.specs.Owned_lists.{mine};
 ghost use Rattle.zone_pools.specs.declared.grant.Grant.{Grant};
 ghost use Rattle.zone_machine.specs.Common.{acts_common, common};
-ghost use Rattle.zone_machine.specs.Decisions.{act_of};
+ghost use Rattle.zone_machine.specs.Decisions.{act_of, says};
+ghost use Rattle.zone_machine.specs.Desks.{Desk};
+ghost use Rattle.zone_machine.specs.Histories.{is_allowed, is_told};
+ghost use Rattle.zone_machine.specs.Local.{is_busy, is_local};
 ghost use Rattle.zone_machine.specs.Machine.{decide, need, one, session_number, subject};
 ghost use Rattle.zone_machine.specs.Pools.{allowed, fits};
 ghost use Rattle.zone_machine.specs.State.{State, stored};
-ghost use Rattle.zone_machine.specs.Worlds.{view_of, world};
+ghost use Rattle.zone_machine.specs.Worlds.{World, view_of, world};
+ghost use Rattle.zone_machine.specs.declared.daemon.TurnReply.TheVariants.{Idle};
+ghost use Rattle.zone_machine.specs.declared.events.Entry.{Entry};
+ghost use Rattle.zone_machine.specs.declared.events.Event.TheVariants.{Turn};
+ghost use Rattle.zone_machine.specs.declared.objects.Mount.{Mount};
+ghost use Rattle.zone_machine.specs.declared.replies.Head.TheVariants.{Turned};
 ghost use Rattle.zone_machine.specs.declared.events.Event.{Event};
 ghost use Rattle.zone_machine.specs.declared.events.Subject.TheVariants.{Global, Zone};
 
@@ -41,4 +49,19 @@ pub fn allowed_by_what_is_common()
 /// What is stored of a zone is common.
 pub fn is_stored_in_common()
     ensures { (z : Name) (S : State) → stored z S.commits ≡ first_of (mine z (common S).rows) }
+{}
+
+/// A local turn is told as it is and under the grant that the pools give, leaves what is common as it is but for the
+/// start, changes its zone's mounts and desk alone, and isn't idle.
+pub fn local_turns_touch_nothing_common()
+    ensures right { (z : Name) (S : State) (e : Entry) → is_local z (world z S) e ≡ true → (is_told S e ≡ true) × (is_allowed S e.event e.grant ≡ true) }
+    ensures common { (z : Name) (S : State) (e : Entry) → is_local z (world z S) e ≡ true → common (one S e.event e.grant).state ≡ record (common S) { started = true } }
+    ensures world { (z : Name) (S : State) (e : Entry) → is_local z (world z S) e ≡ true
+        → (ms : List Mount) × (d : Desk) × (world z (one S e.event e.grant).state ≡ record (world z S) { mounts = ms; desk = d }) }
+    ensures awake { (z : Name) (w : World) (e : Entry) → is_local z w e ≡ true → e.reply ≢ says (Turned Idle) }
+{}
+
+/// A turn of a stored zone whose daemon has a request isn't idle.
+pub fn busy_turns_are_not_idle()
+    ensures { (z : Name) (S : State) (g : Grant) → is_busy (world z S) ≡ true → (one S (Turn z) g).reply ≢ says (Turned Idle) }
 {}

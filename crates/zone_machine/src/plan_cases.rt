@@ -16,8 +16,8 @@ use crate::work::{Came, Coming, ObjectEdit};
 use std::alloc::{AllocError, Global};
 use zn_base::{AbsPath, Text, ZoneName, ZoneState};
 
-// A step is done that changes no objects.
-fn passed(next: usize, shown: Step) -> JobCase
+/// A step is done that changes no objects.
+pub(crate) fn passed(next: usize, shown: Step) -> JobCase
     ensures { result ≡ JobCase.Pass (record { next = next; objects = ObjectEdit.Nothing; shown = shown }) }
 {
     JobCase::Pass(Pass {
@@ -62,8 +62,8 @@ fn root_special(alloc: Global, config: &Config) -> Result<Text, AllocError>
     Text::of(alloc, &bytes)
 }
 
-// The zone's root is mounted.
-fn mount_root(alloc: Global, next: usize, config: &Config) -> Result<JobCase, AllocError>
+/// The zone's root is mounted.
+pub(crate) fn mount_root(alloc: Global, next: usize, config: &Config) -> Result<JobCase, AllocError>
     ensures { IfOk result (λ c. c ≡ JobCase.Pass (record { next = next; objects = ObjectEdit.Mount (root_mount config.now); shown = Step.Root })) }
 {
     let mount = Mount {
@@ -120,9 +120,9 @@ fn give_zid_back(next: usize, ids: &[Id]) -> JobCase
     changed(next, ObjectEdit::EndIds, Step::ZidBack(zid))
 }
 
-// The directory of the last mount.
+/// The directory of the last mount.
 #[tactic(auto, using(crate::proofs::Last::last_push))]
-fn last_dir(mounts: &[Mount]) -> Option<&AbsPath>
+pub(crate) fn last_dir(mounts: &[Mount]) -> Option<&AbsPath>
     ensures { option_map (λ dir. dir.now) result ≡ last_dir mounts.now }
 {
     let (mount, _) = mounts.split_last()?;
@@ -162,8 +162,8 @@ fn step_case(
     }
 }
 
-// One mount goes, and the plan stays where it is.
-fn unmount(alloc: Global, at: usize, dir: &AbsPath) -> Result<JobCase, AllocError>
+/// One mount goes, and the plan stays where it is.
+pub(crate) fn unmounted(alloc: Global, at: usize, dir: &AbsPath) -> Result<JobCase, AllocError>
     ensures { IfOk result (λ c. c ≡ JobCase.Pass (record { next = at; objects = ObjectEdit.Unmount dir.now; shown = Step.Unmount (Some dir.now) })) }
 {
     let gone = dir.copy(alloc)?;
@@ -171,8 +171,8 @@ fn unmount(alloc: Global, at: usize, dir: &AbsPath) -> Result<JobCase, AllocErro
     Ok(changed(at, ObjectEdit::Unmount(gone), shown))
 }
 
-// The step at a place of the plan.
-fn step_at(job: &Job, at: usize) -> &Step
+/// The step at a place of the plan.
+pub(crate) fn step_at(job: &Job, at: usize) -> &Step
     requires { at < length job.now.steps.items }
     ensures { drop at job.now.steps.items ≡ result.now ∷ drop (at + 1) job.now.steps.items }
 {
@@ -199,7 +199,7 @@ pub(crate) fn plan_case(
     let planned = step_at(job, at);
     match planned {
         Step::Unmount(_) => match last_dir(objects.mounts) {
-            Some(dir) => unmount(alloc, at, dir),
+            Some(dir) => unmounted(alloc, at, dir),
             None => plan_case(alloc, zone, job, at + 1, row, objects),
         },
         _ => step_case(alloc, zone, job, planned, at + 1, row, objects),

@@ -1,6 +1,6 @@
 //! Room for what a case puts into its cell and into the shared part, taken before anything is changed.
 ghost use Rattle.std.specs.Prelude.{◌≡◌, OnOk};
-ghost use Rattle.zone_machine.specs.Cases.{IsCaseOf, case_seen, objects_of};
+ghost use Rattle.zone_machine.specs.Cases.{IsCaseOf, case_seen, objects_of, turn_objects};
 ghost use Rattle.zone_machine.specs.Needs_seen.{asked_by};
 ghost use Rattle.zone_machine.specs.Rooms.{Alike, HasRoom, HasRoomIfSits, HasRoomToChange, HasRoomToCome};
 
@@ -46,6 +46,19 @@ fn room_to_change(cell: &mut Cell, edit: &ObjectEdit) -> Result<(), AllocError>
     }
 }
 
+/// Room for what a turn does to the zone's objects.
+pub(crate) fn room_to_turn(cell: &mut Cell, case: &TurnCase) -> Result<(), AllocError>
+    ensures mounts { cell.new.mounts.items ≡ cell.old.mounts.items }
+    ensures same { cell.new ≡ record cell.old { mounts = cell.new.mounts } }
+    ensures room { OnOk result (HasRoomToChange (turn_objects case.now) cell.new) }
+{
+    match case {
+        TurnCase::GoOn(JobCase::Pass(pass)) => room_to_change(cell, &pass.objects),
+        TurnCase::GoOn(JobCase::Undo(objects)) => room_to_change(cell, objects),
+        _ => Ok(()),
+    }
+}
+
 // Room for what a case does to the zone's objects, and for the session that waits from now on.
 fn room_to_do(cell: &mut Cell, shared: &mut Shared, case: &Case) -> Result<(), AllocError>
     ensures alike { Alike cell.old shared.old cell.new shared.new }
@@ -58,8 +71,7 @@ fn room_to_do(cell: &mut Cell, shared: &mut Shared, case: &Case) -> Result<(), A
             cell.waits.reserve(1)?;
             shared.sessions.reserve()
         }
-        Case::Turn(TurnCase::GoOn(JobCase::Pass(pass))) => room_to_change(cell, &pass.objects),
-        Case::Turn(TurnCase::GoOn(JobCase::Undo(objects))) => room_to_change(cell, objects),
+        Case::Turn(case) => room_to_turn(cell, case),
         _ => Ok(()),
     }
 }

@@ -20,8 +20,8 @@ use crate::work::ObjectEdit;
 use std::alloc::{AllocError, Global};
 use zn_base::{ZoneName, ZoneState};
 
-// What undoes a step.
-fn undoing(alloc: Global, shown: &Step) -> Result<ObjectEdit, AllocError>
+/// What undoes a step.
+pub(crate) fn undoing(alloc: Global, shown: &Step) -> Result<ObjectEdit, AllocError>
     ensures { IfOk result (λ objects. object_edits objects ≡ undo_edits shown.now) }
 {
     match shown {

@@ -3,7 +3,8 @@ use Rattle.std.proofs.Common.{◌≡◌, ℕ, List, Bool, Option, Some, None, tr
 use Rattle.zn_base.specs.Names.{Name}
 use Rattle.zn_base.specs.Path.{path_of}
 use Rattle.zone_pools.specs.declared.grant.Grant.{Grant}
-use Rattle.zone_machine.proofs.Turned_laws.{Has, In, decide-turn, has-turned, in-act, mounts_after, stored_after, turn_act, turned_act}
+use Rattle.zone_machine.proofs.Turned_laws.{Has, In, decide-turn, has-turned, in-act, stored_after, turn_act, turned_act}
+use Rattle.zone_machine.specs.Objects.{mounts_after}
 use Rattle.zone_machine.specs.Arrivals.{Arrival}
 use Rattle.zone_machine.specs.Decisions.{Act, Effect, act_of, acts_world, after_came_world}
 use Rattle.zone_machine.specs.Desks.{Desk}

@@ -11,7 +11,8 @@ use Rattle.zone_pools.specs.declared.grant.Grant.{Grant}
 use Rattle.zn_base.specs.declared.state.ZoneState.{ZoneState}
 use Rattle.zn_base.specs.declared.state.ZoneState.TheVariants.{Configured, Installed, Ready, Running}
 use Rattle.zone_machine.proofs.Own_worlds.{world-one}
-use Rattle.zone_machine.proofs.Turned_laws.{In, has-turned, in-act, mounts_after, turn-reply, turn-world, turn_act}
+use Rattle.zone_machine.proofs.Turned_laws.{In, has-turned, in-act, turn-reply, turn-world, turn_act}
+use Rattle.zone_machine.specs.Objects.{mounts_after}
 use Rattle.zone_machine.specs.Decisions.{act_of, acts_world, says}
 use Rattle.zone_machine.specs.Desks.{Desk, Job}
 use Rattle.zone_machine.specs.Histories.{after, after_entry, world_by}
