@@ -89,19 +89,6 @@ common_by z w g t waits pids zids sessions seen rows serial last_pid last_zid st
   started = started i;
 }
 
-pub does_nothing : (z : Name) (c : Cell) (s : Shared) → Does z (λ w. w) kept c s c s
-does_nothing z c s = record {
-  world = refl;
-  common = λ a. common_by z (cell_world (row_in z s) c) (common_in s) s (get nat_eq c.waits) (same_pids z c s a) (same_zids z c s a) (same_sessions z c s a) (λ n. holds_wait (get nat_eq c.waits n)) refl refl refl refl refl;
-}
-
--- the mounts change
-pub does_mounts : (z : Name) (e : List_edit Mount) (c : Cell) (s : Shared) (v : Vec Mount Global) → v.items ≡ edited e c.mounts.items → (n : Option ℕ) → Does z (edits_world n (Of_objects (Of_mounts e) ∷ [])) kept c s (record c { mounts = v }) s
-does_mounts z e c s v h n = record {
-  world = λ i. record (cell_world (row_in z s) c) { mounts = h i };
-  common = λ a. common_by z (record (cell_world (row_in z s) c) { mounts = edited e c.mounts.items }) (common_in s) s (get nat_eq c.waits) (same_pids z c s a) (same_zids z c s a) (same_sessions z c s a) (λ n. holds_wait (get nat_eq c.waits n)) refl refl refl refl refl;
-}
-
 -- a process comes, or all go; t is the shared part with the new owners
 pub does_process : (z : Name) (c : Cell) (s t : Shared) (p : Process) (v : Vec Process Global) → owner nat_eq s.pids p.pid ≡ None
     → ((n : ℕ) → owner nat_eq t.pids n ≡ (if nat_eq p.pid n then Some z else owner nat_eq s.pids n)) → v.items ≡ edited (Put (below p.pid) p) c.processes.items

@@ -117,17 +117,6 @@ module _ (z : Name) (c : Cell) (s : Shared) (e : Event) where
   IsCellMisfitUnder-by (Some stated) asked asks unfit =
       (λ S cell shared of. fits-by S s z (cell_world (row_in z s) c) e asked shared (cell-stands z S c s cell shared) of asks stated ∙ unfit, refl, refl)
 
--- a cell and a shared part that are alike stand for the same, and so a step of the ones is one of the others
-module _ (z : Name) (c : Cell) (s : Shared) (c' : Cell) (s' : Shared) (alike : Alike c s c' s') where
-  pub alike-cell : (w : World) → CellOf c w → CellOf c' w
-  alike-cell w h = h ∙ sym (alike.world w.stored)
-
-  pub alike-shared : (k : Common) → SharedOf s k → SharedOf s' k
-  alike-shared k h = h ∙ sym alike.common
-
-  pub IsCellStep-alike : (e : Event) (g : Grant) (entry : Entry) (d : Cell) (t : Shared) → IsCellStep z c' s' e g entry d t → IsCellStep z c s e g entry d t
-  IsCellStep-alike e g entry d t steps S cell shared of = steps S (alike-cell (world z S) cell) (alike-shared (common S) shared) of
-
 -- the world of each zone
 pub world-stands : (S : State) (m : Parts) (z : Name) → Stands S m → world z S ≡ world_or_empty (row_in z m.shared) (cell_at z m)
 world-stands S m z h = h.worlds z ∙ ap (λ row. world_or_empty row (cell_at z m)) (stored-stands S m.shared z h.shared)
@@ -238,12 +227,6 @@ module _ (m u : Parts) (z : Name) (e : Event) (c d : Cell) (same : (row : Option
           at_zone : (b : Bool) → bytes_eq z y ≡ b → world_or_empty row (cell_at y m) ≡ world_or_empty row (cell_at y u)
           at_zone true k = subst (λ x. world_or_empty row (cell_at x m) ≡ cell_world row d) (same_true z y k) (same row ∙ sym (alike.world row)) ∙ sym (left_at y row true k)
           at_zone false k = sym (left_at y row false k)
-
-pub IsStepUnder-by : (m u : Parts) (e : Event) (stated : Option Grant) (g : Grant) (entry : Entry) → IsTaken m stated e g → entry.grant ≡ g → IsStep m e g entry u → IsStepUnder stated m e entry u
-IsStepUnder-by m u e stated g entry takes is steps S h = record {
-  takes = subst (Takes stated S e) (sym is) (takes S h);
-  answers = subst (λ g. Answers S e g entry u) (sym is) (steps S h);
-}
 
 -- an event of the global zone
 module _ (m : Parts) (e : Event) (is : subject_in m.shared e ≡ Global) where

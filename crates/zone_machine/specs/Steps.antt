@@ -55,9 +55,6 @@ IsSubject t e s = (S : State) → Stands S t → s ≡ subject S e
 abbrev pub IsAllowed : Parts → Event → Grant → Type 0
 IsAllowed t e g = (S : State) → Stands S t → g ≡ allowed S e
 
-abbrev pub IsFit : Parts → Event → Grant → Bool → Type 0
-IsFit t e g b = (S : State) → Stands S t → fits S e g ≡ b
-
 abbrev pub IsZoneState : Parts → Name → Option ZoneState → Type 0
 IsZoneState t z s = (S : State) → Stands S t → s ≡ zone_state z S
 

@@ -26,7 +26,7 @@ use crate::lines::{Command, Line, line_of};
 use crate::needs::need_of;
 use crate::pools::{fits, grant_for};
 use crate::records::Record;
-use crate::replies::{Body, Head, Refusal, Reply};
+use crate::replies::{Body, Refusal, Reply};
 use crate::rooms::make_room;
 use crate::shared::Shared;
 use crate::turn_cases::decide_turn;
