@@ -10,7 +10,7 @@ use Rattle.zn_base.specs.Names.{Name}
 use Rattle.zone_pools.proofs.Holding.{column, come_column, gone_column, kept_column}
 use Rattle.zone_pools.proofs.Owned_laws.{same_self, same_true}
 use Rattle.zone_pools.specs.Firsts.{placed}
-use Rattle.zone_pools.specs.Owned_lists.{Put, List_edit, edited, tag}
+use Rattle.zone_pools.specs.Owned_lists.{Put, edited, tag}
 use Rattle.zone_pools.specs.Owners as owners
 use Rattle.zone_pools.specs.Owners.{held_by, is_owner, owner}
 use Rattle.zone_pools.specs.declared.owned.Owned.{Owned}
@@ -24,14 +24,13 @@ use Rattle.zone_machine.specs.State as state
 use Rattle.zone_machine.specs.Worlds.{World}
 use Rattle.zone_machine.specs.declared.cell.Cell.{Cell}
 use Rattle.zone_machine.specs.declared.objects.Id.{Id}
-use Rattle.zone_machine.specs.declared.objects.Mount.{Mount}
 use Rattle.zone_machine.specs.declared.objects.Process.{Process}
 use Rattle.zone_machine.specs.declared.records.Record.{Record}
 use Rattle.zone_machine.specs.declared.shared.Shared.{Shared}
 use Rattle.zone_machine.specs.declared.work.ObjectEdit.TheVariants.{EndIds, EndProcesses}
 use Rattle.zone_machine.specs.declared.work.ObjectEdit.TheVariants as object
 use Rattle.zone_machine.specs.Arrivals.{Arrival, New_id, New_process, New_record}
-use Rattle.zone_machine.specs.Objects.{Of_mounts, below, has_pid, has_zid}
+use Rattle.zone_machine.specs.Objects.{below, has_pid, has_zid}
 use Rattle.zone_machine.specs.Decisions.{Act, acts_world, after_came_world, sweeps, ticket_ended}
 use Rattle.zone_machine.specs.Rooms.{IsOpenTo}
 use Rattle.zone_machine.specs.declared.work.Sitting.{Sitting}

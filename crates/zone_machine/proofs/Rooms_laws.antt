@@ -1,14 +1,8 @@
 -- Room is taken, and a cell and the shared part are as they were.
-use Rattle.std.proofs.Common.{◌≡◌, ℕ, nat_eq, refl, ap, ◌∙◌, length}
-use Rattle.std.specs.Prelude.{is_some}
-use Rattle.std.specs.Option.{option_map}
-use Rattle.indexmap.specs.IndexMap.{get}
-use Rattle.zone_pools.specs.Owners.{is_owner, owner}
-use Rattle.zone_machine.specs.Cells.{cell_world, common_in, pools_in, rows_in}
+use Rattle.std.proofs.Common.{◌≡◌, refl, ◌∙◌}
+use Rattle.zone_machine.specs.Cells.{cell_world}
 use Rattle.zone_machine.specs.Desks_seen.{desk_seen}
-use Rattle.zone_machine.specs.Pools.{path_taken}
 use Rattle.zone_machine.specs.Rooms.{Alike}
-use Rattle.zone_machine.specs.State.{Awaiting}
 use Rattle.zone_machine.specs.declared.cell.Cell.{Cell}
 use Rattle.zone_machine.specs.declared.shared.Shared.{Shared}
 

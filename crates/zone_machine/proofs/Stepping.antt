@@ -33,7 +33,7 @@ use Rattle.zone_machine.specs.Machine.{decide, global_reply, named_subject, one,
 use Rattle.zone_machine.specs.Pools.{allowed, allowed_of, fits, fits_of, path_taken, pools_of}
 use Rattle.zone_machine.specs.State.{State, stored}
 use Rattle.zone_machine.specs.Rooms.{Alike}
-use Rattle.zone_machine.specs.Steps.{CellAnswers, IsCellStep, IsStep, IsZoneState, Answers, IsCellMisfitUnder, IsCellStepUnder, IsGrantFor, IsUnfit, IsMisfitUnder, IsStepUnder, IsTaken, Takes, AsItWas}
+use Rattle.zone_machine.specs.Steps.{CellAnswers, IsCellStep, IsStep, IsZoneState, Answers, IsCellMisfitUnder, IsCellStepUnder, IsGrantFor, IsUnfit, IsMisfitUnder, IsTaken, Takes, AsItWas}
 use Rattle.zone_machine.specs.Worlds.{World, view, view_of, world}
 use Rattle.zone_machine.specs.declared.cell.Cell.{Cell}
 use Rattle.zone_machine.specs.declared.events.Entry.{Entry}
