@@ -17,18 +17,19 @@ use Rattle.zone_machine.proofs.Same_laws.{reply-Decides, subject-Decides}
 use Rattle.zone_machine.proofs.Of_turns.{of_turn}
 use Rattle.zone_machine.proofs.Turned_laws.{In, in-act, mounts_after, one-turn, turn-reply, turn_act, turned_act}
 use Rattle.zone_machine.specs.Arrivals.{Arrival, arrived}
-use Rattle.zone_machine.specs.Common.{Common, common, is_busy, is_idle, is_local, is_of_mounts, is_turn_of, tells_local}
-use Rattle.zone_machine.specs.Decisions.{effects, says, sweeps, turned}
-use Rattle.zone_machine.specs.Desks.{Desk}
-use Rattle.zone_machine.specs.Edits.{Of_objects, Set_desk, edit, edit_world, edits, edits_world}
-use Rattle.zone_machine.specs.Histories.{is_allowed, is_told}
+use Rattle.zone_machine.specs.Machine.Common.{Common, common}
+use Rattle.zone_machine.specs.Machine.Local.{is_busy, is_idle, is_local, is_of_mounts, is_turn_of, tells_local}
+use Rattle.zone_machine.specs.State.Decisions.{effects, says, sweeps, turned}
+use Rattle.zone_machine.specs.Daemon.Desks.{Desk}
+use Rattle.zone_machine.specs.State.Edits.{Of_objects, Set_desk, edit, edit_world, edits, edits_world}
+use Rattle.zone_machine.specs.Machine.Histories.{is_allowed, is_told}
 use Rattle.zone_machine.specs.Machine.{Answered, decide, done_by, one, started, subject}
 use Rattle.zone_machine.specs.Objects.{Object_edit, Of_mounts}
-use Rattle.zone_machine.specs.Pools.{allowed, pools_of}
-use Rattle.zone_machine.specs.Same.{same_reply, same_subject}
+use Rattle.zone_machine.specs.Machine.Pools.{allowed, pools_of}
+use Rattle.zone_machine.specs.Machine.Same.{same_reply, same_subject}
 use Rattle.zone_machine.specs.State.{State}
-use Rattle.zone_machine.specs.Turns.{Turn_decision, Turned, turn}
-use Rattle.zone_machine.specs.Worlds.{World, objects_of, view, world}
+use Rattle.zone_machine.specs.Daemon.Turns.{Turn_decision, Turned, turn}
+use Rattle.zone_machine.specs.State.Worlds.{World, objects_of, view, world}
 use Rattle.zone_machine.specs.declared.daemon.TurnReply.{TurnReply}
 use Rattle.zone_machine.specs.declared.daemon.TurnReply.TheVariants.{Idle}
 use Rattle.zone_machine.specs.declared.events.Entry.{Entry}

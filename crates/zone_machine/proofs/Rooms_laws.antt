@@ -1,10 +1,10 @@
 -- Room is taken, and a cell and the shared part are as they were.
 use Rattle.std.proofs.Common.{◌≡◌, refl, ◌∙◌}
-use Rattle.zone_machine.specs.Cells.{cell_world}
-use Rattle.zone_machine.specs.Desks_seen.{desk_seen}
-use Rattle.zone_machine.specs.Rooms.{Alike}
-use Rattle.zone_machine.specs.declared.cell.Cell.{Cell}
-use Rattle.zone_machine.specs.declared.shared.Shared.{Shared}
+use Rattle.zone_machine.specs.Code.Cells.{cell_world}
+use Rattle.zone_machine.specs.Code.Desks.{as_desk}
+use Rattle.zone_machine.specs.Code.Rooms.{Alike}
+use Rattle.zone_machine.specs.declared.machine.cell.Cell.{Cell}
+use Rattle.zone_machine.specs.declared.machine.shared.Shared.{Shared}
 
 pub alike_then : (c d e : Cell) (s t u : Shared) → Alike c s d t → Alike d t e u → Alike c s e u
 alike_then c d e s t u one two = record {
@@ -15,5 +15,5 @@ alike_then c d e s t u one two = record {
 }
 
 -- room on the desk; d is the cell with the desk as it is then
-pub alike_desk : (c d : Cell) (s t : Shared) → desk_seen d.desk ≡ desk_seen c.desk → Alike c s (record c { desk = d.desk }) s
+pub alike_desk : (c d : Cell) (s t : Shared) → as_desk d.desk ≡ as_desk c.desk → Alike c s (record c { desk = d.desk }) s
 alike_desk c d s t h = record { world = λ row i. record (cell_world row c) { desk = h i }; rows = refl; common = refl; pools = refl }

@@ -11,14 +11,14 @@ use Rattle.zone_pools.specs.declared.grant.Pool.TheVariants.{Store}
 use Rattle.zone_machine.proofs.Acts_laws.{own-acts}
 use Rattle.zone_machine.proofs.Own_worlds.{view-world}
 use Rattle.zone_machine.specs.Arrivals.{Arrival, Comes, New_process, New_record, arrived}
-use Rattle.zone_machine.specs.Decisions.{Act, act_of, acts_world, after_came_world, effects, says, sweeps, turned}
-use Rattle.zone_machine.specs.Desks.{Desk}
-use Rattle.zone_machine.specs.Edits.{Of_objects, Set_desk, comes_world, edit_world, edits_world}
+use Rattle.zone_machine.specs.State.Decisions.{Act, act_of, acts_world, after_came_world, effects, says, sweeps, turned}
+use Rattle.zone_machine.specs.Daemon.Desks.{Desk}
+use Rattle.zone_machine.specs.State.Edits.{Of_objects, Set_desk, comes_world, edit_world, edits_world}
 use Rattle.zone_machine.specs.Machine.{Answered, decide, done_by, one, subject}
 use Rattle.zone_machine.specs.Objects.{Object_edit, Of_mounts, Processes_go}
 use Rattle.zone_machine.specs.State.{State}
-use Rattle.zone_machine.specs.Turns.{Turned, turn}
-use Rattle.zone_machine.specs.Worlds.{World, objects_of, view_of, world}
+use Rattle.zone_machine.specs.Daemon.Turns.{Turned, turn}
+use Rattle.zone_machine.specs.State.Worlds.{World, objects_of, view_of, world}
 use Rattle.zone_machine.specs.declared.events.Event.TheVariants.{Turn}
 use Rattle.zone_machine.specs.declared.objects.Mount.{Mount}
 use Rattle.zone_machine.specs.declared.records.Record.{Record}

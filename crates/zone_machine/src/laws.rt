@@ -4,12 +4,12 @@ ghost use Rattle.zn_base.specs.Names.{Name};
 ghost use Rattle.zone_pools.specs.Firsts.{first_of};
 ghost use Rattle.zone_pools.specs.Owned_lists.{mine};
 ghost use Rattle.zone_pools.specs.declared.grant.Grant.{Grant};
-ghost use Rattle.zone_machine.specs.Common.{acts_common, common};
-ghost use Rattle.zone_machine.specs.Decisions.{act_of};
+ghost use Rattle.zone_machine.specs.Machine.Common.{acts_common, common};
+ghost use Rattle.zone_machine.specs.State.Decisions.{act_of};
 ghost use Rattle.zone_machine.specs.Machine.{decide, need, one, session_number, subject};
-ghost use Rattle.zone_machine.specs.Pools.{allowed, fits};
+ghost use Rattle.zone_machine.specs.Machine.Pools.{allowed, fits};
 ghost use Rattle.zone_machine.specs.State.{State, stored};
-ghost use Rattle.zone_machine.specs.Worlds.{view_of, world};
+ghost use Rattle.zone_machine.specs.State.Worlds.{view_of, world};
 ghost use Rattle.zone_machine.specs.declared.events.Event.{Event};
 ghost use Rattle.zone_machine.specs.declared.events.Subject.TheVariants.{Global, Zone};
 

@@ -5,37 +5,17 @@
 //! a zone needs these two alone, by `cell_step`.
 #![tactic(auto)]
 
-mod cases;
-mod cell;
 mod daemon;
-mod desks;
-mod effects;
 mod events;
 mod faults;
 mod laws;
-mod line_cases;
-mod lines;
-mod lists;
 mod machine;
-mod maps;
-mod needs;
-mod numbers;
 mod objects;
-mod parts;
-mod plan_cases;
-mod plans;
 mod pools;
 mod records;
 mod replies;
-mod rooms;
-mod settling;
-mod shared;
-mod steps;
-mod turn_cases;
-mod waits;
-mod work;
+mod session;
 
-pub use cell::Cell;
 pub use daemon::{Change, ChangeKind, Outcome, RequestKind, Step, TurnReply};
 pub use events::{Entry, Event, SESSION_MAX, Subject};
 pub use faults::StepFault;
@@ -44,8 +24,9 @@ pub use laws::{
     subject_by_what_is_common,
 };
 pub use machine::Machine;
+pub use machine::cell::Cell;
+pub use machine::shared::Shared;
+pub use machine::steps::{cell_step, cell_step_given};
 pub use objects::{Id, Mount, Process};
 pub use records::{Commit, Config, Record};
 pub use replies::{Body, Head, Refusal, Reply};
-pub use shared::Shared;
-pub use steps::{cell_step, cell_step_given};

@@ -1,0 +1,51 @@
+-- Turns of a zone's daemon that touch nothing which other zones may ask, and which zones have work for theirs.
+use Rattle.std.specs.Prelude.{ℕ, ◌+◌, List, Option, Some, None, Bool, true, false, is_none, is_some, length, not, ◌&&◌, ◌||◌, bytes_eq}
+use Rattle.std.specs.List.{list_all, list_any}
+use Rattle.zn_base.specs.Names.{Name}
+use Rattle.zone_pools.specs.Decisions.{Ask, Just}
+use Rattle.zone_pools.specs.Firsts.{is_nil}
+use Rattle.zone_pools.specs.Owners as owners
+use Rattle.zone_pools.specs.Same.{same_grant}
+use Rattle.zone_pools.specs.declared.grant.Grant.TheVariants.{Nothing}
+use Rattle.zone_pools.specs.declared.owned.Owned.{Owned}
+use Rattle.zone_machine.specs.Arrivals.{Arrival, New_id, New_process, New_record}
+use Rattle.zone_machine.specs.State.Decisions.{Act, acts_world, says}
+use Rattle.zone_machine.specs.Objects.{Object_edit, Of_mounts, has_pid, has_zid}
+use Rattle.zone_machine.specs.Machine.Same.{same_reply, same_subject}
+use Rattle.zone_machine.specs.State.{State, rows_of, with_stored}
+use Rattle.zone_machine.specs.Daemon.Turns.{Turn_decision, turn}
+use Rattle.zone_machine.specs.State.Worlds.{World, objects_of, world}
+use Rattle.zone_machine.specs.declared.daemon.TurnReply.{TurnReply}
+use Rattle.zone_machine.specs.declared.daemon.TurnReply.TheVariants.{Idle}
+use Rattle.zone_machine.specs.declared.events.Entry.{Entry}
+use Rattle.zone_machine.specs.declared.events.Event.{Event}
+use Rattle.zone_machine.specs.declared.events.Event.TheVariants.{Session, Turn}
+use Rattle.zone_machine.specs.declared.events.Subject.TheVariants.{Zone}
+use Rattle.zone_machine.specs.declared.records.Record.{Record}
+use Rattle.zone_machine.specs.declared.replies.Head.TheVariants.{Turned}
+use Rattle.zone_machine.specs.declared.replies.Reply.{Reply}
+
+-- the zone is stored, and a request waits or is under way
+abbrev pub is_busy : World → Bool
+is_busy w = is_some w.stored && (is_some w.desk.job || not (is_nil w.desk.waiting))
+
+abbrev pub is_idle : TurnReply → Bool
+is_idle Idle = true
+is_idle _ = false
+
+abbrev pub is_of_mounts : Object_edit → Bool
+is_of_mounts (Of_mounts e) = true
+is_of_mounts _ = false
+
+-- a turn that isn't idle, asks no pool, ends no ticket and changes no process or id has this reply
+abbrev pub tells_local : Turn_decision → Reply → Bool
+tells_local (Just t) reply = list_all is_of_mounts t.objects && is_none t.ended && not (is_idle t.reply) && same_reply reply (says (Turned t.reply))
+tells_local (Ask c asked denied given) reply = false
+
+abbrev pub is_turn_of : Name → Event → Bool
+is_turn_of z (Session n text) = false
+is_turn_of z (Turn y) = bytes_eq z y
+
+-- the entry of such a turn of z: it changes z's mounts and its desk alone
+abbrev pub is_local : Name → World → Entry → Bool
+is_local z w e = is_turn_of z e.event && same_subject e.subject (Zone z) && same_grant e.grant Nothing && tells_local (turn (objects_of w) w.stored w.desk) e.reply
