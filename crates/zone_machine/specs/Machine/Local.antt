@@ -1,27 +1,22 @@
 -- Turns of a zone's daemon that touch nothing which other zones may ask, and which zones have work for theirs.
-use Rattle.std.specs.Prelude.{ℕ, ◌+◌, List, Option, Some, None, Bool, true, false, is_none, is_some, length, not, ◌&&◌, ◌||◌, bytes_eq}
-use Rattle.std.specs.List.{list_all, list_any}
+use Rattle.std.specs.Prelude.{Bool, true, false, is_none, is_some, not, ◌&&◌, ◌||◌, bytes_eq}
+use Rattle.std.specs.List.{list_all}
 use Rattle.zn_base.specs.Names.{Name}
 use Rattle.zone_pools.specs.Decisions.{Ask, Just}
 use Rattle.zone_pools.specs.Firsts.{is_nil}
-use Rattle.zone_pools.specs.Owners as owners
 use Rattle.zone_pools.specs.Same.{same_grant}
 use Rattle.zone_pools.specs.declared.grant.Grant.TheVariants.{Nothing}
-use Rattle.zone_pools.specs.declared.owned.Owned.{Owned}
-use Rattle.zone_machine.specs.Arrivals.{Arrival, New_id, New_process, New_record}
-use Rattle.zone_machine.specs.State.Decisions.{Act, acts_world, says}
-use Rattle.zone_machine.specs.Objects.{Object_edit, Of_mounts, has_pid, has_zid}
-use Rattle.zone_machine.specs.Machine.Same.{same_reply, same_subject}
-use Rattle.zone_machine.specs.State.{State, rows_of, with_stored}
+use Rattle.zone_machine.specs.Objects.{Object_edit, Of_mounts}
 use Rattle.zone_machine.specs.Daemon.Turns.{Turn_decision, turn}
-use Rattle.zone_machine.specs.State.Worlds.{World, objects_of, world}
+use Rattle.zone_machine.specs.State.Decisions.{says}
+use Rattle.zone_machine.specs.State.Worlds.{World, objects_of}
+use Rattle.zone_machine.specs.Machine.Same.{same_reply, same_subject}
 use Rattle.zone_machine.specs.declared.daemon.TurnReply.{TurnReply}
 use Rattle.zone_machine.specs.declared.daemon.TurnReply.TheVariants.{Idle}
 use Rattle.zone_machine.specs.declared.events.Entry.{Entry}
 use Rattle.zone_machine.specs.declared.events.Event.{Event}
 use Rattle.zone_machine.specs.declared.events.Event.TheVariants.{Session, Turn}
 use Rattle.zone_machine.specs.declared.events.Subject.TheVariants.{Zone}
-use Rattle.zone_machine.specs.declared.records.Record.{Record}
 use Rattle.zone_machine.specs.declared.replies.Head.TheVariants.{Turned}
 use Rattle.zone_machine.specs.declared.replies.Reply.{Reply}
 
