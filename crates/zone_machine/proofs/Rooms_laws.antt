@@ -4,6 +4,7 @@ use Rattle.zone_machine.specs.Code.Cells.{cell_world}
 use Rattle.zone_machine.specs.Code.Desks.{as_desk}
 use Rattle.zone_machine.specs.Code.Rooms.{Alike}
 use Rattle.zone_machine.specs.declared.machine.cell.Cell.{Cell}
+use Rattle.zone_machine.specs.declared.daemon.desks.Desk.{Desk}
 use Rattle.zone_machine.specs.declared.machine.shared.Shared.{Shared}
 
 pub alike_then : (c d e : Cell) (s t u : Shared) → Alike c s d t → Alike d t e u → Alike c s e u
@@ -14,6 +15,6 @@ alike_then c d e s t u one two = record {
   pools = two.pools ∙ one.pools;
 }
 
--- room on the desk; d is the cell with the desk as it is then
-pub alike_desk : (c d : Cell) (s t : Shared) → as_desk d.desk ≡ as_desk c.desk → Alike c s (record c { desk = d.desk }) s
-alike_desk c d s t h = record { world = λ row i. record (cell_world row c) { desk = h i }; rows = refl; common = refl; pools = refl }
+-- room on the desk; d is the desk as it is then
+pub alike_desk : (c : Cell) (s : Shared) (d : Desk) → as_desk d ≡ as_desk c.desk → Alike c s (record c { desk = d }) s
+alike_desk c s d h = record { world = λ row i. record (cell_world row c) { desk = h i }; rows = refl; common = refl; pools = refl }
