@@ -17,15 +17,15 @@ use Rattle.zone_pools.specs.declared.owned.Owned.{Owned}
 use Rattle.zone_machine.proofs.Acts_laws.{OwnSession, other-acts, own-acts}
 use Rattle.zone_machine.proofs.Own_worlds.{decide-world, need-world, own_session, view-world}
 use Rattle.zone_machine.specs.Arrivals.{Arrival, New_id, New_process, New_record}
-use Rattle.zone_machine.specs.Common.{Common, acts_common, came_common, common, holds_pid, holds_session, holds_zid}
-use Rattle.zone_machine.specs.Decisions.{Act, act_of, acts, acts_world, after_came}
-use Rattle.zone_machine.specs.Edits.{Edit, Of_objects, comes, edit, edits}
-use Rattle.zone_machine.specs.Lines.{Line, line_of}
+use Rattle.zone_machine.specs.Machine.Common.{Common, acts_common, came_common, common, holds_pid, holds_session, holds_zid}
+use Rattle.zone_machine.specs.State.Decisions.{Act, act_of, acts, acts_world, after_came}
+use Rattle.zone_machine.specs.State.Edits.{Edit, Of_objects, comes, edit, edits}
+use Rattle.zone_machine.specs.Session.Lines.{Line, line_of}
 use Rattle.zone_machine.specs.Machine.{decide, need, one, one_of, session_number, session_subject, started, subject}
 use Rattle.zone_machine.specs.Objects.{Processes_go, has_pid, has_zid}
-use Rattle.zone_machine.specs.Pools.{allowed, allowed_of, fits, fits_of, path_taken, pools_of}
+use Rattle.zone_machine.specs.Machine.Pools.{allowed, allowed_of, fits, fits_of, path_taken, pools_of}
 use Rattle.zone_machine.specs.State.{At, Idle, Session as Session_mode, State, rows_from, rows_of, stored, stored_from, with_stored}
-use Rattle.zone_machine.specs.Worlds.{World, doing, view, view_of, world}
+use Rattle.zone_machine.specs.State.Worlds.{World, doing, view, view_of, world}
 use Rattle.zone_machine.specs.declared.events.Event.{Event}
 use Rattle.zone_machine.specs.declared.events.Event.TheVariants.{Session, Turn}
 use Rattle.zone_machine.specs.declared.events.Subject.TheVariants.{Global, Zone}

@@ -10,38 +10,37 @@ use Rattle.zn_base.specs.Names.{Name}
 use Rattle.zone_pools.proofs.Holding.{column, come_column, gone_column, kept_column}
 use Rattle.zone_pools.proofs.Owned_laws.{same_self, same_true}
 use Rattle.zone_pools.specs.Firsts.{placed}
-use Rattle.zone_pools.specs.Owned_lists.{Put, List_edit, edited, tag}
+use Rattle.zone_pools.specs.Owned_lists.{Put, edited, tag}
 use Rattle.zone_pools.specs.Owners as owners
 use Rattle.zone_pools.specs.Owners.{held_by, is_owner, owner}
 use Rattle.zone_pools.specs.declared.owned.Owned.{Owned}
 use Rattle.zone_machine.proofs.Acts_laws.{same_other}
 use Rattle.zone_machine.proofs.Lists_laws.{any-push, any-put, none_left}
 use Rattle.zone_machine.proofs.Waits_laws.{some_wait}
-use Rattle.zone_machine.specs.Cells.{Agree, Does, cell_world, common_in, is_wait_for, kept, row_in, rows_in, unless_ended, work_world}
-use Rattle.zone_machine.specs.Common.{Common, came_common, holding, holds_pid, holds_zid}
-use Rattle.zone_machine.specs.Edits.{Edit, Of_objects, Set_desk, at_session, comes_world, edit_world, edits_world, swept_doing}
+use Rattle.zone_machine.specs.Code.Cells.{Agree, Does, cell_world, common_in, is_wait_for, kept, row_in, rows_in, unless_ended, work_world}
+use Rattle.zone_machine.specs.Machine.Common.{Common, came_common, holding, holds_pid, holds_zid}
+use Rattle.zone_machine.specs.State.Edits.{Edit, Of_objects, Set_desk, at_session, comes_world, edit_world, edits_world, swept_doing}
 use Rattle.zone_machine.specs.State as state
-use Rattle.zone_machine.specs.Worlds.{World}
-use Rattle.zone_machine.specs.declared.cell.Cell.{Cell}
+use Rattle.zone_machine.specs.State.Worlds.{World}
+use Rattle.zone_machine.specs.declared.machine.cell.Cell.{Cell}
 use Rattle.zone_machine.specs.declared.objects.Id.{Id}
-use Rattle.zone_machine.specs.declared.objects.Mount.{Mount}
 use Rattle.zone_machine.specs.declared.objects.Process.{Process}
 use Rattle.zone_machine.specs.declared.records.Record.{Record}
-use Rattle.zone_machine.specs.declared.shared.Shared.{Shared}
-use Rattle.zone_machine.specs.declared.work.ObjectEdit.TheVariants.{EndIds, EndProcesses}
-use Rattle.zone_machine.specs.declared.work.ObjectEdit.TheVariants as object
+use Rattle.zone_machine.specs.declared.machine.shared.Shared.{Shared}
+use Rattle.zone_machine.specs.declared.machine.work.ObjectEdit.TheVariants.{EndIds, EndProcesses}
+use Rattle.zone_machine.specs.declared.machine.work.ObjectEdit.TheVariants as object
 use Rattle.zone_machine.specs.Arrivals.{Arrival, New_id, New_process, New_record}
-use Rattle.zone_machine.specs.Objects.{Of_mounts, below, has_pid, has_zid}
-use Rattle.zone_machine.specs.Decisions.{Act, acts_world, after_came_world, sweeps, ticket_ended}
-use Rattle.zone_machine.specs.Rooms.{IsOpenTo}
-use Rattle.zone_machine.specs.declared.work.Sitting.{Sitting}
-use Rattle.zone_machine.specs.declared.work.Coming.{Coming}
-use Rattle.zone_machine.specs.declared.work.Work.{Work}
-use Rattle.zone_machine.specs.declared.work.ObjectEdit.{ObjectEdit}
-use Rattle.zone_machine.specs.declared.desks.Desk.{Desk}
-use Rattle.zone_machine.specs.Desks as desks
-use Rattle.zone_machine.specs.Desks_seen.{desk_seen}
-use Rattle.zone_machine.specs.Cases.{Works, arrival_of, object_edits, sits, work_act}
+use Rattle.zone_machine.specs.Objects.{below, has_pid, has_zid}
+use Rattle.zone_machine.specs.State.Decisions.{Act, acts_world, after_came_world, sweeps, ticket_ended}
+use Rattle.zone_machine.specs.Code.Rooms.{IsOpenTo}
+use Rattle.zone_machine.specs.declared.machine.work.Sitting.{Sitting}
+use Rattle.zone_machine.specs.declared.machine.work.Coming.{Coming}
+use Rattle.zone_machine.specs.declared.machine.work.Work.{Work}
+use Rattle.zone_machine.specs.declared.machine.work.ObjectEdit.{ObjectEdit}
+use Rattle.zone_machine.specs.declared.daemon.desks.Desk.{Desk}
+use Rattle.zone_machine.specs.Daemon.Desks as desks
+use Rattle.zone_machine.specs.Code.Desks.{as_desk}
+use Rattle.zone_machine.specs.Code.Cases.{Works, arrival_of, object_edits, sits, work_act}
 
 -- the columns that stay
 module _ (z : Name) (c : Cell) (s : Shared) (agree : Agree z c s) where
@@ -87,19 +86,6 @@ common_by z w g t waits pids zids sessions seen rows serial last_pid last_zid st
   last_pid = last_pid i;
   last_zid = last_zid i;
   started = started i;
-}
-
-pub does_nothing : (z : Name) (c : Cell) (s : Shared) → Does z (λ w. w) kept c s c s
-does_nothing z c s = record {
-  world = refl;
-  common = λ a. common_by z (cell_world (row_in z s) c) (common_in s) s (get nat_eq c.waits) (same_pids z c s a) (same_zids z c s a) (same_sessions z c s a) (λ n. holds_wait (get nat_eq c.waits n)) refl refl refl refl refl;
-}
-
--- the mounts change
-pub does_mounts : (z : Name) (e : List_edit Mount) (c : Cell) (s : Shared) (v : Vec Mount Global) → v.items ≡ edited e c.mounts.items → (n : Option ℕ) → Does z (edits_world n (Of_objects (Of_mounts e) ∷ [])) kept c s (record c { mounts = v }) s
-does_mounts z e c s v h n = record {
-  world = λ i. record (cell_world (row_in z s) c) { mounts = h i };
-  common = λ a. common_by z (record (cell_world (row_in z s) c) { mounts = edited e c.mounts.items }) (common_in s) s (get nat_eq c.waits) (same_pids z c s a) (same_zids z c s a) (same_sessions z c s a) (λ n. holds_wait (get nat_eq c.waits n)) refl refl refl refl refl;
 }
 
 -- a process comes, or all go; t is the shared part with the new owners
@@ -306,11 +292,11 @@ work-desk n w d work =
     ∙ edits-then n (sits work.sits) (sweeps work.ended) (record (edits_world n objects after) { desk = d }))
 
 -- so work that does what an act says does it, where the desk is changed before
-pub does_work : (z : Name) (n : Option ℕ) (a : Act) (work : Work) (c d : Cell) (desk : Desk) (s t : Shared) → Works n a (cell_world (row_in z s) c) (desk_seen desk) work
+pub does_work : (z : Name) (n : Option ℕ) (a : Act) (work : Work) (c d : Cell) (desk : Desk) (s t : Shared) → Works n a (cell_world (row_in z s) c) (as_desk desk) work
     → Does z (work_world n work) (came_common z (option_map (λ (c : Coming). arrival_of c.it) work.came)) (record c { desk = desk }) s d t → Does z (acts_world n a) (came_common z a.came) c s d t
 does_work z n a work c d desk s t works does =
     let w = cell_world (row_in z s) c in
-    let lasts : work_world n work (record w { desk = desk_seen desk }) ≡ acts_world n a w = work-desk n w (desk_seen desk) work ∙ works.world in
+    let lasts : work_world n work (record w { desk = as_desk desk }) ≡ acts_world n a w = work-desk n w (as_desk desk) work ∙ works.world in
     record {
       world = does.world ∙ lasts;
       common = λ agree.

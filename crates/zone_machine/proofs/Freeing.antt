@@ -16,29 +16,29 @@ use Rattle.zone_pools.specs.declared.limits.TheConstants.{PID_MAX, PID_MIN, ZID_
 use Rattle.zone_machine.proofs.Asking.{asks_rightly}
 use Rattle.zone_machine.proofs.Of_turns.{is_asked_for}
 use Rattle.zone_machine.specs.Arrivals.{A_process, A_record, An_id, Arrival, Comes, arrived}
-use Rattle.zone_machine.specs.Decisions.{Decision, act_of, effects, turned}
-use Rattle.zone_machine.specs.Rooms.{HasRoomOf, HasRoomToChange, HasRoomToCome, IsFreeOf}
-use Rattle.zone_machine.specs.Steps.{IsGrantFor}
-use Rattle.zone_machine.specs.declared.cell.Cell.{Cell}
-use Rattle.zone_machine.specs.declared.shared.Shared.{Shared}
-use Rattle.zone_machine.specs.Cases.{asked_for, case_seen, comes_of, job_turn, object_edits, on_job, shown_under, turn_seen, undo_with}
-use Rattle.zone_machine.specs.Desks as desks
-use Rattle.zone_machine.specs.Desks_seen.{desk_seen, job_seen}
+use Rattle.zone_machine.specs.State.Decisions.{Decision, act_of, effects, turned}
+use Rattle.zone_machine.specs.Code.Rooms.{HasRoomOf, HasRoomToChange, HasRoomToCome, IsFreeOf}
+use Rattle.zone_machine.specs.Code.Steps.{IsGrantFor}
+use Rattle.zone_machine.specs.declared.machine.cell.Cell.{Cell}
+use Rattle.zone_machine.specs.declared.machine.shared.Shared.{Shared}
+use Rattle.zone_machine.specs.Code.Cases.{asked_for, decision_of, comes_of, job_turn, object_edits, on_job, shown_under, turn_decision_of, undo_with}
+use Rattle.zone_machine.specs.Daemon.Desks as desks
+use Rattle.zone_machine.specs.Code.Desks.{as_desk, as_job}
 use Rattle.zone_machine.specs.Objects.{Object_edit}
-use Rattle.zone_machine.specs.Turns.{Turn_decision, asking}
-use Rattle.zone_machine.specs.declared.cases.Case.{Case}
-use Rattle.zone_machine.specs.declared.cases.Case.TheVariants as cases
-use Rattle.zone_machine.specs.declared.cases.JobCase.{JobCase}
-use Rattle.zone_machine.specs.declared.cases.JobCase.TheVariants as jobs
-use Rattle.zone_machine.specs.declared.cases.TurnCase.{TurnCase}
-use Rattle.zone_machine.specs.declared.cases.TurnCase.TheVariants as turns
+use Rattle.zone_machine.specs.Daemon.Turns.{Turn_decision, asking}
+use Rattle.zone_machine.specs.declared.machine.cases.Case.{Case}
+use Rattle.zone_machine.specs.declared.machine.cases.Case.TheVariants as cases
+use Rattle.zone_machine.specs.declared.machine.cases.JobCase.{JobCase}
+use Rattle.zone_machine.specs.declared.machine.cases.JobCase.TheVariants as jobs
+use Rattle.zone_machine.specs.declared.machine.cases.TurnCase.{TurnCase}
+use Rattle.zone_machine.specs.declared.machine.cases.TurnCase.TheVariants as turns
 use Rattle.zone_machine.specs.declared.daemon.Step.{Step}
-use Rattle.zone_machine.specs.declared.desks.Desk.{Desk}
-use Rattle.zone_machine.specs.declared.desks.Job.{Job}
-use Rattle.zone_machine.specs.declared.work.Came.{Came}
-use Rattle.zone_machine.specs.declared.work.Came.TheVariants as came_type
-use Rattle.zone_machine.specs.declared.work.ObjectEdit.{ObjectEdit}
-use Rattle.zone_machine.specs.declared.work.ObjectEdit.TheVariants as object
+use Rattle.zone_machine.specs.declared.daemon.desks.Desk.{Desk}
+use Rattle.zone_machine.specs.declared.daemon.desks.Job.{Job}
+use Rattle.zone_machine.specs.declared.machine.work.Came.{Came}
+use Rattle.zone_machine.specs.declared.machine.work.Came.TheVariants as came_type
+use Rattle.zone_machine.specs.declared.machine.work.ObjectEdit.{ObjectEdit}
+use Rattle.zone_machine.specs.declared.machine.work.ObjectEdit.TheVariants as object
 
 -- a number that is found isn't used
 unused_found : (used : ℕ → Bool) (from count n : ℕ) → first_free used from count ≡ Some n → used n ≡ false
@@ -180,24 +180,24 @@ asks_undo d j edits (s ∷ rest) = refl
 asks_job : (d : desks.Desk) (j : Job) (c : JobCase) → asks_rightly (job_turn d j c) ≡ true
 asks_job d j (jobs.Finish outcome) = refl
 asks_job d j (jobs.Pass p) = refl
-asks_job d j (jobs.Ask c next) = asks_came d (job_seen j) (drop next j.steps.items) c.it
-asks_job d j (jobs.Undo objects) = asks_undo d (job_seen j) (object_edits objects) (job_seen j).undo
+asks_job d j (jobs.Ask c next) = asks_came d (as_job j) (drop next j.steps.items) c.it
+asks_job d j (jobs.Undo objects) = asks_undo d (as_job j) (object_edits objects) (as_job j).undo
 
 asks_on : (d : Desk) (o : Option Job) (c : JobCase) → asks_rightly (on_job d o c) ≡ true
 asks_on d None c = refl
-asks_on d (Some j) c = asks_job (desk_seen d) j c
+asks_on d (Some j) c = asks_job (as_desk d) j c
 
-asks_turn_case : (d : Desk) (c : TurnCase) → asks_rightly (turn_seen d c) ≡ true
+asks_turn_case : (d : Desk) (c : TurnCase) → asks_rightly (turn_decision_of d c) ≡ true
 asks_turn_case d turns.Idle = refl
 asks_turn_case d (turns.Begin job kind) = refl
 asks_turn_case d (turns.Refuse ticket s) = refl
 asks_turn_case d (turns.GoOn c) = asks_on d d.job c
 
-pub asks_case : (d : Desk) (c : Case) → asks_rightly (case_seen d c) ≡ true
+pub asks_case : (d : Desk) (c : Case) → asks_rightly (decision_of d c) ≡ true
 asks_case d (cases.Says head) = refl
 asks_case d (cases.Make row owner) = refl
 asks_case d (cases.Put kind owner) = refl
-asks_case d (cases.Turn c) = asks_turn (turn_seen d c) (asks_turn_case d c)
+asks_case d (cases.Turn c) = asks_turn (turn_decision_of d c) (asks_turn_case d c)
 
 -- room doesn't go by the desk
 pub room_desk : (asked : List Asked) (c : Cell) (d : Desk) (s : Shared) → HasRoomToCome asked c s → HasRoomToCome asked (record c { desk = d }) s

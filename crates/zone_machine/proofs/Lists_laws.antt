@@ -1,10 +1,23 @@
 -- Lists of what a zone has, after something comes or all goes.
-use Rattle.std.proofs.Common.{◌≡◌, ◌+◌, ◌∷◌, ◌++◌, [], suc, not, ◌||◌, ℕ, Bool, List, Option, Some, None, true, false, filter, refl, ap, sym, arith, ◌∙◌}
+use Rattle.std.proofs.Common.{◌≡◌, ◌+◌, ◌<◌, ◌∷◌, ◌++◌, [], suc, not, nat_lt, cond, ◌||◌, ℕ, Bool, List, Option, Some, None, true, false, filter, length, refl, ap, sym, arith, ◌∙◌}
 use Rattle.std.specs.Prelude.{position, if◌then◌else◌}
-use Rattle.std.specs.List.{insert, list_any}
+use Rattle.std.specs.List.{insert, list_any, position_or_len}
 use Rattle.std.specs.Option.{option_map}
-use Rattle.zone_pools.proofs.Places.{position-here, position-later}
+use Rattle.std.proofs.lemmas.Bool.{ltb-true, ltb-false, lt-ltb, le-ltb}
 use Rattle.zone_pools.specs.Owned_lists.{put}
+
+-- where the first that passes a test stands
+module _ {A : Type 0} (p : A → Bool) where
+  position-here : (x : A) (xs : List A) → p x ≡ true → position p (x ∷ xs) ≡ Some 0
+  position-here x xs h = let l : 0 < length (x ∷ xs) = omega arith in simp h (rw (lt-ltb 0 (length (x ∷ xs)) l) refl)
+
+  position-later : (x : A) (xs : List A) → p x ≡ false → position p (x ∷ xs) ≡ option_map (λ i. 1 + i) (position p xs)
+  position-later x xs h = simp h (at_test (nat_lt (position_or_len p xs) (length xs)) refl)
+    where
+      at_test : (b : Bool) → nat_lt (position_or_len p xs) (length xs) ≡ b
+          → cond (nat_lt (1 + position_or_len p xs) (length (x ∷ xs))) (Some (1 + position_or_len p xs)) None ≡ option_map (λ i. 1 + i) (cond b (Some (position_or_len p xs)) None)
+      at_test true e = let l = ltb-true (position_or_len p xs) (length xs) e in rw (lt-ltb (1 + position_or_len p xs) (length (x ∷ xs)) (omega arith)) refl
+      at_test false e = let l = ltb-false (position_or_len p xs) (length xs) e in rw (le-ltb (1 + position_or_len p xs) (length (x ∷ xs)) (omega arith)) refl
 
 -- something is put in front of the first that doesn't stand before it, or at the end
 pub put-at : {A : Type 0} (before : A → Bool) (a : A) (xs : List A) (i : ℕ) → position (λ x. not (before x)) xs ≡ Some i → put before a xs ≡ insert xs i a

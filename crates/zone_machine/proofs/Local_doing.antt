@@ -8,33 +8,31 @@ use Rattle.zone_pools.specs.Decisions as decisions
 use Rattle.zone_pools.specs.Decisions.{Ask, Just}
 use Rattle.zone_pools.specs.declared.grant.Grant.TheVariants.{Nothing}
 use Rattle.zone_machine.proofs.Local_laws.{Local, is-local, local-one, not-local, stays, subject-turn, world-after}
-use Rattle.zone_machine.proofs.Turned_laws.{Has, has-turned, turned_act}
+use Rattle.zone_machine.proofs.Turned_laws.{has-turned, turned_act}
 use Rattle.zone_machine.specs.Arrivals.{Arrival}
-use Rattle.zone_machine.specs.Cases.{Works, arrival_of, object_edits, sits, work_act}
-use Rattle.zone_machine.specs.Cells.{CellOf, cell_world}
-use Rattle.zone_machine.specs.Decisions.{Act, Decision, act_of, acts_world, effects, says, sweeps, turned}
-use Rattle.zone_machine.specs.Desks as desks
-use Rattle.zone_machine.specs.Desks_seen.{desk_seen}
-use Rattle.zone_machine.specs.Edits.{Of_objects, Set_desk}
-use Rattle.zone_machine.specs.Histories.{entry_at}
-use Rattle.zone_machine.specs.Local.{is_local_turn}
-use Rattle.zone_machine.specs.Local_turns.{After, IsDone, IsLocalTurn, IsNext, IsNotLocal}
+use Rattle.zone_machine.specs.Code.Cases.{Works, arrival_of, object_edits, sits}
+use Rattle.zone_machine.specs.Code.Cells.{CellOf, cell_world}
+use Rattle.zone_machine.specs.State.Decisions.{Decision, act_of, acts_world, effects, says, sweeps, turned}
+use Rattle.zone_machine.specs.Daemon.Desks as desks
+use Rattle.zone_machine.specs.Code.Desks.{as_desk}
+use Rattle.zone_machine.specs.State.Edits.{Of_objects, Set_desk}
+use Rattle.zone_machine.specs.Machine.Local.{is_local_turn}
+use Rattle.zone_machine.specs.Code.Local_turns.{After, IsDone, IsLocalTurn, IsNext, IsNotLocal}
 use Rattle.zone_machine.specs.Machine.{Answered, one, subject}
 use Rattle.zone_machine.specs.Objects.{mounts_after}
-use Rattle.zone_machine.specs.State.{State}
-use Rattle.zone_machine.specs.Turns.{Turn_decision, Turned, turn}
-use Rattle.zone_machine.specs.Worlds.{World, objects_of, world}
-use Rattle.zone_machine.specs.declared.cell.Cell.{Cell}
+use Rattle.zone_machine.specs.Daemon.Turns.{Turn_decision, Turned, turn}
+use Rattle.zone_machine.specs.State.Worlds.{World, objects_of, world}
+use Rattle.zone_machine.specs.declared.machine.cell.Cell.{Cell}
 use Rattle.zone_machine.specs.declared.daemon.TurnReply.TheVariants.{Idle}
-use Rattle.zone_machine.specs.declared.desks.Desk.{Desk}
+use Rattle.zone_machine.specs.declared.daemon.desks.Desk.{Desk}
 use Rattle.zone_machine.specs.declared.events.Entry.{Entry}
 use Rattle.zone_machine.specs.declared.events.Event.TheVariants.{Turn}
 use Rattle.zone_machine.specs.declared.events.Subject.TheVariants.{Zone}
 use Rattle.zone_machine.specs.declared.records.Record.{Record}
 use Rattle.zone_machine.specs.declared.replies.Head.TheVariants.{Turned as Told}
 use Rattle.zone_machine.specs.declared.replies.Reply.{Reply}
-use Rattle.zone_machine.specs.declared.work.ObjectEdit.{ObjectEdit}
-use Rattle.zone_machine.specs.declared.work.Work.{Work}
+use Rattle.zone_machine.specs.declared.machine.work.ObjectEdit.{ObjectEdit}
+use Rattle.zone_machine.specs.declared.machine.work.Work.{Work}
 
 -- what settling a turn tells to do leaves the mounts and the desk that the turn leaves
 pub settled : (decided : Decision) (t : Turned) (d : desks.Desk) (w : Work) (v : World) → decided ≡ effects turned (Just t) → w.sits ≡ None
@@ -44,18 +42,18 @@ settled decided t d w v is sat works =
     let done : decisions.Act Arrival Turned = record { came = None; effect = t } in
     let left = has-turned None told v in let right = has-turned None done v in
     let same : acts_world None (turned_act told) v ≡ acts_world None (turned_act done) v =
-        sym (ap (λ s. acts_world None (record { came = option_map (λ c. arrival_of c.it) w.came; effect = record { edits = map Of_objects (object_edits w.objects) ++ (Set_desk d ∷ (sits s ++ sweeps w.ended)); reply = says w.head } }) v) sat)
-        ∙ (works.world ∙ ap (λ x. acts_world None (act_of x Nothing) v) is) in
+    sym (ap (λ s. acts_world None (record { came = option_map (λ c. arrival_of c.it) w.came; effect = record { edits = map Of_objects (object_edits w.objects) ++ (Set_desk d ∷ (sits s ++ sweeps w.ended)); reply = says w.head } }) v) sat)
+    ∙ (works.world ∙ ap (λ x. acts_world None (act_of x Nothing) v) is) in
     (sym left.mounts ∙ (ap (λ (u : World). u.mounts) same ∙ right.mounts), sym left.desk ∙ (ap (λ (u : World). u.desk) same ∙ right.desk))
 
 -- and so they stand in the cell
 pub after : (row : Option Record) (old mid new : Cell) (d : Desk) (o : ObjectEdit) (t : Turned) → cell_world row mid ≡ cell_world row old
     → new ≡ record mid { desk = d; mounts = new.mounts } → new.mounts.items ≡ mounts_after (object_edits o) mid.mounts.items
-    → (mounts_after (object_edits o) mid.mounts.items ≡ mounts_after t.objects mid.mounts.items) × (desk_seen d ≡ t.desk)
+    → (mounts_after (object_edits o) mid.mounts.items ≡ mounts_after t.objects mid.mounts.items) × (as_desk d ≡ t.desk)
     → cell_world row new ≡ record (cell_world row old) { mounts = mounts_after t.objects old.mounts.items; desk = t.desk }
 after row old mid new d o t same is mounts left =
     ap (cell_world row) is
-    ∙ (ap (λ ms. record (cell_world row mid) { mounts = ms; desk = desk_seen d }) (mounts ∙ left.0)
+    ∙ (ap (λ ms. record (cell_world row mid) { mounts = ms; desk = as_desk d }) (mounts ∙ left.0)
     ∙ (ap (λ e. record (cell_world row mid) { mounts = mounts_after t.objects mid.mounts.items; desk = e }) left.1
     ∙ ap (λ (w : World). record w { mounts = mounts_after t.objects w.mounts; desk = t.desk }) same))
 
@@ -86,7 +84,7 @@ done z c d t next local left S of stored = in-stored (world z S).stored stored a
         let l : Local z w entry t = record { event = refl; subject = refl; grant = refl; decided = decided; local = local; stays = stays w t decided local; reply = refl } in
         let world-is = world-after z S entry t l in
         let cell-is : world z (one S (Turn z) Nothing).state ≡ cell_world w.stored d =
-            world-is ∙ (ap (λ (v : World). record v { mounts = mounts_after t.objects v.mounts; desk = t.desk }) of ∙ sym (left w.stored)) in
+        world-is ∙ (ap (λ (v : World). record v { mounts = mounts_after t.objects v.mounts; desk = t.desk }) of ∙ sym (left w.stored)) in
         record {
           local = is-local z w entry t l;
           told = ap (λ s. record entry { subject = s }) (sym (subject-turn S z))
@@ -101,6 +99,6 @@ done-local z c d entry (Just t) next local told left = subst (λ e. IsLocalTurn 
 done-local z c d entry (Ask x asked denied given) next local told left = absurd (false≢true local)
 
 -- no turn is local where the cell's zone decides none
-pub none-local : (z : Name) (c : Cell) → ((row : Record) → is_local_turn (turn (objects_of (cell_world (Some row) c)) (Some row) (desk_seen c.desk)) ≡ false) → IsNotLocal z c
+pub none-local : (z : Name) (c : Cell) → ((row : Record) → is_local_turn (turn (objects_of (cell_world (Some row) c)) (Some row) (as_desk c.desk)) ≡ false) → IsNotLocal z c
 none-local z c none S of stored entry = in-stored (world z S).stored stored
     (λ row e. not-local z (world z S) entry (ap (λ (v : World). is_local_turn (turn (objects_of v) v.stored v.desk)) (stored-world (world z S) c row of e) ∙ none row))

@@ -1,8 +1,8 @@
 -- Local turns change their zone's mounts and desk alone; and a zone that has work has a turn.
 use Rattle.std.proofs.Common.{◌≡◌, ◌∷◌, ◌++◌, [], ◌&&◌, ℕ, List, Bool, Option, Some, None, true, false, map, refl, ap, subst, sym, ◌∙◌}
-use Rattle.std.specs.Prelude.{◌≢◌, if◌then◌else◌}
+use Rattle.std.specs.Prelude.{◌≢◌}
 use Rattle.std.specs.List.{list_all}
-use Rattle.std.proofs.lemmas.Bool.{and_from, and_parts, false≢true, not-true, true≢false}
+use Rattle.std.proofs.lemmas.Bool.{and_from, and_parts, false≢true, true≢false}
 use Rattle.zn_base.specs.Names.{Name}
 use Rattle.zone_pools.proofs.Owned_laws.{same_self, same_true}
 use Rattle.zone_pools.proofs.Same_laws.{grant-Decides}
@@ -17,28 +17,27 @@ use Rattle.zone_machine.proofs.Same_laws.{reply-Decides, subject-Decides}
 use Rattle.zone_machine.proofs.Of_turns.{of_turn}
 use Rattle.zone_machine.proofs.Turned_laws.{In, in-act, one-turn, turn-reply, turn_act, turned_act}
 use Rattle.zone_machine.specs.Arrivals.{Arrival, arrived}
-use Rattle.zone_machine.specs.Common.{Common, common}
-use Rattle.zone_machine.specs.Local.{is_busy, is_idle, is_local, is_local_reply, is_local_step, is_local_turn, is_local_undo, is_turn_of, tells_local}
-use Rattle.zone_machine.specs.Decisions.{effects, says, sweeps, turned}
-use Rattle.zone_machine.specs.Desks.{Desk, Job, state_now}
-use Rattle.zone_machine.specs.Edits.{Of_objects, Set_desk, edit, edit_world, edits, edits_world}
-use Rattle.zone_machine.specs.Histories.{is_allowed, is_told}
+use Rattle.zone_machine.specs.Machine.Common.{Common, common}
+use Rattle.zone_machine.specs.Machine.Local.{is_busy, is_idle, is_local, is_local_reply, is_local_turn, is_turn_of, tells_local}
+use Rattle.zone_machine.specs.State.Decisions.{effects, says, sweeps, turned}
+use Rattle.zone_machine.specs.Daemon.Desks.{Desk, Job, state_now}
+use Rattle.zone_machine.specs.State.Edits.{Of_objects, Set_desk, edit, edit_world, edits, edits_world}
+use Rattle.zone_machine.specs.Machine.Histories.{is_allowed, is_told}
 use Rattle.zone_machine.specs.Machine.{Answered, decide, done_by, one, started, subject}
 use Rattle.zone_machine.specs.Objects.{Object_edit, Objects, Of_mounts, last_dir, mounts_after}
-use Rattle.zone_machine.specs.Plans.{may_begin}
-use Rattle.zone_machine.specs.Pools.{allowed, pools_of}
-use Rattle.zone_machine.specs.Same.{same_reply, same_subject}
+use Rattle.zone_machine.specs.Daemon.Plans.{may_begin}
+use Rattle.zone_machine.specs.Machine.Pools.{allowed, pools_of}
+use Rattle.zone_machine.specs.Machine.Same.{same_reply, same_subject}
 use Rattle.zone_machine.specs.State.{State}
-use Rattle.zone_machine.specs.Turns.{Turn_decision, Turned, begin, goes_on, next_request, step, turn, turn_at, undo, unmount}
-use Rattle.zone_machine.specs.Worlds.{World, objects_of, view, world}
+use Rattle.zone_machine.specs.Daemon.Turns.{Turn_decision, Turned, begin, goes_on, next_request, step, turn, turn_at, undo, unmount}
+use Rattle.zone_machine.specs.State.Worlds.{World, objects_of, view, world}
 use Rattle.zn_base.specs.declared.state.ZoneState.{ZoneState}
 use Rattle.zone_machine.specs.declared.daemon.Outcome.{Outcome}
-use Rattle.zone_machine.specs.declared.daemon.Outcome.TheVariants.{WrongState}
 use Rattle.zone_machine.specs.declared.daemon.RequestKind.{RequestKind}
 use Rattle.zone_machine.specs.declared.daemon.Step.{Step}
 use Rattle.zone_machine.specs.declared.daemon.Step.TheVariants.{Hook, Record as Record_step, Copy, Zid, Limits, Devices, Root, Init, Unmount}
 use Rattle.zone_machine.specs.declared.daemon.TurnReply.{TurnReply}
-use Rattle.zone_machine.specs.declared.daemon.TurnReply.TheVariants.{Idle, Began, Finished}
+use Rattle.zone_machine.specs.declared.daemon.TurnReply.TheVariants.{Idle}
 use Rattle.zone_machine.specs.declared.records.Config.{Config}
 use Rattle.zone_machine.specs.declared.records.Record.{Record}
 use Rattle.zone_machine.specs.declared.events.Entry.{Entry}

@@ -6,11 +6,11 @@ use Rattle.zone_pools.specs.Decisions.{Just}
 use Rattle.zone_pools.specs.Firsts.{is_nil}
 use Rattle.zn_base.specs.declared.state.ZoneState.{ZoneState}
 use Rattle.zone_machine.specs.Arrivals.{A_process, A_record, An_id, Comes}
-use Rattle.zone_machine.specs.Local.{is_idle}
-use Rattle.zone_machine.specs.Desks.{Desk, Job, state_now}
+use Rattle.zone_machine.specs.Machine.Local.{is_idle}
+use Rattle.zone_machine.specs.Daemon.Desks.{Desk, Job, state_now}
 use Rattle.zone_machine.specs.Objects.{Objects, last_dir}
-use Rattle.zone_machine.specs.Plans.{may_begin}
-use Rattle.zone_machine.specs.Turns.{Turn_decision, Turned, asking, begin, goes_on, init_process, next_request, rests, step, turn, turn_at, undo, unmount}
+use Rattle.zone_machine.specs.Daemon.Plans.{may_begin}
+use Rattle.zone_machine.specs.Daemon.Turns.{Turn_decision, Turned, asking, begin, goes_on, init_process, next_request, rests, step, turn, turn_at, undo, unmount}
 use Rattle.zone_machine.specs.declared.daemon.Outcome.{Outcome}
 use Rattle.zone_machine.specs.declared.daemon.RequestKind.{RequestKind}
 use Rattle.zone_machine.specs.declared.daemon.Step.{Step}

@@ -3,8 +3,8 @@ use Rattle.std.proofs.Common.{◌≡◌, ◌∷◌, [], ℕ, zero, suc, ◌+◌,
 use Rattle.std.specs.Prelude.{bytes_eq, slice_get}
 use Rattle.std.proofs.lemmas.Bool.{true≢false}
 use Rattle.zn_base.specs.Names.{Name}
-use Rattle.zone_machine.specs.Cells.{rows_in, takes_path}
-use Rattle.zone_machine.specs.Pools.{path_taken}
+use Rattle.zone_machine.specs.Code.Cells.{rows_in, takes_path}
+use Rattle.zone_machine.specs.Machine.Pools.{path_taken}
 use Rattle.zone_machine.specs.declared.records.Record.{Record}
 
 pub count_rows : (entries : List (Name × Record)) → length (rows_in entries) ≡ length entries

@@ -15,16 +15,16 @@ use Rattle.zone_machine.proofs.Common_laws.{common-acts, stored-common}
 use Rattle.zone_machine.proofs.Doing_laws.{holds_wait}
 use Rattle.zone_machine.proofs.Acts_laws.{own-acts}
 use Rattle.zone_machine.proofs.Own_worlds.{own_session, view-world}
-use Rattle.zone_machine.specs.Cells.{Agree, CellOf, Does, SharedOf, cell_world, decide_in, row_in, rows_in, subject_at, subject_in}
-use Rattle.zone_machine.specs.Common.{Common, acts_common, came_common, common}
-use Rattle.zone_machine.specs.Decisions.{Act, act_of, acts_world, says}
-use Rattle.zone_machine.specs.Lines.{Line, line_of}
+use Rattle.zone_machine.specs.Code.Cells.{Agree, CellOf, Does, SharedOf, cell_world, decide_in, row_in, rows_in, subject_at, subject_in}
+use Rattle.zone_machine.specs.Machine.Common.{Common, acts_common, came_common, common}
+use Rattle.zone_machine.specs.State.Decisions.{Act, act_of, acts_world, says}
+use Rattle.zone_machine.specs.Session.Lines.{Line, line_of}
 use Rattle.zone_machine.specs.Machine.{decide, done_by, opening, one, one_of, session_number, session_subject, subject}
 use Rattle.zone_machine.specs.State as state
 use Rattle.zone_machine.specs.State.{State, stored}
-use Rattle.zone_machine.specs.Steps.{IsCellStep}
-use Rattle.zone_machine.specs.Worlds.{World, doing, view, view_of, world}
-use Rattle.zone_machine.specs.declared.cell.Cell.{Cell}
+use Rattle.zone_machine.specs.Code.Steps.{IsCellStep}
+use Rattle.zone_machine.specs.State.Worlds.{World, doing, view, view_of, world}
+use Rattle.zone_machine.specs.declared.machine.cell.Cell.{Cell}
 use Rattle.zone_machine.specs.declared.events.Event.{Event}
 use Rattle.zone_machine.specs.declared.events.Event.TheVariants as event
 use Rattle.zone_machine.specs.declared.events.Subject.{Subject}
@@ -32,11 +32,11 @@ use Rattle.zone_machine.specs.declared.events.Subject.TheVariants.{Zone}
 use Rattle.zone_machine.specs.declared.records.Record.{Record}
 use Rattle.zone_machine.specs.declared.replies.Body.TheVariants.{Nothing as No_body}
 use Rattle.zone_machine.specs.declared.replies.Head.{Head}
-use Rattle.zone_machine.specs.declared.shared.Shared.{Shared}
+use Rattle.zone_machine.specs.declared.machine.shared.Shared.{Shared}
 use Rattle.zone_machine.specs.Objects.{has_pid, has_zid}
-use Rattle.zone_machine.specs.Cases.{case_seen}
-use Rattle.zone_machine.specs.Rooms.{Alike, IsOpenTo}
-use Rattle.zone_machine.specs.declared.cases.Case.{Case}
+use Rattle.zone_machine.specs.Code.Cases.{decision_of}
+use Rattle.zone_machine.specs.Code.Rooms.{Alike, IsOpenTo}
+use Rattle.zone_machine.specs.declared.machine.cases.Case.{Case}
 
 -- what is stored of a zone is its row of the shared part
 row_is : (z : Name) (es : List (Name × Record)) → first_of (mine z (rows_in es)) ≡ lookup (bytes_eq z) es
@@ -148,11 +148,11 @@ module _ (z : Name) (c : Cell) (s : Shared) (c' d : Cell) (s' t : Shared) (e : E
   row_alike : row_in z s' ≡ row_in z s
   row_alike = ap (lookup (bytes_eq z)) alike.rows
 
-  pub answered : decide_in z (row_in z s) c e ≡ case_seen c.desk case → case_seen c'.desk case ≡ case_seen c.desk case → says head ≡ (act_of (case_seen c'.desk case) g).effect.reply
-      → (IfSome (session_number e) (λ n. IsOpenTo z (owner nat_eq s'.sessions n)) → Does z (acts_world (session_number e) (act_of (case_seen c'.desk case) g)) (came_common z (act_of (case_seen c'.desk case) g).came) c' s' d t)
+  pub answered : decide_in z (row_in z s) c e ≡ decision_of c.desk case → decision_of c'.desk case ≡ decision_of c.desk case → says head ≡ (act_of (decision_of c'.desk case) g).effect.reply
+      → (IfSome (session_number e) (λ n. IsOpenTo z (owner nat_eq s'.sessions n)) → Does z (acts_world (session_number e) (act_of (decision_of c'.desk case) g)) (came_common z (act_of (decision_of c'.desk case) g).came) c' s' d t)
       → IsCellStep z c s e g (record { event = e; subject = Zone z; grant = g; reply = record { head = head; body = No_body } }) d (record t { started = true })
   answered decided same said done S cell shared is =
-      let here : decide_in z (row_in z s') c' e ≡ case_seen c'.desk case =
+      let here : decide_in z (row_in z s') c' e ≡ decision_of c'.desk case =
       ap (λ (w : World). decide (view_of z w) e) (ap (λ row. cell_world row c') row_alike ∙ alike.world (row_in z s)) ∙ (decided ∙ sym same) in
       cell-answered z c' d s' t e g head
       (said ∙ ap (λ x. (act_of x g).effect.reply) (sym here))

@@ -24,43 +24,43 @@ use Rattle.zone_pools.specs.declared.owned.Owned.{Owned}
 use Rattle.zone_machine.proofs.Common_laws.{any_mine, any_own}
 use Rattle.zone_machine.proofs.Own_worlds.{leaves}
 use Rattle.zone_machine.proofs.Standing.{cell-stands, decide-stands, stored-stands, subject-stands}
-use Rattle.zone_machine.specs.Cells.{CellOf, Keeps, SharedOf, Stands, cell_at, cell_world, decide_in, pools_in, row_in, subject_at, subject_in, world_or_empty}
-use Rattle.zone_machine.specs.Common.{Common, common}
-use Rattle.zone_machine.specs.Decisions.{says}
-use Rattle.zone_machine.specs.Histories.{concerns}
-use Rattle.zone_machine.specs.Lines.{Line, line_of}
+use Rattle.zone_machine.specs.Code.Cells.{CellOf, Keeps, SharedOf, Stands, cell_at, cell_world, decide_in, pools_in, row_in, subject_at, subject_in, world_or_empty}
+use Rattle.zone_machine.specs.Machine.Common.{Common, common}
+use Rattle.zone_machine.specs.State.Decisions.{says}
+use Rattle.zone_machine.specs.Machine.Histories.{concerns}
+use Rattle.zone_machine.specs.Session.Lines.{Line, line_of}
 use Rattle.zone_machine.specs.Machine.{decide, global_reply, named_subject, one, one_of, subject, subject_of_name}
-use Rattle.zone_machine.specs.Pools.{allowed, allowed_of, fits, fits_of, path_taken, pools_of}
+use Rattle.zone_machine.specs.Machine.Pools.{allowed, allowed_of, fits, fits_of, path_taken, pools_of}
 use Rattle.zone_machine.specs.State.{State, stored}
-use Rattle.zone_machine.specs.Rooms.{Alike}
-use Rattle.zone_machine.specs.Steps.{CellAnswers, IsCellStep, IsStep, IsZoneState, Answers, IsCellMisfitUnder, IsCellStepUnder, IsGrantFor, IsUnfit, IsMisfitUnder, IsStepUnder, IsTaken, Takes, AsItWas}
-use Rattle.zone_machine.specs.Worlds.{World, view, view_of, world}
-use Rattle.zone_machine.specs.declared.cell.Cell.{Cell}
+use Rattle.zone_machine.specs.Code.Rooms.{Alike}
+use Rattle.zone_machine.specs.Code.Steps.{CellAnswers, IsCellStep, IsStep, IsZoneState, Answers, IsCellMisfitUnder, IsCellStepUnder, IsGrantFor, IsUnfit, IsMisfitUnder, IsTaken, Takes, AsItWas}
+use Rattle.zone_machine.specs.State.Worlds.{World, view, view_of, world}
+use Rattle.zone_machine.specs.declared.machine.cell.Cell.{Cell}
 use Rattle.zone_machine.specs.declared.events.Entry.{Entry}
 use Rattle.zone_machine.specs.declared.events.Event.{Event}
 use Rattle.zone_machine.specs.declared.events.Event.TheVariants as event
 use Rattle.zone_machine.specs.declared.events.Subject.{Subject}
 use Rattle.zone_machine.specs.declared.events.Subject.TheVariants.{Zone, Global, Whole}
-use Rattle.zone_machine.specs.declared.parts.Parts.{Parts}
+use Rattle.zone_machine.specs.declared.machine.parts.Parts.{Parts}
 use Rattle.zone_machine.specs.declared.records.Record.{Record}
 use Rattle.zone_machine.specs.declared.replies.Body.TheVariants.{Nothing as No_body}
 use Rattle.zone_machine.specs.declared.replies.Head.{Head}
-use Rattle.zone_machine.specs.declared.shared.Shared.{Shared}
+use Rattle.zone_machine.specs.declared.machine.shared.Shared.{Shared}
 use Rattle.zone_machine.specs.Objects.{has_pid, has_zid}
-use Rattle.zone_machine.specs.Desks.{state_of}
-use Rattle.zone_machine.specs.Decided.{IsDecided, IsDecidedZone}
-use Rattle.zone_machine.specs.Decisions.{Decision}
-use Rattle.zone_machine.specs.Worlds.{View}
-use Rattle.zone_machine.specs.declared.parts.Decided.{Decided}
-use Rattle.zone_machine.specs.declared.parts.Decided.TheVariants as decided
+use Rattle.zone_machine.specs.Daemon.Desks.{state_of}
+use Rattle.zone_machine.specs.Code.Decided.{IsDecided, IsDecidedZone}
+use Rattle.zone_machine.specs.State.Decisions.{Decision}
+use Rattle.zone_machine.specs.State.Worlds.{View}
+use Rattle.zone_machine.specs.declared.machine.parts.Decided.{Decided}
+use Rattle.zone_machine.specs.declared.machine.parts.Decided.TheVariants as decided
 use Rattle.std.specs.Prelude.{Box}
 use Rattle.std.specs.Global.{Global as Alloc}
 use Rattle.zone_machine.proofs.Freeing.{asks_case, freed}
-use Rattle.zone_machine.specs.Cases.{case_seen}
-use Rattle.zone_machine.specs.Decided.{IsCaseIn, IsFreeFor}
-use Rattle.zone_machine.specs.Decisions.{act_of}
-use Rattle.zone_machine.specs.Rooms.{IsFreeOf}
-use Rattle.zone_machine.specs.declared.cases.Case.{Case}
+use Rattle.zone_machine.specs.Code.Cases.{decision_of}
+use Rattle.zone_machine.specs.Code.Decided.{IsCaseIn, IsFreeFor}
+use Rattle.zone_machine.specs.State.Decisions.{act_of}
+use Rattle.zone_machine.specs.Code.Rooms.{IsFreeOf}
+use Rattle.zone_machine.specs.declared.machine.cases.Case.{Case}
 
 -- what the pools know
 module _ {A : Type 0} (p : A → Bool) where
@@ -116,17 +116,6 @@ module _ (z : Name) (c : Cell) (s : Shared) (e : Event) where
   IsCellMisfitUnder-by None asked asks unfit = absurd unfit
   IsCellMisfitUnder-by (Some stated) asked asks unfit =
       (λ S cell shared of. fits-by S s z (cell_world (row_in z s) c) e asked shared (cell-stands z S c s cell shared) of asks stated ∙ unfit, refl, refl)
-
--- a cell and a shared part that are alike stand for the same, and so a step of the ones is one of the others
-module _ (z : Name) (c : Cell) (s : Shared) (c' : Cell) (s' : Shared) (alike : Alike c s c' s') where
-  pub alike-cell : (w : World) → CellOf c w → CellOf c' w
-  alike-cell w h = h ∙ sym (alike.world w.stored)
-
-  pub alike-shared : (k : Common) → SharedOf s k → SharedOf s' k
-  alike-shared k h = h ∙ sym alike.common
-
-  pub IsCellStep-alike : (e : Event) (g : Grant) (entry : Entry) (d : Cell) (t : Shared) → IsCellStep z c' s' e g entry d t → IsCellStep z c s e g entry d t
-  IsCellStep-alike e g entry d t steps S cell shared of = steps S (alike-cell (world z S) cell) (alike-shared (common S) shared) of
 
 -- the world of each zone
 pub world-stands : (S : State) (m : Parts) (z : Name) → Stands S m → world z S ≡ world_or_empty (row_in z m.shared) (cell_at z m)
@@ -239,12 +228,6 @@ module _ (m u : Parts) (z : Name) (e : Event) (c d : Cell) (same : (row : Option
           at_zone true k = subst (λ x. world_or_empty row (cell_at x m) ≡ cell_world row d) (same_true z y k) (same row ∙ sym (alike.world row)) ∙ sym (left_at y row true k)
           at_zone false k = sym (left_at y row false k)
 
-pub IsStepUnder-by : (m u : Parts) (e : Event) (stated : Option Grant) (g : Grant) (entry : Entry) → IsTaken m stated e g → entry.grant ≡ g → IsStep m e g entry u → IsStepUnder stated m e entry u
-IsStepUnder-by m u e stated g entry takes is steps S h = record {
-  takes = subst (Takes stated S e) (sym is) (takes S h);
-  answers = subst (λ g. Answers S e g entry u) (sym is) (steps S h);
-}
-
 -- an event of the global zone
 module _ (m : Parts) (e : Event) (is : subject_in m.shared e ≡ Global) where
   of_global : (S : State) → Stands S m → subject S e ≡ Global
@@ -282,15 +265,15 @@ some_is x y h = cc
 -- the grant of what was decided
 module _ (m : Parts) (e : Event) (stated : Option Grant) where
   granted_in : (z : Name) (c : Cell) (case : Case) → subject_in m.shared e ≡ Zone z → ((row : Option Record) → world_or_empty row (cell_at z m) ≡ cell_world row c) → IsCaseIn z (row_in z m.shared) c (λ v. decide v e) case
-      → (g : Grant) → IsGrantFor z (pools_in m.shared) (asked_of (case_seen c.desk case)) stated g → IsTaken m stated e g × IsFreeOf (act_of (case_seen c.desk case) g).came (pools_in m.shared)
+      → (g : Grant) → IsGrantFor z (pools_in m.shared) (asked_of (decision_of c.desk case)) stated g → IsTaken m stated e g × IsFreeOf (act_of (decision_of c.desk case) g).came (pools_in m.shared)
   granted_in z c case is same h g takes = (
-    IsTaken-cell m z e c (asked_of (case_seen c.desk case)) is same (ap asked_of h.decided) stated g takes,
-    freed (pools_in m.shared) z (case_seen c.desk case) stated g (asks_case c.desk case) takes,
+    IsTaken-cell m z e c (asked_of (decision_of c.desk case)) is same (ap asked_of h.decided) stated g takes,
+    freed (pools_in m.shared) z (decision_of c.desk case) stated g (asks_case c.desk case) takes,
   )
 
   unfit_in : (z : Name) (c : Cell) (case : Case) → subject_in m.shared e ≡ Zone z → ((row : Option Record) → world_or_empty row (cell_at z m) ≡ cell_world row c) → IsCaseIn z (row_in z m.shared) c (λ v. decide v e) case
-      → IsUnfit (pools_in m.shared) (asked_of (case_seen c.desk case)) stated → IsMisfitUnder stated m e m
-  unfit_in z c case is same h unfit = IsMisfitUnder-cell m z e c (asked_of (case_seen c.desk case)) is same (ap asked_of h.decided) stated unfit
+      → IsUnfit (pools_in m.shared) (asked_of (decision_of c.desk case)) stated → IsMisfitUnder stated m e m
+  unfit_in z c case is same h unfit = IsMisfitUnder-cell m z e c (asked_of (decision_of c.desk case)) is same (ap asked_of h.decided) stated unfit
 
   module _ (at : ℕ) (z : Name) (case : Box Case Alloc) (cell : Cell) (value : slice_get (values m.cells) at ≡ Some cell) (h : IsDecided m e (decided.At at z case)) where
     here_at : cell_at z m ≡ Some cell
@@ -299,24 +282,24 @@ module _ (m : Parts) (e : Event) (stated : Option Grant) where
     case_at : IsCaseIn z (row_in z m.shared) cell (λ v. decide v e) case.value
     case_at = subst (λ x. IsCaseIn z (row_in z m.shared) x (λ v. decide v e) case.value) (some_is h.1.cell cell (sym h.1.value ∙ value)) h.1.decides
 
-    pub granted_at : (g : Grant) → IsGrantFor z (pools_in m.shared) (asked_of (case_seen cell.desk case.value)) stated g → IsTaken m stated e g × IsFreeFor m (decided.At at z case) g
+    pub granted_at : (g : Grant) → IsGrantFor z (pools_in m.shared) (asked_of (decision_of cell.desk case.value)) stated g → IsTaken m stated e g × IsFreeFor m (decided.At at z case) g
     granted_at g takes =
         let both = granted_in z cell case.value h.0 (λ row. ap (world_or_empty row) here_at) case_at g takes in (
           both.0,
-          λ c is. subst (λ x. IsFreeOf (act_of (case_seen x.desk case.value) g).came (pools_in m.shared)) (some_is cell c (sym here_at ∙ is)) both.1,
+          λ c is. subst (λ x. IsFreeOf (act_of (decision_of x.desk case.value) g).came (pools_in m.shared)) (some_is cell c (sym here_at ∙ is)) both.1,
         )
 
-    pub unfit_at : IsUnfit (pools_in m.shared) (asked_of (case_seen cell.desk case.value)) stated → IsMisfitUnder stated m e m
+    pub unfit_at : IsUnfit (pools_in m.shared) (asked_of (decision_of cell.desk case.value)) stated → IsMisfitUnder stated m e m
     unfit_at unfit = unfit_in z cell case.value h.0 (λ row. ap (world_or_empty row) here_at) case_at unfit
 
   module _ (c : Box Cell Alloc) (key z : Name) (case : Box Case Alloc) (h : IsDecided m e (decided.New c key z case)) where
     pub same_new : (row : Option Record) → world_or_empty row (cell_at z m) ≡ cell_world row c.value
     same_new row = ap (world_or_empty row) h.1.none ∙ sym (h.1.nothing row)
 
-    pub granted_new : (g : Grant) → IsGrantFor z (pools_in m.shared) (asked_of (case_seen c.value.desk case.value)) stated g → IsTaken m stated e g × IsFreeFor m (decided.New c key z case) g
+    pub granted_new : (g : Grant) → IsGrantFor z (pools_in m.shared) (asked_of (decision_of c.value.desk case.value)) stated g → IsTaken m stated e g × IsFreeFor m (decided.New c key z case) g
     granted_new g takes = granted_in z c.value case.value h.0 same_new h.1.decides g takes
 
-    pub unfit_new : IsUnfit (pools_in m.shared) (asked_of (case_seen c.value.desk case.value)) stated → IsMisfitUnder stated m e m
+    pub unfit_new : IsUnfit (pools_in m.shared) (asked_of (decision_of c.value.desk case.value)) stated → IsMisfitUnder stated m e m
     unfit_new unfit = unfit_in z c.value case.value h.0 same_new h.1.decides unfit
 
 -- what is kept of a map in which room was made, under a key that is the zone

@@ -3,7 +3,6 @@ use Rattle.std.proofs.Common.{◌≡◌, ◌∷◌, ◌++◌, [], ℕ, List, Opt
 use Rattle.zn_base.specs.Names.{Name}
 use Rattle.zone_pools.specs.Decisions as decisions
 use Rattle.zone_pools.specs.Decisions.{Ask, Just}
-use Rattle.zone_pools.specs.Owned_lists.{edited}
 use Rattle.zone_pools.specs.declared.grant.Grant.{Grant}
 use Rattle.zone_pools.specs.declared.grant.Grant.TheVariants.{Nothing, Number, Yes, Denied}
 use Rattle.zone_pools.specs.declared.grant.Pool.{Pool}
@@ -11,14 +10,14 @@ use Rattle.zone_pools.specs.declared.grant.Pool.TheVariants.{Store}
 use Rattle.zone_machine.proofs.Acts_laws.{own-acts}
 use Rattle.zone_machine.proofs.Own_worlds.{view-world}
 use Rattle.zone_machine.specs.Arrivals.{Arrival, Comes, New_process, New_record, arrived}
-use Rattle.zone_machine.specs.Decisions.{Act, act_of, acts_world, after_came_world, effects, says, sweeps, turned}
-use Rattle.zone_machine.specs.Desks.{Desk}
-use Rattle.zone_machine.specs.Edits.{Of_objects, Set_desk, comes_world, edit_world, edits_world}
+use Rattle.zone_machine.specs.State.Decisions.{Act, act_of, acts_world, after_came_world, effects, says, sweeps, turned}
+use Rattle.zone_machine.specs.Daemon.Desks.{Desk}
+use Rattle.zone_machine.specs.State.Edits.{Of_objects, Set_desk, comes_world, edit_world, edits_world}
 use Rattle.zone_machine.specs.Machine.{Answered, decide, done_by, one, subject}
 use Rattle.zone_machine.specs.Objects.{Object_edit, Processes_go, mounts_after}
 use Rattle.zone_machine.specs.State.{State}
-use Rattle.zone_machine.specs.Turns.{Turned, turn}
-use Rattle.zone_machine.specs.Worlds.{World, objects_of, view_of, world}
+use Rattle.zone_machine.specs.Daemon.Turns.{Turned, turn}
+use Rattle.zone_machine.specs.State.Worlds.{World, objects_of, view_of, world}
 use Rattle.zone_machine.specs.declared.events.Event.TheVariants.{Turn}
 use Rattle.zone_machine.specs.declared.objects.Mount.{Mount}
 use Rattle.zone_machine.specs.declared.records.Record.{Record}

@@ -1,13 +1,25 @@
 //! The machine.
 ghost use Rattle.std.specs.Prelude.{[], IfOk, IsErrOf, IsOkUnless, OnErr};
 ghost use Rattle.zone_machine.specs.Machine.{opening};
-ghost use Rattle.zone_machine.specs.Steps.{IsAllowed, IsAllowedStep, IsFittingStep, IsMisfit, IsRefusedIfUnfit, IsStarted, IsSubject, IsZoneState, AsItWas};
-ghost use Rattle.zone_machine.specs.Cells.{Stands};
+ghost use Rattle.zone_machine.specs.Code.Steps.{IsAllowed, IsAllowedStep, IsFittingStep, IsMisfit, IsRefusedIfUnfit, IsStarted, IsSubject, IsZoneState, AsItWas};
+ghost use Rattle.zone_machine.specs.Code.Cells.{Stands};
+
+pub(crate) mod cases;
+pub(crate) mod cell;
+pub(crate) mod effects;
+pub(crate) mod local_turns;
+pub(crate) mod maps;
+pub(crate) mod parts;
+pub(crate) mod rooms;
+pub(crate) mod settling;
+pub(crate) mod shared;
+pub(crate) mod steps;
+pub(crate) mod work;
 
 use crate::events::{Entry, Event, Subject};
 use crate::faults::StepFault;
-use crate::parts::Parts;
-use crate::steps::{read_event, subject};
+use crate::machine::parts::Parts;
+use crate::machine::steps::{read_event, subject};
 use std::alloc::Global;
 use std::marker::Model;
 use zn_base::{ZoneName, ZoneState};
@@ -25,8 +37,8 @@ impl Drop for Machine {
 }
 
 impl Model for Machine {
-    ghost use Rattle.zone_machine.specs.contracts.parts.Parts.{the_row};
-    ghost use Rattle.zone_machine.specs.declared.parts.Parts.{Parts};
+    ghost use Rattle.zone_machine.specs.contracts.machine.parts.Parts.{the_row};
+    ghost use Rattle.zone_machine.specs.declared.machine.parts.Parts.{Parts};
 
     ghost Value = { Parts };
 

@@ -2,15 +2,18 @@
 ghost use Rattle.std.specs.Prelude.{◌≡◌, ◌&&◌, ◌∷◌, [], ◌+◌, bytes_eq, not, slice_get, if◌then◌else◌};
 ghost use Rattle.std.specs.List.{list_any};
 ghost use Rattle.zone_pools.specs.Asked.{A_path, A_pid, A_serial, A_zid, A_zone};
-ghost use Rattle.zone_machine.specs.Cells.{pools_in, rows_in, takes_path};
-ghost use Rattle.zone_machine.specs.Needs_seen.{asked_by};
-ghost use Rattle.zone_machine.specs.Pools.{path_taken};
+ghost use Rattle.zone_machine.specs.Code.Cells.{pools_in, rows_in, takes_path};
+ghost use Rattle.zone_machine.specs.Code.Needs.{asked_by};
+ghost use Rattle.zone_machine.specs.Machine.Pools.{path_taken};
 ghost use Rattle.zone_pools.specs.Pools.{fits_asked, fits_pool, has_place, has_room, is_pool, next_free, numbered, said_by_all};
 
-use crate::needs::Need;
-use crate::numbers::next_free;
+pub(crate) mod needs;
+pub(crate) mod numbers;
+
+use crate::machine::shared::Shared;
+use crate::pools::needs::Need;
+use crate::pools::numbers::next_free;
 use crate::records::Record;
-use crate::shared::Shared;
 use indexmap::IndexMap;
 use zn_base::{AbsPath, ZoneName};
 use zone_pools::{

@@ -1,6 +1,5 @@
 pub mod Owned_laws
 pub mod Firsts_laws
-pub mod Places
 pub mod Same_laws
 pub mod Holding
 pub mod Free_numbers

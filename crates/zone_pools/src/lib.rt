@@ -1,15 +1,12 @@
-//! Who holds what, and what the pools give that zones share: things with their zones' names and flat lists of
-//! them, pools and grants.
+//! Who holds what, and what the pools give that zones share: things with their zones' names, pools and grants.
 #![tactic(auto)]
 
 mod grant;
 mod limits;
-mod lists;
 mod owned;
 mod owners;
 
 pub use grant::{Grant, Pool, number_in, numbered};
 pub use limits::{PID_MAX, PID_MIN, SERIAL_MAX, ZID_MAX, ZID_MIN, ZONES_MAX};
-pub use lists::{add, end_all, place, place_of};
 pub use owned::Owned;
 pub use owners::{Keyed, Owners};

@@ -6,14 +6,14 @@ use Rattle.zone_pools.specs.declared.grant.Grant.{Grant}
 use Rattle.zone_machine.proofs.Turned_laws.{Has, In, decide-turn, has-turned, in-act, stored_after, turn_act, turned_act}
 use Rattle.zone_machine.specs.Objects.{mounts_after}
 use Rattle.zone_machine.specs.Arrivals.{Arrival}
-use Rattle.zone_machine.specs.Decisions.{Act, Effect, act_of, acts_world, after_came_world}
-use Rattle.zone_machine.specs.Desks.{Desk}
-use Rattle.zone_machine.specs.Edits.{edits_world}
-use Rattle.zone_machine.specs.Lines.{Blank, Command, Line, Make, Request, Unknown, line_of}
+use Rattle.zone_machine.specs.State.Decisions.{Act, Effect, act_of, acts_world, after_came_world}
+use Rattle.zone_machine.specs.Daemon.Desks.{Desk}
+use Rattle.zone_machine.specs.State.Edits.{edits_world}
+use Rattle.zone_machine.specs.Session.Lines.{Blank, Command, Line, Make, Request, Unknown, line_of}
 use Rattle.zone_machine.specs.Machine.{decide, session_number}
 use Rattle.zone_machine.specs.State.{Awaiting, Doing}
-use Rattle.zone_machine.specs.Typed.{idle_line, is_full, make, make_at, new_record, put_request, typed, usable_path, with_request}
-use Rattle.zone_machine.specs.Worlds.{World, view_of}
+use Rattle.zone_machine.specs.Session.Typed.{idle_line, is_full, make, make_at, new_record, put_request, typed, usable_path, with_request}
+use Rattle.zone_machine.specs.State.Worlds.{World, view_of}
 use Rattle.zone_machine.specs.declared.daemon.RequestKind.{RequestKind}
 use Rattle.zone_machine.specs.declared.events.Event.{Event}
 use Rattle.zone_machine.specs.declared.events.Event.TheVariants.{Session, Turn}

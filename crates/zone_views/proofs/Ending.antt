@@ -13,16 +13,16 @@ use Rattle.zn_base.specs.declared.state.ZoneState.TheVariants.{Configured, Insta
 use Rattle.zone_machine.proofs.Own_worlds.{world-one}
 use Rattle.zone_machine.proofs.Turned_laws.{In, has-turned, in-act, turn-reply, turn-world, turn_act}
 use Rattle.zone_machine.specs.Objects.{mounts_after}
-use Rattle.zone_machine.specs.Decisions.{act_of, acts_world, says}
-use Rattle.zone_machine.specs.Desks.{Desk, Job}
-use Rattle.zone_machine.specs.Histories.{after, after_entry, world_by}
+use Rattle.zone_machine.specs.State.Decisions.{act_of, acts_world, says}
+use Rattle.zone_machine.specs.Daemon.Desks.{Desk, Job}
+use Rattle.zone_machine.specs.Machine.Histories.{after, after_entry, world_by}
 use Rattle.zone_machine.specs.Machine.{decide, one, opening, session_number, subject}
 use Rattle.zone_machine.specs.Objects.{Objects, is_at}
-use Rattle.zone_machine.specs.Plans.{may_begin, plan, undo_after}
+use Rattle.zone_machine.specs.Daemon.Plans.{may_begin, plan, undo_after}
 use Rattle.zone_machine.specs.State.{State}
-use Rattle.zone_machine.specs.Turns.{Turn_decision, Turned, active_after, goes_on, next_request, root_mount, step, turn, turn_at, undo}
-use Rattle.zone_machine.specs.Turns_left.{trail, turns_left, turns_under_way, turns_until, turns_with}
-use Rattle.zone_machine.specs.Worlds.{World, objects_of, view_of, world}
+use Rattle.zone_machine.specs.Daemon.Turns.{Turn_decision, Turned, active_after, goes_on, next_request, root_mount, step, turn, turn_at, undo}
+use Rattle.zone_machine.specs.Machine.Turns_left.{trail, turns_left, turns_under_way, turns_until, turns_with}
+use Rattle.zone_machine.specs.State.Worlds.{World, objects_of, view_of, world}
 use Rattle.zone_machine.specs.declared.daemon.Outcome.{Outcome}
 use Rattle.zone_machine.specs.declared.daemon.RequestKind.{RequestKind}
 use Rattle.zone_machine.specs.declared.daemon.RequestKind.TheVariants.{Install, Boot, Halt}

@@ -5,17 +5,17 @@ use Rattle.zone_pools.specs.Same.{same_grant}
 use Rattle.zone_pools.specs.declared.grant.Grant.{Grant}
 use Rattle.zone_pools.specs.declared.grant.Grant.TheVariants.{Nothing, Number}
 use Rattle.zn_base.specs.declared.state.ZoneState.TheVariants.{Configured, Installed}
-use Rattle.zone_machine.specs.Edits.{comes, edit}
-use Rattle.zone_machine.specs.Histories.{after, any_grant, asked, history, is_history, is_legal, only, replies, run}
-use Rattle.zone_machine.specs.Lines.{line_of}
+use Rattle.zone_machine.specs.State.Edits.{comes, edit}
+use Rattle.zone_machine.specs.Machine.Histories.{after, any_grant, asked, history, is_history, is_legal, only, replies, run}
+use Rattle.zone_machine.specs.Session.Lines.{line_of}
 use Rattle.zone_machine.specs.Machine.{decide, one, opening, subject}
-use Rattle.zone_machine.specs.Pools.{allowed, fits}
+use Rattle.zone_machine.specs.Machine.Pools.{allowed, fits}
 use Rattle.zone_pools.specs.Pools.{first_free}
-use Rattle.zone_machine.specs.Same.{same_reply, same_subject}
+use Rattle.zone_machine.specs.Machine.Same.{same_reply, same_subject}
 use Rattle.zone_machine.specs.State.{State, zone_state}
-use Rattle.zone_machine.specs.Turns.{turn}
-use Rattle.zone_machine.specs.Typed.{typed}
-use Rattle.zone_machine.specs.Worlds.{view}
+use Rattle.zone_machine.specs.Daemon.Turns.{turn}
+use Rattle.zone_machine.specs.Session.Typed.{typed}
+use Rattle.zone_machine.specs.State.Worlds.{view}
 use Rattle.zone_machine.specs.declared.daemon.Outcome.TheVariants.{WrongState}
 use Rattle.zone_machine.specs.declared.daemon.TurnReply.TheVariants.{Finished, Idle}
 use Rattle.zone_machine.specs.declared.events.Entry.{Entry}

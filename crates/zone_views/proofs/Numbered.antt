@@ -9,17 +9,17 @@ use Rattle.zone_pools.specs.declared.grant.Grant.{Grant}
 use Rattle.zone_pools.specs.declared.grant.Grant.TheVariants.{Nothing, Number, Yes, Denied}
 use Rattle.zone_machine.proofs.Of_turns.{is_asked_for}
 use Rattle.zone_machine.specs.Arrivals.{A_process, A_record, An_id, Comes, arrived}
-use Rattle.zone_machine.specs.Decisions.{Decision, act_of, acts, after_came}
+use Rattle.zone_machine.specs.State.Decisions.{Decision, act_of, acts, after_came}
 use Rattle.zone_pools.specs.Asked.{A_pid, A_zid, Asked}
 use Rattle.zone_pools.specs.Decisions.{Ask, Just, asked_of}
-use Rattle.zone_machine.specs.Edits.{Edit, Of_objects, comes, edit, edits}
-use Rattle.zone_machine.specs.Histories.{after, after_entry, is_allowed, is_history, is_legal, is_told}
+use Rattle.zone_machine.specs.State.Edits.{Edit, Of_objects, comes, edit, edits}
+use Rattle.zone_machine.specs.Machine.Histories.{after, after_entry, is_allowed, is_history, is_legal, is_told}
 use Rattle.zone_machine.specs.Machine.{decide, one, one_of, opening, session_number, subject}
 use Rattle.zone_machine.specs.Objects.{Ids_go, Processes_go, below}
-use Rattle.zone_machine.specs.Pools.{allowed, allowed_of, fits, fits_of, pools_of}
+use Rattle.zone_machine.specs.Machine.Pools.{allowed, allowed_of, fits, fits_of, pools_of}
 use Rattle.zone_pools.specs.Pools.{fits_asked, fits_pool}
 use Rattle.zone_machine.specs.State.{State}
-use Rattle.zone_machine.specs.Worlds.{view}
+use Rattle.zone_machine.specs.State.Worlds.{view}
 use Rattle.zone_machine.specs.declared.events.Entry.{Entry}
 use Rattle.zone_machine.specs.declared.events.Event.{Event}
 use Rattle.zone_machine.specs.declared.events.Subject.{Subject}

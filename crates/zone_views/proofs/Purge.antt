@@ -10,16 +10,16 @@ use Rattle.zone_machine.proofs.Acts_laws.{IsOwn, IsOwn-of, IsOwn-swept}
 use Rattle.zone_machine.proofs.Own_worlds.{leaves, reply-whole, reply-world, world-one, world_by-other}
 use Rattle.zone_machine.proofs.Same_laws.{reply-Decides, subject-Decides}
 use Rattle.zone_machine.specs.Arrivals.{Arrival, New_process}
-use Rattle.zone_machine.specs.Decisions.{Act, act_of, acts, after_came}
-use Rattle.zone_machine.specs.Edits.{Edit, Here, Of_objects, Sweep, at_session, comes, edit, edits, session_of}
-use Rattle.zone_machine.specs.Desks.{empty_desk}
-use Rattle.zone_machine.specs.Histories.{after, after_entry, any_grant, asked, concerns, entry_at, is_history, is_of, is_told, only, replay, replies, run, world_by, world_one}
-use Rattle.zone_machine.specs.Lines.{line_of}
+use Rattle.zone_machine.specs.State.Decisions.{Act, act_of, acts, after_came}
+use Rattle.zone_machine.specs.State.Edits.{Edit, Here, Of_objects, Sweep, at_session, comes, edit, edits, session_of}
+use Rattle.zone_machine.specs.Daemon.Desks.{empty_desk}
+use Rattle.zone_machine.specs.Machine.Histories.{after, after_entry, any_grant, asked, concerns, entry_at, is_history, is_of, is_told, only, replay, replies, run, world_by, world_one}
+use Rattle.zone_machine.specs.Session.Lines.{line_of}
 use Rattle.zone_machine.specs.Machine.{decide, one, one_of, opening, session_number, session_subject, subject}
 use Rattle.zone_machine.specs.Objects.{Processes_go}
-use Rattle.zone_machine.specs.Same.{same_reply, same_subject}
+use Rattle.zone_machine.specs.Machine.Same.{same_reply, same_subject}
 use Rattle.zone_machine.specs.State.{At, Idle, Session as Session_mode, State, stored}
-use Rattle.zone_machine.specs.Worlds.{World, doing, view, world}
+use Rattle.zone_machine.specs.State.Worlds.{World, doing, view, world}
 use Rattle.zone_machine.specs.declared.events.Entry.{Entry}
 use Rattle.zone_machine.specs.declared.events.Event.{Event}
 use Rattle.zone_machine.specs.declared.events.Event.TheVariants.{Session, Turn}

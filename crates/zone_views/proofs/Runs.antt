@@ -4,9 +4,9 @@ use Rattle.std.proofs.lemmas.Bool.{and_from}
 use Rattle.zone_pools.proofs.Same_laws.{grant-Decides}
 use Rattle.zone_pools.specs.declared.grant.Grant.{Grant}
 use Rattle.zone_machine.proofs.Same_laws.{reply-Decides, subject-Decides}
-use Rattle.zone_machine.specs.Histories.{any_grant, entry_at, history, is_history, is_legal, is_told, run}
+use Rattle.zone_machine.specs.Machine.Histories.{any_grant, entry_at, history, is_history, is_legal, is_told, run}
 use Rattle.zone_machine.specs.Machine.{one, subject}
-use Rattle.zone_machine.specs.Pools.{allowed}
+use Rattle.zone_machine.specs.Machine.Pools.{allowed}
 use Rattle.zone_machine.specs.State.{State}
 use Rattle.zone_machine.specs.declared.events.Event.{Event}
 

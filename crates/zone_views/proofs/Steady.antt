@@ -14,16 +14,16 @@ use Rattle.zn_base.specs.declared.state.ZoneState.TheVariants.{Configured, Insta
 use Rattle.zone_pools.proofs.Owned_laws.{same_true}
 use Rattle.zone_machine.proofs.Own_worlds.{world-one}
 use Rattle.zone_machine.proofs.Turned_laws.{In, in-act, stored_after}
-use Rattle.zone_machine.specs.Decisions.{act_of, acts_world}
-use Rattle.zone_machine.specs.Desks.{Desk, Job, empty_desk, state_of}
-use Rattle.zone_machine.specs.Histories.{after, after_entry, world_by}
+use Rattle.zone_machine.specs.State.Decisions.{act_of, acts_world}
+use Rattle.zone_machine.specs.Daemon.Desks.{Desk, Job, empty_desk, state_of}
+use Rattle.zone_machine.specs.Machine.Histories.{after, after_entry, world_by}
 use Rattle.zone_machine.specs.Machine.{decide, one, opening, session_number, subject}
 use Rattle.zone_machine.specs.Objects.{Objects, last_dir}
-use Rattle.zone_machine.specs.Plans.{may_begin, plan}
+use Rattle.zone_machine.specs.Daemon.Plans.{may_begin, plan}
 use Rattle.zone_machine.specs.State.{State, stored, stored_from}
-use Rattle.zone_machine.specs.Turns.{Turn_decision, Turned, active_after, goes_on, next_request, step, turn, turn_at, undo, unmount}
-use Rattle.zone_machine.specs.Typed.{new_record, with_request}
-use Rattle.zone_machine.specs.Worlds.{World, objects_of, view_of, world}
+use Rattle.zone_machine.specs.Daemon.Turns.{Turn_decision, Turned, active_after, goes_on, next_request, step, turn, turn_at, undo, unmount}
+use Rattle.zone_machine.specs.Session.Typed.{new_record, with_request}
+use Rattle.zone_machine.specs.State.Worlds.{World, objects_of, view_of, world}
 use Rattle.zone_machine.specs.declared.daemon.Outcome.{Outcome}
 use Rattle.zone_machine.specs.declared.daemon.RequestKind.{RequestKind}
 use Rattle.zone_machine.specs.declared.daemon.RequestKind.TheVariants.{Install, Boot, Halt}

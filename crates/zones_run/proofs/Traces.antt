@@ -2,8 +2,8 @@
 use Rattle.std.proofs.Common.{◌≡◌, ◌+◌, ◌≤◌, ◌||◌, ◌++◌, ℕ, true, false, cond, nat_lt, List, [], ◌∷◌, length, map, Option, Some, None, Ok, refl, ap, sym, ◌∙◌, arith, append_assoc}
 use Rattle.std.proofs.lemmas.Bool.Decides.{nat_tests}
 use Rattle.trace_text.specs.Lines.{event_of}
-use Rattle.zone_machine.specs.Histories.{after_entry, entry_at, history}
-use Rattle.zone_machine.specs.Pools.{allowed}
+use Rattle.zone_machine.specs.Machine.Histories.{after_entry, entry_at, history}
+use Rattle.zone_machine.specs.Machine.Pools.{allowed}
 use Rattle.zone_pools.specs.Pools.{or_else}
 use Rattle.zone_machine.specs.State.{State}
 use Rattle.zone_machine.specs.declared.events.Entry.{Entry}

@@ -6,9 +6,9 @@ use Rattle.zn_io.specs.Streams.{after_known}
 use Rattle.trace_text.specs.Lines.{event_of}
 use Rattle.trace_text.specs.Replies.{reply_text}
 use Rattle.trace_text.specs.declared.fault.LineFault.{LineFault}
-use Rattle.zone_machine.specs.Histories.{after_entry, entry_at, history}
+use Rattle.zone_machine.specs.Machine.Histories.{after_entry, entry_at, history}
 use Rattle.zone_machine.specs.Machine.{opening}
-use Rattle.zone_machine.specs.Pools.{allowed}
+use Rattle.zone_machine.specs.Machine.Pools.{allowed}
 use Rattle.zone_pools.specs.Pools.{or_else}
 use Rattle.zone_machine.specs.State.{State}
 use Rattle.zone_machine.specs.declared.daemon.Outcome.{Outcome}

@@ -1,6 +1,6 @@
 use Rattle.std.proofs.Common.{◌≡◌, false, take}
-use Rattle.zone_machine.specs.Cells.{rows_in}
-use Rattle.zone_machine.specs.Pools.{path_taken}
+use Rattle.zone_machine.specs.Code.Cells.{rows_in}
+use Rattle.zone_machine.specs.Machine.Pools.{path_taken}
 use Rattle.zone_machine.proofs.pools.path_taken.Given as goal
 
 abbrev pub invariant-loop-at : goal.invariant-loop-at

@@ -1,4 +1,4 @@
-use Rattle.zone_machine.specs.Histories.{after}
+use Rattle.zone_machine.specs.Machine.Histories.{after}
 use Rattle.zone_machine.specs.Machine.{opening}
 use Rattle.zone_views.proofs.Numbered.{allowed-fits, legal-fits, numbered-history}
 use Rattle.zone_views.proofs.laws.allowed_grants_fit.Goals as goal

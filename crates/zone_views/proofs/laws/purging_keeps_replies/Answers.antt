@@ -1,5 +1,5 @@
 use Rattle.std.proofs.Common.{◌≡◌, ap, refl, sym, ◌∙◌, subst}
-use Rattle.zone_machine.specs.Histories.{asked, only, replies, run}
+use Rattle.zone_machine.specs.Machine.Histories.{asked, only, replies, run}
 use Rattle.zone_machine.specs.Machine.{opening}
 use Rattle.zone_views.proofs.Purge.{opening-agree, purge, run-asked}
 use Rattle.zone_views.proofs.laws.purging_keeps_replies.Goals as goal

@@ -1,4 +1,4 @@
-use Rattle.zone_machine.specs.Histories.{after}
+use Rattle.zone_machine.specs.Machine.Histories.{after}
 use Rattle.zone_machine.specs.Machine.{opening}
 use Rattle.zone_views.proofs.Steady.{goes-one, steady-history}
 use Rattle.zone_views.proofs.laws.states_move_along_the_table.Goals as goal

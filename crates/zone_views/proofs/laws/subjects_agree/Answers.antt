@@ -1,5 +1,5 @@
 use Rattle.std.proofs.Common.{◌∙◌, ap, sym}
-use Rattle.zone_machine.specs.Histories.{after}
+use Rattle.zone_machine.specs.Machine.Histories.{after}
 use Rattle.zone_machine.specs.Machine.{opening}
 use Rattle.zone_views.proofs.Purge.{IsPurged-after, away_is_idle, subjects}
 use Rattle.zone_views.proofs.laws.subjects_agree.Goals as goal

@@ -1,4 +1,4 @@
-use Rattle.zone_machine.specs.Histories.{after}
+use Rattle.zone_machine.specs.Machine.Histories.{after}
 use Rattle.zone_machine.specs.Machine.{opening}
 use Rattle.zone_views.proofs.Ending.{fewer-left, grounded-history}
 use Rattle.zone_views.proofs.laws.turns_come_to_an_end.Goals as goal

@@ -1,6 +1,6 @@
 use Rattle.std.proofs.Common.{◌+◌, ◌≤◌, length}
 use Rattle.zn_io.specs.Streams.{after_known, before_known}
-use Rattle.zone_machine.specs.Cells.{Stands}
+use Rattle.zone_machine.specs.Code.Cells.{Stands}
 use Rattle.zones_run.specs.Tracing.{HasWritten}
 use Rattle.zones_run.proofs.TraceRuns.{RunsOn}
 use Rattle.zones_run.proofs.trace.take_lines.Given as goal

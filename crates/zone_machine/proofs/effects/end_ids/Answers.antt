@@ -1,6 +1,0 @@
-use Rattle.zone_machine.proofs.Doing_laws.{does_end_ids}
-use Rattle.zone_machine.proofs.effects.end_ids.Goals as goal
-
-pub returns-clause-does : goal.returns-clause-does
-returns-clause-does c = λ z. does_end_ids z c.args.cell.now c.args.shared.now (record c.args.shared.now { zids = c.give_all_back.new.self }) c.clear.new.self c.clear.ensures.items
-    (λ n. rw (← c.deref.ensures.value) (c.give_all_back.ensures.given n))

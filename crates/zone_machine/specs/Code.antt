@@ -1,0 +1,10 @@
+-- What the code's values stand for, and what its steps do to them.
+pub mod Lines
+pub mod Desks
+pub mod Needs
+pub mod Cases
+pub mod Cells
+pub mod Rooms
+pub mod Steps
+pub mod Local_turns
+pub mod Decided

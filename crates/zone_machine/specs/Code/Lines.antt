@@ -1,0 +1,46 @@
+-- What the code's readers of words give, as the definitions have it.
+use Rattle.std.specs.Prelude.{◌≡◌, ℕ, List, [], ◌∷◌, Option, Some, None, ◌<◌, length, get_or, take, drop, false, ◌≤◌}
+use Rattle.std.specs.Borrow.{Bor}
+use Rattle.std.specs.Option.{option_map}
+use Rattle.zone_machine.specs.Session.Lines as lines
+use Rattle.zone_machine.specs.Session.Lines.{is_space, words}
+use Rattle.zone_machine.specs.declared.session.lines.Command.{Command}
+use Rattle.zone_machine.specs.declared.session.lines.Command.TheVariants.{Blank, Make, Request, Unknown}
+use Rattle.zone_machine.specs.declared.session.lines.Line.{Line}
+
+-- a text begins with a word
+pub record IsWordFirst (text : List ℕ) : Type 0 where
+  pub some : 0 < length text
+  pub other : is_space (get_or text 0 0) ≡ false
+
+-- a text with the same words that begins with a word, or none where there is no word
+abbrev pub BeginsWord : Option (Bor (List ℕ)) → List ℕ → Type 0
+BeginsWord None text = words text ≡ []
+BeginsWord (Some rest) text = (words text ≡ words rest.now) × IsWordFirst rest.now
+
+-- the word that a text begins with ends there
+pub record EndsWord (end : ℕ) (text : List ℕ) : Type 0 where
+  pub fits : end ≤ length text
+  pub word : words text ≡ take end text ∷ words (drop end text)
+
+-- the first word of some words, and a text of the others
+abbrev pub GivesWord : Option (Bor (List ℕ) × Bor (List ℕ)) → List (List ℕ) → Type 0
+GivesWord None ws = ws ≡ []
+GivesWord (Some r) ws = ws ≡ r.0.now ∷ words r.1.now
+
+-- a text of the words that are left, where some are
+abbrev pub GivesRest : Option (Bor (List ℕ)) → Option (List (List ℕ)) → Type 0
+GivesRest None rest = rest ≡ None
+GivesRest (Some text) rest = rest ≡ Some (words text.now)
+
+abbrev pub as_word : Option (Bor (List ℕ)) → Option (List ℕ)
+as_word o = option_map (λ word. word.now) o
+
+abbrev pub as_command : Command → lines.Command
+as_command Blank = lines.Blank
+as_command (Make word) = lines.Make word.now
+as_command (Request kind) = lines.Request kind
+as_command Unknown = lines.Unknown
+
+abbrev pub as_line : Line → lines.Line
+as_line l = record { zone = as_word l.zone; command = as_command l.command }

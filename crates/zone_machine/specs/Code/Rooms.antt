@@ -1,0 +1,70 @@
+-- Room that is taken before anything is changed, and that nothing is changed by taking it.
+use Rattle.std.specs.Prelude.{◌≡◌, ◌⊎◌, ◌<◌, List, [], ◌∷◌, Option, Some, None, false, true, vec_capacity, vec_len}
+use Rattle.indexmap.specs.IndexMap.{spare}
+use Rattle.zn_base.specs.Names.{Name}
+use Rattle.zone_pools.specs.Asked.{A_pid, A_zid, Asked}
+use Rattle.zone_pools.specs.Decisions.{asked_of}
+use Rattle.zone_pools.specs.Owners.{owner}
+use Rattle.zone_pools.specs.Pools.{Pools, has_room}
+use Rattle.zone_machine.specs.Arrivals.{Arrival, New_id, New_process, New_record}
+use Rattle.zone_machine.specs.Code.Cases.{HasRoomFor, decision_of, objects_of}
+use Rattle.zone_machine.specs.Code.Cells.{cell_world, common_in, pools_in}
+use Rattle.zone_machine.specs.declared.machine.cases.Case.{Case}
+use Rattle.zone_machine.specs.declared.machine.cases.Case.TheVariants as cases
+use Rattle.zone_machine.specs.declared.machine.cell.Cell.{Cell}
+use Rattle.zone_machine.specs.declared.records.Record.{Record}
+use Rattle.zone_machine.specs.declared.machine.shared.Shared.{Shared}
+use Rattle.zone_machine.specs.declared.machine.work.ObjectEdit.{ObjectEdit}
+use Rattle.zone_machine.specs.declared.machine.work.ObjectEdit.TheVariants.{Mount}
+
+-- a cell and a shared part are as they were, but for room
+pub record Alike (c : Cell) (s : Shared) (d : Cell) (t : Shared) : Type 0 where
+  pub world : (row : Option Record) → cell_world row d ≡ cell_world row c
+  pub rows : t.rows.entries ≡ s.rows.entries
+  pub common : common_in t ≡ common_in s
+  pub pools : pools_in t ≡ pools_in s
+
+-- room for what comes, by the pools that are asked for it
+abbrev pub HasRoomToCome : List Asked → Cell → Shared → Type 0
+HasRoomToCome [] c s = Unit {0}
+HasRoomToCome (A_pid ∷ asked) c s = (vec_len c.processes < vec_capacity c.processes) × (0 < s.pids.room)
+HasRoomToCome (A_zid ∷ asked) c s = (vec_len c.ids < vec_capacity c.ids) × (0 < s.zids.room)
+HasRoomToCome (a ∷ asked) c s = 0 < spare s.rows
+
+-- the same of what came
+abbrev pub HasRoomOf : Option Arrival → Cell → Shared → Type 0
+HasRoomOf None c s = Unit {0}
+HasRoomOf (Some (New_process p)) c s = (vec_len c.processes < vec_capacity c.processes) × (0 < s.pids.room)
+HasRoomOf (Some (New_id i)) c s = (vec_len c.ids < vec_capacity c.ids) × (0 < s.zids.room)
+HasRoomOf (Some (New_record row)) c s = 0 < spare s.rows
+
+-- no zone holds the number of what came, and a record can be counted
+abbrev pub IsFreeOf : Option Arrival → Pools → Type 0
+IsFreeOf None P = Unit {0}
+IsFreeOf (Some (New_process p)) P = P.pid_used p.pid ≡ false
+IsFreeOf (Some (New_id i)) P = P.zid_used i.zid ≡ false
+IsFreeOf (Some (New_record row)) P = has_room P ≡ true
+
+-- room for what becomes of the zone's objects
+abbrev pub HasRoomToChange : ObjectEdit → Cell → Type 0
+HasRoomToChange (Mount m) c = vec_len c.mounts < vec_capacity c.mounts
+HasRoomToChange _ c = Unit {0}
+
+-- room for a session that waits
+abbrev pub HasRoomToSit : Cell → Shared → Type 0
+HasRoomToSit c s = (0 < spare c.waits) × (0 < s.sessions.room)
+
+abbrev pub HasRoomIfSits : Case → Cell → Shared → Type 0
+HasRoomIfSits (cases.Put kind owner) c s = HasRoomToSit c s
+HasRoomIfSits _ c s = Unit {0}
+
+-- room for all that a case does
+pub record HasRoom (case : Case) (c : Cell) (s : Shared) : Type 0 where
+  pub came : HasRoomToCome (asked_of (decision_of c.desk case)) c s
+  pub objects : HasRoomToChange (objects_of case) c
+  pub sits : HasRoomIfSits case c s
+  pub desk : HasRoomFor c.desk case
+
+-- a session is nobody's or the zone's
+abbrev pub IsOpenTo : Name → Option Name → Type 0
+IsOpenTo z o = (o ≡ None) ⊎ (o ≡ Some z)

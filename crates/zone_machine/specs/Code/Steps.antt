@@ -1,0 +1,130 @@
+-- A step of the machine, as the definitions have it.
+use Rattle.zone_pools.specs.Asked.{Asked}
+use Rattle.std.specs.Prelude.{◌≡◌, ◌⊎◌, List, Option, None, Bool, true, false, IsErrOf, Result, Some}
+use Rattle.zn_base.specs.Names.{Name}
+use Rattle.zone_pools.specs.declared.grant.Grant.{Grant}
+use Rattle.zn_base.specs.declared.state.ZoneState.{ZoneState}
+use Rattle.zone_machine.specs.Machine.Histories.{entry_at}
+use Rattle.zone_machine.specs.Machine.{one, subject}
+use Rattle.zone_machine.specs.Machine.Pools.{allowed, fits}
+use Rattle.zone_machine.specs.State.{State, zone_state}
+use Rattle.zone_machine.specs.Code.Cells.{CellOf, SharedOf, Stands}
+use Rattle.zone_machine.specs.Machine.Common.{common}
+use Rattle.zone_machine.specs.declared.events.Entry.{Entry}
+use Rattle.zone_machine.specs.declared.events.Event.{Event}
+use Rattle.zone_machine.specs.declared.events.Subject.{Subject}
+use Rattle.zone_machine.specs.declared.events.Subject.TheVariants.{Zone}
+use Rattle.zone_machine.specs.declared.faults.StepFault.{StepFault}
+use Rattle.zone_machine.specs.declared.faults.StepFault.TheVariants.{Memory, BadGrant}
+use Rattle.zone_machine.specs.State.Worlds.{world}
+use Rattle.zone_machine.specs.declared.machine.cell.Cell.{Cell}
+use Rattle.zone_machine.specs.declared.machine.parts.Parts.{Parts}
+use Rattle.zone_machine.specs.declared.machine.shared.Shared.{Shared}
+use Rattle.zone_pools.specs.declared.grant.Grant.TheVariants.{Nothing}
+use Rattle.zone_pools.specs.Pools.{Pools, fits_asked, said_by_all}
+
+-- the event is answered by the definitions' entry under a grant, and what is left stands for the state after it
+pub record Answers (S : State) (e : Event) (g : Grant) (entry : Entry) (u : Parts) : Type 0 where
+  pub told : entry ≡ entry_at S e g
+  pub stands : Stands (one S e g).state u
+
+-- whatever state the parts stood for
+abbrev pub IsStep : Parts → Event → Grant → Entry → Parts → Type 0
+IsStep t e g entry u = (S : State) → Stands S t → Answers S e g entry u
+
+-- under the grant that the pools give
+abbrev pub IsAllowedStep : Parts → Event → Entry → Parts → Type 0
+IsAllowedStep t e entry u = (S : State) → Stands S t → Answers S e (allowed S e) entry u
+
+-- under a grant that fits
+abbrev pub IsFittingStep : Parts → Event → Grant → Entry → Parts → Type 0
+IsFittingStep t e g entry u = (S : State) → Stands S t → (fits S e g ≡ true) × Answers S e g entry u
+
+-- the grant doesn't fit, and nothing is changed
+abbrev pub IsMisfit : Parts → Event → Grant → Parts → Type 0
+IsMisfit t e g u = ((S : State) → Stands S t → fits S e g ≡ false) × (u ≡ t)
+
+-- a grant that doesn't fit is reported as such, or memory runs out
+abbrev pub IsRefusedIfUnfit : Parts → Event → Grant → Result Entry StepFault → Type 0
+IsRefusedIfUnfit t e g result = (S : State) → Stands S t → fits S e g ≡ false → IsErrOf result BadGrant ⊎ IsErrOf result Memory
+
+-- what the parts say of every state that they stand for
+abbrev pub IsSubject : Parts → Event → Subject → Type 0
+IsSubject t e s = (S : State) → Stands S t → s ≡ subject S e
+
+abbrev pub IsAllowed : Parts → Event → Grant → Type 0
+IsAllowed t e g = (S : State) → Stands S t → g ≡ allowed S e
+
+abbrev pub IsZoneState : Parts → Name → Option ZoneState → Type 0
+IsZoneState t z s = (S : State) → Stands S t → s ≡ zone_state z S
+
+abbrev pub IsStarted : Parts → Bool → Type 0
+IsStarted t b = (S : State) → Stands S t → b ≡ S.started
+
+-- the grant that is taken: the one that the pools give, or the stated one, which fits
+abbrev pub Takes : Option Grant → State → Event → Grant → Type 0
+Takes None S e g = g ≡ allowed S e
+Takes (Some stated) S e g = (g ≡ stated) × (fits S e stated ≡ true)
+
+abbrev pub IsTaken : Parts → Option Grant → Event → Grant → Type 0
+IsTaken t stated e g = (S : State) → Stands S t → Takes stated S e g
+
+pub record StepsUnder (stated : Option Grant) (S : State) (e : Event) (entry : Entry) (u : Parts) : Type 0 where
+  pub takes : Takes stated S e entry.grant
+  pub answers : Answers S e entry.grant entry u
+
+abbrev pub IsStepUnder : Option Grant → Parts → Event → Entry → Parts → Type 0
+IsStepUnder stated t e entry u = (S : State) → Stands S t → StepsUnder stated S e entry u
+
+abbrev pub IsMisfitUnder : Option Grant → Parts → Event → Parts → Type 0
+IsMisfitUnder None t e u = ⊥
+IsMisfitUnder (Some g) t e u = IsMisfit t e g u
+
+-- the parts stand for what they stood for
+abbrev pub AsItWas : Parts → Parts → Type 0
+AsItWas t u = (S : State) → (Stands S t → Stands S u) × (Stands S u → Stands S t)
+
+-- the same of a zone's cell and the shared part: the entry is the definitions', and what is left has the world and what is common of
+-- the state after it
+pub record CellAnswers (z : Name) (S : State) (e : Event) (g : Grant) (entry : Entry) (d : Cell) (t : Shared) : Type 0 where
+  pub told : entry ≡ entry_at S e g
+  pub cell : CellOf d (world z (one S e g).state)
+  pub shared : SharedOf t (common (one S e g).state)
+
+-- whatever state they stood for in which the event is the zone's
+abbrev pub IsCellStep : Name → Cell → Shared → Event → Grant → Entry → Cell → Shared → Type 0
+IsCellStep z c s e g entry d t = (S : State) → CellOf c (world z S) → SharedOf s (common S) → subject S e ≡ Zone z → CellAnswers z S e g entry d t
+
+-- under the grant that the pools give
+abbrev pub IsAllowedCellStep : Name → Cell → Shared → Event → Entry → Cell → Shared → Type 0
+IsAllowedCellStep z c s e entry d t = (S : State) → CellOf c (world z S) → SharedOf s (common S) → subject S e ≡ Zone z → CellAnswers z S e (allowed S e) entry d t
+
+-- under a grant that fits
+abbrev pub IsFittingCellStep : Name → Cell → Shared → Event → Grant → Entry → Cell → Shared → Type 0
+IsFittingCellStep z c s e g entry d t = (S : State) → CellOf c (world z S) → SharedOf s (common S) → subject S e ≡ Zone z → (fits S e g ≡ true) × CellAnswers z S e g entry d t
+
+-- under the one or the other
+pub record CellStepsUnder (z : Name) (stated : Option Grant) (S : State) (e : Event) (entry : Entry) (d : Cell) (t : Shared) : Type 0 where
+  pub takes : Takes stated S e entry.grant
+  pub answers : CellAnswers z S e entry.grant entry d t
+
+abbrev pub IsCellStepUnder : Name → Option Grant → Cell → Shared → Event → Entry → Cell → Shared → Type 0
+IsCellStepUnder z stated c s e entry d t = (S : State) → CellOf c (world z S) → SharedOf s (common S) → subject S e ≡ Zone z → CellStepsUnder z stated S e entry d t
+
+-- the grant doesn't fit, and nothing is changed
+abbrev pub IsCellMisfit : Name → Cell → Shared → Event → Grant → Cell → Shared → Type 0
+IsCellMisfit z c s e g d t = ((S : State) → CellOf c (world z S) → SharedOf s (common S) → subject S e ≡ Zone z → fits S e g ≡ false) × (d ≡ c) × (t ≡ s)
+
+abbrev pub IsCellMisfitUnder : Name → Option Grant → Cell → Shared → Event → Cell → Shared → Type 0
+IsCellMisfitUnder z None c s e d t = ⊥
+IsCellMisfitUnder z (Some g) c s e d t = IsCellMisfit z c s e g d t
+
+-- the grant that a case takes: what the pools say, or the stated one, which fits what it asks
+abbrev pub IsGrantFor : Name → Pools → List Asked → Option Grant → Grant → Type 0
+IsGrantFor z P asked None g = g ≡ said_by_all P z asked Nothing
+IsGrantFor z P asked (Some stated) g = (g ≡ stated) × (fits_asked P asked stated ≡ true)
+
+-- a stated grant doesn't fit it
+abbrev pub IsUnfit : Pools → List Asked → Option Grant → Type 0
+IsUnfit P asked None = ⊥
+IsUnfit P asked (Some stated) = fits_asked P asked stated ≡ false

@@ -1,0 +1,64 @@
+-- What more than one zone may ask of the state: who holds which number, what is stored, and the last numbers given.
+use Rattle.std.specs.Prelude.{ℕ, ◌+◌, List, Option, Some, None, Bool, true, is_some, length}
+use Rattle.std.specs.List.{list_any}
+use Rattle.zn_base.specs.Names.{Name}
+use Rattle.zone_pools.specs.Owners as owners
+use Rattle.zone_pools.specs.declared.owned.Owned.{Owned}
+use Rattle.zone_machine.specs.Arrivals.{Arrival, New_id, New_process, New_record}
+use Rattle.zone_machine.specs.State.Decisions.{Act, acts_world}
+use Rattle.zone_machine.specs.Objects.{has_pid, has_zid}
+use Rattle.zone_machine.specs.State.{State, rows_of, with_stored}
+use Rattle.zone_machine.specs.State.Worlds.{World, world}
+use Rattle.zone_machine.specs.declared.records.Record.{Record}
+
+pub record Common : Type 0 where
+  -- whether a zone holds a process number, an id, a session
+  pub pids : Name → ℕ → Bool
+  pub zids : Name → ℕ → Bool
+  pub sessions : Name → ℕ → Bool
+  pub rows : List (Owned Record)
+  pub serial : ℕ
+  pub last_pid : ℕ
+  pub last_zid : ℕ
+  pub started : Bool
+
+-- what a world holds
+abbrev pub holds_pid : World → ℕ → Bool
+holds_pid w n = list_any (has_pid n) w.processes
+
+abbrev pub holds_zid : World → ℕ → Bool
+holds_zid w n = list_any (has_zid n) w.ids
+
+abbrev pub holds_session : World → ℕ → Bool
+holds_session w n = is_some (w.sessions n)
+
+abbrev pub common : State → Common
+common S = record {
+  pids = λ z. holds_pid (world z S);
+  zids = λ z. holds_zid (world z S);
+  sessions = λ z. holds_session (world z S);
+  rows = rows_of S.commits;
+  serial = length S.commits;
+  last_pid = S.last_pid;
+  last_zid = S.last_zid;
+  started = S.started;
+}
+
+-- z holds what its world holds, and each other zone what it held
+abbrev pub holding : Name → World → Common → Common
+holding z w c = record c {
+  pids = owners.holding z (holds_pid w) c.pids;
+  zids = owners.holding z (holds_zid w) c.zids;
+  sessions = owners.holding z (holds_session w) c.sessions;
+}
+
+-- what comes with a grant is stored, or its number is the last one given
+abbrev pub came_common : Name → Option Arrival → Common → Common
+came_common z None c = c
+came_common z (Some (New_process p)) c = record c { last_pid = p.pid }
+came_common z (Some (New_id i)) c = record c { last_zid = i.zid }
+came_common z (Some (New_record row)) c = record c { rows = with_stored z row c.rows; serial = c.serial + 1 }
+
+-- an act of an event of z, from z's world and what was common
+abbrev pub acts_common : Name → Option ℕ → Act → World → Common → Common
+acts_common z n a w c = record (holding z (acts_world n a w) (came_common z a.came c)) { started = true }

@@ -1,0 +1,3 @@
+-- Sessions: how a line is read, and what it does.
+pub mod Lines
+pub mod Typed

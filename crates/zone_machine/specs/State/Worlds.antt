@@ -1,0 +1,58 @@
+-- What belongs to one zone, and what an event of the zone may look at.
+use Rattle.std.specs.Prelude.{ℕ, List, Option, Some, None, bytes_eq, filter, if◌then◌else◌}
+use Rattle.zn_base.specs.Names.{Name}
+use Rattle.zone_pools.specs.Owned_lists.{mine}
+use Rattle.zone_pools.specs.Firsts.{first_of}
+use Rattle.zone_pools.specs.declared.owned.Owned.{Owned}
+use Rattle.zone_machine.specs.Daemon.Desks.{Desk}
+use Rattle.zone_machine.specs.Objects.{Objects, has_pid}
+use Rattle.zone_machine.specs.State.{At, Doing, Idle, Session, State, stored}
+use Rattle.zone_machine.specs.declared.objects.Id.{Id}
+use Rattle.zone_machine.specs.declared.objects.Mount.{Mount}
+use Rattle.zone_machine.specs.declared.objects.Process.{Process}
+use Rattle.zone_machine.specs.declared.records.Record.{Record}
+
+-- what a session does in z; nothing where it is away
+abbrev pub doing : Name → Session → Option Doing
+doing z Idle = None
+doing z (At y d) = if bytes_eq z y then Some d else None
+
+-- a zone's world: its objects, its stored record, its desk, and what each session does in it
+pub record World : Type 0 where
+  pub processes : List Process
+  pub mounts : List Mount
+  pub ids : List Id
+  pub stored : Option Record
+  pub desk : Desk
+  pub sessions : ℕ → Option Doing
+
+-- what a turn of the zone's daemon sees of it
+abbrev pub objects_of : World → Objects
+objects_of w = record { processes = w.processes; mounts = w.mounts; ids = w.ids }
+
+abbrev pub world : Name → State → World
+world z S = record {
+  processes = mine z S.processes;
+  mounts = mine z S.mounts;
+  ids = mine z S.ids;
+  stored = stored z S.commits;
+  desk = S.desks z;
+  sessions = λ n. doing z (S.sessions n);
+}
+
+-- the process with this number, looked for among all zones' processes, where its tag is then z
+abbrev pub process_of : Name → List (Owned Process) → ℕ → Option Process
+process_of z os pid = first_of (mine z (filter (λ o. has_pid pid o.it) os))
+
+-- what an event of z may look at
+pub record View : Type 0 where
+  pub zone : Name
+  pub world : World
+  pub process : ℕ → Option Process
+
+unfoldable pub view : Name → State → View
+view z S = record { zone = z; world = world z S; process = process_of z S.processes }
+
+-- the same, from the zone's world alone
+unfoldable pub view_of : Name → World → View
+view_of z w = record { zone = z; world = w; process = λ pid. first_of (filter (has_pid pid) w.processes) }

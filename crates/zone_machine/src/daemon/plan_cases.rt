@@ -1,0 +1,207 @@
+//! What the steps of a request's plan come to, each one turn of the zone's daemon.
+ghost use Rattle.std.specs.Prelude.{◌++◌, ◌+◌, ◌-◌, ◌<◌, ◌∷◌, ◌≡◌, IfOk, Some, codes, drop, false, length};
+ghost use Rattle.std.specs.Option.{option_map};
+ghost use Rattle.zone_machine.specs.Code.Cases.{IsJobCase, IsNamedJobCase, is_unmount, job_turn, as_objects};
+ghost use Rattle.zone_machine.specs.Daemon.Desks as desks;
+ghost use Rattle.zone_machine.specs.Code.Desks.{as_job};
+ghost use Rattle.zone_machine.specs.Objects.{last_dir, zid_of};
+ghost use Rattle.zone_machine.specs.Daemon.Turns.{count_of, init_process, root_mount, step};
+
+use crate::daemon::desks::Job;
+use crate::daemon::{Outcome, Step};
+use crate::machine::cases::{JobCase, Pass};
+use crate::machine::work::{Came, Coming, ObjectEdit};
+use crate::objects::{Id, Mount, Objects, Process};
+use crate::records::{Config, Record};
+use std::alloc::{AllocError, Global};
+use zn_base::{AbsPath, Text, ZoneName, ZoneState};
+
+/// A step is done that changes no objects.
+pub(crate) fn passed(next: usize, shown: Step) -> JobCase
+    ensures { result ≡ JobCase.Pass (record { next = next; objects = ObjectEdit.Nothing; shown = shown }) }
+{
+    JobCase::Pass(Pass {
+        next,
+        objects: ObjectEdit::Nothing,
+        shown,
+    })
+}
+
+// A step is done with what it does to the objects.
+fn changed(next: usize, objects: ObjectEdit, shown: Step) -> JobCase
+    ensures { result ≡ JobCase.Pass (record { next = next; objects = objects; shown = shown }) }
+{
+    JobCase::Pass(Pass {
+        next,
+        objects,
+        shown,
+    })
+}
+
+// A step asks for what comes.
+fn asking(alloc: Global, zone: &ZoneName, next: usize, it: Came) -> Result<JobCase, AllocError>
+    ensures { IfOk result (λ c. c ≡ JobCase.Ask (record { it = it; owner = zone.now }) next) }
+{
+    let owner = zone.copy(alloc)?;
+    Ok(JobCase::Ask(Coming { it, owner }, next))
+}
+
+/// The root directory.
+pub(crate) fn root_dir(alloc: Global) -> Result<AbsPath, AllocError>
+    ensures { IfOk result (λ path. path ≡ codes "/") }
+{
+    AbsPath::of(alloc, b"/")
+}
+
+#[tactic(auto, using(zn_base::proofs::Path_texts::path_with_root))]
+fn root_special(alloc: Global, config: &Config) -> Result<Text, AllocError>
+    ensures { IfOk result (λ text. text ≡ config.now.zonepath ++ codes "/root") }
+{
+    let mut bytes = Vec::from_slice(alloc, config.zonepath.bytes())?;
+    bytes.extend_from_slice(b"/root")?;
+    Text::of(alloc, &bytes)
+}
+
+/// The zone's root is mounted.
+pub(crate) fn mount_root(alloc: Global, next: usize, config: &Config) -> Result<JobCase, AllocError>
+    ensures { IfOk result (λ c. c ≡ JobCase.Pass (record { next = next; objects = ObjectEdit.Mount (root_mount config.now); shown = Step.Root })) }
+{
+    let mount = Mount {
+        dir: root_dir(alloc)?,
+        fstype: Text::of(alloc, b"root")?,
+        special: root_special(alloc, config)?,
+    };
+    Ok(changed(next, ObjectEdit::Mount(mount), Step::Root))
+}
+
+// The first process begins.
+fn start_init(alloc: Global, zone: &ZoneName, next: usize) -> Result<JobCase, AllocError>
+    ensures { IfOk result (λ c. c ≡ JobCase.Ask (record { it = Came.Process init_process; owner = zone.now }) next) }
+{
+    let process = Process {
+        pid: 0,
+        parent: 0,
+        name: Text::of(alloc, b"init")?,
+    };
+    asking(alloc, zone, next, Came::Process(process))
+}
+
+// The stored state changes.
+fn store_state(
+    alloc: Global,
+    zone: &ZoneName,
+    next: usize,
+    row: &Record,
+    to: ZoneState,
+) -> Result<JobCase, AllocError>
+    ensures { IfOk result (λ c. c ≡ JobCase.Ask (record { it = Came.Record (record row.now { state = to }); owner = zone.now }) next) }
+{
+    let row = Record {
+        state: to,
+        revision: row.revision,
+        config: row.config.copy(alloc)?,
+    };
+    asking(alloc, zone, next, Came::Record(row))
+}
+
+// All processes end. Their count stands still at its type's end.
+fn kill_all(next: usize, processes: &[Process]) -> JobCase
+    ensures { result ≡ JobCase.Pass (record { next = next; objects = ObjectEdit.EndProcesses; shown = Step.Kill (Some (count_of processes.now)) }) }
+{
+    let count = processes.len().min(u32::MAX as usize) as u32;
+    changed(next, ObjectEdit::EndProcesses, Step::Kill(Some(count)))
+}
+
+// The zone gives its id back.
+fn give_zid_back(next: usize, ids: &[Id]) -> JobCase
+    ensures { result ≡ JobCase.Pass (record { next = next; objects = ObjectEdit.EndIds; shown = Step.ZidBack (zid_of ids.now) }) }
+{
+    let zid = ids.first().map(|id| id.zid);
+    changed(next, ObjectEdit::EndIds, Step::ZidBack(zid))
+}
+
+/// The directory of the last mount.
+#[tactic(auto, using(crate::proofs::Last::last_push))]
+pub(crate) fn last_dir(mounts: &[Mount]) -> Option<&AbsPath>
+    ensures { option_map (λ dir. dir.now) result ≡ last_dir mounts.now }
+{
+    let (mount, _) = mounts.split_last()?;
+    Some(&mount.dir)
+}
+
+// What a step comes to that is no unmount, where the plan then goes on at `next`.
+fn step_case(
+    alloc: Global,
+    zone: &ZoneName,
+    job: &Job,
+    planned: &Step,
+    next: usize,
+    row: &Record,
+    objects: Objects<'_>,
+) -> Result<JobCase, AllocError>
+    requires { is_unmount planned.now ≡ false }
+    ensures decides { IfOk result (λ c. (d : desks.Desk)
+        → step (as_objects objects.entry) d (as_job job.now) row.now (planned.now ∷ drop next job.now.steps.items) ≡ job_turn d job.now c) }
+    ensures of { IfOk result (IsJobCase job.now) }
+    ensures named { IfOk result (IsNamedJobCase zone.now) }
+{
+    match planned {
+        Step::Hook(change) => Ok(passed(next, Step::Hook(*change))),
+        Step::Record(to) => store_state(alloc, zone, next, row, *to),
+        Step::Copy(part) => Ok(passed(next, Step::Copy(*part))),
+        Step::Zid(_) => asking(alloc, zone, next, Came::Id(Id { zid: 0 })),
+        Step::Limits => Ok(passed(next, Step::Limits)),
+        Step::Devices(_) => Ok(passed(next, Step::Devices(Some(0)))),
+        Step::Root => mount_root(alloc, next, &job.config),
+        Step::State(to) => Ok(passed(next, Step::State(*to))),
+        Step::Init(_) => start_init(alloc, zone, next),
+        Step::Kill(_) => Ok(kill_all(next, objects.processes)),
+        Step::Unmount(_) => unreachable!(),
+        Step::Clear => Ok(passed(next, Step::Clear)),
+        Step::ZidBack(_) => Ok(give_zid_back(next, objects.ids)),
+    }
+}
+
+/// One mount goes, and the plan stays where it is.
+pub(crate) fn unmounted(alloc: Global, at: usize, dir: &AbsPath) -> Result<JobCase, AllocError>
+    ensures { IfOk result (λ c. c ≡ JobCase.Pass (record { next = at; objects = ObjectEdit.Unmount dir.now; shown = Step.Unmount (Some dir.now) })) }
+{
+    let gone = dir.copy(alloc)?;
+    let shown = Step::Unmount(Some(dir.copy(alloc)?));
+    Ok(changed(at, ObjectEdit::Unmount(gone), shown))
+}
+
+/// The step at a place of the plan.
+pub(crate) fn step_at(job: &Job, at: usize) -> &Step
+    requires { at < length job.now.steps.items }
+    ensures { drop at job.now.steps.items ≡ result.now ∷ drop (at + 1) job.now.steps.items }
+{
+    &job.steps[at]
+}
+
+/// What the plan of a request comes to from a place on. Without mounts, unmounts are no turns.
+pub(crate) fn plan_case(
+    alloc: Global,
+    zone: &ZoneName,
+    job: &Job,
+    at: usize,
+    row: &Record,
+    objects: Objects<'_>,
+) -> Result<JobCase, AllocError>
+    ensures decides { IfOk result (λ c. (d : desks.Desk)
+        → step (as_objects objects.entry) d (as_job job.now) row.now (drop at job.now.steps.items) ≡ job_turn d job.now c) }
+    ensures of { IfOk result (IsJobCase job.now) }
+    ensures named { IfOk result (IsNamedJobCase zone.now) }
+{
+    if at >= job.steps.len() {
+        return Ok(JobCase::Finish(Outcome::Done));
+    }
+    let planned = step_at(job, at);
+    match planned {
+        Step::Unmount(_) => match last_dir(objects.mounts) {
+            Some(dir) => unmounted(alloc, at, dir),
+            None => plan_case(alloc, zone, job, at + 1, row, objects),
+        },
+        _ => step_case(alloc, zone, job, planned, at + 1, row, objects),
+    }
+}

@@ -1,0 +1,53 @@
+//! What an event of a zone comes to. A case is decided before anything is changed, and holds all that its event needs.
+use crate::daemon::desks::Job;
+use crate::daemon::{Outcome, RequestKind, Step};
+use crate::machine::work::{Coming, ObjectEdit};
+use crate::records::Record;
+use crate::replies::Head;
+use zn_base::{ZoneName, ZoneState};
+
+/// A step that is done: the place of the next one, what becomes of the objects, and the step as it is told.
+#[derive(Drop)]
+pub(crate) struct Pass {
+    pub(crate) next: usize,
+    pub(crate) objects: ObjectEdit,
+    pub(crate) shown: Step,
+}
+
+/// What a turn of the request under way comes to.
+#[derive(Drop)]
+pub(crate) enum JobCase {
+    /// The request ends.
+    Finish(Outcome),
+    /// A step is done.
+    Pass(Pass),
+    /// A step asks a pool for what comes; then the plan goes on at this place.
+    Ask(Coming, usize),
+    /// The latest step that is to be undone is undone.
+    Undo(ObjectEdit),
+}
+
+/// What a turn of a zone's daemon comes to.
+#[derive(Drop)]
+pub(crate) enum TurnCase {
+    /// No request waits or is under way.
+    Idle,
+    /// The first request that waits begins.
+    Begin(Job, RequestKind),
+    /// The first request that waits, of this ticket, may not begin in this state.
+    Refuse(u32, ZoneState),
+    /// The request under way goes on.
+    GoOn(JobCase),
+}
+
+/// What an event of a zone comes to.
+#[derive(Drop)]
+pub(crate) enum Case {
+    /// Nothing is done but a reply.
+    Says(Head),
+    /// A zone is made. The record's revision is the number that the grant gives.
+    Make(Record, ZoneName),
+    /// A request is put on the desk, and the session waits for its ticket.
+    Put(RequestKind, ZoneName),
+    Turn(TurnCase),
+}

@@ -1,0 +1,58 @@
+//! A zone's cell: everything that one zone has, but for its name and what is stored of it.
+ghost use Rattle.std.specs.Prelude.{◌≡◌, Option, true};
+ghost use Rattle.zone_machine.specs.Code.Cells.{cell_world, empty_world};
+ghost use Rattle.zone_machine.specs.declared.records.Record as record_types;
+
+use crate::daemon::desks::Desk;
+use crate::objects::{Id, Mount, Process};
+use crate::session::waits::Waits;
+use indexmap::IndexMap;
+use std::alloc::Global;
+
+/// Everything that one zone has, but for its name and what is stored of it.
+pub struct Cell {
+    /// In the order of their numbers.
+    pub(crate) processes: Vec<Process>,
+    pub(crate) mounts: Vec<Mount>,
+    pub(crate) ids: Vec<Id>,
+    pub(crate) desk: Desk,
+    pub(crate) waits: Waits,
+}
+
+impl Drop for Cell {
+    fn drop(self) {
+        let Cell {
+            processes: _processes,
+            mounts: _mounts,
+            ids: _ids,
+            desk: _desk,
+            waits: _waits,
+        } = self;
+    }
+}
+
+impl Cell {
+    /// A zone that has nothing.
+    pub fn new(alloc: Global) -> Self
+        ensures { (row : Option record_types.Record) → cell_world row result ≡ empty_world row }
+    {
+        Self {
+            processes: Vec::new(alloc),
+            mounts: Vec::new(alloc),
+            ids: Vec::new(alloc),
+            desk: Desk::new(alloc),
+            waits: IndexMap::new(alloc),
+        }
+    }
+
+    /// Whether the zone has nothing.
+    pub fn is_empty(&self) -> bool
+        ensures { result ≡ true → (row : Option record_types.Record) → cell_world row self.now ≡ empty_world row }
+    {
+        self.processes.is_empty()
+            && self.mounts.is_empty()
+            && self.ids.is_empty()
+            && self.desk.is_new()
+            && self.waits.is_empty()
+    }
+}

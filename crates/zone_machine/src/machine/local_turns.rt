@@ -1,0 +1,187 @@
+//! Turns of a zone's daemon that touch nothing which other zones may ask, on the zone's cell alone.
+ghost use Rattle.std.specs.Prelude.{◌≡◌, IfOk, IfSome, List, None, OnErr, OnOk, Some, drop, false, true};
+ghost use Rattle.zone_pools.specs.Decisions.{Just};
+ghost use Rattle.zone_machine.specs.Code.Cases.{HasRoomFor, IsCaseOf, IsJobCase, IsTurnOf, decision_of, job_turn, object_edits, objects_of, turn_decision_of};
+ghost use Rattle.zone_machine.specs.Code.Cells.{cell_world};
+ghost use Rattle.zone_machine.specs.State.Decisions.{act_of, effects, says, turned};
+ghost use Rattle.zone_machine.specs.Daemon.Desks as desks;
+ghost use Rattle.zone_machine.specs.Code.Desks.{as_desk, as_job};
+ghost use Rattle.zone_machine.specs.Machine.Local.{is_local_turn};
+ghost use Rattle.zone_machine.specs.Code.Local_turns.{After, IsAsItWas, IsLocalTurn, IsNext, IsNotLocal};
+ghost use Rattle.zone_machine.specs.Objects.{mounts_after};
+ghost use Rattle.zone_machine.specs.Code.Rooms.{HasRoomToChange};
+ghost use Rattle.zone_machine.specs.Daemon.Turns.{Turned, goes_on, step, turn, undo};
+ghost use Rattle.zone_machine.specs.State.Worlds as worlds;
+ghost use Rattle.zone_machine.specs.declared.objects.Id as ids;
+ghost use Rattle.zone_machine.specs.declared.objects.Process as processes;
+ghost use Rattle.zone_machine.specs.declared.records.Record as records;
+
+use crate::daemon::desks::Job;
+use crate::daemon::plan_cases::{last_dir, mount_root, passed, step_at, unmounted};
+use crate::daemon::turn_cases::undoing;
+use crate::daemon::{Outcome, Step};
+use crate::events::{Entry, Event, Subject};
+use crate::machine::cases::{Case, JobCase, TurnCase};
+use crate::machine::cell::Cell;
+use crate::machine::rooms::room_to_turn;
+use crate::machine::settling::settle;
+use crate::machine::work::ObjectEdit;
+use crate::objects::Mount;
+use crate::objects::lists::unmount;
+use crate::replies::{Body, Head, Reply};
+use std::alloc::{AllocError, Global};
+use zn_base::ZoneName;
+use zone_pools::Grant;
+
+// What the plan of a request comes to from a place on, where that is local.
+fn local_step(
+    alloc: Global,
+    job: &Job,
+    at: usize,
+    mounts: &[Mount],
+) -> Result<Option<JobCase>, AllocError>
+    ensures some { IfOk result (λ o. IfSome o (λ c. (ps : List processes.Process) (is : List ids.Id) (d : desks.Desk) (row : records.Record)
+        → step (record { processes = ps; mounts = mounts.now; ids = is }) d (as_job job.now) row (drop at job.now.steps.items) ≡ job_turn d job.now c)) }
+    ensures local { IfOk result (λ o. IfSome o (λ c. (d : desks.Desk) → is_local_turn (job_turn d job.now c) ≡ true)) }
+    ensures of { IfOk result (λ o. IfSome o (IsJobCase job.now)) }
+    ensures none { IfOk result (λ o. o ≡ None → (ps : List processes.Process) (is : List ids.Id) (d : desks.Desk) (row : records.Record)
+        → is_local_turn (step (record { processes = ps; mounts = mounts.now; ids = is }) d (as_job job.now) row (drop at job.now.steps.items)) ≡ false) }
+{
+    if at >= job.steps.len() {
+        return Ok(None);
+    }
+    let next = at + 1;
+    match step_at(job, at) {
+        Step::Hook(change) => Ok(Some(passed(next, Step::Hook(*change)))),
+        Step::Copy(part) => Ok(Some(passed(next, Step::Copy(*part)))),
+        Step::Limits => Ok(Some(passed(next, Step::Limits))),
+        Step::Root => Ok(Some(mount_root(alloc, next, &job.config)?)),
+        Step::Unmount(_) => match last_dir(mounts) {
+            Some(dir) => Ok(Some(unmounted(alloc, at, dir)?)),
+            None => local_step(alloc, job, next, mounts),
+        },
+        _ => Ok(None),
+    }
+}
+
+// One step back, where that is local.
+fn local_undo(alloc: Global, job: &Job) -> Result<Option<JobCase>, AllocError>
+    ensures some { IfOk result (λ o. IfSome o (λ c. (d : desks.Desk) (e : Outcome) → Just (undo d (as_job job.now) e (as_job job.now).undo) ≡ job_turn d job.now c)) }
+    ensures local { IfOk result (λ o. IfSome o (λ c. (d : desks.Desk) → is_local_turn (job_turn d job.now c) ≡ true)) }
+    ensures of { IfOk result (λ o. IfSome o (IsJobCase job.now)) }
+    ensures none { IfOk result (λ o. o ≡ None → (d : desks.Desk) (e : Outcome) → is_local_turn (Just (undo d (as_job job.now) e (as_job job.now).undo)) ≡ false) }
+{
+    match job.undo.split_last() {
+        Some((shown @ (Step::Limits | Step::Devices(_) | Step::Root), _)) => Ok(Some(JobCase::Undo(
+            undoing(alloc, shown)?,
+        ))),
+        _ => Ok(None),
+    }
+}
+
+// What a request under way comes to, where that is local.
+fn local_job(alloc: Global, job: &Job, mounts: &[Mount]) -> Result<Option<JobCase>, AllocError>
+    ensures some { IfOk result (λ o. IfSome o (λ c. (ps : List processes.Process) (is : List ids.Id) (d : desks.Desk) (row : records.Record)
+        → goes_on (record { processes = ps; mounts = mounts.now; ids = is }) d (as_job job.now) row (as_job job.now).ending ≡ job_turn d job.now c)) }
+    ensures local { IfOk result (λ o. IfSome o (λ c. (d : desks.Desk) → is_local_turn (job_turn d job.now c) ≡ true)) }
+    ensures of { IfOk result (λ o. IfSome o (IsJobCase job.now)) }
+    ensures none { IfOk result (λ o. o ≡ None → (ps : List processes.Process) (is : List ids.Id) (d : desks.Desk) (row : records.Record)
+        → is_local_turn (goes_on (record { processes = ps; mounts = mounts.now; ids = is }) d (as_job job.now) row (as_job job.now).ending) ≡ false) }
+{
+    match job.ending {
+        None => local_step(alloc, job, job.at, mounts),
+        Some(_) => local_undo(alloc, job),
+    }
+}
+
+// What the next turn comes to, where that is local.
+#[tactic(auto, unfolding(crate::specs::Daemon::Turns::turn))]
+fn local_case(alloc: Global, cell: &Cell) -> Result<Option<TurnCase>, AllocError>
+    ensures some { IfOk result (λ o. IfSome o (λ c. IsNext cell.now (turn_decision_of cell.now.desk c))) }
+    ensures local { IfOk result (λ o. IfSome o (λ c. is_local_turn (turn_decision_of cell.now.desk c) ≡ true)) }
+    ensures of { IfOk result (λ o. IfSome o (IsTurnOf cell.now.desk)) }
+    ensures none { IfOk result (λ o. o ≡ None → (row : records.Record) → is_local_turn (turn (worlds.objects_of (cell_world (Some row) cell.now)) (Some row) (as_desk cell.now.desk)) ≡ false) }
+{
+    let Some(job) = &cell.desk.job else {
+        return Ok(None);
+    };
+    match local_job(alloc, job, &cell.mounts)? {
+        Some(case) => Ok(Some(TurnCase::GoOn(case))),
+        None => Ok(None),
+    }
+}
+
+// What becomes of the zone's mounts.
+fn edit_mounts(cell: &mut Cell, edit: ObjectEdit)
+    requires { HasRoomToChange edit cell.old }
+    ensures mounts { cell.new.mounts.items ≡ mounts_after (object_edits edit) cell.old.mounts.items }
+    ensures same { cell.new ≡ record cell.old { mounts = cell.new.mounts } }
+{
+    match edit {
+        ObjectEdit::Mount(mount) => cell.mounts.push_reserved(mount),
+        ObjectEdit::Unmount(dir) => unmount(&mut cell.mounts, &dir),
+        ObjectEdit::Nothing | ObjectEdit::EndProcesses | ObjectEdit::EndIds => {}
+    }
+}
+
+// Room for what a case does to the cell. Nothing is changed by it, whether or not memory runs out.
+fn room_for(cell: &mut Cell, case: &Case) -> Result<(), AllocError>
+    requires { IsCaseOf cell.old.desk case.now }
+    ensures same { IsAsItWas cell.old cell.new }
+    ensures seen { decision_of cell.new.desk case.now ≡ decision_of cell.old.desk case.now }
+    ensures of { IsCaseOf cell.new.desk case.now }
+    ensures objects { OnOk result (HasRoomToChange (objects_of case.now) cell.new) }
+    ensures desk { OnOk result (HasRoomFor cell.new.desk case.now) }
+{
+    if let Case::Turn(turn) = case {
+        room_to_turn(cell, turn)?;
+    }
+    cell.desk.make_room(case)
+}
+
+// A local turn is done.
+fn do_local(cell: &mut Cell, case: TurnCase) -> Result<Head, AllocError>
+    requires of { IsTurnOf cell.old.desk case }
+    ensures head { IfOk result (λ head. says head ≡ (act_of (effects turned (turn_decision_of cell.old.desk case)) Grant.Nothing).effect.reply) }
+    ensures done { IfOk result (λ head. (t : Turned) → effects turned (turn_decision_of cell.old.desk case) ≡ effects turned (Just t) → After t cell.old cell.new) }
+    ensures memory { OnErr result (IsAsItWas cell.old cell.new) }
+{
+    let case = Case::Turn(case);
+    room_for(cell, &case)?;
+    let work = settle(&mut cell.desk, case, Grant::Nothing);
+    edit_mounts(cell, work.objects);
+    Ok(work.head)
+}
+
+/// The next turn of a stored zone's daemon is done on the zone's cell, where it is local: it steps through a hook, through
+/// the zone's files, limits and mounts, or undoes such a step, and nothing that other zones may ask is touched. Else
+/// nothing is done, and it is to be a step of the cell with what zones share. Where memory runs out, the cell is as it
+/// was.
+pub fn local_turn(
+    alloc: Global,
+    zone: &ZoneName,
+    cell: &mut Cell,
+) -> Result<Option<Entry>, AllocError>
+    ensures some { IfOk result (λ o. IfSome o (λ entry. IsLocalTurn zone.now cell.old entry cell.new)) }
+    ensures none { IfOk result (λ o. o ≡ None → IsNotLocal zone.now cell.old) }
+    ensures same { IfOk result (λ o. o ≡ None → IsAsItWas cell.old cell.new) }
+    ensures memory { OnErr result (IsAsItWas cell.old cell.new) }
+{
+    let Some(case) = local_case(alloc, cell)? else {
+        return Ok(None);
+    };
+    let event = Event::Turn {
+        zone: zone.copy(alloc)?,
+    };
+    let subject = Subject::Zone(zone.copy(alloc)?);
+    let head = do_local(cell, case)?;
+    Ok(Some(Entry {
+        event,
+        subject,
+        grant: Grant::Nothing,
+        reply: Reply {
+            head,
+            body: Body::Nothing,
+        },
+    }))
+}

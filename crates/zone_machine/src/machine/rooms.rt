@@ -1,0 +1,90 @@
+//! Room for what a case puts into its cell and into the shared part, taken before anything is changed.
+ghost use Rattle.std.specs.Prelude.{◌≡◌, OnOk};
+ghost use Rattle.zone_machine.specs.Code.Cases.{IsCaseOf, decision_of, objects_of, turn_objects};
+ghost use Rattle.zone_machine.specs.Code.Needs.{asked_by};
+ghost use Rattle.zone_machine.specs.Code.Rooms.{Alike, HasRoom, HasRoomIfSits, HasRoomToChange, HasRoomToCome};
+
+use crate::machine::cases::{Case, JobCase, TurnCase};
+use crate::machine::cell::Cell;
+use crate::machine::shared::Shared;
+use crate::machine::work::ObjectEdit;
+use crate::pools::needs::{Need, need_of};
+use std::alloc::AllocError;
+
+// Room for what comes with a grant.
+fn room_to_come(cell: &mut Cell, shared: &mut Shared, need: Need<'_>) -> Result<(), AllocError>
+    ensures alike { Alike cell.old shared.old cell.new shared.new }
+    ensures desk { cell.new.desk ≡ cell.old.desk }
+    ensures mounts { cell.new.mounts ≡ cell.old.mounts }
+    ensures waits { cell.new.waits ≡ cell.old.waits }
+    ensures sessions { shared.new.sessions ≡ shared.old.sessions }
+    ensures room { OnOk result (HasRoomToCome (asked_by need.entry) cell.new shared.new) }
+{
+    match need {
+        Need::Nothing => Ok(()),
+        Need::Pid => {
+            cell.processes.reserve(1)?;
+            shared.pids.reserve()
+        }
+        Need::Zid => {
+            cell.ids.reserve(1)?;
+            shared.zids.reserve()
+        }
+        Need::Record | Need::NewZone(_) => shared.rows.reserve(1),
+    }
+}
+
+// Room for what becomes of the zone's objects.
+fn room_to_change(cell: &mut Cell, edit: &ObjectEdit) -> Result<(), AllocError>
+    ensures mounts { cell.new.mounts.items ≡ cell.old.mounts.items }
+    ensures same { cell.new ≡ record cell.old { mounts = cell.new.mounts } }
+    ensures room { OnOk result (HasRoomToChange edit.now cell.new) }
+{
+    match edit {
+        ObjectEdit::Mount(_) => cell.mounts.reserve(1),
+        _ => Ok(()),
+    }
+}
+
+/// Room for what a turn does to the zone's objects.
+pub(crate) fn room_to_turn(cell: &mut Cell, case: &TurnCase) -> Result<(), AllocError>
+    ensures mounts { cell.new.mounts.items ≡ cell.old.mounts.items }
+    ensures same { cell.new ≡ record cell.old { mounts = cell.new.mounts } }
+    ensures room { OnOk result (HasRoomToChange (turn_objects case.now) cell.new) }
+{
+    match case {
+        TurnCase::GoOn(JobCase::Pass(pass)) => room_to_change(cell, &pass.objects),
+        TurnCase::GoOn(JobCase::Undo(objects)) => room_to_change(cell, objects),
+        _ => Ok(()),
+    }
+}
+
+// Room for what a case does to the zone's objects, and for the session that waits from now on.
+fn room_to_do(cell: &mut Cell, shared: &mut Shared, case: &Case) -> Result<(), AllocError>
+    ensures alike { Alike cell.old shared.old cell.new shared.new }
+    ensures desk { cell.new.desk ≡ cell.old.desk }
+    ensures objects { OnOk result (HasRoomToChange (objects_of case.now) cell.new) }
+    ensures sits { OnOk result (HasRoomIfSits case.now cell.new shared.new) }
+{
+    match case {
+        Case::Put(_, _) => {
+            cell.waits.reserve(1)?;
+            shared.sessions.reserve()
+        }
+        Case::Turn(case) => room_to_turn(cell, case),
+        _ => Ok(()),
+    }
+}
+
+/// Room for all that a case does. Nothing is changed by it, whether or not memory runs out.
+pub(crate) fn make_room(cell: &mut Cell, shared: &mut Shared, case: &Case) -> Result<(), AllocError>
+    requires { IsCaseOf cell.old.desk case.now }
+    ensures alike { Alike cell.old shared.old cell.new shared.new }
+    ensures same { decision_of cell.new.desk case.now ≡ decision_of cell.old.desk case.now }
+    ensures of { IsCaseOf cell.new.desk case.now }
+    ensures room { OnOk result (HasRoom case.now cell.new shared.new) }
+{
+    room_to_do(cell, shared, case)?;
+    room_to_come(cell, shared, need_of(case))?;
+    cell.desk.make_room(case)
+}

@@ -1,0 +1,216 @@
+//! How a case is settled: the desk changes, and what else is to be done is told. No memory is taken, and nothing fails.
+ghost use Rattle.std.specs.Prelude.{◌+◌, ◌<◌, ◌≡◌, IfSome, None, Option, Some, drop, false, length, vec_capacity, vec_len, ℕ};
+ghost use Rattle.zn_base.specs.Names.{Name};
+ghost use Rattle.zone_machine.specs.Arrivals.{arrived};
+ghost use Rattle.zone_machine.specs.Code.Cases.{HasJobRoom, HasRoomFor, HasTurnRoom, HasUndoRoom, IsCaseOf, IsJobCase, IsNamedCase, IsNamedJobCase, IsNamedTurn, IsNamedWork, IsTurnOf, Works, active_with, arrival_of, decision_of, comes_of, job_objects, job_turn, made, objects_of, shown_under, sitting_of, turn_objects, turn_decision_of, unless_ended, work_act};
+ghost use Rattle.zone_machine.specs.State.Decisions.{act_of, effects, turned};
+ghost use Rattle.zone_machine.specs.Daemon.Desks as desks;
+ghost use Rattle.zone_machine.specs.Code.Desks.{as_desk, as_job};
+ghost use Rattle.zone_machine.specs.Daemon.Turns.{active_after};
+ghost use Rattle.zone_machine.specs.Session.Typed.{is_full, with_request};
+ghost use Rattle.zone_machine.specs.State.Worlds.{World};
+
+use crate::daemon::desks::{Desk, Job};
+use crate::daemon::{Outcome, RequestKind, Step, TurnReply};
+use crate::machine::cases::{Case, JobCase, Pass, TurnCase};
+use crate::machine::work::{Came, Coming, ObjectEdit, Sitting, Work};
+use crate::objects::{Id, Process};
+use crate::records::Record;
+use crate::replies::{Head, Refusal};
+use zn_base::{ZoneName, ZoneState};
+use zone_pools::{Grant, number_in};
+
+fn active_after(to: ZoneState) -> Option<ZoneState>
+    ensures { result ≡ active_after to }
+{
+    match to {
+        ZoneState::Installed => None,
+        _ => Some(to),
+    }
+}
+
+// The zone's state on its desk after a step.
+fn active_with(shown: &Step, active: Option<ZoneState>) -> Option<ZoneState>
+    ensures { result ≡ active_with shown.now active }
+{
+    match shown {
+        Step::State(to) => active_after(*to),
+        _ => active,
+    }
+}
+
+// What comes, with its number.
+fn numbered(it: Came, number: u32) -> Came
+    ensures { arrival_of result ≡ arrived (comes_of it) number }
+{
+    match it {
+        Came::Process(process) => Came::Process(Process {
+            pid: number,
+            ..process
+        }),
+        Came::Id(_) => Came::Id(Id { zid: number }),
+        Came::Record(record) => Came::Record(record),
+    }
+}
+
+// The step that asked for what comes, as it is told under the number.
+fn shown_under(it: &Came, number: u32) -> Step
+    ensures { result ≡ shown_under it.now number }
+{
+    match it {
+        Came::Process(_) => Step::Init(Some(number)),
+        Came::Id(_) => Step::Zid(Some(number)),
+        Came::Record(record) => Step::Record(record.state),
+    }
+}
+
+// A step asks a pool for what comes.
+fn ask(job: &mut Job, coming: Coming, next: usize, grant: Grant) -> Work
+    requires { HasUndoRoom job.old }
+    ensures act { (d : desks.Desk) → act_of (effects turned (job_turn d job.old (JobCase.Ask coming next))) grant ≡ work_act result (record d { job = unless_ended result.ended (as_job job.new) }) }
+    ensures objects { result.objects ≡ ObjectEdit.Nothing }
+    ensures sits { result.sits ≡ None }
+    ensures owner { IfSome result.came (λ c. c.owner ≡ coming.owner) }
+{
+    match number_in(grant) {
+        Ok(number) => {
+            let shown = shown_under(&coming.it, number);
+            job.pass(next, &shown);
+            let came = Coming {
+                it: numbered(coming.it, number),
+                owner: coming.owner,
+            };
+            Work {
+                came: Some(came),
+                ..Work::turned(ObjectEdit::Nothing, TurnReply::Stepped(shown))
+            }
+        }
+        Err(pool) => {
+            let outcome = Outcome::Denied(pool);
+            job.fail(outcome);
+            Work::turned(ObjectEdit::Nothing, TurnReply::Failed(job.place, outcome))
+        }
+    }
+}
+
+// The request under way goes on, or ends.
+fn settle_job(job: &mut Job, active: &mut Option<ZoneState>, case: JobCase, grant: Grant) -> Work
+    requires of { IsJobCase job.old case }
+    requires room { HasJobRoom job.old case }
+    ensures act { (d : desks.Desk) → d.active ≡ active.old → act_of (effects turned (job_turn d job.old case)) grant ≡ work_act result (record d { job = unless_ended result.ended (as_job job.new); active = active.new }) }
+    ensures objects { result.objects ≡ job_objects case }
+    ensures sits { result.sits ≡ None }
+    ensures named { (z : Name) → IsNamedJobCase z case → IfSome result.came (λ c. c.owner ≡ z) }
+{
+    match case {
+        JobCase::Finish(outcome) => Work::finished(job.ticket, outcome),
+        JobCase::Pass(pass) => {
+            job.pass(pass.next, &pass.shown);
+            *active = active_with(&pass.shown, *active);
+            Work::turned(pass.objects, TurnReply::Stepped(pass.shown))
+        }
+        JobCase::Ask(coming, next) => ask(job, coming, next, grant),
+        JobCase::Undo(objects) => {
+            let shown = job.take_undo();
+            Work::turned(objects, TurnReply::Undone(shown))
+        }
+    }
+}
+
+fn drop_first(waiting: &mut Vec<(u32, RequestKind)>)
+    requires { 0 < length waiting.old.items }
+    ensures { waiting.new.items ≡ drop 1 waiting.old.items }
+{
+    waiting.remove(0);
+}
+
+// A turn of the zone's daemon.
+fn settle_turn(desk: &mut Desk, case: TurnCase, grant: Grant) -> Work
+    requires of { IsTurnOf desk.old case }
+    requires room { HasTurnRoom desk.old.job case }
+    ensures act { act_of (effects turned (turn_decision_of desk.old case)) grant ≡ work_act result (as_desk desk.new) }
+    ensures objects { result.objects ≡ turn_objects case }
+    ensures sits { result.sits ≡ None }
+    ensures named { (z : Name) → IsNamedTurn z case → IfSome result.came (λ c. c.owner ≡ z) }
+{
+    match case {
+        TurnCase::Idle => Work::turned(ObjectEdit::Nothing, TurnReply::Idle),
+        TurnCase::Begin(job, kind) => {
+            let ticket = job.ticket;
+            drop_first(&mut desk.waiting);
+            desk.job = Some(job);
+            Work::turned(ObjectEdit::Nothing, TurnReply::Began(ticket, kind))
+        }
+        TurnCase::Refuse(ticket, state) => {
+            drop_first(&mut desk.waiting);
+            desk.job = None;
+            Work::finished(ticket, Outcome::WrongState(state))
+        }
+        TurnCase::GoOn(case) => match &mut desk.job {
+            Some(job) => {
+                let work = settle_job(job, &mut desk.active, case, grant);
+                if work.ended.is_some() {
+                    desk.job = None;
+                }
+                work
+            }
+            None => unreachable!(),
+        },
+    }
+}
+
+// A zone is made, where the grant gives its record a number.
+fn make(row: Record, owner: ZoneName, grant: Grant) -> Work
+    ensures works { (n : Option ℕ) (v : World) (d : desks.Desk) → v.desk ≡ d → Works n (act_of (made row) grant) v d result }
+    ensures objects { result.objects ≡ ObjectEdit.Nothing }
+    ensures sits { result.sits ≡ None }
+    ensures owner { IfSome result.came (λ c. c.owner ≡ owner) }
+{
+    match number_in(grant) {
+        Ok(revision) => {
+            let came = Coming {
+                it: Came::Record(Record { revision, ..row }),
+                owner,
+            };
+            Work {
+                came: Some(came),
+                ..Work::saying(Head::Ok)
+            }
+        }
+        Err(pool) => Work::saying(Head::Refused(Refusal::Denied(pool))),
+    }
+}
+
+// A request waits on the desk, and the session for its ticket.
+fn put(desk: &mut Desk, kind: RequestKind, owner: ZoneName) -> Work
+    requires of { is_full (as_desk desk.old) ≡ false }
+    requires room { vec_len desk.old.waiting < vec_capacity desk.old.waiting }
+    ensures desk { as_desk desk.new ≡ with_request (as_desk desk.old) kind }
+    ensures work { result ≡ record { came = None; objects = ObjectEdit.Nothing; sits = Some (record { ticket = desk.old.last + 1; owner = owner }); ended = None; head = Head.Ticket (desk.old.last + 1) } }
+{
+    let ticket = desk.last + 1;
+    desk.waiting.push_reserved((ticket, kind));
+    desk.last = ticket;
+    Work {
+        sits: Some(Sitting { ticket, owner }),
+        ..Work::saying(Head::Ticket(ticket))
+    }
+}
+
+/// A case is settled on the desk under a grant: what else is to be done.
+pub(crate) fn settle(desk: &mut Desk, case: Case, grant: Grant) -> Work
+    requires of { IsCaseOf desk.old case }
+    requires room { HasRoomFor desk.old case }
+    ensures works { (n : Option ℕ) (v : World) → v.desk ≡ as_desk desk.old
+        → Works n (act_of (decision_of desk.old case) grant) v (as_desk desk.new) result }
+    ensures objects { result.objects ≡ objects_of case }
+    ensures sits { result.sits ≡ sitting_of desk.old case }
+    ensures named { (z : Name) → IsNamedCase z case → IsNamedWork z result }
+{
+    match case {
+        Case::Says(head) => Work::saying(head),
+        Case::Make(record, owner) => make(record, owner, grant),
+        Case::Put(kind, owner) => put(desk, kind, owner),
+        Case::Turn(case) => settle_turn(desk, case, grant),
+    }
+}

@@ -1,0 +1,314 @@
+//! One event of a zone, on its cell and on the shared part: it is read, its case is decided, its grant is found or
+//! looked at, room is taken, and only then anything is changed.
+ghost use Rattle.std.specs.Prelude.{◌≡◌, ◌⊎◌, IfOk, IsErrOf, IsOkUnless, None, OnErr, Some, Option};
+ghost use Rattle.std.specs.Option.{option_map};
+ghost use Rattle.zone_machine.specs.Code.Cases.{IsCaseOf, decision_of};
+ghost use Rattle.zone_machine.specs.Code.Cells.{decide_read, global_read, number_read, pools_in, row_in, subject_in, subject_read};
+ghost use Rattle.zone_machine.specs.Code.Decided.{IsCaseIn, head_of};
+ghost use Rattle.zone_machine.specs.State.Decisions.{act_of, says};
+ghost use Rattle.zone_machine.specs.Code.Lines.{as_line, as_word};
+ghost use Rattle.zone_machine.specs.Machine.{decide, global_reply, named_subject, session_number};
+ghost use Rattle.zone_machine.specs.Code.Rooms.{Alike, IsFreeOf};
+ghost use Rattle.zone_machine.specs.State.{State};
+ghost use Rattle.zone_machine.specs.Code.Steps.{IsAllowedCellStep, IsCellMisfit, IsCellMisfitUnder, IsCellStep, IsCellStepUnder, IsFittingCellStep, IsGrantFor, IsUnfit};
+ghost use Rattle.zone_machine.specs.Session.Typed.{badly_named, global_line};
+ghost use Rattle.zone_machine.specs.State.Worlds.{View};
+ghost use Rattle.zone_machine.specs.declared.machine.shared.Shared as shared_types;
+ghost use Rattle.zone_pools.specs.Decisions.{asked_of};
+
+use crate::daemon::turn_cases::decide_turn;
+use crate::events::{Entry, Event, Subject};
+use crate::faults::StepFault;
+use crate::machine::cases::Case;
+use crate::machine::cell::Cell;
+use crate::machine::effects::perform;
+use crate::machine::rooms::make_room;
+use crate::machine::shared::Shared;
+use crate::pools::needs::need_of;
+use crate::pools::{fits, grant_for};
+use crate::records::Record;
+use crate::replies::{Body, Refusal, Reply};
+use crate::session::line_cases::decide_line;
+use crate::session::lines::{Command, Line, line_of};
+use crate::session::waits::awaited;
+use std::alloc::{AllocError, Global};
+use zn_base::{NameFault, ZoneName};
+use zone_pools::Grant;
+
+/// An event as it is read, once: what a session types, or a turn of a zone's daemon.
+#[derive(Clone, Copy)]
+pub(crate) enum Read<'e> {
+    Line(u8, Line<'e>),
+    Turn(&'e ZoneName),
+}
+
+/// An event is read.
+#[tactic(auto, unfolding(crate::specs::Machine::decide))]
+pub(crate) fn read_event(event: &Event) -> Read<'_>
+    ensures subject { (s : shared_types.Shared) → subject_read s result ≡ subject_in s event.now }
+    ensures decide { (v : View) → decide_read v result ≡ decide v event.now }
+    ensures number { number_read result ≡ session_number event.now }
+    ensures global { (S : State) → global_read result ≡ global_reply S event.now }
+{
+    match event {
+        Event::Session { number, text } => Read::Line(*number, line_of(text.bytes())),
+        Event::Turn { zone } => Read::Turn(zone),
+    }
+}
+
+// The zone that a word names, or the global zone.
+fn named_subject(alloc: Global, word: Option<&[u8]>) -> Result<Subject, AllocError>
+    ensures { IfOk result (λ subject. subject ≡ named_subject (as_word word.entry)) }
+{
+    let Some(word) = word else {
+        return Ok(Subject::Global);
+    };
+    match ZoneName::read(alloc, word) {
+        Ok(zone) => Ok(Subject::Zone(zone)),
+        Err(NameFault::Memory) => Err(AllocError),
+        Err(NameFault::Empty | NameFault::TooLong | NameFault::BadByte(_) | NameFault::Reserved) =>
+            Ok(Subject::Global),
+    }
+}
+
+/// Whose an event is: the zone that its session waits in, else the zone that its line names.
+pub(crate) fn subject(shared: &Shared, alloc: Global, read: Read<'_>) -> Result<Subject, AllocError>
+    ensures { IfOk result (λ subject. subject ≡ subject_read shared.now read.entry) }
+{
+    match read {
+        Read::Turn(zone) => Ok(Subject::Zone(zone.copy(alloc)?)),
+        Read::Line(number, line) => match shared.sessions.owner(&number) {
+            Some(zone) => Ok(Subject::Zone(zone.copy(alloc)?)),
+            None => named_subject(alloc, line.zone),
+        },
+    }
+}
+
+// Why a word names no zone.
+fn badly_named(alloc: Global, word: Option<&[u8]>) -> Result<Refusal, AllocError>
+    ensures { IfOk result (λ refusal. refusal ≡ badly_named (as_word word.entry)) }
+{
+    let Some(word) = word else {
+        return Ok(Refusal::Usage);
+    };
+    match ZoneName::read(alloc, word) {
+        Ok(_) => Ok(Refusal::Usage),
+        Err(NameFault::Memory) => Err(AllocError),
+        Err(fault) => Ok(Refusal::BadName(fault)),
+    }
+}
+
+// Why a line is refused that belongs to no zone, if it is.
+fn global_line(alloc: Global, line: Line<'_>) -> Result<Option<Refusal>, AllocError>
+    ensures { IfOk result (λ refusal. says (head_of refusal) ≡ global_line (as_line line.entry)) }
+{
+    match line.command {
+        Command::Blank => Ok(None),
+        Command::Unknown => Ok(Some(Refusal::Usage)),
+        Command::Make(_) | Command::Request(_) => Ok(Some(badly_named(alloc, line.zone)?)),
+    }
+}
+
+/// Why an event is refused that is no zone's, if it is.
+pub(crate) fn global_refusal(alloc: Global, read: Read<'_>) -> Result<Option<Refusal>, AllocError>
+    ensures { IfOk result (λ refusal. says (head_of refusal) ≡ global_read read.entry) }
+{
+    match read {
+        Read::Line(_, line) => global_line(alloc, line),
+        Read::Turn(_) => Ok(None),
+    }
+}
+
+/// The case of an event of a zone, by its cell and what is stored of it. It is boxed, so that it crosses calls that may
+/// fail at little cost to their proofs.
+pub(crate) fn case_of(
+    alloc: Global,
+    zone: &ZoneName,
+    cell: &Cell,
+    row: Option<&Record>,
+    read: Read<'_>,
+) -> Result<Box<Case>, AllocError>
+    ensures { IfOk result (λ case. IsCaseIn zone.now (option_map (λ row. row.now) row.entry) cell.now (λ v. decide_read v read.entry) case.value) }
+{
+    let case = read_case(alloc, zone, cell, row, read)?;
+    Ok(Box::new(alloc, case)?)
+}
+
+// The same, where it is made.
+#[tactic(auto, unfolding(crate::specs::State::Worlds::view_of))]
+fn read_case(
+    alloc: Global,
+    zone: &ZoneName,
+    cell: &Cell,
+    row: Option<&Record>,
+    read: Read<'_>,
+) -> Result<Case, AllocError>
+    ensures { IfOk result (IsCaseIn zone.now (option_map (λ row. row.now) row.entry) cell.now (λ v. decide_read v read.entry)) }
+{
+    match read {
+        Read::Line(number, line) => {
+            let ticket = awaited(&cell.waits, number);
+            decide_line(alloc, zone, &cell.desk, row, ticket, line.command)
+        }
+        Read::Turn(_) => {
+            let case = decide_turn(
+                alloc,
+                zone,
+                &cell.desk,
+                row,
+                &cell.processes,
+                &cell.mounts,
+                &cell.ids,
+            )?;
+            Ok(Case::Turn(case))
+        }
+    }
+}
+
+fn session_number(event: &Event) -> Option<u8>
+    ensures { result ≡ session_number event.now }
+{
+    match event {
+        Event::Session { number, .. } => Some(*number),
+        Event::Turn { .. } => None,
+    }
+}
+
+/// A case that was decided for an event is done under a grant that gives only what is free.
+pub(crate) fn answer(
+    cell: &mut Cell,
+    shared: &mut Shared,
+    event: Event,
+    zone: ZoneName,
+    case: Box<Case>,
+    grant: Grant,
+) -> Result<Entry, StepFault>
+    requires case { IsCaseIn zone (row_in zone shared.old) cell.old (λ v. decide v event) case.value }
+    requires free { IsFreeOf (act_of (decision_of cell.old.desk case.value) grant).came (pools_in shared.old) }
+    ensures event { IfOk result (λ entry. entry.event ≡ event) }
+    ensures grant { IfOk result (λ entry. entry.grant ≡ grant) }
+    ensures step { IfOk result (λ entry. IsCellStep zone cell.old shared.old event grant entry cell.new shared.new) }
+    ensures only { IsOkUnless result StepFault.Memory }
+    ensures memory { OnErr result (Alike cell.old shared.old cell.new shared.new) }
+{
+    make_room(cell, shared, &case)?;
+    let head = perform(
+        cell,
+        shared,
+        session_number(&event),
+        Box::into_inner(case),
+        grant,
+    );
+    shared.started = true;
+    Ok(Entry {
+        event,
+        subject: Subject::Zone(zone),
+        grant,
+        reply: Reply {
+            head,
+            body: Body::Nothing,
+        },
+    })
+}
+
+/// The grant that the pools give a case, or the one that is stated, where it fits.
+pub(crate) fn grant_of(
+    zone: &ZoneName,
+    cell: &Cell,
+    shared: &Shared,
+    case: &Case,
+    stated: Option<Grant>,
+) -> Result<Grant, StepFault>
+    requires { IsCaseOf cell.now.desk case.now }
+    ensures takes { IfOk result (IsGrantFor zone.now (pools_in shared.now) (asked_of (decision_of cell.now.desk case.now)) stated) }
+    ensures misfit { OnErr result ((result ≡ Err StepFault.BadGrant) × IsUnfit (pools_in shared.now) (asked_of (decision_of cell.now.desk case.now)) stated) }
+{
+    let need = need_of(case);
+    match stated {
+        None => Ok(grant_for(shared, zone, &need)),
+        Some(grant) => {
+            if fits(shared, &need, grant) {
+                Ok(grant)
+            } else {
+                Err(StepFault::BadGrant)
+            }
+        }
+    }
+}
+
+// A case that was decided for an event is done, under the grant that the pools give, or under the one that is stated,
+// where it fits.
+fn do_case(
+    cell: &mut Cell,
+    shared: &mut Shared,
+    event: Event,
+    zone: ZoneName,
+    case: Box<Case>,
+    stated: Option<Grant>,
+) -> Result<Entry, StepFault>
+    requires case { IsCaseIn zone (row_in zone shared.old) cell.old (λ v. decide v event) case.value }
+    ensures event { IfOk result (λ entry. entry.event ≡ event) }
+    ensures ok { IfOk result (λ entry. IsCellStepUnder zone stated cell.old shared.old event entry cell.new shared.new) }
+    ensures memory { IsErrOf result StepFault.Memory → Alike cell.old shared.old cell.new shared.new }
+    ensures misfit { IsErrOf result StepFault.BadGrant → IsCellMisfitUnder zone stated cell.old shared.old event cell.new shared.new }
+    ensures fault { OnErr result (IsErrOf result StepFault.BadGrant ⊎ IsErrOf result StepFault.Memory) }
+{
+    let grant = grant_of(&zone, cell, shared, &case, stated)?;
+    answer(cell, shared, event, zone, case, grant)
+}
+
+// An event of a zone is answered.
+fn cell_event(
+    alloc: Global,
+    zone: &ZoneName,
+    cell: &mut Cell,
+    shared: &mut Shared,
+    event: Event,
+    stated: Option<Grant>,
+) -> Result<Entry, StepFault>
+    ensures event { IfOk result (λ entry. entry.event ≡ event) }
+    ensures ok { IfOk result (λ entry. IsCellStepUnder zone.now stated cell.old shared.old event entry cell.new shared.new) }
+    ensures memory { IsErrOf result StepFault.Memory → Alike cell.old shared.old cell.new shared.new }
+    ensures misfit { IsErrOf result StepFault.BadGrant → IsCellMisfitUnder zone.now stated cell.old shared.old event cell.new shared.new }
+    ensures fault { OnErr result (IsErrOf result StepFault.BadGrant ⊎ IsErrOf result StepFault.Memory) }
+{
+    let subject = zone.copy(alloc)?;
+    let case = case_of(alloc, zone, cell, shared.rows.get(zone), read_event(&event))?;
+    do_case(cell, shared, event, subject, case, stated)
+}
+
+/// An event of a zone is answered on its cell and the shared part, under the grant that the pools give it. Where memory
+/// runs out, both are as they were.
+pub fn cell_step(
+    alloc: Global,
+    zone: &ZoneName,
+    cell: &mut Cell,
+    shared: &mut Shared,
+    event: Event,
+) -> Result<Entry, StepFault>
+    ensures event { IfOk result (λ entry. entry.event ≡ event) }
+    ensures ok { IfOk result (λ entry. IsAllowedCellStep zone.now cell.old shared.old event entry cell.new shared.new) }
+    ensures err { IsOkUnless result StepFault.Memory }
+    ensures memory { OnErr result (Alike cell.old shared.old cell.new shared.new) }
+{
+    cell_event(alloc, zone, cell, shared, event, None)
+}
+
+/// An event of a zone is answered on its cell and the shared part, under a stated grant, where it fits. Where memory
+/// runs out, both are as they were.
+pub fn cell_step_given(
+    alloc: Global,
+    zone: &ZoneName,
+    cell: &mut Cell,
+    shared: &mut Shared,
+    event: Event,
+    grant: Grant,
+) -> Result<Entry, StepFault>
+    ensures event { IfOk result (λ entry. entry.event ≡ event) }
+    ensures ok { IfOk result (λ entry. IsFittingCellStep zone.now cell.old shared.old event grant entry cell.new shared.new) }
+    ensures misfit { IsErrOf result StepFault.BadGrant → IsCellMisfit zone.now cell.old shared.old event grant cell.new shared.new }
+    ensures memory { IsErrOf result StepFault.Memory → Alike cell.old shared.old cell.new shared.new }
+    ensures fault { OnErr result (IsErrOf result StepFault.BadGrant ⊎ IsErrOf result StepFault.Memory) }
+{
+    cell_event(alloc, zone, cell, shared, event, Some(grant))
+}

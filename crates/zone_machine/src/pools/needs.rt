@@ -1,0 +1,68 @@
+//! What a case asks of the pools.
+ghost use Rattle.std.specs.Prelude.{◌∷◌, ◌≡◌, []};
+ghost use Rattle.zone_pools.specs.Decisions.{asked_of};
+ghost use Rattle.zone_machine.specs.Code.Cases.{IsCaseOf, IsTurnOf, asked_for, decision_of, job_turn, turn_decision_of};
+ghost use Rattle.zone_machine.specs.Daemon.Desks as desks;
+ghost use Rattle.zone_machine.specs.Code.Needs.{asked_by};
+ghost use Rattle.zone_machine.specs.declared.daemon.desks.Desk as desk_types;
+ghost use Rattle.zone_machine.specs.declared.daemon.desks.Job as job_types;
+
+use crate::machine::cases::{Case, JobCase, TurnCase};
+use crate::machine::work::Came;
+use zn_base::AbsPath;
+
+/// What an event asks.
+#[derive(Clone, Copy)]
+pub(crate) enum Need<'c> {
+    Nothing,
+    Pid,
+    Zid,
+    /// A record of a zone that is stored.
+    Record,
+    /// A record of a new zone, with its path.
+    NewZone(&'c AbsPath),
+}
+
+fn came_need(it: &Came) -> Need<'_>
+    ensures { asked_by result ≡ asked_for it.now ∷ [] }
+{
+    match it {
+        Came::Process(_) => Need::Pid,
+        Came::Id(_) => Need::Zid,
+        Came::Record(_) => Need::Record,
+    }
+}
+
+fn job_need(case: &JobCase) -> Need<'_>
+    ensures { (d : desks.Desk) (j : job_types.Job) → asked_of (job_turn d j case.now) ≡ asked_by result }
+{
+    match case {
+        JobCase::Ask(coming, _) => came_need(&coming.it),
+        JobCase::Finish(_) => Need::Nothing,
+        JobCase::Pass(_) => Need::Nothing,
+        JobCase::Undo(_) => Need::Nothing,
+    }
+}
+
+fn turn_need(case: &TurnCase) -> Need<'_>
+    ensures { (d : desk_types.Desk) → IsTurnOf d case.now → asked_of (turn_decision_of d case.now) ≡ asked_by result }
+{
+    match case {
+        TurnCase::GoOn(case) => job_need(case),
+        TurnCase::Idle => Need::Nothing,
+        TurnCase::Begin(_, _) => Need::Nothing,
+        TurnCase::Refuse(_, _) => Need::Nothing,
+    }
+}
+
+/// What an event asks that comes to a case.
+pub(crate) fn need_of(case: &Case) -> Need<'_>
+    ensures { (d : desk_types.Desk) → IsCaseOf d case.now → asked_of (decision_of d case.now) ≡ asked_by result }
+{
+    match case {
+        Case::Says(_) => Need::Nothing,
+        Case::Make(record, _) => Need::NewZone(&record.config.zonepath),
+        Case::Put(_, _) => Need::Nothing,
+        Case::Turn(case) => turn_need(case),
+    }
+}

@@ -1,0 +1,239 @@
+//! How a line of an idle session is read, by the words of zonecfg(8) and zoneadm(8).
+ghost use Rattle.std.specs.Prelude.{◌≡◌, None, Some, codes, nat_eq, not, position};
+ghost use Rattle.std.specs.List.{ends_with, list_all, starts_with};
+ghost use Rattle.std.specs.Option.{option_map};
+ghost use Rattle.zone_pools.specs.Firsts.{first_of, is_nil};
+ghost use Rattle.zone_machine.specs.Session.Lines.{after_word, begins_token, command_of, is_space, is_word, is_word_byte, line_of, path_word, request_word, tool_command, word_after_flag, words, zone_command, zoneadm_command, zonecfg_command};
+ghost use Rattle.zone_machine.specs.Code.Lines.{BeginsWord, EndsWord, GivesRest, GivesWord, IsWordFirst, as_command, as_line, as_word};
+
+use crate::daemon::RequestKind;
+
+/// What a line asks for.
+#[derive(Clone, Copy)]
+pub(crate) enum Command<'t> {
+    Blank,
+    /// A zone is made, with this word for its zonepath.
+    Make(&'t [u8]),
+    /// The zone's daemon is asked.
+    Request(RequestKind),
+    Unknown,
+}
+
+/// A line, and the word that it gives as the name of its zone.
+#[derive(Clone, Copy)]
+pub(crate) struct Line<'t> {
+    pub(crate) zone: Option<&'t [u8]>,
+    pub(crate) command: Command<'t>,
+}
+
+fn first_other(text: &[u8]) -> Option<usize>
+    ensures { result ≡ position (λ b. not (is_space b)) text.now }
+{
+    text.iter().position(|byte| *byte != b' ')
+}
+
+fn first_space(text: &[u8]) -> Option<usize>
+    ensures { result ≡ position is_space text.now }
+{
+    text.iter().position(|byte| *byte == b' ')
+}
+
+// The text from its first word on.
+#[tactic(auto, using(crate::proofs::Words::no_words))]
+fn after_spaces(text: &[u8]) -> Option<&[u8]>
+    ensures { BeginsWord result text.now }
+{
+    let start = first_other(text)?;
+    Some(&text[start..])
+}
+
+// Where the word ends that a text begins with.
+#[tactic(auto, using(crate::proofs::Words::ends_at_space, crate::proofs::Words::ends_all))]
+fn word_end(text: &[u8]) -> usize
+    requires { IsWordFirst text.now }
+    ensures { EndsWord result text.now }
+{
+    first_space(text).unwrap_or(text.len())
+}
+
+// The first word of a text, and the text after it.
+fn split_word(text: &[u8]) -> Option<(&[u8], &[u8])>
+    ensures { GivesWord result (words text.now) }
+{
+    let text = after_spaces(text)?;
+    let end = word_end(text);
+    Some((&text[..end], &text[end..]))
+}
+
+// The text after a word that is wanted.
+fn behind_word<'t>(text: &'t [u8], wanted: &[u8]) -> Option<&'t [u8]>
+    ensures { GivesRest result (after_word wanted.now (words text.now)) }
+{
+    let (word, rest) = split_word(text)?;
+    if word == wanted { Some(rest) } else { None }
+}
+
+fn is_blank(text: &[u8]) -> bool
+    ensures { result ≡ is_nil (words text.now) }
+{
+    split_word(text).is_none()
+}
+
+fn first_word(text: &[u8]) -> Option<&[u8]>
+    ensures { as_word result ≡ first_of (words text.now) }
+{
+    let (word, _) = split_word(text)?;
+    Some(word)
+}
+
+// The word after the first `-z`.
+fn word_after_flag(text: &[u8]) -> Option<&[u8]>
+    ensures { as_word result ≡ word_after_flag (words text.now) }
+{
+    let mut text = text;
+    while let Some((word, rest)) = split_word(text) {
+        if word == b"-z".as_slice() {
+            return first_word(rest);
+        }
+        text = rest;
+    }
+    None
+}
+
+fn is_word_byte(byte: u8) -> bool
+    ensures { result ≡ is_word_byte byte }
+{
+    !matches!(byte, b'"' | b'(' | b')' | b';' | b'=')
+}
+
+fn has_word_bytes(bytes: &[u8]) -> bool
+    ensures { result ≡ list_all is_word_byte bytes.now }
+{
+    bytes.iter().all(|byte| is_word_byte(*byte))
+}
+
+fn begins_token(bytes: &[u8]) -> bool
+    ensures { result ≡ begins_token bytes.now }
+{
+    match bytes.first() {
+        Some(byte) => !matches!(*byte, b'[' | b']'),
+        None => false,
+    }
+}
+
+fn is_word(bytes: &[u8]) -> bool
+    ensures { result ≡ is_word bytes.now }
+{
+    begins_token(bytes) && has_word_bytes(bytes)
+}
+
+fn begins_with_zonepath(word: &[u8]) -> bool
+    ensures { result ≡ starts_with nat_eq word.now (codes "zonepath=") }
+{
+    word.starts_with(b"zonepath=")
+}
+
+fn ends_with_semicolon(word: &[u8]) -> bool
+    ensures { result ≡ ends_with nat_eq word.now (codes ";") }
+{
+    word.ends_with(b";")
+}
+
+// V, where the word is `zonepath=V;`.
+fn path_word(word: &[u8]) -> Option<&[u8]>
+    ensures { as_word result ≡ path_word word.now }
+{
+    if word.len() < 10 {
+        return None;
+    }
+    let path = &word[9..word.len() - 1];
+    if is_word(path) && begins_with_zonepath(word) && ends_with_semicolon(word) {
+        Some(path)
+    } else {
+        None
+    }
+}
+
+fn zonecfg_command(text: &[u8]) -> Option<Command<'_>>
+    ensures { option_map as_command result ≡ zonecfg_command (words text.now) }
+{
+    let text = behind_word(text, b"create")?;
+    let text = behind_word(text, b"-b;")?;
+    let text = behind_word(text, b"set")?;
+    let (word, text) = split_word(text)?;
+    let path = path_word(word)?;
+    let text = behind_word(text, b"set")?;
+    let text = behind_word(text, b"brand=ipkg")?;
+    if is_blank(text) {
+        Some(Command::Make(path))
+    } else {
+        None
+    }
+}
+
+fn request_word(word: &[u8]) -> Option<RequestKind>
+    ensures { result ≡ request_word word.now }
+{
+    if word == b"install".as_slice() {
+        Some(RequestKind::Install)
+    } else if word == b"boot".as_slice() {
+        Some(RequestKind::Boot)
+    } else if word == b"halt".as_slice() {
+        Some(RequestKind::Halt)
+    } else {
+        None
+    }
+}
+
+fn zoneadm_command(text: &[u8]) -> Option<Command<'_>>
+    ensures { option_map as_command result ≡ zoneadm_command (words text.now) }
+{
+    let (word, text) = split_word(text)?;
+    let kind = request_word(word)?;
+    if is_blank(text) {
+        Some(Command::Request(kind))
+    } else {
+        None
+    }
+}
+
+fn tool_command<'t>(tool: &[u8], text: &'t [u8]) -> Option<Command<'t>>
+    ensures { option_map as_command result ≡ tool_command tool.now (words text.now) }
+{
+    if tool == b"zonecfg".as_slice() {
+        zonecfg_command(text)
+    } else if tool == b"zoneadm".as_slice() {
+        zoneadm_command(text)
+    } else {
+        None
+    }
+}
+
+fn zone_command(text: &[u8]) -> Option<Command<'_>>
+    ensures { option_map as_command result ≡ zone_command (words text.now) }
+{
+    let (tool, text) = split_word(text)?;
+    let text = behind_word(text, b"-z")?;
+    let (_, text) = split_word(text)?;
+    tool_command(tool, text)
+}
+
+fn command_of(text: &[u8]) -> Command<'_>
+    ensures { as_command result ≡ command_of (words text.now) }
+{
+    if is_blank(text) {
+        return Command::Blank;
+    }
+    zone_command(text).unwrap_or(Command::Unknown)
+}
+
+/// What a line says.
+#[tactic(auto, unfolding(crate::specs::Session::Lines::line_of))]
+pub(crate) fn line_of(text: &[u8]) -> Line<'_>
+    ensures { as_line result ≡ line_of text.now }
+{
+    Line {
+        zone: word_after_flag(text),
+        command: command_of(text),
+    }
+}
