@@ -2,7 +2,9 @@
 use std::alloc::Global;
 use std::test::Fail;
 use zn_base::{Text, TextFault, ZoneName};
-use zone_machine::{Cell, Event, Head, Shared, cell_step, cell_step_given};
+use zone_machine::{
+    Cell, Event, Head, RequestKind, Shared, Step, TurnReply, cell_step, cell_step_given, local_turn,
+};
 use zone_pools::Grant;
 
 fn typed(alloc: Global, line: &[u8]) -> Result<Event, TextFault> {
@@ -33,6 +35,33 @@ fn is_asked_for(
     Ok(matches!(entry.reply.head, Head::Ticket(1)))
 }
 
+fn is_begun(
+    alloc: Global,
+    zone: &ZoneName,
+    cell: &mut Cell,
+    shared: &mut Shared,
+) -> Result<bool, Fail> {
+    let event = Event::Turn {
+        zone: zone.copy(alloc)?,
+    };
+    let entry = cell_step(alloc, zone, cell, shared, event)?;
+    let Head::Turned(reply) = entry.reply.head else {
+        return Ok(false);
+    };
+    Ok(matches!(reply, TurnReply::Began(1, RequestKind::Install)))
+}
+
+// Whether the next turn is local, and steps through a hook.
+fn is_hooked(alloc: Global, zone: &ZoneName, cell: &mut Cell) -> Result<bool, Fail> {
+    let Some(entry) = local_turn(alloc, zone, cell)? else {
+        return Ok(false);
+    };
+    let Head::Turned(reply) = entry.reply.head else {
+        return Ok(false);
+    };
+    Ok(matches!(reply, TurnReply::Stepped(Step::Hook(_))))
+}
+
 #[test]
 fn an_event_of_a_zone_needs_its_cell_alone(rt: HostRuntime) -> Result<(), Fail> {
     let zone = ZoneName::read(rt.alloc(), b"a")?;
@@ -42,5 +71,20 @@ fn an_event_of_a_zone_needs_its_cell_alone(rt: HostRuntime) -> Result<(), Fail> 
     assert!(rt; cell.is_empty());
     assert!(rt; is_asked_for(rt.alloc(), &zone, &mut cell, &mut shared)?);
     assert!(rt; !cell.is_empty());
+    Ok(())
+}
+
+#[test]
+fn a_local_turn_needs_nothing_shared(rt: HostRuntime) -> Result<(), Fail> {
+    let zone = ZoneName::read(rt.alloc(), b"a")?;
+    let mut cell = Cell::new(rt.alloc());
+    let mut shared = Shared::new(rt.alloc());
+    assert!(rt; is_made(rt.alloc(), &zone, &mut cell, &mut shared)?);
+    assert!(rt; is_asked_for(rt.alloc(), &zone, &mut cell, &mut shared)?);
+    // A request begins with what is stored, and a new state is stored: neither is local.
+    assert!(rt; !is_hooked(rt.alloc(), &zone, &mut cell)?);
+    assert!(rt; is_begun(rt.alloc(), &zone, &mut cell, &mut shared)?);
+    assert!(rt; is_hooked(rt.alloc(), &zone, &mut cell)?);
+    assert!(rt; !is_hooked(rt.alloc(), &zone, &mut cell)?);
     Ok(())
 }
