@@ -45,10 +45,10 @@ fn is_begun(
         zone: zone.copy(alloc)?,
     };
     let entry = cell_step(alloc, zone, cell, shared, event)?;
-    let Head::Turned(reply) = entry.reply.head else {
-        return Ok(false);
-    };
-    Ok(matches!(reply, TurnReply::Began(1, RequestKind::Install)))
+    Ok(matches!(
+        entry.reply.head,
+        Head::Turned(TurnReply::Began(1, RequestKind::Install))
+    ))
 }
 
 // Whether the next turn is local, and steps through a hook.
@@ -56,10 +56,10 @@ fn is_hooked(alloc: Global, zone: &ZoneName, cell: &mut Cell) -> Result<bool, Fa
     let Some(entry) = local_turn(alloc, zone, cell)? else {
         return Ok(false);
     };
-    let Head::Turned(reply) = entry.reply.head else {
-        return Ok(false);
-    };
-    Ok(matches!(reply, TurnReply::Stepped(Step::Hook(_))))
+    Ok(matches!(
+        entry.reply.head,
+        Head::Turned(TurnReply::Stepped(Step::Hook(_)))
+    ))
 }
 
 #[test]
