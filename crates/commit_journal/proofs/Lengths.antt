@@ -57,14 +57,14 @@ not_past true long r ok = absurd (cc)
 not_past false true r ok = absurd (cc)
 not_past false false r ok = refl
 
-name-short : (z : List ℕ) → IsTrue (is_name z) → length z ≤ 63
-name-short z ok =
+pub name_short : (z : List ℕ) → IsTrue (is_name z) → length z ≤ 63
+name_short z ok =
     let within : nat_lt 63 (length z) ≡ false = not_past (length z == 0) (nat_lt 63 (length z)) (name_unless (first_wrong z) z) ok in
     grind (arith, nat_tests)
 
 -- no body is longer than the reader looks at
 pub body-short : (c : Commit) → IsCommit c → length (body_text c) ≤ BODY_MAX
-body-short c is = omega (arith, body_parts c.zone c.stored, name-short c.zone is.zone, stored-short c.stored is.stored)
+body-short c is = omega (arith, body_parts c.zone c.stored, name_short c.zone is.zone, stored-short c.stored is.stored)
 
 pub long_is_none : (body : List ℕ) → BODY_MAX < length body → (c : Commit) → IsCommit c → body ≡ body_text c → ⊥
 long_is_none body long c is same = omega (arith, long, body-short c is, ap length same)

@@ -1,4 +1,7 @@
 //! What is stored of zones.
+ghost use Rattle.std.specs.Prelude.{◌≡◌, IfOk};
+
+use std::alloc::{AllocError, Global};
 use uuid::Uuid;
 use zn_base::{ZoneName, ZoneState};
 use zone_config::ZoneConfig;
@@ -22,6 +25,23 @@ impl Drop for Record {
             revision: _,
             config: _,
         } = self;
+    }
+}
+
+impl Record {
+    /// An equal record.
+    pub fn copy(&self, alloc: Global) -> Result<Record, AllocError>
+        ensures { IfOk result (λ row. row ≡ self.now) }
+    {
+        match self.config.copy(alloc) {
+            Ok(config) => Ok(Record {
+                state: self.state,
+                uuid: self.uuid,
+                revision: self.revision,
+                config,
+            }),
+            Err(_) => Err(AllocError),
+        }
     }
 }
 

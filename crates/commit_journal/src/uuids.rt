@@ -1,28 +1,33 @@
 //! UUIDs of zones.
-ghost use Rattle.std.specs.Prelude.{◌≡◌, IfErr, IfOk};
-ghost use Rattle.commit_journal.specs.declared.fault.StoreFault.TheVariants.{Memory};
+ghost use Rattle.std.specs.Prelude.{◌≡◌};
 ghost use Rattle.commit_journal.specs.Uuids.{uuid_name, uuid_of};
 
-use crate::StoreFault;
-use std::alloc::{AllocError, Global};
+use arrayvec::ArrayVec;
+use itoa::Buffer;
 use uuid::Uuid;
-use zn_base::{ZoneName, push_numbered};
+use zn_base::ZoneName;
 
-fn uuid_name(alloc: Global, name: &ZoneName, serial: u32) -> Result<Vec<u8>, AllocError>
-    ensures { IfOk result (λ text. text.items ≡ uuid_name name.now serial) }
+// The longest name of a zone, a colon and the longest number.
+const NAMED_MAX: usize = 74;
+
+#[tactic(auto, using(crate::proofs::Lengths::name_short))]
+fn uuid_name(name: &ZoneName, serial: u32) -> ArrayVec<u8, NAMED_MAX>
+    ensures { result.items ≡ uuid_name name.now serial }
 {
-    let mut text = Vec::from_slice(alloc, name.bytes())?;
-    push_numbered(&mut text, b":", serial as u64)?;
-    Ok(text)
+    let mut digits = Buffer::new();
+    let mut text = ArrayVec::new();
+    text.try_extend_from_slice(name.bytes()).unwrap();
+    text.push(b':');
+    text.try_extend_from_slice(digits.format(serial).as_bytes())
+        .unwrap();
+    text
 }
 
 /// The UUID of a zone that is made by the record of a number: version 5 of RFC 9562, in the namespace of
-/// domain names, of the zone's name, a colon and the number in decimal.
-#[tactic(auto, unfolding(crate::specs::Uuids::uuid_of))]
-pub fn uuid_of(alloc: Global, name: &ZoneName, serial: u32) -> Result<Uuid, StoreFault>
-    ensures uuid { IfOk result (λ uuid. uuid ≡ uuid_of name.now serial) }
-    ensures memory { IfErr result (λ fault. fault ≡ Memory) }
+/// domain names, of the zone's name, a colon and the number in decimal. It takes no memory.
+pub fn uuid_of(name: &ZoneName, serial: u32) -> Uuid
+    ensures { result ≡ uuid_of name.now serial }
 {
-    let text = uuid_name(alloc, name, serial)?;
-    Ok(Uuid::new_v5(&Uuid::NAMESPACE_DNS, &text))
+    let text = uuid_name(name, serial);
+    Uuid::new_v5(&Uuid::NAMESPACE_DNS, text.as_slice())
 }

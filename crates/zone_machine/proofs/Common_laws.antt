@@ -24,23 +24,26 @@ use Rattle.zone_machine.specs.Session.Lines.{Line, line_of}
 use Rattle.zone_machine.specs.Machine.{decide, need, one, one_of, session_number, session_subject, started, subject}
 use Rattle.zone_machine.specs.Objects.{Processes_go, has_pid, has_zid}
 use Rattle.zone_machine.specs.Machine.Pools.{allowed, allowed_of, fits, fits_of, path_taken, pools_of}
-use Rattle.zone_machine.specs.State.{At, Idle, Session as Session_mode, State, rows_from, rows_of, stored, stored_from, with_stored}
+use Rattle.commit_journal.proofs.Applied.{stored-push}
+use Rattle.commit_journal.specs.Stored as rows
+use Rattle.commit_journal.specs.Stored.{Rows}
+use Rattle.zone_machine.specs.State.{At, Idle, Session as Session_mode, State}
 use Rattle.zone_machine.specs.State.Worlds.{World, doing, view, view_of, world}
 use Rattle.zone_machine.specs.declared.events.Event.{Event}
 use Rattle.zone_machine.specs.declared.events.Event.TheVariants.{Session, Turn}
 use Rattle.zone_machine.specs.declared.events.Subject.TheVariants.{Global, Zone}
-use Rattle.zone_machine.specs.declared.records.Commit.{Commit}
-use Rattle.zone_machine.specs.declared.records.Record.{Record}
+use Rattle.commit_journal.specs.declared.records.Commit.{Commit}
+use Rattle.commit_journal.specs.declared.records.Record.{Record}
 
 -- what no world shows
 record Rest : Type 0 where
-  rows : List (Owned Record)
+  rows : Rows
   serial : ℕ
   last_pid : ℕ
   last_zid : ℕ
 
 abbrev rest : State → Rest
-rest S = record { rows = rows_of S.commits; serial = length S.commits; last_pid = S.last_pid; last_zid = S.last_zid }
+rest S = record { rows = rows.stored S.commits; serial = length S.commits; last_pid = S.last_pid; last_zid = S.last_zid }
 
 abbrev rest_in : Common → Rest
 rest_in c = record { rows = c.rows; serial = c.serial; last_pid = c.last_pid; last_zid = c.last_zid }
@@ -54,10 +57,6 @@ rest-edits : (z : Name) (n : Option ℕ) (es : List Edit) (S : State) → rest (
 rest-edits z n [] S = refl
 rest-edits z n (e ∷ es) S = rest-edits z n es (edit z n e S) ∙ rest-edit z n e S
 
-rows-append : (rows : List (Owned Record)) (commits : List Commit) (c : Commit) → rows_from rows (commits ++ c ∷ []) ≡ with_stored c.zone c.stored (rows_from rows commits)
-rows-append rows [] c = refl
-rows-append rows (d ∷ commits) c = rows-append (with_stored d.zone d.stored rows) commits c
-
 rest-came : (z : Name) (a : Option Arrival) (S : State) → rest (after_came z a S) ≡ rest_in (came_common z a (common S))
 unfolding comes
 rest-came z None S = refl
@@ -65,12 +64,12 @@ rest-came z (Some (New_process p)) S = refl
 rest-came z (Some (New_id i)) S = refl
 rest-came z (Some (New_record row)) S =
     let c : Commit = record { zone = z; stored = row } in
-    let rows = rows-append [] S.commits c in
+    let rows = stored-push S.commits c in
     let count : length (S.commits ++ c ∷ []) ≡ length S.commits + 1 = length-append S.commits (c ∷ []) in
     λ i. record { rows = rows i; serial = count i; last_pid = S.last_pid; last_zid = S.last_zid }
 
 -- what comes is held only once its world shows it
-held-came : (z : Name) (a : Option Arrival) (S : State) → record (came_common z a (common S)) { rows = rows_of S.commits; serial = length S.commits; last_pid = S.last_pid; last_zid = S.last_zid } ≡ common S
+held-came : (z : Name) (a : Option Arrival) (S : State) → record (came_common z a (common S)) { rows = rows.stored S.commits; serial = length S.commits; last_pid = S.last_pid; last_zid = S.last_zid } ≡ common S
 held-came z None S = refl
 held-came z (Some (New_process p)) S = refl
 held-came z (Some _) S = refl
@@ -99,27 +98,6 @@ common-acts z n a S own =
       last_zid = (r i).last_zid;
       started = true;
     }
-
--- the stored record of a zone is among the stored zones
-none_left : {A : Type 0} (xs : List A) → filter (λ x. not true) xs ≡ []
-none_left [] = refl
-none_left (x ∷ xs) = none_left xs
-
-first-stored : (y z : Name) (row : Option Record) (rows : List (Owned Record)) → first_of (mine z (with_stored y row rows)) ≡ (if bytes_eq z y then row else first_of (mine z rows))
-first-stored y z row rows = at_zone (bytes_eq z y) refl row
-  where
-    at_zone : (b : Bool) → bytes_eq z y ≡ b → (row : Option Record) → first_of (mine z (with_stored y row rows)) ≡ (if b then row else first_of (mine z rows))
-    at_zone true e (Some r) = subst (λ x. first_of (mine z (with_stored x (Some r) rows)) ≡ Some r) (same_true z y e) (first-placed z r rows)
-    at_zone true e None = subst (λ x. first_of (mine z (with_stored x None rows)) ≡ None) (same_true z y e) (ap first_of (mine-edit z (Go (λ row. true)) rows ∙ none_left (mine z rows)))
-    at_zone false e (Some r) = ap first_of (other-placed y z (not_same z y e) r rows)
-    at_zone false e None = ap first_of (other-list y z (not_same z y e) (Go (λ row. true)) rows)
-
-stored-from : (z : Name) (rows : List (Owned Record)) (commits : List Commit) → stored_from (first_of (mine z rows)) z commits ≡ first_of (mine z (rows_from rows commits))
-stored-from z rows [] = refl
-stored-from z rows (c ∷ commits) = ap (λ row. stored_from row z commits) (sym (first-stored c.zone z c.stored rows)) ∙ stored-from z (with_stored c.zone c.stored rows) commits
-
-pub stored-common : (z : Name) (S : State) → stored z S.commits ≡ first_of (mine z (common S).rows)
-stored-common z S = stored-from z [] S.commits
 
 -- the same of an event
 pub common-one : (z : Name) (S : State) (e : Event) (g : Grant) → subject S e ≡ Zone z

@@ -14,10 +14,12 @@ use Rattle.zone_pools.specs.Owned_lists.{Put, edited, tag}
 use Rattle.zone_pools.specs.Owners as owners
 use Rattle.zone_pools.specs.Owners.{held_by, is_owner, owner}
 use Rattle.zone_pools.specs.declared.owned.Owned.{Owned}
+use Rattle.commit_journal.proofs.Zones.{placed_is}
+use Rattle.commit_journal.specs.Zones.{rows_of}
 use Rattle.zone_machine.proofs.Acts_laws.{same_other}
 use Rattle.zone_machine.proofs.Lists_laws.{any-push, any-put, none_left}
 use Rattle.zone_machine.proofs.Waits_laws.{some_wait}
-use Rattle.zone_machine.specs.Code.Cells.{Agree, Does, cell_world, common_in, is_wait_for, kept, row_in, rows_in, unless_ended, work_world}
+use Rattle.zone_machine.specs.Code.Cells.{Agree, Does, cell_world, common_in, is_wait_for, kept, row_in, unless_ended, work_world}
 use Rattle.zone_machine.specs.Machine.Common.{Common, came_common, holding, holds_pid, holds_zid}
 use Rattle.zone_machine.specs.State.Edits.{Edit, Of_objects, Set_desk, at_session, comes_world, edit_world, edits_world, swept_doing}
 use Rattle.zone_machine.specs.State as state
@@ -25,7 +27,7 @@ use Rattle.zone_machine.specs.State.Worlds.{World}
 use Rattle.zone_machine.specs.declared.machine.cell.Cell.{Cell}
 use Rattle.zone_machine.specs.declared.objects.Id.{Id}
 use Rattle.zone_machine.specs.declared.objects.Process.{Process}
-use Rattle.zone_machine.specs.declared.records.Record.{Record}
+use Rattle.commit_journal.specs.declared.records.Record.{Record}
 use Rattle.zone_machine.specs.declared.machine.shared.Shared.{Shared}
 use Rattle.zone_machine.specs.declared.machine.work.ObjectEdit.TheVariants.{EndIds, EndProcesses}
 use Rattle.zone_machine.specs.declared.machine.work.ObjectEdit.TheVariants as object
@@ -75,7 +77,7 @@ common_by : (z : Name) (w : World) (g : Common) (t : Shared) (waits : ℕ → Op
     → ((y : Name) (n : ℕ) → held_by (owner nat_eq t.zids) y n ≡ owners.holding z (holds_zid w) g.zids y n)
     → ((y : Name) (n : ℕ) → held_by (owner nat_eq t.sessions) y n ≡ owners.holding z (λ n. is_some (waits n)) g.sessions y n)
     → ((n : ℕ) → is_some (w.sessions n) ≡ is_some (waits n))
-    → rows_in t.rows.entries ≡ g.rows → t.serial ≡ g.serial → t.last_pid ≡ g.last_pid → t.last_zid ≡ g.last_zid → t.started ≡ g.started
+    → rows_of t.rows.entries ≡ g.rows → t.serial ≡ g.serial → t.last_pid ≡ g.last_pid → t.last_zid ≡ g.last_zid → t.started ≡ g.started
     → common_in t ≡ holding z w g
 common_by z w g t waits pids zids sessions seen rows serial last_pid last_zid started = λ i. record {
   pids = λ y n. pids y n i;
@@ -206,21 +208,13 @@ does_ends z c d s t ticket h given n = record {
         at_test false = refl
 
 -- a record is stored
-pub placed_is : (z : Name) (row : Record) (es : List (Name × Record)) → rows_in (insert_entry bytes_eq es z row) ≡ placed z row (rows_in es)
-placed_is z row [] = refl
-placed_is z row (e ∷ es) = at_head (placed_is z row es) (bytes_eq z e.0) refl
-  where
-    at_head : rows_in (insert_entry bytes_eq es z row) ≡ placed z row (rows_in es) → (b : Bool) → bytes_eq z e.0 ≡ b → rows_in (insert_entry bytes_eq (e ∷ es) z row) ≡ placed z row (rows_in (e ∷ es))
-    at_head ih true h = simp h (ap (λ (y : Name). tag y row ∷ rows_in es) (sym (same_true z e.0 h)))
-    at_head ih false h = simp h (ap (λ (rows : List (Owned Record)). tag e.0 e.1 ∷ rows) ih)
-
 pub does_record : (z : Name) (c : Cell) (s t : Shared) (r : Record) → t.rows.entries ≡ insert_entry bytes_eq s.rows.entries z r → row_in z t ≡ Some r
     → Does z (comes_world (New_record (Some r))) (came_common z (Some (New_record (Some r)))) c s c (record s { rows = t.rows; serial = s.serial + 1 })
 does_record z c s t r h found = record {
   world = λ i. record (cell_world (row_in z s) c) { stored = found i };
-  common = λ a. common_by z (record (cell_world (row_in z s) c) { stored = Some r }) (record (common_in s) { rows = placed z r (rows_in s.rows.entries); serial = s.serial + 1 })
+  common = λ a. common_by z (record (cell_world (row_in z s) c) { stored = Some r }) (record (common_in s) { rows = placed z r (rows_of s.rows.entries); serial = s.serial + 1 })
       (record s { rows = t.rows; serial = s.serial + 1 }) (get nat_eq c.waits) (same_pids z c s a) (same_zids z c s a) (same_sessions z c s a) (λ n. holds_wait (get nat_eq c.waits n))
-      (ap rows_in h ∙ placed_is z r s.rows.entries) refl refl refl refl;
+      (ap rows_of h ∙ placed_is z r s.rows.entries) refl refl refl refl;
 }
 
 -- one after another

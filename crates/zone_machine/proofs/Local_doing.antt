@@ -1,5 +1,5 @@
 -- A local turn on its zone's cell: what is done to the cell is what the turn does to the zone's world.
-use Rattle.std.proofs.Common.{◌≡◌, ◌∷◌, ◌++◌, Option, Some, None, true, false, map, refl, ap, subst, sym, ◌∙◌}
+use Rattle.std.proofs.Common.{◌≡◌, ◌∷◌, ◌++◌, ◌||◌, Bool, not, Option, Some, None, true, false, map, refl, ap, subst, sym, ◌∙◌}
 use Rattle.std.specs.Prelude.{is_some}
 use Rattle.std.specs.Option.{option_map}
 use Rattle.std.proofs.lemmas.Bool.{false≢true}
@@ -14,12 +14,12 @@ use Rattle.zone_machine.specs.Code.Cases.{Works, arrival_of, object_edits, sits}
 use Rattle.zone_machine.specs.Code.Cells.{CellOf, cell_world}
 use Rattle.zone_machine.specs.State.Decisions.{Decision, act_of, acts_world, effects, says, sweeps, turned}
 use Rattle.zone_machine.specs.Daemon.Desks as desks
-use Rattle.zone_machine.specs.Code.Desks.{as_desk}
+use Rattle.zone_machine.specs.Code.Desks.{as_desk, as_job}
 use Rattle.zone_machine.specs.State.Edits.{Of_objects, Set_desk}
-use Rattle.zone_machine.specs.Machine.Local.{is_local_turn}
+use Rattle.zone_machine.specs.Machine.Local.{is_local, is_local_turn, job_has_record}
 use Rattle.zone_machine.specs.Code.Local_turns.{After, IsDone, IsLocalTurn, IsNext, IsNotLocal}
 use Rattle.zone_machine.specs.Machine.{Answered, one, subject}
-use Rattle.zone_machine.specs.Objects.{mounts_after}
+use Rattle.zone_machine.specs.Objects.{Objects, mounts_after}
 use Rattle.zone_machine.specs.Daemon.Turns.{Turn_decision, Turned, turn}
 use Rattle.zone_machine.specs.State.Worlds.{World, objects_of, world}
 use Rattle.zone_machine.specs.declared.machine.cell.Cell.{Cell}
@@ -28,7 +28,7 @@ use Rattle.zone_machine.specs.declared.daemon.desks.Desk.{Desk}
 use Rattle.zone_machine.specs.declared.events.Entry.{Entry}
 use Rattle.zone_machine.specs.declared.events.Event.TheVariants.{Turn}
 use Rattle.zone_machine.specs.declared.events.Subject.TheVariants.{Zone}
-use Rattle.zone_machine.specs.declared.records.Record.{Record}
+use Rattle.commit_journal.specs.declared.records.Record.{Record}
 use Rattle.zone_machine.specs.declared.replies.Head.TheVariants.{Turned as Told}
 use Rattle.zone_machine.specs.declared.replies.Reply.{Reply}
 use Rattle.zone_machine.specs.declared.machine.work.ObjectEdit.{ObjectEdit}
@@ -61,6 +61,18 @@ after row old mid new d o t same is mounts left =
 stored-world : (w : World) (c : Cell) (row : Record) → CellOf c w → w.stored ≡ Some row → w ≡ cell_world (Some row) c
 stored-world w c row of e = of ∙ ap (λ r. cell_world r c) e
 
+-- a cell with a request under way stands for a stored zone
+mapped-some : {A B : Type 0} (f : A → B) (o : Option A) → is_some (option_map f o) ≡ is_some o
+mapped-some f None = refl
+mapped-some f (Some x) = refl
+
+stored-of : (w : World) (c : Cell) → CellOf c w → is_some c.desk.job ≡ true → job_has_record w ≡ true → is_some w.stored ≡ true
+stored-of w c of job h = at_job (is_some w.desk.job) (ap (λ (v : World). is_some v.desk.job) of ∙ (mapped-some as_job c.desk.job ∙ job)) h
+  where
+    at_job : (b : Bool) → b ≡ true → (not b || is_some w.stored) ≡ true → is_some w.stored ≡ true
+    at_job true e h = h
+    at_job false e h = absurd (false≢true e)
+
 in-stored : {P : Type 0} (o : Option Record) → is_some o ≡ true → ((row : Record) → o ≡ Some row → P) → P
 in-stored None h k = absurd (false≢true h)
 in-stored (Some row) h k = k row refl
@@ -74,8 +86,8 @@ answered-same x y z r s a b c = ap (λ x. answered x y r) a ∙ (ap (λ y. answe
 abbrev entry_of : Name → Turned → Entry
 entry_of z t = answered z z (says (Told t.reply))
 
-done : (z : Name) (c d : Cell) (t : Turned) → IsNext c (Just t) → is_local_turn (Just t) ≡ true → After t c d → IsLocalTurn z c (entry_of z t) d
-done z c d t next local left S of stored = in-stored (world z S).stored stored at_row
+done : (z : Name) (c d : Cell) (t : Turned) → is_some c.desk.job ≡ true → IsNext c (Just t) → is_local_turn (Just t) ≡ true → After t c d → IsLocalTurn z c (entry_of z t) d
+done z c d t job next local left S of served = in-stored (world z S).stored (stored-of (world z S) c of job served) at_row
   where
     at_row : (row : Record) → (world z S).stored ≡ Some row → IsDone z S (entry_of z t) d
     at_row row e =
@@ -92,13 +104,20 @@ done z c d t next local left S of stored = in-stored (world z S).stored stored a
           cell = cell-is ∙ ap (λ r. cell_world r d) (sym (ap (λ (v : World). v.stored) world-is));
         }
 
-pub done-local : (z : Name) (c d : Cell) (entry : Entry) (td : Turn_decision) → IsNext c td → is_local_turn td ≡ true
+pub done-local : (z : Name) (c d : Cell) (entry : Entry) (td : Turn_decision) → is_some c.desk.job ≡ true → IsNext c td → is_local_turn td ≡ true
     → entry ≡ record { event = Turn z; subject = Zone z; grant = Nothing; reply = (act_of (effects turned td) Nothing).effect.reply }
     → ((t : Turned) → effects turned td ≡ effects turned (Just t) → After t c d) → IsLocalTurn z c entry d
-done-local z c d entry (Just t) next local told left = subst (λ e. IsLocalTurn z c e d) (sym told) (done z c d t next local (left t refl))
-done-local z c d entry (Ask x asked denied given) next local told left = absurd (false≢true local)
+done-local z c d entry (Just t) job next local told left = subst (λ e. IsLocalTurn z c e d) (sym told) (done z c d t job next local (left t refl))
+done-local z c d entry (Ask x asked denied given) job next local told left = absurd (false≢true local)
+
+rests-far : (o : Objects) (d : desks.Desk) → is_local_turn (turn o None d) ≡ false
+unfolding turn
+rests-far o d = refl
 
 -- no turn is local where the cell's zone decides none
 pub none-local : (z : Name) (c : Cell) → ((row : Record) → is_local_turn (turn (objects_of (cell_world (Some row) c)) (Some row) (as_desk c.desk)) ≡ false) → IsNotLocal z c
-none-local z c none S of stored entry = in-stored (world z S).stored stored
-    (λ row e. not-local z (world z S) entry (ap (λ (v : World). is_local_turn (turn (objects_of v) v.stored v.desk)) (stored-world (world z S) c row of e) ∙ none row))
+none-local z c none S of entry = at_stored (world z S).stored refl
+  where
+    at_stored : (o : Option Record) → (world z S).stored ≡ o → is_local z (world z S) entry ≡ false
+    at_stored None e = not-local z (world z S) entry (ap (λ (row : Option Record). is_local_turn (turn (objects_of (world z S)) row (world z S).desk)) e ∙ rests-far (objects_of (world z S)) (world z S).desk)
+    at_stored (Some row) e = not-local z (world z S) entry (ap (λ (v : World). is_local_turn (turn (objects_of v) v.stored v.desk)) (stored-world (world z S) c row of e) ∙ none row)

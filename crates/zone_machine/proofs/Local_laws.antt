@@ -38,8 +38,8 @@ use Rattle.zone_machine.specs.declared.daemon.Step.{Step}
 use Rattle.zone_machine.specs.declared.daemon.Step.TheVariants.{Hook, Record as Record_step, Copy, Zid, Limits, Devices, Root, Init, Unmount}
 use Rattle.zone_machine.specs.declared.daemon.TurnReply.{TurnReply}
 use Rattle.zone_machine.specs.declared.daemon.TurnReply.TheVariants.{Idle}
-use Rattle.zone_machine.specs.declared.records.Config.{Config}
-use Rattle.zone_machine.specs.declared.records.Record.{Record}
+use Rattle.zone_config.specs.declared.terms.Contents.{Contents}
+use Rattle.commit_journal.specs.declared.records.Record.{Record}
 use Rattle.zone_machine.specs.declared.events.Entry.{Entry}
 use Rattle.zone_machine.specs.declared.events.Event.{Event}
 use Rattle.zone_machine.specs.declared.events.Event.TheVariants.{Session, Turn}
@@ -86,12 +86,22 @@ stays-step o d j row (Unmount dir ∷ rest) = at_mount (last_dir o.mounts) (stay
     at_mount (Some m) ih = λ h. record { mounts = refl; ended = refl; busy = refl }
 stays-step o d j row (_ ∷ rest) = λ h. absurd (false≢true h)
 
-begun : (d : Desk) (t : ℕ) (kind : RequestKind) (s : ZoneState) (config : Config) → is_local_reply (begin d t kind s config).reply ≡ false
+begun : (d : Desk) (t : ℕ) (kind : RequestKind) (s : ZoneState) (config : Contents) → is_local_reply (begin d t kind s config).reply ≡ false
 begun d t kind s config = at_test (may_begin kind s) refl
   where
     at_test : (b : Bool) → may_begin kind s ≡ b → is_local_reply (begin d t kind s config).reply ≡ false
     at_test true e = simp e
     at_test false e = simp e
+
+-- no turn is local where no request is under way
+pub none-under-way : (o : Objects) (row : Option Record) (d : Desk) → d.job ≡ None → is_local_turn (turn o row d) ≡ false
+unfolding turn
+none-under-way o None d none = refl
+none-under-way o (Some row) d none = ap (λ job. is_local_turn (turn_at o d job row)) none ∙ at_waiting d.waiting
+  where
+    at_waiting : (waiting : List (ℕ × RequestKind)) → is_local_reply (next_request d waiting row).reply ≡ false
+    at_waiting [] = refl
+    at_waiting (w ∷ ws) = begun (record d { waiting = ws }) w.0 w.1 (state_now row d) row.config
 
 stays-turn : (o : Objects) (row : Option Record) (d : Desk) → If_local (turn o row d)
 unfolding turn

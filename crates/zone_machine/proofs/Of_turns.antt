@@ -15,8 +15,8 @@ use Rattle.zone_machine.specs.declared.daemon.Outcome.{Outcome}
 use Rattle.zone_machine.specs.declared.daemon.RequestKind.{RequestKind}
 use Rattle.zone_machine.specs.declared.daemon.Step.{Step}
 use Rattle.zone_machine.specs.declared.daemon.Step.TheVariants.{Record as Record_step, Zid, Init, Unmount}
-use Rattle.zone_machine.specs.declared.records.Config.{Config}
-use Rattle.zone_machine.specs.declared.records.Record.{Record}
+use Rattle.zone_config.specs.declared.terms.Contents.{Contents}
+use Rattle.commit_journal.specs.declared.records.Record.{Record}
 
 -- what comes takes its number from the pool of its kind
 abbrev pub is_asked_for : Comes → List Asked → Bool
@@ -26,7 +26,7 @@ is_asked_for (A_record row) (A_serial ∷ []) = true
 is_asked_for (A_record row) (A_zone ∷ A_path path ∷ A_serial ∷ []) = true
 is_asked_for _ _ = false
 
-awake-begin : (d : Desk) (t : ℕ) (kind : RequestKind) (s : ZoneState) (config : Config) → is_idle (begin d t kind s config).reply ≡ false
+awake-begin : (d : Desk) (t : ℕ) (kind : RequestKind) (s : ZoneState) (config : Contents) → is_idle (begin d t kind s config).reply ≡ false
 awake-begin d t kind s config = at_test (may_begin kind s) refl
   where
     at_test : (b : Bool) → may_begin kind s ≡ b → is_idle (begin d t kind s config).reply ≡ false

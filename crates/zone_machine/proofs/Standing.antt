@@ -11,11 +11,14 @@ use Rattle.zone_pools.specs.declared.grant.Grant.{Grant}
 use Rattle.zone_pools.specs.Firsts.{first_of}
 use Rattle.zone_pools.specs.Owned_lists.{mine}
 use Rattle.zone_pools.specs.Owners.{held_by, is_owner, owner}
-use Rattle.zone_machine.proofs.Common_laws.{common-acts, stored-common}
+use Rattle.commit_journal.proofs.Zones.{row_is}
+use Rattle.commit_journal.specs.Store.{row_of}
+use Rattle.commit_journal.specs.Zones.{rows_of}
+use Rattle.zone_machine.proofs.Common_laws.{common-acts}
 use Rattle.zone_machine.proofs.Doing_laws.{holds_wait}
 use Rattle.zone_machine.proofs.Acts_laws.{own-acts}
 use Rattle.zone_machine.proofs.Own_worlds.{own_session, view-world}
-use Rattle.zone_machine.specs.Code.Cells.{Agree, CellOf, Does, SharedOf, cell_world, decide_in, row_in, rows_in, subject_at, subject_in}
+use Rattle.zone_machine.specs.Code.Cells.{Agree, CellOf, Does, SharedOf, cell_world, decide_in, row_in, subject_at, subject_in}
 use Rattle.zone_machine.specs.Machine.Common.{Common, acts_common, came_common, common}
 use Rattle.zone_machine.specs.State.Decisions.{Act, act_of, acts_world, says}
 use Rattle.zone_machine.specs.Session.Lines.{Line, line_of}
@@ -29,7 +32,7 @@ use Rattle.zone_machine.specs.declared.events.Event.{Event}
 use Rattle.zone_machine.specs.declared.events.Event.TheVariants as event
 use Rattle.zone_machine.specs.declared.events.Subject.{Subject}
 use Rattle.zone_machine.specs.declared.events.Subject.TheVariants.{Zone}
-use Rattle.zone_machine.specs.declared.records.Record.{Record}
+use Rattle.commit_journal.specs.declared.records.Record.{Record}
 use Rattle.zone_machine.specs.declared.replies.Body.TheVariants.{Nothing as No_body}
 use Rattle.zone_machine.specs.declared.replies.Head.{Head}
 use Rattle.zone_machine.specs.declared.machine.shared.Shared.{Shared}
@@ -39,16 +42,8 @@ use Rattle.zone_machine.specs.Code.Rooms.{Alike, IsOpenTo}
 use Rattle.zone_machine.specs.declared.machine.cases.Case.{Case}
 
 -- what is stored of a zone is its row of the shared part
-row_is : (z : Name) (es : List (Name × Record)) → first_of (mine z (rows_in es)) ≡ lookup (bytes_eq z) es
-row_is z [] = refl
-row_is z (e ∷ es) = at_head (row_is z es) (bytes_eq z e.0) refl
-  where
-    at_head : first_of (mine z (rows_in es)) ≡ lookup (bytes_eq z) es → (b : Bool) → bytes_eq z e.0 ≡ b → first_of (mine z (rows_in (e ∷ es))) ≡ lookup (bytes_eq z) (e ∷ es)
-    at_head ih true h = simp h
-    at_head ih false h = simp h ih
-
 pub stored-stands : (S : State) (s : Shared) (z : Name) → SharedOf s (common S) → stored z S.commits ≡ row_in z s
-stored-stands S s z h = stored-common z S ∙ (ap (λ k. first_of (mine z k.rows)) h ∙ row_is z s.rows.entries)
+stored-stands S s z h = ap (λ k. row_of z k.rows) h ∙ row_is z s.rows.entries
 
 -- so a cell has its zone's world with that row
 pub cell-stands : (z : Name) (S : State) (c : Cell) (s : Shared) → CellOf c (world z S) → SharedOf s (common S) → world z S ≡ cell_world (row_in z s) c
@@ -75,7 +70,7 @@ nothing-shared s pids zids sessions rows serial last_pid last_zid started = λ i
   pids = λ z n. held_nowhere (owner nat_eq s.pids) pids z n i;
   zids = λ z n. held_nowhere (owner nat_eq s.zids) zids z n i;
   sessions = λ z n. held_nowhere (owner nat_eq s.sessions) sessions z n i;
-  rows = ap rows_in (sym rows) i;
+  rows = ap rows_of (sym rows) i;
   serial = sym serial i;
   last_pid = sym last_pid i;
   last_zid = sym last_zid i;

@@ -20,7 +20,7 @@ use Rattle.zone_machine.specs.Daemon.Turns.{Turned, turn}
 use Rattle.zone_machine.specs.State.Worlds.{World, objects_of, view_of, world}
 use Rattle.zone_machine.specs.declared.events.Event.TheVariants.{Turn}
 use Rattle.zone_machine.specs.declared.objects.Mount.{Mount}
-use Rattle.zone_machine.specs.declared.records.Record.{Record}
+use Rattle.commit_journal.specs.declared.records.Record.{Record}
 use Rattle.zone_machine.specs.declared.replies.Head.TheVariants.{Turned as Told}
 
 -- what a decision comes to is so, whatever is granted

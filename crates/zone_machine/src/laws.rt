@@ -1,8 +1,7 @@
 //! The laws of what zones share, over every state. Each is the contract of a function that does nothing.
 ghost use Rattle.std.specs.Prelude.{◌≡◌, ◌≢◌, List, true};
 ghost use Rattle.zn_base.specs.Names.{Name};
-ghost use Rattle.zone_pools.specs.Firsts.{first_of};
-ghost use Rattle.zone_pools.specs.Owned_lists.{mine};
+ghost use Rattle.commit_journal.specs.Store.{row_of};
 ghost use Rattle.zone_pools.specs.declared.grant.Grant.{Grant};
 ghost use Rattle.zone_machine.specs.Machine.Common.{acts_common, common};
 ghost use Rattle.zone_machine.specs.State.Decisions.{act_of, says};
@@ -48,7 +47,7 @@ pub fn allowed_by_what_is_common()
 
 /// What is stored of a zone is common.
 pub fn is_stored_in_common()
-    ensures { (z : Name) (S : State) → stored z S.commits ≡ first_of (mine z (common S).rows) }
+    ensures { (z : Name) (S : State) → stored z S.commits ≡ row_of z (common S).rows }
 {}
 
 /// A local turn is told as it is and under the grant that the pools give, leaves what is common as it is but for the

@@ -12,7 +12,6 @@ mod laws;
 mod machine;
 mod objects;
 mod pools;
-mod records;
 mod replies;
 mod session;
 
@@ -29,5 +28,4 @@ pub use machine::local_turns::local_turn;
 pub use machine::shared::Shared;
 pub use machine::steps::{cell_step, cell_step_given};
 pub use objects::{Id, Mount, Process};
-pub use records::{Commit, Config, Record};
 pub use replies::{Body, Head, Refusal, Reply};

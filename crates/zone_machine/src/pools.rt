@@ -2,9 +2,10 @@
 ghost use Rattle.std.specs.Prelude.{◌≡◌, ◌&&◌, ◌∷◌, [], ◌+◌, bytes_eq, not, slice_get, if◌then◌else◌};
 ghost use Rattle.std.specs.List.{list_any};
 ghost use Rattle.zone_pools.specs.Asked.{A_path, A_pid, A_serial, A_zid, A_zone};
-ghost use Rattle.zone_machine.specs.Code.Cells.{pools_in, rows_in, takes_path};
+ghost use Rattle.commit_journal.specs.Zones.{rows_of};
+ghost use Rattle.zone_machine.specs.Code.Cells.{pools_in, takes_path};
 ghost use Rattle.zone_machine.specs.Code.Needs.{asked_by};
-ghost use Rattle.zone_machine.specs.Machine.Pools.{path_taken};
+ghost use Rattle.zone_machine.specs.Machine.Pools.{is_path, path_taken};
 ghost use Rattle.zone_pools.specs.Pools.{fits_asked, fits_pool, has_place, has_room, is_pool, next_free, numbered, said_by_all};
 
 pub(crate) mod needs;
@@ -13,35 +14,38 @@ pub(crate) mod numbers;
 use crate::machine::shared::Shared;
 use crate::pools::needs::Need;
 use crate::pools::numbers::next_free;
-use crate::records::Record;
+use commit_journal::Record;
 use indexmap::IndexMap;
 use zn_base::{AbsPath, ZoneName};
 use zone_pools::{
     Grant, PID_MAX, PID_MIN, Pool, SERIAL_MAX, ZID_MAX, ZID_MIN, ZONES_MAX, numbered,
 };
 
-fn has_path(zone: &ZoneName, path: &AbsPath, owner: &ZoneName, row: &Record) -> bool
-    ensures { result ≡ (not (bytes_eq zone.now owner.now) && bytes_eq path.now row.now.config.zonepath) }
+fn is_path(path: &[u8], own: &Option<AbsPath>) -> bool
+    ensures { result ≡ is_path path.now own.now }
 {
-    zone != owner && path.bytes() == row.config.zonepath.bytes()
+    match own {
+        Some(own) => path == own.bytes(),
+        None => false,
+    }
 }
 
 fn is_taken_at(
     rows: &IndexMap<ZoneName, Record>,
     at: usize,
     zone: &ZoneName,
-    path: &AbsPath,
+    path: &[u8],
 ) -> bool
     ensures { result ≡ takes_path zone.now path.now (slice_get rows.now.entries at) }
 {
     match rows.get_index(at) {
-        Some((owner, row)) => has_path(zone, path, owner, row),
+        Some((owner, row)) => zone != owner && is_path(path, &row.config.zonepath),
         None => false,
     }
 }
 
-fn path_taken(rows: &IndexMap<ZoneName, Record>, zone: &ZoneName, path: &AbsPath) -> bool
-    ensures { result ≡ path_taken (rows_in rows.now.entries) zone.now path.now }
+fn path_taken(rows: &IndexMap<ZoneName, Record>, zone: &ZoneName, path: &[u8]) -> bool
+    ensures { result ≡ path_taken (rows_of rows.now.entries) zone.now path.now }
 {
     for at in 0..rows.len() {
         if is_taken_at(rows, at, zone, path) {
@@ -94,7 +98,7 @@ fn next_serial(shared: &Shared) -> Grant
     }
 }
 
-fn new_zone(shared: &Shared, zone: &ZoneName, path: &AbsPath) -> Grant
+fn new_zone(shared: &Shared, zone: &ZoneName, path: &[u8]) -> Grant
     ensures { result ≡ said_by_all (pools_in shared.now) zone.now (A_zone ∷ A_path path.now ∷ A_serial ∷ []) Grant.Nothing }
 {
     if !has_place(shared) {

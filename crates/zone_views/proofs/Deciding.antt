@@ -1,7 +1,8 @@
 -- What an event of a zone leaves of what is stored of it, of its mounts and of its desk.
 use Rattle.std.proofs.Common.{◌≡◌, ℕ, List, Bool, Option, Some, None, true, false, refl, subst, sym}
 use Rattle.zn_base.specs.Names.{Name}
-use Rattle.zn_base.specs.Path.{path_of}
+use Rattle.std.specs.Result.{result_ok}
+use Rattle.zone_config.specs.declared.terms.Contents.{Contents}
 use Rattle.zone_pools.specs.declared.grant.Grant.{Grant}
 use Rattle.zone_machine.proofs.Turned_laws.{Has, In, decide-turn, has-turned, in-act, stored_after, turn_act, turned_act}
 use Rattle.zone_machine.specs.Objects.{mounts_after}
@@ -12,17 +13,17 @@ use Rattle.zone_machine.specs.State.Edits.{edits_world}
 use Rattle.zone_machine.specs.Session.Lines.{Blank, Command, Line, Make, Request, Unknown, line_of}
 use Rattle.zone_machine.specs.Machine.{decide, session_number}
 use Rattle.zone_machine.specs.State.{Awaiting, Doing}
-use Rattle.zone_machine.specs.Session.Typed.{idle_line, is_full, make, make_at, new_record, put_request, typed, usable_path, with_request}
+use Rattle.zone_machine.specs.Session.Typed.{idle_line, is_full, made_config, make, make_with, new_record, put_request, typed, with_request}
 use Rattle.zone_machine.specs.State.Worlds.{World, view_of}
 use Rattle.zone_machine.specs.declared.daemon.RequestKind.{RequestKind}
 use Rattle.zone_machine.specs.declared.events.Event.{Event}
 use Rattle.zone_machine.specs.declared.events.Event.TheVariants.{Session, Turn}
 use Rattle.zone_machine.specs.declared.objects.Mount.{Mount}
-use Rattle.zone_machine.specs.declared.records.Record.{Record}
+use Rattle.commit_journal.specs.declared.records.Record.{Record}
 
 -- a line leaves all as it was, or the zone is made, or a request is put on its desk
 module _ (P : Option Record → List Mount → Desk → Type 0) (z : Name) (w : World) (same : P w.stored w.mounts w.desk)
-    (made : (path : List ℕ) (k : ℕ) → w.stored ≡ None → P (Some (new_record path k)) w.mounts w.desk)
+    (made : (config : Contents) (k : ℕ) → w.stored ≡ None → P (Some (new_record z config k)) w.mounts w.desk)
     (asked : (kind : RequestKind) → P w.stored w.mounts (with_request w.desk kind)) where
   abbrev Leaves : World → Type 0
   Leaves v = P v.stored v.mounts v.desk
@@ -30,12 +31,12 @@ module _ (P : Option Record → List Mount → Desk → Type 0) (z : Name) (w : 
   abbrev After : Option ℕ → Option Arrival → Effect → Type 0
   After n c e = Leaves (edits_world n e.edits (after_came_world c w))
 
-  of_path : (n : Option ℕ) (path : Option (List ℕ)) → w.stored ≡ None → In (After n) (make_at path)
-  of_path n None none = same
-  of_path n (Some path) none = (λ pool. same, λ k. made path k none)
+  of_config : (n : Option ℕ) (config : Option Contents) → w.stored ≡ None → In (After n) (make_with z config)
+  of_config n None none = same
+  of_config n (Some config) none = (λ pool. same, λ k. made config k none)
 
-  of_make : (n : Option ℕ) (word : List ℕ) (row : Option Record) → w.stored ≡ row → In (After n) (make row word)
-  of_make n word None is = of_path n (usable_path (path_of word)) is
+  of_make : (n : Option ℕ) (word : List ℕ) (row : Option Record) → w.stored ≡ row → In (After n) (make z row word)
+  of_make n word None is = of_config n (result_ok (made_config word)) is
   of_make n word (Some row) is = same
 
   of_request : (n : Option ℕ) (kind : RequestKind) (row : Option Record) → After n None (put_request w.desk kind row)

@@ -21,7 +21,7 @@ use Rattle.zone_machine.specs.declared.daemon.TurnReply.TheVariants.{Finished, I
 use Rattle.zone_machine.specs.declared.events.Entry.{Entry}
 use Rattle.zone_machine.specs.declared.events.Event.{Event}
 use Rattle.zone_machine.specs.declared.events.Event.TheVariants.{Session, Turn}
-use Rattle.zone_machine.specs.declared.records.Commit.{Commit}
+use Rattle.commit_journal.specs.declared.records.Commit.{Commit}
 use Rattle.zone_machine.specs.declared.replies.Head.{Head}
 use Rattle.zone_machine.specs.declared.replies.Head.TheVariants.{Ok, Ticket, Turned}
 use Rattle.zone_views.specs.Numbers.{pids, zids}
@@ -73,7 +73,7 @@ told_of_another = refl
 
 -- two installed zones boot, up to the turn that starts init
 abbrev installed : List ℕ → Commit
-installed zone = record { zone = zone; stored = Some (record { state = Installed; revision = 1; config = record { zonepath = codes "/zones/" ++ zone } }) }
+installed zone = record { zone = zone; stored = Some (record { state = Installed; uuid = replicate 16 0; revision = 1; config = record blank { zonepath = Some (codes "/zones/" ++ zone); brand = codes "ipkg" } }) }
 
 abbrev both : State
 both = opening (installed (codes "a") ∷ installed (codes "b") ∷ [])

@@ -3,6 +3,7 @@ pub mod Purge
 pub mod Runs
 pub mod Deciding
 pub mod Steady
+pub mod Under_way
 pub mod Ending
 pub mod Differing
 pub mod Granting

@@ -24,7 +24,7 @@ use Rattle.zone_machine.specs.declared.events.Entry.{Entry}
 use Rattle.zone_machine.specs.declared.events.Event.{Event}
 use Rattle.zone_machine.specs.declared.events.Subject.{Subject}
 use Rattle.zone_machine.specs.declared.events.Subject.TheVariants.{Zone, Global, Whole}
-use Rattle.zone_machine.specs.declared.records.Commit.{Commit}
+use Rattle.commit_journal.specs.declared.records.Commit.{Commit}
 use Rattle.zone_views.proofs.Differing.{differ-come, differ-filter, differ-put}
 use Rattle.zone_machine.proofs.Asking.{asks-decide, asks_rightly}
 use Rattle.zone_views.proofs.Granting.{decision-fits}

@@ -25,8 +25,8 @@ use Rattle.zone_machine.specs.declared.events.Event.{Event}
 use Rattle.zone_machine.specs.declared.events.Event.TheVariants.{Session, Turn}
 use Rattle.zone_machine.specs.declared.events.Subject.{Subject}
 use Rattle.zone_machine.specs.declared.events.Subject.TheVariants.{Zone, Global, Whole}
-use Rattle.zone_machine.specs.declared.records.Commit.{Commit}
-use Rattle.zone_machine.specs.declared.records.Record.{Record}
+use Rattle.commit_journal.specs.declared.records.Commit.{Commit}
+use Rattle.commit_journal.specs.declared.records.Record.{Record}
 
 -- a state that entries of z and of the whole system alone have reached: each session is idle or z's
 pub record IsPurged (z : Name) (S : State) : Type 0 where

@@ -20,7 +20,9 @@ use Rattle.zone_machine.specs.Machine.Histories.{after, after_entry, world_by}
 use Rattle.zone_machine.specs.Machine.{decide, one, opening, session_number, subject}
 use Rattle.zone_machine.specs.Objects.{Objects, last_dir}
 use Rattle.zone_machine.specs.Daemon.Plans.{may_begin, plan}
-use Rattle.zone_machine.specs.State.{State, stored, stored_from}
+use Rattle.zone_machine.proofs.Acts_laws.{stored-append}
+use Rattle.zone_config.specs.declared.terms.Contents.{Contents}
+use Rattle.zone_machine.specs.State.{State, stored}
 use Rattle.zone_machine.specs.Daemon.Turns.{Turn_decision, Turned, active_after, goes_on, next_request, step, turn, turn_at, undo, unmount}
 use Rattle.zone_machine.specs.Session.Typed.{new_record, with_request}
 use Rattle.zone_machine.specs.State.Worlds.{World, objects_of, view_of, world}
@@ -33,8 +35,8 @@ use Rattle.zone_machine.specs.declared.events.Entry.{Entry}
 use Rattle.zone_machine.specs.declared.events.Event.{Event}
 use Rattle.zone_machine.specs.declared.events.Subject.{Subject}
 use Rattle.zone_machine.specs.declared.events.Subject.TheVariants.{Zone, Global, Whole}
-use Rattle.zone_machine.specs.declared.records.Commit.{Commit}
-use Rattle.zone_machine.specs.declared.records.Record.{Record}
+use Rattle.commit_journal.specs.declared.records.Commit.{Commit}
+use Rattle.commit_journal.specs.declared.records.Record.{Record}
 use Rattle.zone_views.proofs.Deciding.{of_event}
 use Rattle.zone_views.specs.Storable.{are_storable, is_storable}
 
@@ -168,14 +170,14 @@ keeps_turn o None d h = record { steady = h; moves = inl refl }
 keeps_turn o (Some row) d h = keeps_turn_at o row d d.job h
 
 -- a zone that is made has an idle desk
-keeps-made : (row : Option Record) (d : Desk) (path : List ℕ) (k : ℕ) → row ≡ None → steady row d ≡ true → Keeps row d (Some (new_record path k)) d
-keeps-made None d path k e h = at_desk d.active d.job h
+keeps-made : (row : Option Record) (d : Desk) (z : Name) (config : Contents) (k : ℕ) → row ≡ None → steady row d ≡ true → Keeps row d (Some (new_record z config k)) d
+keeps-made None d z config k e h = at_desk d.active d.job h
   where
-    at_desk : (active : Option ZoneState) (job : Option Job) → let e = record d { active = active; job = job } in steady None e ≡ true → Keeps None e (Some (new_record path k)) e
+    at_desk : (active : Option ZoneState) (job : Option Job) → let e = record d { active = active; job = job } in steady None e ≡ true → Keeps None e (Some (new_record z config k)) e
     at_desk None None h = record { steady = refl; moves = inr refl }
     at_desk None (Some j) h = absurd (false≢true h)
     at_desk (Some a) job h = absurd (false≢true h)
-keeps-made (Some row) d path k e h = cc
+keeps-made (Some row) d z config k e h = cc
 
 -- a request that waits changes nothing of that
 keeps-asked : (row : Option Record) (d : Desk) (kind : RequestKind) → steady row d ≡ true → Keeps row d row (with_request d kind)
@@ -186,7 +188,7 @@ keeps-asked (Some row) d kind h = record { steady = h; moves = inl refl }
 keeps-event : (z : Name) (w : World) (e : Event) (g : Grant) → steady w.stored w.desk ≡ true
     → let v = acts_world (session_number e) (act_of (decide (view_of z w) e) g) w in Keeps w.stored w.desk v.stored v.desk
 keeps-event z w e g h =
-    of_event (λ row ms d. Keeps w.stored w.desk row d) z w (record { steady = h; moves = inl refl }) (λ path k none. keeps-made w.stored w.desk path k none h) (λ kind. keeps-asked w.stored w.desk kind h) g
+    of_event (λ row ms d. Keeps w.stored w.desk row d) z w (record { steady = h; moves = inl refl }) (λ config k none. keeps-made w.stored w.desk z config k none h) (λ kind. keeps-asked w.stored w.desk kind h) g
     (in-act (λ c (t : Turned). Keeps w.stored w.desk (stored_after c w.stored) t.desk) (turn (objects_of w) w.stored w.desk) g (keeps_turn (objects_of w) w.stored w.desk h)) e
 
 -- every zone's world is steady
@@ -218,18 +220,19 @@ goes_by z (Zone y) w e g h = at_test (bytes_eq z y) refl
 pub goes-one : (z : Name) (S : State) (e : Event) (g : Grant) → IsSteady S → Goes z (subject S e) (world z S) (world z (one S e g).state)
 goes-one z S e g h = subst (λ v. Goes z (subject S e) (world z S) v) (sym (world-one z S e g)) (goes_by z (subject S e) (world z S) e g (h z))
 
-storable-from : (row : Option Record) (z : Name) (commits : List Commit) → is_storable row ≡ true → are_storable commits ≡ true → is_storable (stored_from row z commits) ≡ true
-storable-from row z [] is all = is
-storable-from row z (c ∷ commits) is all =
+-- what some commits leave of a zone is storable, where what each of them stores is
+storable-more : (z : Name) (before commits : List Commit) → is_storable (stored z before) ≡ true → are_storable commits ≡ true → is_storable (stored z (before ++ commits)) ≡ true
+storable-more z before [] is all = rw (append-nil before) is
+storable-more z before (c ∷ commits) is all =
     let parts = and_parts (is_storable c.stored) (are_storable commits) all in
-    storable-from (if bytes_eq z c.zone then c.stored else row) z commits (at_test (bytes_eq z c.zone) parts.0) parts.1
+    subst (λ cs. is_storable (stored z cs) ≡ true) (append_assoc before (c ∷ []) commits) (storable-more z (before ++ c ∷ []) commits (rw (stored-append z before c) (at_test (bytes_eq z c.zone) parts.0)) parts.1)
   where
-    at_test : (b : Bool) → is_storable c.stored ≡ true → is_storable (if b then c.stored else row) ≡ true
+    at_test : (b : Bool) → is_storable c.stored ≡ true → is_storable (if b then c.stored else stored z before) ≡ true
     at_test true h = h
     at_test false h = is
 
 steady-opening : (commits : List Commit) → are_storable commits ≡ true → IsSteady (opening commits)
-steady-opening commits all z = at_row (stored z commits) (storable-from None z commits refl all)
+steady-opening commits all z = at_row (stored z commits) (storable-more z [] commits refl all)
   where
     at_row : (row : Option Record) → is_storable row ≡ true → steady row empty_desk ≡ true
     at_row None h = refl

@@ -2,8 +2,8 @@
 use Rattle.std.specs.Prelude.{List, Bool, true, Option, Some, None}
 use Rattle.std.specs.List.{list_all}
 use Rattle.zn_base.specs.States.{is_stored}
-use Rattle.zone_machine.specs.declared.records.Commit.{Commit}
-use Rattle.zone_machine.specs.declared.records.Record.{Record}
+use Rattle.commit_journal.specs.declared.records.Commit.{Commit}
+use Rattle.commit_journal.specs.declared.records.Record.{Record}
 
 abbrev pub is_storable : Option Record → Bool
 is_storable None = true

@@ -5,6 +5,8 @@ ghost use Rattle.zn_base.specs.Moves.{may_move};
 ghost use Rattle.zn_base.specs.Names.{Name};
 ghost use Rattle.zone_pools.specs.declared.grant.Grant.{Grant};
 ghost use Rattle.zone_machine.specs.State.Decisions.{says};
+ghost use Rattle.zone_machine.specs.Machine.Common.{common};
+ghost use Rattle.zone_machine.specs.Machine.Local.{is_local, job_has_record};
 ghost use Rattle.zone_machine.specs.Machine.Histories.{after, any_grant, asked, concerns, history, is_history, is_legal, only, replay, replies, run};
 ghost use Rattle.zone_machine.specs.Machine.{need, one, opening, subject};
 ghost use Rattle.zone_machine.specs.Machine.Pools.{allowed, fits};
@@ -16,7 +18,7 @@ ghost use Rattle.zone_machine.specs.declared.events.Entry.{Entry};
 ghost use Rattle.zone_machine.specs.declared.events.Event.{Event};
 ghost use Rattle.zone_machine.specs.declared.events.Event.TheVariants.{Turn};
 ghost use Rattle.zone_machine.specs.declared.events.Subject.TheVariants.{Zone};
-ghost use Rattle.zone_machine.specs.declared.records.Commit.{Commit};
+ghost use Rattle.commit_journal.specs.declared.records.Commit.{Commit};
 ghost use Rattle.zone_machine.specs.declared.replies.Head.TheVariants.{Turned};
 ghost use Rattle.zone_views.specs.Numbers.{AllDiffer, pids, zids};
 ghost use Rattle.zone_views.specs.Storable.{are_storable};
@@ -113,4 +115,17 @@ pub fn turns_come_to_an_end()
     ensures { (z : Name) (commits : List Commit) (h : List Entry) (g : Grant)
         → let S = after (opening commits) h in let a = one S (Turn z) g in
         a.reply ≢ says (Turned Idle_turn) → turns_left (world z a.state) < turns_left (world z S) }
+{}
+
+/// After any history that begins with storable records, a request under way is of a stored zone.
+pub fn requests_are_of_stored_zones()
+    ensures { (z : Name) (commits : List Commit) (h : List Entry) → are_storable commits ≡ true
+        → job_has_record (world z (after (opening commits) h)) ≡ true }
+{}
+
+/// After any history a local turn leaves what zones share exactly as it was.
+pub fn local_turns_leave_what_is_common()
+    ensures { (z : Name) (commits : List Commit) (h : List Entry) (e : Entry)
+        → let S = after (opening commits) h in
+        is_local z (world z S) e ≡ true → common (one S e.event e.grant).state ≡ common S }
 {}

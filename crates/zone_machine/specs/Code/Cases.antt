@@ -31,7 +31,9 @@ use Rattle.zone_machine.specs.declared.daemon.TurnReply.TheVariants.{Began}
 use Rattle.zone_machine.specs.declared.daemon.desks.Desk.{Desk}
 use Rattle.zone_machine.specs.declared.daemon.desks.Job.{Job}
 use Rattle.zone_machine.specs.declared.objects.Objects.{Objects}
-use Rattle.zone_machine.specs.declared.records.Record as records
+use Rattle.commit_journal.specs.Uuids.{uuid_of}
+use Rattle.commit_journal.specs.declared.records.Record as records
+use Rattle.config_terms.specs.Fields.{path_text}
 use Rattle.zone_machine.specs.declared.replies.Head.TheVariants.{Ok, Ticket}
 use Rattle.zone_machine.specs.declared.replies.Refusal.TheVariants.{Denied}
 use Rattle.zone_machine.specs.declared.machine.work.Came.{Came}
@@ -55,7 +57,7 @@ object_edits EndIds = Ids_go all_of ∷ []
 abbrev pub comes_of : Came → Comes
 comes_of (Process p) = A_process p
 comes_of (Id i) = An_id i
-comes_of (Record r) = A_record (λ n. Some r)
+comes_of (Record r) = A_record (λ n. Some r.value)
 
 abbrev pub asked_for : Came → Asked
 asked_for (Process p) = A_pid
@@ -65,7 +67,7 @@ asked_for (Record r) = A_serial
 abbrev pub shown_under : Came → ℕ → Step
 shown_under (Process p) n = step.Init (Some n)
 shown_under (Id i) n = step.Zid (Some n)
-shown_under (Record r) n = step.Record r.state
+shown_under (Record r) n = step.Record r.value.state
 
 -- a step that is a turn only where something is mounted
 abbrev pub is_unmount : Step → Bool
@@ -108,16 +110,16 @@ turn_decision_of d (Begin job kind) = decisions.Just (begun (without_first d) (a
 turn_decision_of d (Refuse ticket s) = decisions.Just (finish (without_first d) ticket (WrongState s))
 turn_decision_of d (GoOn c) = on_job d d.job c
 
--- a zone is made, and its record takes the number for its revision
-abbrev pub made : records.Record → Decision
-made row =
-    decisions.Ask (A_record (λ n. Some (record row { revision = n }))) (A_zone ∷ A_path row.config.zonepath ∷ A_serial ∷ [])
+-- a zone is made, and its record takes its UUID and its revision from the number
+abbrev pub made : Name → records.Record → Decision
+made z row =
+    decisions.Ask (A_record (λ n. Some (record row { uuid = uuid_of z n; revision = n }))) (A_zone ∷ A_path (path_text row.config.zonepath) ∷ A_serial ∷ [])
     (λ pool. refused (Denied pool)) (λ n. done_saying [] Ok)
 
 -- what an event decides
 abbrev pub decision_of : Desk → Case → Decision
 decision_of d (Says head) = decisions.Just (done_saying [] head)
-decision_of d (Make row owner) = made row
+decision_of d (Make row owner) = made owner row.value
 decision_of d (Put kind owner) =
     decisions.Just (done_saying (Set_desk (with_request (as_desk d) kind) ∷ Here (Some (Awaiting (d.last + 1))) ∷ []) (Ticket (d.last + 1)))
 decision_of d (Turn c) = effects turned (turn_decision_of d c)
@@ -199,7 +201,7 @@ HasRoomFor d _ = Unit {0}
 abbrev pub arrival_of : Came → Arrival
 arrival_of (Process p) = New_process p
 arrival_of (Id i) = New_id i
-arrival_of (Record r) = New_record (Some r)
+arrival_of (Record r) = New_record (Some r.value)
 
 abbrev pub sits : Option Sitting → List Edit
 sits None = []

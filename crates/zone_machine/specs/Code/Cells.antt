@@ -8,12 +8,13 @@ use Rattle.zone_pools.specs.Owned_lists.{tag}
 use Rattle.zone_pools.specs.Owners.{held_by, is_owner, owner}
 use Rattle.zone_pools.specs.Pools.{Pools}
 use Rattle.zone_pools.specs.declared.owned.Owned.{Owned}
+use Rattle.commit_journal.specs.Zones.{rows_of}
 use Rattle.zone_machine.specs.Machine.Common.{Common, common, holding}
 use Rattle.zone_machine.specs.State.Decisions.{Decision, after_came_world, says, sweeps}
 use Rattle.zone_machine.specs.Code.Desks.{as_desk}
 use Rattle.zone_machine.specs.Session.Lines.{Line, line_of}
 use Rattle.zone_machine.specs.Machine.{decide, named_subject, turn}
-use Rattle.zone_machine.specs.Machine.Pools.{path_taken}
+use Rattle.zone_machine.specs.Machine.Pools.{is_path, path_taken}
 use Rattle.zone_machine.specs.State.{Awaiting, State, stored}
 use Rattle.zone_machine.specs.State.Worlds.{World, view_of, world, View}
 use Rattle.zone_machine.specs.declared.machine.cell.Cell.{Cell}
@@ -22,7 +23,7 @@ use Rattle.zone_machine.specs.declared.events.Event.TheVariants as event
 use Rattle.zone_machine.specs.declared.events.Subject.{Subject}
 use Rattle.zone_machine.specs.declared.events.Subject.TheVariants.{Zone}
 use Rattle.zone_machine.specs.declared.machine.parts.Parts.{Parts}
-use Rattle.zone_machine.specs.declared.records.Record.{Record}
+use Rattle.commit_journal.specs.declared.records.Record.{Record}
 use Rattle.zone_machine.specs.declared.machine.shared.Shared.{Shared}
 use Rattle.zone_machine.specs.Objects.{has_pid, has_zid}
 use Rattle.zone_machine.specs.Daemon.Desks.{empty_desk}
@@ -69,13 +70,10 @@ abbrev pub world_or_empty : Option Record → Option Cell → World
 world_or_empty row None = empty_world row
 world_or_empty row (Some c) = cell_world row c
 
-abbrev pub rows_in : List (Name × Record) → List (Owned Record)
-rows_in entries = map (λ e. tag e.0 e.1) entries
-
 -- a stored zone other than z has the path
 abbrev pub takes_path : Name → List ℕ → Option (Name × Record) → Bool
 takes_path z path None = false
-takes_path z path (Some e) = not (bytes_eq z e.0) && bytes_eq path e.1.config.zonepath
+takes_path z path (Some e) = not (bytes_eq z e.0) && is_path path e.1.config.zonepath
 
 abbrev pub row_in : Name → Shared → Option Record
 row_in z s = get_by (bytes_eq z) s.rows
@@ -85,7 +83,7 @@ common_in s = record {
   pids = held_by (owner nat_eq s.pids);
   zids = held_by (owner nat_eq s.zids);
   sessions = held_by (owner nat_eq s.sessions);
-  rows = rows_in s.rows.entries;
+  rows = rows_of s.rows.entries;
   serial = s.serial;
   last_pid = s.last_pid;
   last_zid = s.last_zid;
@@ -133,8 +131,8 @@ pools_in s = record {
   zid_used = λ n. is_some (owner nat_eq s.zids n);
   last_pid = s.last_pid;
   last_zid = s.last_zid;
-  zones = length (rows_in s.rows.entries);
-  path_taken = path_taken (rows_in s.rows.entries);
+  zones = length (rows_of s.rows.entries);
+  path_taken = path_taken (rows_of s.rows.entries);
   serial = s.serial;
 }
 

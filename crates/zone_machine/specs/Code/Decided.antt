@@ -16,7 +16,7 @@ use Rattle.zone_machine.specs.declared.events.Subject.TheVariants.{Global, Zone}
 use Rattle.zone_machine.specs.declared.machine.parts.Decided.{Decided}
 use Rattle.zone_machine.specs.declared.machine.parts.Decided.TheVariants as decided
 use Rattle.zone_machine.specs.declared.machine.parts.Parts.{Parts}
-use Rattle.zone_machine.specs.declared.records.Record.{Record}
+use Rattle.commit_journal.specs.declared.records.Record.{Record}
 use Rattle.zone_machine.specs.declared.replies.Head.{Head}
 use Rattle.zone_machine.specs.declared.replies.Head.TheVariants.{Ok, Refused}
 use Rattle.zone_machine.specs.declared.replies.Refusal.{Refusal}

@@ -12,7 +12,7 @@ use Rattle.zone_machine.specs.Code.Cells.{cell_world, common_in, pools_in}
 use Rattle.zone_machine.specs.declared.machine.cases.Case.{Case}
 use Rattle.zone_machine.specs.declared.machine.cases.Case.TheVariants as cases
 use Rattle.zone_machine.specs.declared.machine.cell.Cell.{Cell}
-use Rattle.zone_machine.specs.declared.records.Record.{Record}
+use Rattle.commit_journal.specs.declared.records.Record.{Record}
 use Rattle.zone_machine.specs.declared.machine.shared.Shared.{Shared}
 use Rattle.zone_machine.specs.declared.machine.work.ObjectEdit.{ObjectEdit}
 use Rattle.zone_machine.specs.declared.machine.work.ObjectEdit.TheVariants.{Mount}

@@ -4,14 +4,14 @@ use Rattle.zn_base.specs.declared.state.ZoneState.{ZoneState}
 use Rattle.zone_machine.specs.declared.daemon.Outcome.{Outcome}
 use Rattle.zone_machine.specs.declared.daemon.RequestKind.{RequestKind}
 use Rattle.zone_machine.specs.declared.daemon.Step.{Step}
-use Rattle.zone_machine.specs.declared.records.Config.{Config}
-use Rattle.zone_machine.specs.declared.records.Record.{Record}
+use Rattle.zone_config.specs.declared.terms.Contents.{Contents}
+use Rattle.commit_journal.specs.declared.records.Record.{Record}
 
 -- a request under way: the configuration as it began, the steps left and the number of the next one, the steps that a
 -- failure undoes, the latest first, and, once a step failed, how the request will end
 pub record Job : Type 0 where
   pub ticket : ℕ
-  pub config : Config
+  pub config : Contents
   pub left : List Step
   pub place : ℕ
   pub undo : List Step

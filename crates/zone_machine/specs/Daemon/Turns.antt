@@ -19,8 +19,9 @@ use Rattle.zone_machine.specs.declared.daemon.TurnReply.{TurnReply}
 use Rattle.zone_machine.specs.declared.daemon.TurnReply.TheVariants.{Idle, Began, Stepped, Failed, Undone, Finished}
 use Rattle.zone_machine.specs.declared.objects.Mount.{Mount}
 use Rattle.zone_machine.specs.declared.objects.Process.{Process}
-use Rattle.zone_machine.specs.declared.records.Config.{Config}
-use Rattle.zone_machine.specs.declared.records.Record.{Record}
+use Rattle.config_terms.specs.Fields.{path_text}
+use Rattle.zone_config.specs.declared.terms.Contents.{Contents}
+use Rattle.commit_journal.specs.declared.records.Record.{Record}
 
 -- what a turn does to the zone's objects, how it leaves the desk, the ticket that ended, and what it reports
 pub record Turned : Type 0 where
@@ -45,7 +46,7 @@ abbrev pub finish : Desk → ℕ → Outcome → Turned
 finish d t outcome = record { objects = []; desk = record d { job = None }; ended = Some t; reply = Finished t outcome }
 
 -- the first turn of a request, which is no longer among those that wait
-abbrev pub begin : Desk → ℕ → RequestKind → ZoneState → Config → Turned
+abbrev pub begin : Desk → ℕ → RequestKind → ZoneState → Contents → Turned
 begin d t kind s config =
     if may_begin kind s
     then reports [] (record d { job = Some (record { ticket = t; config = config; left = plan kind s; place = 1; undo = []; ending = None }) }) (Began t kind)
@@ -72,8 +73,8 @@ active_after s = Some s
 abbrev pub init_process : Process
 init_process = record { pid = 0; parent = 0; name = codes "init" }
 
-abbrev pub root_mount : Config → Mount
-root_mount config = record { dir = codes "/"; fstype = codes "root"; special = config.zonepath ++ codes "/root" }
+abbrev pub root_mount : Contents → Mount
+root_mount config = record { dir = codes "/"; fstype = codes "root"; special = path_text config.zonepath ++ codes "/root" }
 
 -- how many there are, where the count stands still at the end of its type
 abbrev pub count_of : {A : Type 0} → List A → ℕ

@@ -3,20 +3,19 @@ use Rattle.std.specs.Prelude.{ℕ, ◌+◌, List, Option, Some, None, Bool, true
 use Rattle.std.specs.List.{list_any}
 use Rattle.zn_base.specs.Names.{Name}
 use Rattle.zone_pools.specs.Owners as owners
-use Rattle.zone_pools.specs.declared.owned.Owned.{Owned}
 use Rattle.zone_machine.specs.Arrivals.{Arrival, New_id, New_process, New_record}
 use Rattle.zone_machine.specs.State.Decisions.{Act, acts_world}
 use Rattle.zone_machine.specs.Objects.{has_pid, has_zid}
-use Rattle.zone_machine.specs.State.{State, rows_of, with_stored}
+use Rattle.commit_journal.specs.Stored.{Rows, stored, with_stored}
+use Rattle.zone_machine.specs.State.{State}
 use Rattle.zone_machine.specs.State.Worlds.{World, world}
-use Rattle.zone_machine.specs.declared.records.Record.{Record}
 
 pub record Common : Type 0 where
   -- whether a zone holds a process number, an id, a session
   pub pids : Name → ℕ → Bool
   pub zids : Name → ℕ → Bool
   pub sessions : Name → ℕ → Bool
-  pub rows : List (Owned Record)
+  pub rows : Rows
   pub serial : ℕ
   pub last_pid : ℕ
   pub last_zid : ℕ
@@ -37,7 +36,7 @@ common S = record {
   pids = λ z. holds_pid (world z S);
   zids = λ z. holds_zid (world z S);
   sessions = λ z. holds_session (world z S);
-  rows = rows_of S.commits;
+  rows = stored S.commits;
   serial = length S.commits;
   last_pid = S.last_pid;
   last_zid = S.last_zid;

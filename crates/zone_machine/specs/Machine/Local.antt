@@ -24,6 +24,10 @@ use Rattle.zone_machine.specs.declared.replies.Reply.{Reply}
 abbrev pub is_busy : World → Bool
 is_busy w = is_some w.stored && (is_some w.desk.job || not (is_nil w.desk.waiting))
 
+-- a request under way is of a stored zone; it is so in every state that a history reaches
+abbrev pub job_has_record : World → Bool
+job_has_record w = not (is_some w.desk.job) || is_some w.stored
+
 abbrev pub is_idle : TurnReply → Bool
 is_idle Idle = true
 is_idle _ = false

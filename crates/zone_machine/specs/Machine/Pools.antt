@@ -1,24 +1,27 @@
 -- What the pools that all zones share give in a state, and which grants may be stated.
-use Rattle.std.specs.Prelude.{ℕ, List, [], length, Bool, not, ◌&&◌, bytes_eq}
+use Rattle.std.specs.Prelude.{ℕ, List, [], length, Option, Some, None, Bool, false, not, ◌&&◌, bytes_eq}
 use Rattle.std.specs.List.{list_any}
 use Rattle.zn_base.specs.Names.{Name}
 use Rattle.zone_pools.specs.Decisions.{asked_of}
 use Rattle.zone_pools.specs.Pools.{Pools, fits_asked, said_by_all}
 use Rattle.zone_pools.specs.declared.grant.Grant.{Grant}
 use Rattle.zone_pools.specs.declared.grant.Grant.TheVariants.{Nothing}
-use Rattle.zone_pools.specs.declared.owned.Owned.{Owned}
 use Rattle.zone_machine.specs.Machine.{decide, subject}
-use Rattle.zone_machine.specs.State.{State, rows_of}
+use Rattle.commit_journal.specs.Stored.{Rows, stored}
+use Rattle.zone_machine.specs.State.{State}
 use Rattle.zone_machine.specs.Objects.{has_pid, has_zid}
 use Rattle.zone_machine.specs.State.Worlds.{view}
 use Rattle.zone_machine.specs.declared.events.Event.{Event}
 use Rattle.zone_machine.specs.declared.events.Subject.{Subject}
 use Rattle.zone_machine.specs.declared.events.Subject.TheVariants.{Zone, Global, Whole}
-use Rattle.zone_machine.specs.declared.records.Record.{Record}
+
+abbrev pub is_path : List ℕ → Option (List ℕ) → Bool
+is_path path None = false
+is_path path (Some own) = bytes_eq path own
 
 -- another stored zone has the path
-abbrev pub path_taken : List (Owned Record) → Name → List ℕ → Bool
-path_taken rows z path = list_any (λ row. not (bytes_eq z row.zone) && bytes_eq path row.it.config.zonepath) rows
+abbrev pub path_taken : Rows → Name → List ℕ → Bool
+path_taken rows z path = list_any (λ row. not (bytes_eq z row.zone) && is_path path row.it.config.zonepath) rows
 
 -- what the pools know in a state
 abbrev pub pools_of : State → Pools
@@ -27,8 +30,8 @@ pools_of S = record {
   zid_used = λ n. list_any (λ o. has_zid n o.it) S.ids;
   last_pid = S.last_pid;
   last_zid = S.last_zid;
-  zones = length (rows_of S.commits);
-  path_taken = path_taken (rows_of S.commits);
+  zones = length (stored S.commits);
+  path_taken = path_taken (stored S.commits);
   serial = length S.commits;
 }
 

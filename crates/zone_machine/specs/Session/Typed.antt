@@ -1,8 +1,8 @@
 -- What a line does that a session types.
-use Rattle.std.specs.Prelude.{ℕ, List, [], ◌∷◌, ◌++◌, ◌+◌, length, Bool, ◌||◌, ◌==◌, nat_le, Option, Some, None, Result, Ok as Right, Err, bytes_eq, codes, if◌then◌else◌}
-use Rattle.zn_base.specs.Names.{name_of}
-use Rattle.zn_base.specs.Path.{path_of}
-use Rattle.zn_base.specs.declared.path.PathFault.{PathFault}
+use Rattle.std.specs.Prelude.{ℕ, List, [], ◌∷◌, ◌++◌, ◌+◌, length, Bool, ◌||◌, ◌==◌, nat_le, Option, Some, None, Result, Ok as Right, Err, codes, if◌then◌else◌}
+use Rattle.std.specs.Result.{result_ok}
+use Rattle.zn_base.specs.Names.{Name, name_of}
+use Rattle.zn_base.specs.declared.values.Value.TheVariants.{Simple}
 use Rattle.zn_base.specs.declared.state.ZoneState.TheVariants.{Configured}
 use Rattle.zone_machine.specs.State.Decisions.{Decision, Effect, done_saying, refused, says}
 use Rattle.zone_pools.specs.Asked.{A_path, A_serial, A_zone}
@@ -15,29 +15,40 @@ use Rattle.zone_machine.specs.State.{Awaiting, Doing}
 use Rattle.zone_machine.specs.State.Worlds.{View}
 use Rattle.zone_machine.specs.declared.daemon.RequestKind.{RequestKind}
 use Rattle.zone_machine.specs.declared.daemon.desks.TheConstants.{REQUESTS_MAX, TICKET_MAX}
-use Rattle.zone_machine.specs.declared.records.Record.{Record}
+use Rattle.config_terms.specs.Fields.{path_text}
+use Rattle.config_terms.specs.declared.fault.ConfigFault.{ConfigFault}
+use Rattle.zone_config.specs.Edits.{with_property}
+use Rattle.zone_config.specs.Property.{blank}
+use Rattle.zone_config.specs.declared.terms.Contents.{Contents}
+use Rattle.commit_journal.specs.Uuids.{uuid_of}
+use Rattle.commit_journal.specs.declared.records.Record.{Record}
 use Rattle.zone_machine.specs.declared.replies.Head.TheVariants.{Ok, Ticket, Refused}
 use Rattle.zone_machine.specs.declared.replies.Refusal.{Refusal}
 use Rattle.zone_machine.specs.declared.replies.Refusal.TheVariants.{BadName, BadValue, NeedForce, NoZone, Waiting, DeskFull, Usage, Denied}
 use Rattle.zone_machine.specs.declared.replies.Reply.{Reply}
 
--- a zone is made: its zonepath is an absolute path other than `/`
-abbrev pub usable_path : Result (List ℕ) PathFault → Option (List ℕ)
-usable_path (Right path) = if bytes_eq path (codes "/") then None else Some path
-usable_path (Err fault) = None
+-- a property is set, where nothing was refused before
+abbrev pub then_set : List ℕ → List ℕ → Result Contents ConfigFault → Result Contents ConfigFault
+then_set name value (Err fault) = Err fault
+then_set name value (Right config) = with_property name (Simple value) config
 
-abbrev pub new_record : List ℕ → ℕ → Record
-new_record path n = record { state = Configured; revision = n; config = record { zonepath = path } }
+-- what `create -b; set zonepath=WORD; set brand=ipkg` makes (zonecfg(8)), or the first refusal
+abbrev pub made_config : List ℕ → Result Contents ConfigFault
+made_config word = then_set (codes "brand") (codes "ipkg") (then_set (codes "zonepath") word (Right blank))
 
-abbrev pub make_at : Option (List ℕ) → Decision
-make_at None = Just (refused BadValue)
-make_at (Some path) =
-    Ask (A_record (λ n. Some (new_record path n))) (A_zone ∷ A_path path ∷ A_serial ∷ [])
+-- a zone is made
+abbrev pub new_record : Name → Contents → ℕ → Record
+new_record z config n = record { state = Configured; uuid = uuid_of z n; revision = n; config = config }
+
+abbrev pub make_with : Name → Option Contents → Decision
+make_with z None = Just (refused BadValue)
+make_with z (Some config) =
+    Ask (A_record (λ n. Some (new_record z config n))) (A_zone ∷ A_path (path_text config.zonepath) ∷ A_serial ∷ [])
     (λ pool. refused (Denied pool)) (λ n. done_saying [] Ok)
 
-abbrev pub make : Option Record → List ℕ → Decision
-make (Some row) word = Just (refused NeedForce)
-make None word = make_at (usable_path (path_of word))
+abbrev pub make : Name → Option Record → List ℕ → Decision
+make z (Some row) word = Just (refused NeedForce)
+make z None word = make_with z (result_ok (made_config word))
 
 -- a request is put on the zone's desk, and the session waits for its ticket
 abbrev pub is_full : Desk → Bool
@@ -55,7 +66,7 @@ put_request d kind (Some row) =
 
 abbrev pub idle_line : View → Command → Decision
 idle_line v Blank = Just (done_saying [] Ok)
-idle_line v (Make word) = make v.world.stored word
+idle_line v (Make word) = make v.zone v.world.stored word
 idle_line v (Request kind) = Just (put_request v.world.desk kind v.world.stored)
 idle_line v Unknown = Just (refused Usage)
 

@@ -10,7 +10,7 @@ use Rattle.zone_machine.specs.State.{At, Doing, Idle, Session, State, stored}
 use Rattle.zone_machine.specs.declared.objects.Id.{Id}
 use Rattle.zone_machine.specs.declared.objects.Mount.{Mount}
 use Rattle.zone_machine.specs.declared.objects.Process.{Process}
-use Rattle.zone_machine.specs.declared.records.Record.{Record}
+use Rattle.commit_journal.specs.declared.records.Record.{Record}
 
 -- what a session does in z; nothing where it is away
 abbrev pub doing : Name → Session → Option Doing

@@ -7,7 +7,7 @@ ghost use Rattle.zone_machine.specs.Daemon.Plans.{undo_after};
 
 use crate::daemon::{Outcome, RequestKind, Step};
 use crate::machine::cases::{Case, JobCase, TurnCase};
-use crate::records::Config;
+use zone_config::ZoneConfig;
 use std::alloc::{AllocError, Global};
 use zn_base::ZoneState;
 
@@ -22,7 +22,7 @@ pub(crate) const TICKET_MAX: u32 = u32::MAX;
 pub(crate) struct Job {
     pub(crate) ticket: u32,
     /// The configuration as the request began.
-    pub(crate) config: Config,
+    pub(crate) config: Box<ZoneConfig>,
     /// The whole plan, and the place of the next step in it.
     pub(crate) steps: Vec<Step>,
     pub(crate) at: usize,

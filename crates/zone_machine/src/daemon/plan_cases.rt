@@ -1,18 +1,23 @@
 //! What the steps of a request's plan come to, each one turn of the zone's daemon.
 ghost use Rattle.std.specs.Prelude.{◌++◌, ◌+◌, ◌-◌, ◌<◌, ◌∷◌, ◌≡◌, IfOk, Some, codes, drop, false, length};
 ghost use Rattle.std.specs.Option.{option_map};
+ghost use Rattle.config_terms.specs.Fields.{path_text};
 ghost use Rattle.zone_machine.specs.Code.Cases.{IsJobCase, IsNamedJobCase, is_unmount, job_turn, as_objects};
 ghost use Rattle.zone_machine.specs.Daemon.Desks as desks;
 ghost use Rattle.zone_machine.specs.Code.Desks.{as_job};
 ghost use Rattle.zone_machine.specs.Objects.{last_dir, zid_of};
-ghost use Rattle.zone_machine.specs.Daemon.Turns.{count_of, init_process, root_mount, step};
+ghost use Rattle.zone_machine.specs.Arrivals.{A_record};
+ghost use Rattle.zone_machine.specs.declared.daemon.desks.Job as job_types;
+ghost use Rattle.zone_pools.specs.Asked.{A_serial};
+ghost use Rattle.zone_machine.specs.Daemon.Turns.{asking, count_of, init_process, root_mount, step};
 
 use crate::daemon::desks::Job;
 use crate::daemon::{Outcome, Step};
 use crate::machine::cases::{JobCase, Pass};
 use crate::machine::work::{Came, Coming, ObjectEdit};
 use crate::objects::{Id, Mount, Objects, Process};
-use crate::records::{Config, Record};
+use commit_journal::Record;
+use zone_config::ZoneConfig;
 use std::alloc::{AllocError, Global};
 use zn_base::{AbsPath, Text, ZoneName, ZoneState};
 
@@ -54,16 +59,26 @@ pub(crate) fn root_dir(alloc: Global) -> Result<AbsPath, AllocError>
 }
 
 #[tactic(auto, using(zn_base::proofs::Path_texts::path_with_root))]
-fn root_special(alloc: Global, config: &Config) -> Result<Text, AllocError>
-    ensures { IfOk result (λ text. text ≡ config.now.zonepath ++ codes "/root") }
+fn below(alloc: Global, path: &AbsPath) -> Result<Text, AllocError>
+    ensures { IfOk result (λ text. text ≡ path.now ++ codes "/root") }
 {
-    let mut bytes = Vec::from_slice(alloc, config.zonepath.bytes())?;
+    let mut bytes = Vec::from_slice(alloc, path.bytes())?;
     bytes.extend_from_slice(b"/root")?;
     Text::of(alloc, &bytes)
 }
 
+// Where the zone's root is.
+fn root_special(alloc: Global, config: &ZoneConfig) -> Result<Text, AllocError>
+    ensures { IfOk result (λ text. text ≡ path_text config.now.zonepath ++ codes "/root") }
+{
+    match &config.zonepath {
+        Some(path) => below(alloc, path),
+        None => Text::of(alloc, b"/root"),
+    }
+}
+
 /// The zone's root is mounted.
-pub(crate) fn mount_root(alloc: Global, next: usize, config: &Config) -> Result<JobCase, AllocError>
+pub(crate) fn mount_root(alloc: Global, next: usize, config: &ZoneConfig) -> Result<JobCase, AllocError>
     ensures { IfOk result (λ c. c ≡ JobCase.Pass (record { next = next; objects = ObjectEdit.Mount (root_mount config.now); shown = Step.Root })) }
 {
     let mount = Mount {
@@ -94,14 +109,15 @@ fn store_state(
     row: &Record,
     to: ZoneState,
 ) -> Result<JobCase, AllocError>
-    ensures { IfOk result (λ c. c ≡ JobCase.Ask (record { it = Came.Record (record row.now { state = to }); owner = zone.now }) next) }
+    ensures decides { IfOk result (λ c. (d : desks.Desk) (j : job_types.Job)
+        → job_turn d j c ≡ asking d (as_job j) (drop next j.steps.items) (A_record (λ n. Some (record row.now { state = to }))) A_serial (λ n. Step.Record to)) }
+    ensures of { IfOk result (λ c. (j : job_types.Job) → IsJobCase j c) }
+    ensures named { IfOk result (IsNamedJobCase zone.now) }
 {
-    let row = Record {
-        state: to,
-        revision: row.revision,
-        config: row.config.copy(alloc)?,
-    };
-    asking(alloc, zone, next, Came::Record(row))
+    let mut stored = row.copy(alloc)?;
+    stored.state = to;
+    let stored = Box::new(alloc, stored)?;
+    asking(alloc, zone, next, Came::Record(stored))
 }
 
 // All processes end. Their count stands still at its type's end.

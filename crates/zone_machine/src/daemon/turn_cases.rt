@@ -16,7 +16,8 @@ use crate::daemon::{Outcome, RequestKind, Step};
 use crate::machine::cases::{JobCase, TurnCase};
 use crate::machine::work::ObjectEdit;
 use crate::objects::{Id, Mount, Objects, Process};
-use crate::records::Record;
+use commit_journal::Record;
+use zone_config::ZoneConfig;
 use std::alloc::{AllocError, Global};
 use zn_base::{ZoneName, ZoneState};
 
@@ -61,6 +62,15 @@ fn job_case(
     }
 }
 
+fn copy_config(alloc: Global, config: &ZoneConfig) -> Result<ZoneConfig, AllocError>
+    ensures { IfOk result (λ copy. copy ≡ config.now) }
+{
+    match config.copy(alloc) {
+        Ok(copy) => Ok(copy),
+        Err(_) => Err(AllocError),
+    }
+}
+
 // The request that begins in a state.
 fn new_job(
     alloc: Global,
@@ -71,9 +81,10 @@ fn new_job(
 ) -> Result<Job, AllocError>
     ensures { IfOk result (λ job. as_job job ≡ record { ticket = ticket; config = row.now.config; left = plan kind state; place = 1; undo = []; ending = None }) }
 {
+    let config = copy_config(alloc, &row.config)?;
     Ok(Job {
         ticket,
-        config: row.config.copy(alloc)?,
+        config: Box::new(alloc, config)?,
         steps: plan(alloc, kind, state)?,
         at: 0,
         place: 1,

@@ -2,7 +2,7 @@
 use crate::daemon::desks::Job;
 use crate::daemon::{Outcome, RequestKind, Step};
 use crate::machine::work::{Coming, ObjectEdit};
-use crate::records::Record;
+use commit_journal::Record;
 use crate::replies::Head;
 use zn_base::{ZoneName, ZoneState};
 
@@ -46,7 +46,7 @@ pub(crate) enum Case {
     /// Nothing is done but a reply.
     Says(Head),
     /// A zone is made. The record's revision is the number that the grant gives.
-    Make(Record, ZoneName),
+    Make(Box<Record>, ZoneName),
     /// A request is put on the desk, and the session waits for its ticket.
     Put(RequestKind, ZoneName),
     Turn(TurnCase),

@@ -1,7 +1,7 @@
 //! A zone's cell: everything that one zone has, but for its name and what is stored of it.
 ghost use Rattle.std.specs.Prelude.{◌≡◌, Option, true};
 ghost use Rattle.zone_machine.specs.Code.Cells.{cell_world, empty_world};
-ghost use Rattle.zone_machine.specs.declared.records.Record as record_types;
+ghost use Rattle.commit_journal.specs.declared.records.Record as record_types;
 
 use crate::daemon::desks::Desk;
 use crate::objects::{Id, Mount, Process};

@@ -22,7 +22,7 @@ use crate::machine::shared::Shared;
 use crate::machine::work::{Came, Coming, ObjectEdit, Sitting, Work};
 use crate::objects::lists::{enter, unmount};
 use crate::objects::{Id, Mount, Process};
-use crate::records::Record;
+use commit_journal::Record;
 use crate::replies::Head;
 use crate::session::waits::{end_waits, wait};
 use std::hash::Hash;
@@ -96,7 +96,7 @@ fn take_in(cell: &mut Cell, shared: &mut Shared, coming: Coming)
     match it {
         Came::Process(process) => begin(cell, shared, process, owner),
         Came::Id(id) => give_id(cell, shared, id, owner),
-        Came::Record(record) => store(cell, shared, record, owner),
+        Came::Record(record) => store(cell, shared, Box::into_inner(record), owner),
     }
 }
 

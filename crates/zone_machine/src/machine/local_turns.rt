@@ -1,5 +1,5 @@
 //! Turns of a zone's daemon that touch nothing which other zones may ask, on the zone's cell alone.
-ghost use Rattle.std.specs.Prelude.{◌≡◌, IfOk, IfSome, List, None, OnErr, OnOk, Some, drop, false, true};
+ghost use Rattle.std.specs.Prelude.{◌≡◌, IfOk, IfSome, List, None, OnErr, OnOk, Some, drop, false, is_some, true};
 ghost use Rattle.zone_pools.specs.Decisions.{Just};
 ghost use Rattle.zone_machine.specs.Code.Cases.{HasRoomFor, IsCaseOf, IsJobCase, IsTurnOf, decision_of, job_turn, object_edits, objects_of, turn_decision_of};
 ghost use Rattle.zone_machine.specs.Code.Cells.{cell_world};
@@ -14,7 +14,7 @@ ghost use Rattle.zone_machine.specs.Daemon.Turns.{Turned, goes_on, step, turn, u
 ghost use Rattle.zone_machine.specs.State.Worlds as worlds;
 ghost use Rattle.zone_machine.specs.declared.objects.Id as ids;
 ghost use Rattle.zone_machine.specs.declared.objects.Process as processes;
-ghost use Rattle.zone_machine.specs.declared.records.Record as records;
+ghost use Rattle.commit_journal.specs.declared.records.Record as records;
 
 use crate::daemon::desks::Job;
 use crate::daemon::plan_cases::{last_dir, mount_root, passed, step_at, unmounted};
@@ -100,6 +100,7 @@ fn local_case(alloc: Global, cell: &Cell) -> Result<Option<TurnCase>, AllocError
     ensures some { IfOk result (λ o. IfSome o (λ c. IsNext cell.now (turn_decision_of cell.now.desk c))) }
     ensures local { IfOk result (λ o. IfSome o (λ c. is_local_turn (turn_decision_of cell.now.desk c) ≡ true)) }
     ensures of { IfOk result (λ o. IfSome o (IsTurnOf cell.now.desk)) }
+    ensures job { IfOk result (λ o. IfSome o (λ c. is_some cell.now.desk.job ≡ true)) }
     ensures none { IfOk result (λ o. o ≡ None → (row : records.Record) → is_local_turn (turn (worlds.objects_of (cell_world (Some row) cell.now)) (Some row) (as_desk cell.now.desk)) ≡ false) }
 {
     let Some(job) = &cell.desk.job else {
@@ -153,7 +154,7 @@ fn do_local(cell: &mut Cell, case: TurnCase) -> Result<Head, AllocError>
     Ok(work.head)
 }
 
-/// The next turn of a stored zone's daemon is done on the zone's cell, where it is local: it steps through a hook, through
+/// The next turn of a zone's daemon is done on the zone's cell, where it is local: it steps through a hook, through
 /// the zone's files, limits and mounts, or undoes such a step, and nothing that other zones may ask is touched. Else
 /// nothing is done, and it is to be a step of the cell with what zones share. Where memory runs out, the cell is as it
 /// was.

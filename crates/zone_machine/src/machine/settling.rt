@@ -15,7 +15,7 @@ use crate::daemon::{Outcome, RequestKind, Step, TurnReply};
 use crate::machine::cases::{Case, JobCase, Pass, TurnCase};
 use crate::machine::work::{Came, Coming, ObjectEdit, Sitting, Work};
 use crate::objects::{Id, Process};
-use crate::records::Record;
+use commit_journal::{Record, uuid_of};
 use crate::replies::{Head, Refusal};
 use zn_base::{ZoneName, ZoneState};
 use zone_pools::{Grant, number_in};
@@ -160,16 +160,19 @@ fn settle_turn(desk: &mut Desk, case: TurnCase, grant: Grant) -> Work
 }
 
 // A zone is made, where the grant gives its record a number.
-fn make(row: Record, owner: ZoneName, grant: Grant) -> Work
-    ensures works { (n : Option ℕ) (v : World) (d : desks.Desk) → v.desk ≡ d → Works n (act_of (made row) grant) v d result }
+fn make(row: Box<Record>, owner: ZoneName, grant: Grant) -> Work
+    ensures works { (n : Option ℕ) (v : World) (d : desks.Desk) → v.desk ≡ d → Works n (act_of (made owner row.value) grant) v d result }
     ensures objects { result.objects ≡ ObjectEdit.Nothing }
     ensures sits { result.sits ≡ None }
     ensures owner { IfSome result.came (λ c. c.owner ≡ owner) }
 {
     match number_in(grant) {
-        Ok(revision) => {
+        Ok(number) => {
+            let mut row = row;
+            row.uuid = uuid_of(&owner, number);
+            row.revision = number;
             let came = Coming {
-                it: Came::Record(Record { revision, ..row }),
+                it: Came::Record(row),
                 owner,
             };
             Work {
@@ -209,7 +212,7 @@ pub(crate) fn settle(desk: &mut Desk, case: Case, grant: Grant) -> Work
 {
     match case {
         Case::Says(head) => Work::saying(head),
-        Case::Make(record, owner) => make(record, owner, grant),
+        Case::Make(row, owner) => make(row, owner, grant),
         Case::Put(kind, owner) => put(desk, kind, owner),
         Case::Turn(case) => settle_turn(desk, case, grant),
     }

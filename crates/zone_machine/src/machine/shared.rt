@@ -4,7 +4,7 @@ ghost use Rattle.zone_machine.specs.Code.Cells.{SharedOf};
 ghost use Rattle.zone_machine.specs.Machine.Common.{common};
 ghost use Rattle.zone_machine.specs.Machine.{opening};
 
-use crate::records::Record;
+use commit_journal::Record;
 use indexmap::IndexMap;
 use std::alloc::Global;
 use zn_base::ZoneName;

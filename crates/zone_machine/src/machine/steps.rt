@@ -26,7 +26,7 @@ use crate::machine::rooms::make_room;
 use crate::machine::shared::Shared;
 use crate::pools::needs::need_of;
 use crate::pools::{fits, grant_for};
-use crate::records::Record;
+use commit_journal::Record;
 use crate::replies::{Body, Refusal, Reply};
 use crate::session::line_cases::decide_line;
 use crate::session::lines::{Command, Line, line_of};

@@ -9,7 +9,7 @@ ghost use Rattle.zone_machine.specs.declared.daemon.desks.Job as job_types;
 
 use crate::machine::cases::{Case, JobCase, TurnCase};
 use crate::machine::work::Came;
-use zn_base::AbsPath;
+use zone_config::Property;
 
 /// What an event asks.
 #[derive(Clone, Copy)]
@@ -20,7 +20,7 @@ pub(crate) enum Need<'c> {
     /// A record of a zone that is stored.
     Record,
     /// A record of a new zone, with its path.
-    NewZone(&'c AbsPath),
+    NewZone(&'c [u8]),
 }
 
 fn came_need(it: &Came) -> Need<'_>
@@ -61,7 +61,7 @@ pub(crate) fn need_of(case: &Case) -> Need<'_>
 {
     match case {
         Case::Says(_) => Need::Nothing,
-        Case::Make(record, _) => Need::NewZone(&record.config.zonepath),
+        Case::Make(row, _) => Need::NewZone(row.config.shown(Property::Zonepath)),
         Case::Put(_, _) => Need::Nothing,
         Case::Turn(case) => turn_need(case),
     }

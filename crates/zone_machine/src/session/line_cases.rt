@@ -1,24 +1,29 @@
 //! What the lines come to that sessions type.
-ghost use Rattle.std.specs.Prelude.{◌≡◌, IfOk, List, Option, bytes_eq, codes, ℕ};
+ghost use Rattle.std.specs.Prelude.{◌≡◌, IfOk, List, MatchBool, MatchOption, None, Ok, Option, false, ℕ};
+ghost use Rattle.std.specs.Result.{result_ok};
 ghost use Rattle.std.specs.Option.{option_map};
-ghost use Rattle.zn_base.specs.Path.{path_of};
+ghost use Rattle.zn_base.specs.Text.{is_text};
+ghost use Rattle.zone_config.specs.Edits.{with_property};
 ghost use Rattle.zone_pools.specs.Decisions.{Just};
 ghost use Rattle.zone_machine.specs.Code.Cases.{IsCaseOf, IsNamedCase, decision_of};
 ghost use Rattle.zone_machine.specs.Code.Desks.{as_desk};
 ghost use Rattle.zone_machine.specs.Code.Lines.{as_command};
 ghost use Rattle.zone_machine.specs.State.{Awaiting};
-ghost use Rattle.zone_machine.specs.Session.Typed.{idle_line, is_full, make, make_at, put_request, typed, usable_path};
+ghost use Rattle.zone_machine.specs.Session.Typed.{idle_line, is_full, made_config, make, make_with, put_request, typed};
 ghost use Rattle.zone_machine.specs.State.Worlds.{View};
 ghost use Rattle.zone_machine.specs.declared.daemon.desks.Desk as desk_types;
 
 use crate::daemon::RequestKind;
 use crate::daemon::desks::{Desk, REQUESTS_MAX, TICKET_MAX};
 use crate::machine::cases::Case;
-use crate::records::{Config, Record};
+use commit_journal::Record;
+use config_terms::ConfigFault;
 use crate::replies::{Head, Refusal};
 use crate::session::lines::Command;
 use std::alloc::{AllocError, Global};
-use zn_base::{AbsPath, PathFault, ZoneName, ZoneState};
+use uuid::Uuid;
+use zn_base::{Text, TextFault, Value, ZoneName, ZoneState};
+use zone_config::{ZoneConfig, blank};
 
 fn refused(refusal: Refusal) -> Case
     ensures { result ≡ Case.Says (Head.Refused refusal) }
@@ -26,45 +31,70 @@ fn refused(refusal: Refusal) -> Case
     Case::Says(Head::Refused(refusal))
 }
 
-fn is_root(path: &AbsPath) -> bool
-    ensures { result ≡ bytes_eq path.now (codes "/") }
+// Sets a property to a text, and answers whether that is allowed.
+fn set(
+    alloc: Global,
+    config: &mut ZoneConfig,
+    name: &[u8],
+    text: Text,
+) -> Result<bool, AllocError>
+    ensures { IfOk result (λ done. MatchBool done (with_property name.now (Value.Simple text) config.old ≡ Ok config.new) (result_ok (with_property name.now (Value.Simple text) config.old) ≡ None)) }
 {
-    path.bytes() == b"/".as_slice()
-}
-
-// The path that a word is, where it may be a zone's.
-fn usable_path(alloc: Global, word: &[u8]) -> Result<Option<AbsPath>, AllocError>
-    ensures { IfOk result (λ path. path ≡ usable_path (path_of word.now)) }
-{
-    match AbsPath::read(alloc, word) {
-        Ok(path) => {
-            if is_root(&path) {
-                Ok(None)
-            } else {
-                Ok(Some(path))
-            }
-        }
-        Err(PathFault::Memory) => Err(AllocError),
-        Err(PathFault::PathLong | PathFault::NotAbsolute | PathFault::BadComponent(_)) => Ok(None),
+    match config.set_property(alloc, name, Value::Simple(text)) {
+        Ok(()) => Ok(true),
+        Err(ConfigFault::Memory) => Err(AllocError),
+        Err(_) => Ok(false),
     }
 }
 
-// A zone is made at a path.
-fn make_at(alloc: Global, zone: &ZoneName, path: Option<AbsPath>) -> Result<Case, AllocError>
-    ensures decides { IfOk result (λ c. (d : desk_types.Desk) → make_at path ≡ decision_of d c) }
+// The text that a word is. A word that is none is no path.
+fn text_of(alloc: Global, word: &[u8]) -> Result<Option<Text>, AllocError>
+    ensures { IfOk result (λ text. MatchOption text (is_text word.now ≡ false) (λ t. t ≡ word.now)) }
+{
+    match Text::read(alloc, word) {
+        Ok(text) => Ok(Some(text)),
+        Err(TextFault::Memory) => Err(AllocError),
+        Err(TextFault::BadText(_) | TextFault::TextLong) => Ok(None),
+    }
+}
+
+// The configuration of a zone that is made with a word for its zonepath.
+#[tactic(auto, using(crate::proofs::Made::no_text))]
+fn made_config(alloc: Global, word: &[u8]) -> Result<Option<ZoneConfig>, AllocError>
+    ensures { IfOk result (λ config. config ≡ result_ok (made_config word.now)) }
+{
+    let Some(path) = text_of(alloc, word)? else {
+        return Ok(None);
+    };
+    let brand = Text::of(alloc, b"ipkg")?;
+    let mut config = blank(alloc);
+    let is_set = set(alloc, &mut config, b"zonepath", path)?
+        && set(alloc, &mut config, b"brand", brand)?;
+    if is_set { Ok(Some(config)) } else { Ok(None) }
+}
+
+// A zone is made with a configuration.
+fn make_with(
+    alloc: Global,
+    zone: &ZoneName,
+    config: Option<ZoneConfig>,
+) -> Result<Case, AllocError>
+    ensures decides { IfOk result (λ c. (d : desk_types.Desk) → make_with zone.now config ≡ decision_of d c) }
     ensures of { IfOk result (λ c. (d : desk_types.Desk) → IsCaseOf d c) }
     ensures named { IfOk result (IsNamedCase zone.now) }
 {
-    let Some(zonepath) = path else {
+    let Some(config) = config else {
         return Ok(refused(Refusal::BadValue));
     };
-    let owner = zone.copy(alloc)?;
-    let record = Record {
+    let row = Record {
         state: ZoneState::Configured,
+        // The grant gives the UUID and the revision.
+        uuid: Uuid::nil(),
         revision: 0,
-        config: Config { zonepath },
+        config,
     };
-    Ok(Case::Make(record, owner))
+    let row = Box::new(alloc, row)?;
+    Ok(Case::Make(row, zone.copy(alloc)?))
 }
 
 // A zone is made with a word for its zonepath.
@@ -74,15 +104,15 @@ fn make_case(
     row: Option<&Record>,
     word: &[u8],
 ) -> Result<Case, AllocError>
-    ensures decides { IfOk result (λ c. (d : desk_types.Desk) → make (option_map (λ r. r.now) row.entry) word.now ≡ decision_of d c) }
+    ensures decides { IfOk result (λ c. (d : desk_types.Desk) → make zone.now (option_map (λ r. r.now) row.entry) word.now ≡ decision_of d c) }
     ensures of { IfOk result (λ c. (d : desk_types.Desk) → IsCaseOf d c) }
     ensures named { IfOk result (IsNamedCase zone.now) }
 {
     match row {
         Some(_) => Ok(refused(Refusal::NeedForce)),
         None => {
-            let path = usable_path(alloc, word)?;
-            make_at(alloc, zone, path)
+            let config = made_config(alloc, word)?;
+            make_with(alloc, zone, config)
         }
     }
 }
@@ -122,7 +152,7 @@ fn idle_case(
     row: Option<&Record>,
     command: Command<'_>,
 ) -> Result<Case, AllocError>
-    ensures decides { IfOk result (λ c. (v : View) → v.world.stored ≡ option_map (λ r. r.now) row.entry → v.world.desk ≡ as_desk desk.now
+    ensures decides { IfOk result (λ c. (v : View) → v.zone ≡ zone.now → v.world.stored ≡ option_map (λ r. r.now) row.entry → v.world.desk ≡ as_desk desk.now
         → idle_line v (as_command command.entry) ≡ decision_of desk.now c) }
     ensures of { IfOk result (IsCaseOf desk.now) }
     ensures named { IfOk result (IsNamedCase zone.now) }
@@ -145,7 +175,7 @@ pub(crate) fn decide_line(
     awaited: Option<u32>,
     command: Command<'_>,
 ) -> Result<Case, AllocError>
-    ensures decides { IfOk result (λ c. (v : View) (named : Option (List ℕ)) → v.world.stored ≡ option_map (λ r. r.now) row.entry → v.world.desk ≡ as_desk desk.now
+    ensures decides { IfOk result (λ c. (v : View) (named : Option (List ℕ)) → v.zone ≡ zone.now → v.world.stored ≡ option_map (λ r. r.now) row.entry → v.world.desk ≡ as_desk desk.now
         → typed v (option_map Awaiting awaited) (record { zone = named; command = as_command command.entry }) ≡ decision_of desk.now c) }
     ensures of { IfOk result (IsCaseOf desk.now) }
     ensures named { IfOk result (IsNamedCase zone.now) }

@@ -1,0 +1,72 @@
+-- A request under way is of a stored zone, and comes after an event.
+use Rattle.std.proofs.Common.{◌≡◌, ◌∷◌, [], ◌∙◌, ◌||◌, Bool, List, Option, None, Some, true, false, not, ap, refl, sym}
+use Rattle.std.proofs.lemmas.Bool.{and_parts, false≢true}
+use Rattle.std.specs.Option.{is_none}
+use Rattle.std.specs.Prelude.{is_some}
+use Rattle.zn_base.specs.Names.{Name}
+use Rattle.zone_pools.specs.declared.grant.Grant.{Grant}
+use Rattle.commit_journal.specs.declared.records.Commit.{Commit}
+use Rattle.commit_journal.specs.declared.records.Record.{Record}
+use Rattle.zone_machine.proofs.Local_laws.{local-common, none-under-way, not-local}
+use Rattle.zone_machine.specs.Daemon.Desks.{Desk, Job}
+use Rattle.zone_machine.specs.Machine.Common.{common}
+use Rattle.zone_machine.specs.Machine.Histories.{after, after_entry}
+use Rattle.zone_machine.specs.Machine.Local.{is_local, job_has_record}
+use Rattle.zone_machine.specs.Machine.{one, one_of, opening, subject}
+use Rattle.zone_machine.specs.State.{State, stored}
+use Rattle.zone_machine.specs.State.Worlds.{objects_of, world}
+use Rattle.zone_machine.specs.declared.events.Entry.{Entry}
+use Rattle.zone_machine.specs.declared.events.Event.{Event}
+use Rattle.zone_machine.specs.declared.events.Subject.{Subject}
+use Rattle.zone_machine.specs.declared.events.Subject.TheVariants.{Global, Whole, Zone}
+use Rattle.zone_views.proofs.Steady.{steady, steady-history}
+use Rattle.zone_views.specs.Storable.{are_storable}
+
+served : (row : Option Record) (d : Desk) → steady row d ≡ true → (not (is_some d.job) || is_some row) ≡ true
+served (Some row) d h = at_job (is_some d.job)
+  where
+    at_job : (b : Bool) → (not b || true) ≡ true
+    at_job true = refl
+    at_job false = refl
+served None d h = at_job d.job (and_parts (is_none d.active) (is_none d.job) h).1
+  where
+    at_job : (job : Option Job) → is_none job ≡ true → (not (is_some job) || false) ≡ true
+    at_job None h = refl
+    at_job (Some j) h = absurd (false≢true h)
+
+pub served-history : (z : Name) (commits : List Commit) (h : List Entry) → are_storable commits ≡ true → job_has_record (world z (after (opening commits) h)) ≡ true
+served-history z commits h all = let S = after (opening commits) h in served (stored z S.commits) (S.desks z) (steady-history commits h all z)
+
+-- where a request of z is under way, an event has come
+abbrev has_begun : Name → State → Bool
+has_begun z S = S.started || is_none (S.desks z).job
+
+begun-one : (z : Name) (S : State) (e : Event) (g : Grant) → has_begun z S ≡ true → has_begun z (one S e g).state ≡ true
+unfolding one
+begun-one z S e g h = at_subject (subject S e)
+  where
+    at_subject : (s : Subject) → has_begun z (one_of s S e g).state ≡ true
+    at_subject (Zone y) = refl
+    at_subject Global = refl
+    at_subject Whole = h
+
+begun-after : (z : Name) (S : State) (h : List Entry) → has_begun z S ≡ true → has_begun z (after S h) ≡ true
+begun-after z S [] is = is
+begun-after z S (e ∷ h) is = begun-after z (after_entry S e) h (begun-one z S e.event e.grant is)
+
+local-leaves : (z : Name) (S : State) (e : Entry) → has_begun z S ≡ true → is_local z (world z S) e ≡ true → common (one S e.event e.grant).state ≡ common S
+local-leaves z S e begun h = at_start S.started refl begun
+  where
+    none : (job : Option Job) → is_none job ≡ true → job ≡ None
+    none None e = refl
+    none (Some j) e = absurd (false≢true e)
+
+    at_start : (b : Bool) → S.started ≡ b → (b || is_none (S.desks z).job) ≡ true → common (one S e.event e.grant).state ≡ common S
+    at_start true is idle = local-common z S e h ∙ ap (λ b. record (common S) { started = b }) (sym is)
+    at_start false is idle =
+        let far = none-under-way (objects_of (world z S)) (world z S).stored (S.desks z) (none (S.desks z).job idle) in
+        absurd (false≢true (sym (not-local z (world z S) e far) ∙ h))
+
+pub local-leaves-history : (z : Name) (commits : List Commit) (h : List Entry) (e : Entry) → is_local z (world z (after (opening commits) h)) e ≡ true
+    → (let S = after (opening commits) h in common (one S e.event e.grant).state ≡ common S)
+local-leaves-history z commits h e local = local-leaves z (after (opening commits) h) e (begun-after z (opening commits) h refl) local
