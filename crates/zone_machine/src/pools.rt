@@ -30,12 +30,7 @@ fn is_path(path: &[u8], own: &Option<AbsPath>) -> bool
     }
 }
 
-fn is_taken_at(
-    rows: &IndexMap<ZoneName, Record>,
-    at: usize,
-    zone: &ZoneName,
-    path: &[u8],
-) -> bool
+fn is_taken_at(rows: &IndexMap<ZoneName, Record>, at: usize, zone: &ZoneName, path: &[u8]) -> bool
     ensures { result ≡ takes_path zone.now path.now (slice_get rows.now.entries at) }
 {
     match rows.get_index(at) {

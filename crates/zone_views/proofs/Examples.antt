@@ -1,6 +1,11 @@
 -- A history of two zones, computed by the definitions.
 use Rattle.std.proofs.Common.{◌≡◌, ◌∷◌, ◌++◌, ◌&&◌, [], ℕ, List, true, false, Some, None, map, refl}
 use Rattle.std.specs.Prelude.{codes, not, replicate}
+use Rattle.config_terms.specs.Rules.{obeys}
+use Rattle.config_terms.specs.Texts.{setting}
+use Rattle.zone_config.specs.Edits.{with_property}
+use Rattle.zone_config.specs.Export.{export_text}
+use Rattle.zone_config.specs.Property.{blank, setting_named}
 use Rattle.zone_pools.specs.Same.{same_grant}
 use Rattle.zone_pools.specs.declared.grant.Grant.{Grant}
 use Rattle.zone_pools.specs.declared.grant.Grant.TheVariants.{Nothing, Number}
@@ -39,20 +44,20 @@ abbrev told_to : List ℕ → List Head
 told_to zone = map (λ r. r.head) (replies zone entries)
 
 told_to_a : told_to (codes "a") ≡ Ok ∷ Ticket 1 ∷ Turned (Finished 1 (WrongState Configured)) ∷ []
-unfolding line_of typed turn view decide subject one first_free allowed edit comes
+unfolding line_of typed turn view decide subject one first_free allowed edit comes with_property setting_named obeys setting export_text
 told_to_a = refl
 
 told_to_b : told_to (codes "b") ≡ Ok ∷ Turned Idle ∷ []
-unfolding line_of typed turn view decide subject one first_free allowed edit comes
+unfolding line_of typed turn view decide subject one first_free allowed edit comes with_property setting_named obeys setting export_text
 told_to_b = refl
 
 -- without the other zone's entries and those of none
 purged : asked (only (codes "a") entries) ≡ (make 1 (codes "a"), Number 1) ∷ (boot_a, Nothing) ∷ (Turn (codes "a"), Nothing) ∷ []
-unfolding line_of typed turn view decide subject one first_free allowed edit comes
+unfolding line_of typed turn view decide subject one first_free allowed edit comes with_property setting_named obeys setting export_text
 purged = refl
 
 states : map (λ zone. zone_state zone (after (opening []) entries)) (codes "a" ∷ codes "b" ∷ codes "c" ∷ []) ≡ Some Configured ∷ Some Configured ∷ None ∷ []
-unfolding line_of typed turn view decide subject one first_free allowed edit comes
+unfolding line_of typed turn view decide subject one first_free allowed edit comes with_property setting_named obeys setting export_text
 states = refl
 
 -- a stated grant may be another than the pools give, and then the history isn't legal
@@ -60,7 +65,7 @@ abbrev stated : Grant → List Entry
 stated g = run (opening []) ((make 1 (codes "a"), g) ∷ [])
 
 legal : map (λ n. is_legal (opening []) (stated (Number n))) (1 ∷ 2 ∷ []) ≡ true ∷ false ∷ []
-unfolding line_of typed turn view decide subject one first_free allowed edit comes same_reply same_subject
+unfolding line_of typed turn view decide subject one first_free allowed edit comes same_reply same_subject with_property setting_named obeys setting export_text
 legal = refl
 
 -- a reply to another event is no history
@@ -68,7 +73,7 @@ abbrev to_boot : Entry → Entry
 to_boot e = record e { event = boot_a }
 
 told_of_another : is_history any_grant (opening []) (map to_boot (stated (Number 1))) ≡ false
-unfolding line_of typed turn view decide subject one first_free allowed edit comes same_reply same_subject
+unfolding line_of typed turn view decide subject one first_free allowed edit comes same_reply same_subject with_property setting_named obeys setting export_text
 told_of_another = refl
 
 -- two installed zones boot, up to the turn that starts init
@@ -85,11 +90,11 @@ abbrev booted : State
 booted = after both (history both (boot 1 (codes "a") ++ boot 2 (codes "b")))
 
 process_numbers : pids booted ≡ 2 ∷ 3 ∷ []
-unfolding line_of typed turn view decide subject one first_free allowed edit comes
+unfolding line_of typed turn view decide subject one first_free allowed edit comes with_property setting_named obeys setting export_text
 process_numbers = refl
 
 zone_numbers : zids booted ≡ 1 ∷ 2 ∷ []
-unfolding line_of typed turn view decide subject one first_free allowed edit comes
+unfolding line_of typed turn view decide subject one first_free allowed edit comes with_property setting_named obeys setting export_text
 zone_numbers = refl
 
 -- grants that don't fit may give one number twice, and after a process number of 0 the pools give 1, which doesn't fit
@@ -100,10 +105,10 @@ abbrev left_by : List (Event × Grant) → State
 left_by es = after both (run both es)
 
 same_number : pids (left_by (readied 1 (codes "a") ++ readied 2 (codes "b") ++ (Turn (codes "a"), Number 7) ∷ (Turn (codes "b"), Number 7) ∷ [])) ≡ 7 ∷ 7 ∷ []
-unfolding line_of typed turn view decide subject one first_free allowed edit comes
+unfolding line_of typed turn view decide subject one first_free allowed edit comes with_property setting_named obeys setting export_text
 same_number = refl
 
 unfit_number : let S = left_by (readied 1 (codes "a") ++ readied 2 (codes "b") ++ (Turn (codes "a"), Number 0) ∷ []) in
     let e = Turn (codes "b") in (same_grant (allowed S e) (Number 1) && not (fits S e (allowed S e))) ≡ true
-unfolding line_of typed turn view decide subject one first_free allowed fits edit comes
+unfolding line_of typed turn view decide subject one first_free allowed fits edit comes with_property setting_named obeys setting export_text
 unfit_number = refl

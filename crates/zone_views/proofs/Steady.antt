@@ -1,6 +1,6 @@
 -- What each zone keeps, so that its states move along the table: its desk fits what is stored, and the state changes
 -- of the request under way lead along the table from there.
-use Rattle.std.proofs.Common.{◌≡◌, ◌∷◌, [], ◌&&◌, ◌⊎◌, ℕ, List, Bool, true, false, Option, Some, None, inl, inr, ap, refl, subst, sym}
+use Rattle.std.proofs.Common.{◌≡◌, ◌∷◌, ◌++◌, [], ◌&&◌, append-nil, append_assoc, ◌⊎◌, ℕ, List, Bool, true, false, Option, Some, None, inl, inr, ap, refl, subst, sym}
 use Rattle.std.specs.Prelude.{bytes_eq, is_none, unwrap_or, if◌then◌else◌}
 use Rattle.std.proofs.lemmas.Bool.{and_from, and_parts, false≢true}
 use Rattle.zn_base.specs.Moves.{may_move}

@@ -7,9 +7,9 @@ ghost use Rattle.zone_machine.specs.Daemon.Plans.{undo_after};
 
 use crate::daemon::{Outcome, RequestKind, Step};
 use crate::machine::cases::{Case, JobCase, TurnCase};
-use zone_config::ZoneConfig;
 use std::alloc::{AllocError, Global};
 use zn_base::ZoneState;
+use zone_config::ZoneConfig;
 
 /// How many requests wait on a desk at most.
 pub(crate) const REQUESTS_MAX: usize = 8;

@@ -17,9 +17,9 @@ use crate::machine::cases::{JobCase, Pass};
 use crate::machine::work::{Came, Coming, ObjectEdit};
 use crate::objects::{Id, Mount, Objects, Process};
 use commit_journal::Record;
-use zone_config::ZoneConfig;
 use std::alloc::{AllocError, Global};
 use zn_base::{AbsPath, Text, ZoneName, ZoneState};
+use zone_config::ZoneConfig;
 
 /// A step is done that changes no objects.
 pub(crate) fn passed(next: usize, shown: Step) -> JobCase
@@ -78,7 +78,11 @@ fn root_special(alloc: Global, config: &ZoneConfig) -> Result<Text, AllocError>
 }
 
 /// The zone's root is mounted.
-pub(crate) fn mount_root(alloc: Global, next: usize, config: &ZoneConfig) -> Result<JobCase, AllocError>
+pub(crate) fn mount_root(
+    alloc: Global,
+    next: usize,
+    config: &ZoneConfig,
+) -> Result<JobCase, AllocError>
     ensures { IfOk result (λ c. c ≡ JobCase.Pass (record { next = next; objects = ObjectEdit.Mount (root_mount config.now); shown = Step.Root })) }
 {
     let mount = Mount {

@@ -17,9 +17,9 @@ use crate::machine::cases::{JobCase, TurnCase};
 use crate::machine::work::ObjectEdit;
 use crate::objects::{Id, Mount, Objects, Process};
 use commit_journal::Record;
-use zone_config::ZoneConfig;
 use std::alloc::{AllocError, Global};
 use zn_base::{ZoneName, ZoneState};
+use zone_config::ZoneConfig;
 
 /// What undoes a step.
 pub(crate) fn undoing(alloc: Global, shown: &Step) -> Result<ObjectEdit, AllocError>

@@ -2,8 +2,8 @@
 use crate::daemon::desks::Job;
 use crate::daemon::{Outcome, RequestKind, Step};
 use crate::machine::work::{Coming, ObjectEdit};
-use commit_journal::Record;
 use crate::replies::Head;
+use commit_journal::Record;
 use zn_base::{ZoneName, ZoneState};
 
 /// A step that is done: the place of the next one, what becomes of the objects, and the step as it is told.

@@ -15,8 +15,8 @@ use crate::daemon::{Outcome, RequestKind, Step, TurnReply};
 use crate::machine::cases::{Case, JobCase, Pass, TurnCase};
 use crate::machine::work::{Came, Coming, ObjectEdit, Sitting, Work};
 use crate::objects::{Id, Process};
-use commit_journal::{Record, uuid_of};
 use crate::replies::{Head, Refusal};
+use commit_journal::{Record, uuid_of};
 use zn_base::{ZoneName, ZoneState};
 use zone_pools::{Grant, number_in};
 

@@ -16,10 +16,10 @@ ghost use Rattle.zone_machine.specs.declared.daemon.desks.Desk as desk_types;
 use crate::daemon::RequestKind;
 use crate::daemon::desks::{Desk, REQUESTS_MAX, TICKET_MAX};
 use crate::machine::cases::Case;
-use commit_journal::Record;
-use config_terms::ConfigFault;
 use crate::replies::{Head, Refusal};
 use crate::session::lines::Command;
+use commit_journal::Record;
+use config_terms::ConfigFault;
 use std::alloc::{AllocError, Global};
 use uuid::Uuid;
 use zn_base::{Text, TextFault, Value, ZoneName, ZoneState};
@@ -32,12 +32,7 @@ fn refused(refusal: Refusal) -> Case
 }
 
 // Sets a property to a text, and answers whether that is allowed.
-fn set(
-    alloc: Global,
-    config: &mut ZoneConfig,
-    name: &[u8],
-    text: Text,
-) -> Result<bool, AllocError>
+fn set(alloc: Global, config: &mut ZoneConfig, name: &[u8], text: Text) -> Result<bool, AllocError>
     ensures { IfOk result (λ done. MatchBool done (with_property name.now (Value.Simple text) config.old ≡ Ok config.new) (result_ok (with_property name.now (Value.Simple text) config.old) ≡ None)) }
 {
     match config.set_property(alloc, name, Value::Simple(text)) {
@@ -74,11 +69,7 @@ fn made_config(alloc: Global, word: &[u8]) -> Result<Option<ZoneConfig>, AllocEr
 }
 
 // A zone is made with a configuration.
-fn make_with(
-    alloc: Global,
-    zone: &ZoneName,
-    config: Option<ZoneConfig>,
-) -> Result<Case, AllocError>
+fn make_with(alloc: Global, zone: &ZoneName, config: Option<ZoneConfig>) -> Result<Case, AllocError>
     ensures decides { IfOk result (λ c. (d : desk_types.Desk) → make_with zone.now config ≡ decision_of d c) }
     ensures of { IfOk result (λ c. (d : desk_types.Desk) → IsCaseOf d c) }
     ensures named { IfOk result (IsNamedCase zone.now) }
