@@ -6,23 +6,19 @@ use std::alloc::AllocError;
 use thiserror::Error;
 
 /// An error number of intro(2).
-#[derive(Clone, Copy, Debug, PartialEq, Eq, Error)]
+#[derive(Clone, Copy, Debug, PartialEq, Eq)]
 pub enum Errno {
-    #[error("no such process")]
+    /// There is no such process.
     ESRCH,
-    #[error("permission denied")]
+    /// The process may not.
     EPERM,
-    #[error("no more processes")]
+    /// There may be no more processes.
     EAGAIN,
-    #[error("invalid argument")]
     EINVAL,
-    #[error("no such file or directory")]
     ENOENT,
-    #[error("read-only file system")]
+    /// The file system is read-only.
     EROFS,
-    #[error("device busy")]
     EBUSY,
-    #[error("path name is too long")]
     ENAMETOOLONG,
 }
 
@@ -31,7 +27,7 @@ pub enum Errno {
 pub enum KernelFault {
     #[error("out of memory")]
     Memory,
-    #[error("{0}")]
+    #[error("{0:?}")]
     Refused(Errno),
     /// The device is declared already.
     #[error("declared already")]

@@ -1,5 +1,5 @@
 //! The processes of a zone, found by their numbers.
-ghost use Rattle.std.specs.Prelude.{◌≡◌, ◌<◌, ◌^◌, [], IfOk, None, OnErr, nat_eq, if◌then◌else◌, OnOk, length, map, ℕ};
+ghost use Rattle.std.specs.Prelude.{◌≡◌, ◌++◌, ◌∷◌, ◌<◌, ◌^◌, [], IfOk, None, OnErr, nat_eq, if◌then◌else◌, OnOk, length, map, ℕ};
 ghost use Rattle.std.specs.List.{list_any};
 ghost use Rattle.std.specs.List.Sorted.{IsStrictlySortedBy};
 ghost use Rattle.std.specs.Option.{option_map};
@@ -31,17 +31,22 @@ impl Model for Processes {
     ghost view = { λ s. map process_of s.by_pid.entries };
 }
 
-impl Running {
-    // A process as it is listed.
-    fn row(&self, alloc: Global, pid: u32) -> Result<ProcRow, AllocError>
-        ensures { IfOk result (λ row. row ≡ row_of (process_of (pid, self.now))) }
-    {
-        Ok(ProcRow {
-            pid,
-            parent: self.parent,
-            name: self.name.copy(alloc)?,
-        })
-    }
+// Puts a process as it is listed behind others.
+fn push_row(
+    rows: &mut Vec<ProcRow>,
+    alloc: Global,
+    pid: u32,
+    running: &Running,
+) -> Result<(), AllocError>
+    ensures { OnOk result (rows.new.items ≡ rows.old.items ++ row_of (process_of (pid, running.now)) ∷ []) }
+{
+    let name = running.name.copy(alloc)?;
+    rows.push(ProcRow {
+        pid,
+        parent: running.parent,
+        name,
+    })?;
+    Ok(())
 }
 
 impl Processes {
@@ -159,7 +164,7 @@ impl Processes {
     {
         let mut rows = Vec::new(alloc);
         for (pid, running) in self.by_pid.iter() {
-            rows.push(running.row(alloc, *pid)?)?;
+            push_row(&mut rows, alloc, *pid, running)?;
         }
         Ok(rows)
     }
