@@ -68,6 +68,11 @@ pub bits-none : set_of_bits 0 ≡ []
 unfolding set_of_bits
 bits-none = set_of_none (bit 0) (λ n below. rw (bit_at-zero n) refl)
 
+-- no privilege has a number past the table
+pub only_past : (n : ℕ) → 40 ≤ n → only n ≡ []
+unfolding only
+only_past n past = set_of_none (λ m. m == n) (λ m below. ne_eqb m n (λ same. omega (arith, same)))
+
 pub has-bits : (bits n : ℕ) → n < 40 → nat_eq (bit_and (bits / 2 ^ n) 1) 1 ≡ has (set_of_bits bits) n
 unfolding set_of_bits
 has-bits bits n below = rw (shr_and_one bits n) (sym (has-set_of-below (bit bits) n below))

@@ -1,8 +1,9 @@
 -- What the definitions say of some texts.
-use Rattle.std.proofs.Common.{◌≡◌, ℕ, List, [], ◌∷◌, None, Some, Ok, Err, Result, codes, length, refl}
+use Rattle.std.proofs.Common.{◌≡◌, ℕ, List, [], ◌∷◌, None, Some, Ok, Err, Result, codes, length, map, refl}
 use Rattle.priv_sets.specs.declared.limit.PrivFault.{PrivFault}
 use Rattle.priv_sets.specs.declared.limit.PrivFault.TheVariants.{PrivWord, PrivRequired, PrivProhibited}
 use Rattle.priv_sets.specs.declared.table.Class.TheVariants.{Required}
+use Rattle.priv_sets.specs.declared.table.TheConstants.{PROC_EXEC, PROC_FORK}
 use Rattle.priv_sets.specs.Table.{is_of, name_of, number_of, privileges}
 use Rattle.priv_sets.specs.Sets.{all_of, both, default_set, everything, has, only, print_of, set_of, union, without}
 use Rattle.priv_sets.specs.Limit.{judged, limit_of, named, rule_of, set_of_words, words_from}
@@ -10,6 +11,10 @@ use Rattle.priv_sets.specs.Limit.{judged, limit_of, named, rule_of, set_of_words
 numbers : number_of (codes "proc_fork") ≡ Some 26
 unfolding number_of privileges
 numbers = refl
+
+calls : map name_of (PROC_EXEC ∷ PROC_FORK ∷ []) ≡ codes "proc_exec" ∷ codes "proc_fork" ∷ []
+unfolding name_of privileges
+calls = refl
 
 no_number : number_of (codes "proc") ≡ None
 unfolding number_of privileges

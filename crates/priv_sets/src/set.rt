@@ -44,7 +44,8 @@ fn push_name(text: &mut Vec<u8>, name: &[u8]) -> Result<(), AllocError>
 }
 
 impl PrivSet {
-    pub(crate) fn none() -> PrivSet
+    /// The set of no privileges.
+    pub fn none() -> PrivSet
         ensures { result ≡ [] }
     {
         PrivSet { bits: 0 }
@@ -82,6 +83,32 @@ impl PrivSet {
         PrivSet {
             bits: self.bits & !other.bits,
         }
+    }
+
+    // The set of one privilege, or of none where no privilege has the number.
+    #[tactic(auto, using(crate::proofs::Bits::only_past))]
+    fn only_if_any(number: u8) -> PrivSet
+        ensures { result ≡ only number }
+    {
+        if number < COUNT {
+            PrivSet::only(number)
+        } else {
+            PrivSet::none()
+        }
+    }
+
+    /// What is in this set but the privilege of a number.
+    pub fn without_one(&self, number: u8) -> PrivSet
+        ensures { result ≡ without self.now (only number) }
+    {
+        self.without(&PrivSet::only_if_any(number))
+    }
+
+    /// An equal set.
+    pub fn copy(&self) -> PrivSet
+        ensures { result ≡ self.now }
+    {
+        PrivSet { bits: self.bits }
     }
 
     pub(crate) fn both(&self, other: &PrivSet) -> PrivSet

@@ -6,6 +6,12 @@ ghost use Rattle.priv_sets.specs.Table.{is_of, number_of, privileges};
 // How many privileges there are.
 pub(crate) const COUNT: u8 = 40;
 
+/// The number of `proc_exec`, without which a process runs no other program.
+pub const PROC_EXEC: u8 = 25;
+
+/// The number of `proc_fork`, without which a process makes no other.
+pub const PROC_FORK: u8 = 26;
+
 /// What a zone may and must have.
 #[derive(Clone, Copy, PartialEq, Eq)]
 pub(crate) enum Class {

@@ -1,6 +1,6 @@
 -- What an edit of one zone does to what each zone sees of a flat list.
 use Rattle.std.proofs.Common.{◌≡◌, ℕ, List, Bool, true, false, ◌&&◌, ◌∷◌, [], refl, ap, sym, ◌∙◌}
-use Rattle.std.specs.Prelude.{◌≢◌, not, filter}
+use Rattle.std.specs.Prelude.{◌≢◌, not, filter, map}
 use Rattle.std.specs.List.{cons_option}
 use Rattle.std.specs.Str.{bytes_eq}
 use Rattle.std.proofs.lemmas.Slice.Eq.{bytes_eq-Decides}
@@ -8,7 +8,7 @@ use Rattle.std.proofs.lemmas.Bool.{false_from_ne_true}
 use Rattle.std.proofs.lemmas.List.Elements.{filter_map-append}
 use Rattle.std.proofs.lemmas.List.{append-nil}
 use Rattle.zone_pools.specs.declared.owned.Owned.{Owned}
-use Rattle.zone_pools.specs.Owned_lists.{own, mine, List_edit, Go, Come, Put, edited, edit_list, tag, put, put_tagged}
+use Rattle.zone_pools.specs.Owned_lists.{own, mine, List_edit, Go, Come, Put, Change, changed, edited, edit_list, tag, put, put_tagged}
 
 pub same_self : (z : List ℕ) → bytes_eq z z ≡ true
 same_self z = (bytes_eq-Decides z z).1 refl
@@ -61,13 +61,32 @@ other-put y z n before a (o ∷ os) = at_head (other-put y z n before a os) _ re
     at_head ih true e = simp (e, other_tag y z y n (same_self y))
     at_head ih false e = simp e (ap (λ ts. cons_option (own z o) ts) ih)
 
+-- each of z's becomes another
+mine-change : {A : Type 0} (z : List ℕ) (f : A → A) (os : List (Owned A)) → mine z (map (changed z f) os) ≡ map f (mine z os)
+mine-change z f [] = refl
+mine-change z f (o ∷ os) = at_head (mine-change z f os) _ refl
+  where
+    at_head : mine z (map (changed z f) os) ≡ map f (mine z os) → (b : Bool) → bytes_eq z o.zone ≡ b → mine z (map (changed z f) (o ∷ os)) ≡ map f (mine z (o ∷ os))
+    at_head ih true e = simp e (ap (λ ts. f o.it ∷ ts) ih)
+    at_head ih false e = simp e ih
+
+other-change : {A : Type 0} (y z : List ℕ) → y ≢ z → (f : A → A) (os : List (Owned A)) → mine z (map (changed y f) os) ≡ mine z os
+other-change y z n f [] = refl
+other-change y z n f (o ∷ os) = at_head (other-change y z n f os) _ refl
+  where
+    at_head : mine z (map (changed y f) os) ≡ mine z os → (b : Bool) → bytes_eq y o.zone ≡ b → mine z (map (changed y f) (o ∷ os)) ≡ mine z (o ∷ os)
+    at_head ih true e = simp (e, other_tag y z o.zone n e) ih
+    at_head ih false e = simp e (ap (λ ts. cons_option (own z o) ts) ih)
+
 -- the two laws
 pub mine-edit : {A : Type 0} (z : List ℕ) (e : List_edit A) (os : List (Owned A)) → mine z (edit_list z e os) ≡ edited e (mine z os)
 mine-edit z (Go p) os = mine-filter z (λ o. not (bytes_eq z o.zone && p o.it)) (λ x. not (p x)) (λ o e. simp e) os
 mine-edit z (Come a) os = rw (filter_map-append (own z) os (tag z a ∷ [])) (simp (same_self z))
 mine-edit z (Put before a) os = mine-put z before a os
+mine-edit z (Change f) os = mine-change z f os
 
 pub other-list : {A : Type 0} (y z : List ℕ) → y ≢ z → (e : List_edit A) (os : List (Owned A)) → mine z (edit_list y e os) ≡ mine z os
 other-list y z n (Go p) os = mine-kept z (λ o. not (bytes_eq y o.zone && p o.it)) (λ o e. simp (other_tag z y o.zone (λ w. n (sym w)) e)) os
 other-list y z n (Come a) os = rw (filter_map-append (own z) os (tag y a ∷ [])) (simp (other_tag y z y n (same_self y), append-nil (mine z os)))
 other-list y z n (Put before a) os = other-put y z n before a os
+other-list y z n (Change f) os = other-change y z n f os

@@ -77,6 +77,18 @@ impl<K: Eq + Hash + Drop> Owners<K> {
         Ok(())
     }
 
+    /// What nobody holds is the zone's from now on. There is room for it, so this takes no memory.
+    pub fn take_reserved(&mut self, key: K, zone: ZoneName)
+        requires free { owner K.eq self.old key ≡ None }
+        requires room { 0 < self.old.room }
+        ensures { (k : K) → owner K.eq self.new k ≡ (if K.eq key k then Some zone else owner K.eq self.old k) }
+    {
+        match self.take(key, zone) {
+            Ok(()) => {}
+            Err(_) => unreachable!(),
+        }
+    }
+
     /// A thing is nobody's from now on.
     pub fn give_back(&mut self, key: &K)
         ensures given { (k : K) → owner K.eq self.new k ≡ (if K.eq key.now k then None else owner K.eq self.old k) }

@@ -1,0 +1,3 @@
+pub mod Processes
+pub mod Kernel
+pub mod Shared

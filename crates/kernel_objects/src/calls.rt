@@ -1,0 +1,252 @@
+//! What processes do, and what is done to them.
+ghost use Rattle.std.specs.Prelude.{◌≡◌, IfErr, IfOk, None, OnErr, OnOk, map, nat_eq, ◌&&◌, IfSome, [], ℕ};
+ghost use Rattle.std.specs.Option.{option_map};
+ghost use Rattle.std.specs.List.{list_any};
+ghost use Rattle.std.specs.List.Sorted.{IsStrictlySortedBy};
+ghost use Rattle.std.specs.Ordering.{nat_cmp};
+ghost use Rattle.std.specs.Result.{result_and};
+ghost use Rattle.zn_base.specs.Answers.{AnswersUnless};
+ghost use Rattle.zone_pools.specs.Owned_lists.{Change, edited};
+ghost use Rattle.kernel_objects.specs.declared.faults.KernelFault.TheVariants.{Memory};
+ghost use Rattle.kernel_objects.specs.Kernel.{enter_answer, entered, fork_answer, fork_set, forked, at_limit, with_process, with_processes};
+ghost use Rattle.kernel_objects.specs.Processes.{at_pid, count_of, dropping, ends, ends_some, has_pid, if_may_exec, if_there, process_of, renamed, row_of, signalled, with_pid, without_pid};
+ghost use Rattle.kernel_objects.specs.Shared.{Alike, FreesPids, TakesPid, pid_owner};
+
+use crate::cell::KernelCell;
+use crate::faults::{Errno, KernelFault};
+use crate::objects::{ProcRow, Running, Signal};
+use crate::shared::KernelShared;
+use priv_sets::{PROC_EXEC, PROC_FORK, PrivSet};
+use std::alloc::{AllocError, Global};
+use zn_base::{Text, ZoneName};
+
+// Whether a signal ends a process: a zone's first process ignores what comes from its own zone.
+fn ends(inside: bool, signal: Signal, running: &Running) -> bool
+    ensures { (pid : ℕ) → result ≡ ends inside signal (process_of (pid, running.now)) }
+{
+    match signal {
+        Signal::Zero => false,
+        Signal::Kill | Signal::Term => !(inside && running.first),
+    }
+}
+
+impl KernelCell {
+    // A process begins, in a zone where none has its number.
+    fn begin(
+        &mut self,
+        alloc: Global,
+        shared: &mut KernelShared,
+        zone: &ZoneName,
+        pid: u32,
+        running: Running,
+    ) -> Result<(), AllocError>
+        requires { pid_owner shared.old pid ≡ None }
+        ensures begun { OnOk result (with_pid pid self.old.processes ≡ None → self.new ≡ with_process (process_of (pid, running)) self.old) }
+        ensures taken { OnOk result (TakesPid zone.now pid shared.old shared.new) }
+        ensures same { OnErr result (self.new ≡ self.old) }
+        ensures alike { OnErr result (Alike shared.old shared.new) }
+    {
+        let owner = shared.room_for_pid(alloc, zone)?;
+        self.processes.insert(pid, running)?;
+        shared.take_pid(pid, owner);
+        Ok(())
+    }
+
+    /// A process enters the zone, with the zone's limit set and no parent: EAGAIN where the zone has as many as it may
+    /// have. Where memory runs out nothing changes, so a caller that changes more than this calls it first.
+    pub fn enter(
+        &mut self,
+        alloc: Global,
+        shared: &mut KernelShared,
+        zone: &ZoneName,
+        name: Text,
+        first: bool,
+        pid: u32,
+    ) -> Result<(), KernelFault>
+        requires { pid_owner shared.old pid ≡ None }
+        ensures result { AnswersUnless KernelFault.Memory (enter_answer self.old) result }
+        ensures entered { OnOk result (with_pid pid self.old.processes ≡ None → self.new ≡ with_process (entered self.old name first pid) self.old) }
+        ensures taken { OnOk result (TakesPid zone.now pid shared.old shared.new) }
+        ensures same { OnErr result (self.new ≡ self.old) }
+        ensures alike { OnErr result (Alike shared.old shared.new) }
+    {
+        if self.at_limit() {
+            return Err(KernelFault::Refused(Errno::EAGAIN));
+        }
+        let running = Running {
+            parent: 0,
+            name,
+            first,
+            privileges: self.limit(),
+        };
+        self.begin(alloc, shared, zone, pid, running)?;
+        Ok(())
+    }
+
+    // The set that a child of a process gets.
+    fn fork_set(&self, parent: u32) -> Result<PrivSet, Errno>
+        ensures { result ≡ fork_set (with_pid parent self.now.processes) (at_limit self.now) }
+    {
+        match self.processes.find(parent) {
+            None => Err(Errno::ESRCH),
+            Some(running) if !running.privileges.has(PROC_FORK) => Err(Errno::EPERM),
+            Some(_) if self.at_limit() => Err(Errno::EAGAIN),
+            Some(running) => Ok(running.privileges.copy()),
+        }
+    }
+
+    /// A process makes another, with its own set: ESRCH where the zone has no such process, EPERM where it lacks
+    /// proc_fork, EAGAIN where the zone has as many processes as it may have. Where memory runs out nothing changes, so
+    /// a caller that changes more than this calls it first.
+    pub fn fork(
+        &mut self,
+        alloc: Global,
+        shared: &mut KernelShared,
+        zone: &ZoneName,
+        parent: u32,
+        name: Text,
+        pid: u32,
+    ) -> Result<(), KernelFault>
+        requires { pid_owner shared.old pid ≡ None }
+        ensures result { AnswersUnless KernelFault.Memory (fork_answer parent self.old) result }
+        ensures forked { OnOk result (with_pid pid self.old.processes ≡ None → IfSome (with_pid parent self.old.processes) (λ p. self.new ≡ with_process (forked p name pid) self.old)) }
+        ensures taken { OnOk result (TakesPid zone.now pid shared.old shared.new) }
+        ensures same { OnErr result (self.new ≡ self.old) }
+        ensures alike { OnErr result (Alike shared.old shared.new) }
+    {
+        let running = Running {
+            parent,
+            name,
+            first: false,
+            privileges: self.fork_set(parent)?,
+        };
+        self.begin(alloc, shared, zone, pid, running)?;
+        Ok(())
+    }
+
+    fn check_exec(&self, pid: u32) -> Result<(), Errno>
+        ensures { result ≡ if_may_exec (with_pid pid self.now.processes) }
+    {
+        match self.processes.find(pid) {
+            None => Err(Errno::ESRCH),
+            Some(running) if !running.privileges.has(PROC_EXEC) => Err(Errno::EPERM),
+            Some(_) => Ok(()),
+        }
+    }
+
+    /// A process runs another program, and has its name: ESRCH where the zone has no such process, EPERM where it lacks
+    /// proc_exec.
+    pub fn rename(&mut self, pid: u32, name: Text) -> Result<(), Errno>
+        ensures result { result ≡ if_may_exec (with_pid pid self.old.processes) }
+        ensures renamed { OnOk result (self.new ≡ with_processes (edited (Change (at_pid pid (renamed name))) self.old.processes) self.old) }
+        ensures same { OnErr result (self.new ≡ self.old) }
+    {
+        self.check_exec(pid)?;
+        self.processes.rename(pid, name);
+        Ok(())
+    }
+
+    fn check_there(&self, pid: u32) -> Result<(), Errno>
+        ensures { result ≡ if_there (with_pid pid self.now.processes) }
+    {
+        match self.processes.find(pid) {
+            None => Err(Errno::ESRCH),
+            Some(_) => Ok(()),
+        }
+    }
+
+    // A process ends.
+    fn end(&mut self, shared: &mut KernelShared, pid: u32)
+        ensures gone { self.new ≡ with_processes (without_pid pid self.old.processes) self.old }
+        ensures freed { FreesPids (nat_eq pid) shared.old shared.new }
+    {
+        self.processes.remove(pid);
+        shared.free_pid(pid);
+    }
+
+    /// A process ends: ESRCH where the zone has no such process. Its children get the zone's first process as parent, or
+    /// none where that is gone.
+    pub fn exit(&mut self, shared: &mut KernelShared, pid: u32) -> Result<(), Errno>
+        ensures result { result ≡ if_there (with_pid pid self.old.processes) }
+        ensures gone { OnOk result (self.new ≡ with_processes (without_pid pid self.old.processes) self.old) }
+        ensures freed { OnOk result (FreesPids (nat_eq pid) shared.old shared.new) }
+        ensures same { OnErr result (self.new ≡ self.old) }
+        ensures same_shared { OnErr result (shared.new ≡ shared.old) }
+    {
+        self.check_there(pid)?;
+        self.end(shared, pid);
+        Ok(())
+    }
+
+    // Whether a signal ends a process of the zone: ESRCH where the zone has no such process.
+    fn check_signal(&self, inside: bool, signal: Signal, pid: u32) -> Result<bool, Errno>
+        ensures there { result_and result (Ok tt) ≡ if_there (with_pid pid self.now.processes) }
+        ensures ends { IfOk result (λ ended. ended ≡ ends_some inside signal (with_pid pid self.now.processes)) }
+    {
+        match self.processes.find(pid) {
+            None => Err(Errno::ESRCH),
+            Some(running) => Ok(ends(inside, signal, running)),
+        }
+    }
+
+    /// A process gets a signal, from its own zone (`inside`) or from the global zone: ESRCH where the zone has no such
+    /// process. `Kill` and `Term` end it, but a zone's first process ignores what comes from its own zone.
+    pub fn kill(
+        &mut self,
+        shared: &mut KernelShared,
+        inside: bool,
+        signal: Signal,
+        pid: u32,
+    ) -> Result<(), Errno>
+        ensures result { result ≡ if_there (with_pid pid self.old.processes) }
+        ensures gone { self.new ≡ with_processes (signalled inside signal pid self.old.processes) self.old }
+        ensures freed { FreesPids (λ n. nat_eq pid n && ends_some inside signal (with_pid pid self.old.processes)) shared.old shared.new }
+    {
+        if self.check_signal(inside, signal, pid)? {
+            self.end(shared, pid);
+        }
+        Ok(())
+    }
+
+    /// All processes of the zone end, and how many there were is answered. The count stands still at its type's end.
+    pub fn kill_all(&mut self, shared: &mut KernelShared) -> u32
+        ensures count { result ≡ count_of self.old.processes }
+        ensures gone { self.new ≡ with_processes [] self.old }
+        ensures freed { FreesPids (λ n. list_any (has_pid n) self.old.processes) shared.old shared.new }
+    {
+        let count = self.processes.len().min(u32::MAX as usize) as u32;
+        shared.free_pids(&self.processes);
+        self.processes.clear();
+        count
+    }
+
+    /// A process gives up a privilege, whether or not it has it: ESRCH where the zone has no such process.
+    pub fn drop_priv(&mut self, pid: u32, number: u8) -> Result<(), Errno>
+        ensures result { result ≡ if_there (with_pid pid self.old.processes) }
+        ensures dropped { OnOk result (self.new ≡ with_processes (edited (Change (at_pid pid (dropping number))) self.old.processes) self.old) }
+        ensures same { OnErr result (self.new ≡ self.old) }
+    {
+        self.check_there(pid)?;
+        self.processes.drop_priv(pid, number);
+        Ok(())
+    }
+
+    /// The set of a process, where the zone has it.
+    pub fn privs(&self, pid: u32) -> Option<PrivSet>
+        ensures { result ≡ option_map (λ p. p.privileges) (with_pid pid self.now.processes) }
+    {
+        match self.processes.find(pid) {
+            Some(running) => Some(running.privileges.copy()),
+            None => None,
+        }
+    }
+
+    /// The zone's processes, in order of their numbers.
+    pub fn list_procs(&self, alloc: Global) -> Result<Vec<ProcRow>, KernelFault>
+        ensures rows { IfOk result (λ rows. rows.items ≡ map row_of self.now.processes) }
+        ensures ordered { IfOk result (λ rows. IsStrictlySortedBy nat_cmp (map (λ row. row.pid) rows.items)) }
+        ensures memory { IfErr result (λ e. e ≡ Memory) }
+    {
+        Ok(self.processes.rows(alloc)?)
+    }
+}

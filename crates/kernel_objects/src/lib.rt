@@ -1,0 +1,20 @@
+//! What the kernel has for zones: processes, ids with their limits, and devices. A `KernelCell` is what one zone has, and
+//! the `KernelShared` what other zones may ask: who holds each number of a process or a zone, the last ones given, and
+//! the declared devices. Each call's answer and change are those of the definitions in `specs/` on the zone's plain lists.
+#![tactic(auto)]
+
+mod calls;
+mod cell;
+mod devices;
+mod faults;
+mod limits;
+mod numbers;
+mod objects;
+mod processes;
+mod shared;
+
+pub use cell::KernelCell;
+pub use faults::{Errno, KernelFault};
+pub use limits::DEVICES_MAX;
+pub use objects::{ProcRow, Signal};
+pub use shared::KernelShared;
