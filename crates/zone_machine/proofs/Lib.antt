@@ -11,7 +11,6 @@ pub mod Common_laws
 pub mod Local_laws
 pub mod Local_doing
 pub mod Words
-pub mod Path_tmp
 pub mod Made
 pub mod Results
 pub mod Last
