@@ -1,11 +1,10 @@
 -- What the definitions say of some zones' processes and devices.
 use Rattle.std.proofs.Common.{◌≡◌, ℕ, List, Bool, [], ◌∷◌, Option, Some, None, Ok, Err, true, false, codes, map, refl}
-use Rattle.std.specs.Map.{lookup}
 use Rattle.priv_sets.specs.Sets.{has, only, set_of, without}
 use Rattle.zone_pools.specs.Pools.{first_free}
 use Rattle.zone_pools.specs.declared.grant.Grant.TheVariants.{Number}
-use Rattle.kernel_objects.specs.Kernel.{Kernel, enter_answer, entered, fork_answer, new_id, with_id, limited, with_process}
-use Rattle.kernel_objects.specs.Processes.{Process, at_pid, dropping, if_may_exec, if_there, renamed, row_of, signalled, with_pid, without_pid}
+use Rattle.kernel_objects.specs.Kernel.{Kernel, enter_answer, entered, fork_answer, with_process}
+use Rattle.kernel_objects.specs.Processes.{Process, at_pid, dropping, if_may_exec, if_there, renamed, signalled, with_pid, without_pid}
 use Rattle.kernel_objects.specs.Shared.{Shared, declare_answer, next_pid, next_zid}
 use Rattle.kernel_objects.specs.declared.faults.Errno.TheVariants.{EAGAIN, EPERM, ESRCH}
 use Rattle.kernel_objects.specs.declared.faults.KernelFault.TheVariants.{Duplicate, Refused}

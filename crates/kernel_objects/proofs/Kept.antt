@@ -1,5 +1,5 @@
 -- What the calls keep: who has which number, that a cell and the shared part agree, and that sets lie within the limit.
-use Rattle.std.proofs.Common.{◌≡◌, ◌∷◌, ◌&&◌, ◌||◌, [], ℕ, List, Bool, true, false, Option, Some, None, not, filter, map, nat_eq, nat_lt, refl, ap, sym, subst, ◌∙◌}
+use Rattle.std.proofs.Common.{◌≡◌, ◌∷◌, ◌&&◌, ◌||◌, [], ℕ, List, Bool, true, false, Some, None, not, filter, map, nat_eq, nat_lt, refl, ap, sym, subst, ◌∙◌}
 use Rattle.std.specs.Prelude.{if◌then◌else◌, ◌==◌}
 use Rattle.std.specs.List.{list_all, list_any}
 use Rattle.std.proofs.lemmas.Bool.{and_from, eq-eqb, eqb-true, false≢true}
