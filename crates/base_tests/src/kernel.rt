@@ -5,7 +5,7 @@ use priv_sets::{PROC_EXEC, PROC_FORK, PrivSet, limit_of};
 use std::alloc::Global;
 use std::test::Fail;
 use zn_base::{AbsPath, Text, ZoneName};
-use zone_pools::{Grant, Pool};
+use zone_pools::Grant;
 
 // A zone with its cell, and what other zones may ask.
 struct Zone {
@@ -352,33 +352,27 @@ fn the_pool_of_processes_starts_again(rt: HostRuntime) -> Result<(), Fail> {
     Ok(())
 }
 
-// Whether each number of the pool is given in turn.
-fn fills(alloc: Global, zone: &mut Zone) -> Result<bool, Fail> {
-    for pid in 2..30_000 {
-        if zone.shared.next_pid() != Grant::Number(pid)
-            || zone.enter(alloc, b"x", false, pid)? != DONE
-        {
-            return Ok(false);
-        }
-    }
-    Ok(zone.shared.next_pid() == Grant::Denied(Pool::Pids))
-}
-
-// Whether one number comes free, and then all.
-fn empties(zone: &mut Zone) -> bool {
-    zone.exit(700) == DONE
-        && zone.shared.next_pid() == Grant::Number(700)
-        && zone.kill_all() == 29_997
-        && zone.shared.pid_free(2)
-        && zone.shared.owner(29_999).is_none()
-        && zone.kill_all() == 0
+// Whether all end at once, and their numbers come free.
+fn all_end(alloc: Global, zone: &mut Zone) -> Result<bool, Fail> {
+    let three = zone.enter(alloc, b"init", true, 2)? == DONE
+        && zone.fork(alloc, 2, b"a", 3)? == DONE
+        && zone.enter(alloc, b"login", false, 29_999)? == DONE;
+    Ok(
+        three
+            && zone.shared.owner(29_999).is_some()
+            && zone.kill_all() == 3
+            && zone.shared.owner(29_999).is_none()
+            && zone.shared.pid_free(2)
+            && zone.shared.pid_free(3)
+            && zone.lists(alloc, &[])?
+            && zone.kill_all() == 0,
+    )
 }
 
 #[test]
-fn the_pool_of_processes_ends(rt: HostRuntime) -> Result<(), Fail> {
+fn all_processes_end(rt: HostRuntime) -> Result<(), Fail> {
     let mut zone = Zone::limited(rt.alloc(), b"default", None)?;
-    assert!(rt; fills(rt.alloc(), &mut zone)?);
-    assert!(rt; empties(&mut zone));
+    assert!(rt; all_end(rt.alloc(), &mut zone)?);
     Ok(())
 }
 

@@ -1,5 +1,5 @@
 -- What the calls keep: who has which number, that a cell and the shared part agree, and that sets lie within the limit.
-use Rattle.std.proofs.Common.{◌≡◌, ◌∷◌, ◌&&◌, ◌||◌, [], ℕ, List, Bool, true, false, Some, None, not, filter, map, nat_eq, nat_lt, refl, ap, sym, subst, ◌∙◌}
+use Rattle.std.proofs.Common.{◌≡◌, ◌∷◌, ◌&&◌, ◌||◌, [], ℕ, List, Bool, true, false, Some, None, Option, not, filter, map, nat_eq, nat_lt, refl, ap, sym, subst, ◌∙◌}
 use Rattle.std.specs.Prelude.{if◌then◌else◌, ◌==◌}
 use Rattle.std.specs.List.{list_all, list_any}
 use Rattle.std.proofs.lemmas.Bool.{and_from, eq-eqb, eqb-true, false≢true}
@@ -9,8 +9,9 @@ use Rattle.zone_pools.specs.Owned_lists.{put}
 use Rattle.zone_pools.specs.Owners.{is_owner}
 use Rattle.priv_sets.proofs.Numbers.{has-set_of}
 use Rattle.priv_sets.specs.Sets.{has, only, within, without}
-use Rattle.kernel_objects.specs.Kernel.{Kernel, entered, forked, has_zid, limit_of, new_id, with_process, with_processes, within_limit}
+use Rattle.kernel_objects.specs.Kernel.{Kernel, entered, forked, has_zid, is_nothing, limit_of, new_id, nothing, with_process, with_processes, within_limit}
 use Rattle.kernel_objects.specs.Processes.{Process, adopted, at_pid, below, dropping, has_pid, heir, renamed, with_pid, without_pid}
+use Rattle.kernel_objects.specs.declared.objects.Id.{Id}
 use Rattle.kernel_objects.specs.Shared.{Agree, FreesPids, FreesZids, Shared, TakesPid, TakesZid, pid_owner, zid_owner}
 
 both : (a b : Bool) → (a && b) ≡ true → (a ≡ true) × (b ≡ true)
@@ -226,3 +227,13 @@ module _ (k : Kernel) where
   pub within-dropped : (pid number : ℕ) → within_limit k ≡ true → within_limit (with_processes (map (at_pid pid (dropping number)) k.processes) k) ≡ true
   within-dropped pid number h =
       all-map fits (at_pid pid (dropping number)) (all-at fits pid (dropping number) (λ p e. within_without p.privileges (only number) (limit_of k.id) e)) k.processes h
+
+-- a zone without anything
+pub nothing_is : (k : Kernel) → is_nothing k ≡ true → k ≡ nothing
+nothing_is k h = of_parts k.id k.processes k.devices h
+  where
+    of_parts : (id : Option Id) (ps : List Process) (devices : List (List ℕ)) → is_nothing (record { id = id; processes = ps; devices = devices }) ≡ true → record { id = id; processes = ps; devices = devices } ≡ nothing
+    of_parts None [] [] h = refl
+    of_parts (Some i) ps devices h = absurd (false≢true h)
+    of_parts None (p ∷ ps) devices h = absurd (false≢true h)
+    of_parts None [] (d ∷ devices) h = absurd (false≢true h)

@@ -208,13 +208,20 @@ impl KernelCell {
         Ok(())
     }
 
-    /// All processes of the zone end, and how many there were is answered. The count stands still at its type's end.
+    /// How many processes the zone has. The count stands still at its type's end.
+    pub fn count_procs(&self) -> u32
+        ensures { result ≡ count_of self.now.processes }
+    {
+        self.processes.len().min(u32::MAX as usize) as u32
+    }
+
+    /// All processes of the zone end, and how many there were is answered, as `count_procs` counts them.
     pub fn kill_all(&mut self, shared: &mut KernelShared) -> u32
         ensures count { result ≡ count_of self.old.processes }
         ensures gone { self.new ≡ with_processes [] self.old }
         ensures freed { FreesPids (λ n. list_any (has_pid n) self.old.processes) shared.old shared.new }
     {
-        let count = self.processes.len().min(u32::MAX as usize) as u32;
+        let count = self.count_procs();
         shared.free_pids(&self.processes);
         self.processes.clear();
         count

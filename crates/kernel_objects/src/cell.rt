@@ -2,7 +2,7 @@
 ghost use Rattle.std.specs.Prelude.{◌≡◌, IfErr, IfSome, OnErr, OnOk, is_some, None, Some, [], true, ◌≤◌};
 ghost use Rattle.std.specs.Option.{option_map};
 ghost use Rattle.kernel_objects.specs.declared.faults.KernelFault.TheVariants.{Memory};
-ghost use Rattle.kernel_objects.specs.Kernel.{at_limit, bootargs_of, cleared, fs_allowed_of, has_zid, limit_of, limited, new_id, nothing, reaches, with_bootargs, with_id, zid_of};
+ghost use Rattle.kernel_objects.specs.Kernel.{at_limit, bootargs_of, cleared, fs_allowed_of, has_zid, is_nothing, limit_of, limited, new_id, nothing, reaches, with_bootargs, with_id, zid_of};
 ghost use Rattle.kernel_objects.specs.Shared.{Alike, FreesZids, TakesZid, zid_owner};
 
 use crate::faults::KernelFault;
@@ -60,6 +60,13 @@ impl KernelCell {
             processes: Processes::new(alloc),
             devices: Vec::new(alloc),
         }
+    }
+
+    /// Whether the zone has nothing.
+    pub fn is_empty(&self) -> bool
+        ensures { result ≡ is_nothing self.now }
+    {
+        self.id.is_none() && self.processes.len() == 0 && self.devices.is_empty()
     }
 
     /// The zone gets an id, with an empty limit set, no limit of processes and empty texts, in place of the one that it

@@ -3,7 +3,7 @@ ghost use Rattle.std.specs.Prelude.{◌≡◌, ◌&&◌, ◌||◌, [], List, Non
 ghost use Rattle.std.specs.List.{list_any};
 ghost use Rattle.zn_base.specs.Names.{Name};
 ghost use Rattle.zone_pools.specs.Owned_lists.{Change, Put, edited};
-ghost use Rattle.kernel_objects.specs.Kernel.{Kernel, entered, forked, has_zid, new_id, with_process, with_processes, within_limit};
+ghost use Rattle.kernel_objects.specs.Kernel.{Kernel, entered, forked, has_zid, is_nothing, new_id, nothing, with_process, with_processes, within_limit};
 ghost use Rattle.kernel_objects.specs.Processes.{Process, at_pid, below, dropping, has_pid, renamed, with_pid, without_pid};
 ghost use Rattle.kernel_objects.specs.Shared.{Agree, FreesPids, FreesZids, Shared, TakesPid, TakesZid};
 
@@ -33,4 +33,9 @@ pub fn sets_lie_within_the_limit()
     ensures gone { (k : Kernel) (pid : ℕ) → within_limit k ≡ true → within_limit (with_processes (without_pid pid k.processes) k) ≡ true }
     ensures renamed { (k : Kernel) (pid : ℕ) (name : List ℕ) → within_limit k ≡ true → within_limit (with_processes (edited (Change (at_pid pid (renamed name))) k.processes) k) ≡ true }
     ensures dropped { (k : Kernel) (pid number : ℕ) → within_limit k ≡ true → within_limit (with_processes (edited (Change (at_pid pid (dropping number))) k.processes) k) ≡ true }
+{}
+
+/// A zone that is told as empty has nothing.
+pub fn an_empty_zone_has_nothing()
+    ensures { (k : Kernel) → is_nothing k ≡ true → k ≡ nothing }
 {}
