@@ -360,6 +360,7 @@ fn all_end(alloc: Global, zone: &mut Zone) -> Result<bool, Fail> {
     Ok(
         three
             && zone.shared.owner(29_999).is_some()
+            && zone.cell.count_procs() == 3
             && zone.kill_all() == 3
             && zone.shared.owner(29_999).is_none()
             && zone.shared.pid_free(2)
@@ -385,7 +386,8 @@ fn has_texts(zone: &Zone, args: &[u8], types: &[u8]) -> bool {
 }
 
 fn is_without_id(zone: &Zone) -> bool {
-    zone.cell.zid_of() == None
+    zone.cell.is_empty()
+        && zone.cell.zid_of() == None
         && zone.cell.bootargs_of().is_none()
         && zone.cell.fs_allowed_of().is_none()
         && !zone.cell.at_limit()
@@ -418,6 +420,7 @@ fn ids_come_and_go(alloc: Global, zone: &mut Zone) -> Result<bool, Fail> {
         is_without_id(zone)
             && given_back(zone) == None
             && zone.activate(alloc, 4) == DONE
+            && !zone.cell.is_empty()
             && !zone.shared.zid_free(4)
             && sets(alloc, zone)?
             && clears(alloc, zone)
