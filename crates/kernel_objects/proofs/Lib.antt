@@ -1,2 +1,4 @@
 pub mod Entries
 pub mod Sharing
+pub mod Kept
+mod Examples

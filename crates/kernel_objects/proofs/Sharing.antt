@@ -1,11 +1,10 @@
 -- What becomes of the shared part, in several steps, and what a fork makes.
-use Rattle.std.proofs.Common.{◌≡◌, ◌∷◌, [], ℕ, List, Bool, true, false, Option, Some, None, Ok, Err, filter, nat_eq, refl, ap, sym, ◌∙◌}
+use Rattle.std.proofs.Common.{◌≡◌, ◌∷◌, [], ℕ, List, Bool, true, false, Option, Some, None, Ok, Err, nat_eq, refl, ap, sym, ◌∙◌}
 use Rattle.std.specs.Prelude.{IfSome, if◌then◌else◌}
 use Rattle.std.proofs.lemmas.Bool.{eqb-true}
 use Rattle.zn_base.specs.Names.{Name}
-use Rattle.zone_pools.specs.Firsts.{first_of}
 use Rattle.kernel_objects.specs.Kernel.{Kernel, fork_set, forked, set_unless_full, with_process}
-use Rattle.kernel_objects.specs.Processes.{Process, has_pid, may_fork, with_pid}
+use Rattle.kernel_objects.specs.Processes.{Process, may_fork, with_pid}
 use Rattle.kernel_objects.specs.declared.faults.Errno.TheVariants.{EPERM}
 use Rattle.kernel_objects.specs.Shared.{Alike, FreesZids, Shared, TakesPid, TakesZid}
 

@@ -1,8 +1,9 @@
 -- What one zone has in the kernel, and what its calls answer.
-use Rattle.std.specs.Prelude.{ℕ, List, [], ◌∷◌, Option, Some, None, Bool, false, length, nat_eq, nat_le, Result, Ok, Err, if◌then◌else◌}
+use Rattle.std.specs.Prelude.{ℕ, List, [], Option, Some, None, Bool, false, not, ◌&&◌, is_some, length, nat_eq, nat_le, Result, Ok, Err, if◌then◌else◌}
 use Rattle.std.specs.List.{list_all}
 use Rattle.std.specs.Option.{option_map}
 use Rattle.priv_sets.specs.Sets.{within}
+use Rattle.zone_pools.specs.Firsts.{is_nil}
 use Rattle.zone_pools.specs.Owned_lists.{Put, edited}
 use Rattle.kernel_objects.specs.Processes.{Process, below, may_fork, with_pid}
 use Rattle.kernel_objects.specs.declared.faults.Errno.{Errno}
@@ -20,6 +21,9 @@ pub record Kernel : Type 0 where
 
 abbrev pub nothing : Kernel
 nothing = record { id = None; processes = []; devices = [] }
+
+abbrev pub is_nothing : Kernel → Bool
+is_nothing k = not (is_some k.id) && is_nil k.processes && is_nil k.devices
 
 -- the zone's id
 abbrev pub new_id : ℕ → Id

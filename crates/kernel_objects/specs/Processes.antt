@@ -1,5 +1,5 @@
 -- The processes of one zone, in order of their numbers, and what becomes of them.
-use Rattle.std.specs.Prelude.{ℕ, List, [], ◌∷◌, Option, Some, None, Bool, true, false, not, ◌&&◌, filter, min, length, map, nat_eq, nat_lt, Result, Ok, Err, ◌^◌, ◌-◌, if◌then◌else◌}
+use Rattle.std.specs.Prelude.{ℕ, List, Option, Some, None, Bool, true, false, not, ◌&&◌, filter, min, length, nat_eq, nat_lt, Result, Ok, Err, ◌^◌, ◌-◌, if◌then◌else◌}
 use Rattle.priv_sets.specs.Sets.{has, only, without}
 use Rattle.priv_sets.specs.declared.table.TheConstants.{PROC_EXEC, PROC_FORK}
 use Rattle.zone_pools.specs.Firsts.{first_of}

@@ -52,8 +52,10 @@ impl KernelCell {
         Ok(())
     }
 
-    /// A process enters the zone, with the zone's limit set and no parent: EAGAIN where the zone has as many as it may
-    /// have. Where memory runs out nothing changes, so a caller that changes more than this calls it first.
+    /// A process enters the zone, as its first one or by zlogin(1), with the zone's limit set and no parent: EAGAIN where
+    /// the zone has as many as it may have. Its number is nobody's, and is the last one given from now on. Where memory
+    /// runs out nothing changes, so a caller that changes more than this calls it once all other memory is taken, and
+    /// before it changes anything.
     pub fn enter(
         &mut self,
         alloc: Global,
@@ -95,9 +97,9 @@ impl KernelCell {
         }
     }
 
-    /// A process makes another, with its own set: ESRCH where the zone has no such process, EPERM where it lacks
-    /// proc_fork, EAGAIN where the zone has as many processes as it may have. Where memory runs out nothing changes, so
-    /// a caller that changes more than this calls it first.
+    /// A process makes another, with its own set, by fork(2): ESRCH where the zone has no such process, EPERM where it
+    /// lacks proc_fork, EAGAIN where the zone has as many processes as it may have. The number and memory are as in
+    /// `enter`.
     pub fn fork(
         &mut self,
         alloc: Global,
@@ -134,8 +136,8 @@ impl KernelCell {
         }
     }
 
-    /// A process runs another program, and has its name: ESRCH where the zone has no such process, EPERM where it lacks
-    /// proc_exec.
+    /// A process runs another program, by exec(2), and has its name: ESRCH where the zone has no such process, EPERM where
+    /// it lacks proc_exec. Its set stays as it was.
     pub fn rename(&mut self, pid: u32, name: Text) -> Result<(), Errno>
         ensures result { result ≡ if_may_exec (with_pid pid self.old.processes) }
         ensures renamed { OnOk result (self.new ≡ with_processes (edited (Change (at_pid pid (renamed name))) self.old.processes) self.old) }
@@ -164,8 +166,8 @@ impl KernelCell {
         shared.free_pid(pid);
     }
 
-    /// A process ends: ESRCH where the zone has no such process. Its children get the zone's first process as parent, or
-    /// none where that is gone.
+    /// A process ends, by exit(2): ESRCH where the zone has no such process. Its children get the zone's first process as
+    /// parent, or none where that is gone.
     pub fn exit(&mut self, shared: &mut KernelShared, pid: u32) -> Result<(), Errno>
         ensures result { result ≡ if_there (with_pid pid self.old.processes) }
         ensures gone { OnOk result (self.new ≡ with_processes (without_pid pid self.old.processes) self.old) }
@@ -189,8 +191,9 @@ impl KernelCell {
         }
     }
 
-    /// A process gets a signal, from its own zone (`inside`) or from the global zone: ESRCH where the zone has no such
-    /// process. `Kill` and `Term` end it, but a zone's first process ignores what comes from its own zone.
+    /// A process gets a signal, by kill(1), from its own zone (`inside`) or from the global zone: ESRCH where the zone has
+    /// no such process, also where another zone has it. `Kill` and `Term` end it, but a zone's first process ignores what
+    /// comes from its own zone. Who speaks for the global zone finds the process's cell by `KernelShared::owner`.
     pub fn kill(
         &mut self,
         shared: &mut KernelShared,
@@ -208,19 +211,27 @@ impl KernelCell {
         Ok(())
     }
 
-    /// All processes of the zone end, and how many there were is answered. The count stands still at its type's end.
+    /// How many processes the zone has. The count stands still at its type's end.
+    pub fn count_procs(&self) -> u32
+        ensures { result ≡ count_of self.now.processes }
+    {
+        self.processes.len().min(u32::MAX as usize) as u32
+    }
+
+    /// All processes of the zone end, and how many there were is answered, as `count_procs` counts them.
     pub fn kill_all(&mut self, shared: &mut KernelShared) -> u32
         ensures count { result ≡ count_of self.old.processes }
         ensures gone { self.new ≡ with_processes [] self.old }
         ensures freed { FreesPids (λ n. list_any (has_pid n) self.old.processes) shared.old shared.new }
     {
-        let count = self.processes.len().min(u32::MAX as usize) as u32;
+        let count = self.count_procs();
         shared.free_pids(&self.processes);
         self.processes.clear();
         count
     }
 
-    /// A process gives up a privilege, whether or not it has it: ESRCH where the zone has no such process.
+    /// A process gives up a privilege of privileges(7), by its number, whether or not it has it: ESRCH where the zone has no
+    /// such process.
     pub fn drop_priv(&mut self, pid: u32, number: u8) -> Result<(), Errno>
         ensures result { result ≡ if_there (with_pid pid self.old.processes) }
         ensures dropped { OnOk result (self.new ≡ with_processes (edited (Change (at_pid pid (dropping number))) self.old.processes) self.old) }
@@ -231,7 +242,7 @@ impl KernelCell {
         Ok(())
     }
 
-    /// The set of a process, where the zone has it.
+    /// The set of a process, as ppriv(1) shows it, where the zone has the process.
     pub fn privs(&self, pid: u32) -> Option<PrivSet>
         ensures { result ≡ option_map (λ p. p.privileges) (with_pid pid self.now.processes) }
     {
@@ -241,7 +252,7 @@ impl KernelCell {
         }
     }
 
-    /// The zone's processes, in order of their numbers.
+    /// The zone's processes as ps(1) lists them, in order of their numbers.
     pub fn list_procs(&self, alloc: Global) -> Result<Vec<ProcRow>, KernelFault>
         ensures rows { IfOk result (λ rows. rows.items ≡ map row_of self.now.processes) }
         ensures ordered { IfOk result (λ rows. IsStrictlySortedBy nat_cmp (map (λ row. row.pid) rows.items)) }

@@ -2,7 +2,7 @@
 ghost use Rattle.std.specs.Prelude.{◌≡◌, IfErr, IfSome, OnErr, OnOk, is_some, None, Some, [], true, ◌≤◌};
 ghost use Rattle.std.specs.Option.{option_map};
 ghost use Rattle.kernel_objects.specs.declared.faults.KernelFault.TheVariants.{Memory};
-ghost use Rattle.kernel_objects.specs.Kernel.{at_limit, bootargs_of, cleared, fs_allowed_of, has_zid, limit_of, limited, new_id, nothing, reaches, with_bootargs, with_id, zid_of};
+ghost use Rattle.kernel_objects.specs.Kernel.{at_limit, bootargs_of, cleared, fs_allowed_of, has_zid, is_nothing, limit_of, limited, new_id, nothing, reaches, with_bootargs, with_id, zid_of};
 ghost use Rattle.kernel_objects.specs.Shared.{Alike, FreesZids, TakesZid, zid_owner};
 
 use crate::faults::KernelFault;
@@ -15,7 +15,8 @@ use std::marker::Model;
 use zn_base::{AbsPath, Text, ZoneName};
 
 /// What one zone has in the kernel. Contracts see `Kernel`. It has no zone's name: a call that makes the shared part name
-/// the zone is told the name.
+/// the zone is told the name. A cell and the shared part agree where the shared part names for the zone just what the
+/// cell has, by `Agree`: then no process of the zone has a number that is nobody's.
 pub struct KernelCell {
     pub(crate) id: Option<Id>,
     pub(crate) processes: Processes,
@@ -62,8 +63,16 @@ impl KernelCell {
         }
     }
 
+    /// Whether the zone has nothing.
+    pub fn is_empty(&self) -> bool
+        ensures { result ≡ is_nothing self.now }
+    {
+        self.id.is_none() && self.processes.len() == 0 && self.devices.is_empty()
+    }
+
     /// The zone gets an id, with an empty limit set, no limit of processes and empty texts, in place of the one that it
-    /// had, if any. Where memory runs out nothing changes, so a caller that changes more than this calls it first.
+    /// had, if any. Its number is nobody's, and is the last one given from now on. Where memory runs out nothing changes,
+    /// so a caller that changes more than this calls it once all other memory is taken, and before it changes anything.
     pub fn activate(
         &mut self,
         alloc: Global,
@@ -85,8 +94,9 @@ impl KernelCell {
         Ok(())
     }
 
-    /// What the zone may have and do, from its configuration: the limit set of its processes, how many there may be, and
-    /// the types of file systems that it may mount. A zone without an id has none of it.
+    /// What the zone may have and do, by limitpriv, max-processes and fs-allowed of zonecfg(8): the limit set of its
+    /// processes, how many there may be, and the types of file systems that it may mount. A zone without an id has none
+    /// of it.
     pub fn set_limits(&mut self, limit: PrivSet, most: Option<u64>, fs_allowed: Text)
         ensures { self.new ≡ with_id (limited limit most fs_allowed) self.old }
     {

@@ -21,7 +21,7 @@ fn fits_some(patterns: &[Text], device: &AbsPath) -> bool
 }
 
 // The declared devices that fit one of the patterns.
-fn devices_for(
+fn fitting(
     alloc: Global,
     declared: &[AbsPath],
     patterns: &[Text],
@@ -37,9 +37,28 @@ fn devices_for(
     Ok(given)
 }
 
+impl KernelShared {
+    /// The declared devices that one of the patterns fits, in order of declaration, for `set_devices`.
+    pub fn devices_for(&self, alloc: Global, patterns: &[Text]) -> Result<Vec<AbsPath>, KernelFault>
+        ensures devices { IfOk result (λ given. given.items ≡ devices_for patterns.now self.now) }
+        ensures bound { IfOk result (λ given. length given.items ≤ 1024) }
+        ensures memory { IfErr result (λ e. e ≡ Memory) }
+    {
+        Ok(fitting(alloc, self.devices(), patterns)?)
+    }
+}
+
 impl KernelCell {
+    /// The zone has these devices, in this order, and no others. It takes no memory.
+    pub fn set_devices(&mut self, devices: Vec<AbsPath>)
+        ensures { self.new ≡ record self.old { devices = devices.items } }
+    {
+        self.devices = devices;
+    }
+
     /// The zone has the declared devices that one of the patterns fits, in order of declaration, and no others. How many
-    /// there are is answered.
+    /// there are is answered. A caller that takes all memory before it changes anything calls `devices_for` first, and
+    /// then `set_devices`.
     pub fn give_devices(
         &mut self,
         alloc: Global,
@@ -51,9 +70,9 @@ impl KernelCell {
         ensures memory { IfErr result (λ e. e ≡ Memory) }
         ensures same { OnErr result (self.new ≡ self.old) }
     {
-        let given = devices_for(alloc, shared.devices(), patterns)?;
+        let given = shared.devices_for(alloc, patterns)?;
         let count = given.len() as u32;
-        self.devices = given;
+        self.set_devices(given);
         Ok(count)
     }
 

@@ -7,6 +7,7 @@ mod calls;
 mod cell;
 mod devices;
 mod faults;
+mod laws;
 mod limits;
 mod numbers;
 mod objects;
@@ -15,6 +16,10 @@ mod shared;
 
 pub use cell::KernelCell;
 pub use faults::{Errno, KernelFault};
+pub use laws::{
+    an_empty_zone_has_nothing, cell_and_shared_part_agree, numbers_of_processes,
+    sets_lie_within_the_limit,
+};
 pub use limits::DEVICES_MAX;
 pub use objects::{ProcRow, Signal};
 pub use shared::KernelShared;

@@ -1,4 +1,4 @@
-use Rattle.std.proofs.Common.{sym, ◌∙◌}
+use Rattle.std.proofs.Common.{sym}
 use Rattle.kernel_objects.proofs.Sharing.{forks}
 use Rattle.kernel_objects.proofs.cell.KernelCell.fork.Goals as goal
 

@@ -1,4 +1,4 @@
-use Rattle.std.proofs.Common.{◌∙◌, None, ap, nat_eq, sym}
+use Rattle.std.proofs.Common.{◌∙◌, None, ap, nat_eq}
 use Rattle.std.specs.Prelude.{if◌then◌else◌}
 use Rattle.std.specs.List.{list_any}
 use Rattle.zone_pools.specs.Owners.{owner}

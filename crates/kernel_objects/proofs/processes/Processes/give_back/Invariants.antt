@@ -1,4 +1,4 @@
-use Rattle.std.proofs.Common.{◌≡◌, ℕ, None, map, nat_eq}
+use Rattle.std.proofs.Common.{◌≡◌, ℕ, None, nat_eq}
 use Rattle.std.specs.Prelude.{if◌then◌else◌}
 use Rattle.std.specs.List.{list_any}
 use Rattle.zone_pools.specs.Owners.{owner}
