@@ -46,7 +46,7 @@ def kind_of_line(line):
 
 
 def answer_of(program, data):
-    done = subprocess.run([program, "trace"], input=data, capture_output=True, timeout=60)
+    done = subprocess.run([program, "trace"], input=data, capture_output=True, timeout=600)
     return done.returncode, done.stdout, done.stderr
 
 
