@@ -6,10 +6,12 @@ import pathlib
 PROGRAM = pathlib.Path(__file__).resolve().parent.parent / "crates/zones_cli/out/zones_cli"
 
 
-def arguments(doc):
-    """How many inputs, the seed that they are made from, and the program."""
+def arguments(doc, *switches):
+    """How many inputs, the seed that they are made from, the program, and the switches of one script."""
     parser = argparse.ArgumentParser(description=doc.split("\n")[0])
     parser.add_argument("--count", type=int, default=1000)
     parser.add_argument("--seed", type=int, default=1)
     parser.add_argument("--program", default=str(PROGRAM))
+    for switch in switches:
+        parser.add_argument("--" + switch, action="store_true")
     return parser.parse_args()

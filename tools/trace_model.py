@@ -1,14 +1,17 @@
-"""A plain, slow model of `zones trace`, written from docs/COMMANDS.md and docs/TRACES.md, and not from the program.
+"""A plain, slow model of `zones trace`, written from its rules, and not from the program.
 
 run(data) gives (status, standard output, standard error) for a whole input. It shares no code with the
-program and is meant for comparing the two; tools/fuzz_trace.py does that.
+program and is meant for comparing the two; tools/fuzz_trace.py does that, and tools/trace_rows.py compares the model
+with replies that are known.
 
-Within 200,000 lines at most 256 zones are made, a zone holds one id and one process at most, and no pool of numbers
-comes to its end: a zone needs 26 lines to be booted and halted again. So no step of a request fails, and the model
-has neither `failed` nor `undone`.
+At most 256 zones are stored, and each holds one id at most, so the ids never come to their end. The numbers of
+processes do. Of the steps of a request `init` alone asks one, after the zone is ready; so it alone fails, and no step
+is undone.
 """
 
+import dataclasses
 import itertools
+import re
 
 import export_model
 
@@ -16,7 +19,7 @@ MOST_LINES = 200000
 MOST_BYTES = 4096
 MOST_ZONES = 256
 MOST_WAITING = 8
-LAST_TICKET = 4294967295
+LAST_NUMBER = LAST_TICKET = 4294967295
 PIDS = range(2, 30000)
 ZIDS = range(1, 10000)
 SESSIONS = {b"%d" % number: number for number in range(1, 65)}
@@ -33,6 +36,17 @@ HALT = [
     "hook before halt", "state shutting_down", "kill", "unmount /", "clear", "state down", "zidback",
     "state installed", "hook after halt",
 ]
+
+# The privileges in their order, each with its class: D default, R required, O optional, P prohibited.
+PRIVILEGES = dict(named.split(":") for named in """
+    contract_event:D contract_identity:D contract_observer:D cpc_cpu:O dtrace_kernel:P dtrace_proc:O dtrace_user:O
+    file_chown:D file_chown_self:D file_dac_execute:D file_dac_read:D file_dac_search:D file_dac_write:D
+    file_link_any:D file_owner:D file_setid:D ipc_dac_read:D ipc_dac_write:D ipc_owner:D net_icmpaccess:D
+    net_privaddr:D net_rawaccess:O proc_audit:D proc_chroot:D proc_clock_highres:O proc_exec:R proc_fork:R proc_info:D
+    proc_lock_memory:O proc_owner:D proc_session:D proc_setid:D proc_taskid:D proc_zone:P sys_acct:D sys_admin:D
+    sys_config:P sys_devices:P sys_mount:R sys_time:O
+""".split())
+DEFAULT = frozenset(name for name, kind in PRIVILEGES.items() if kind in "DR")
 
 
 class Outside(Exception):
@@ -64,30 +78,99 @@ def bad_word(place):
     raise Outside("102 BadWord %d" % place)
 
 
-def event_of(line):
-    """("S", number, text), ("D", name), or None for a line that is no event."""
+class Words:
+    """The words of a line, read one after the other, each after one space."""
+
+    def __init__(self, line):
+        self.line, self.place = line, 0
+
+    def next(self, is_right):
+        """The next word, which has to be there and to be a right one."""
+        if self.place > len(self.line):
+            bad_word(len(self.line))
+        word = self.line[self.place:].split(b" ", 1)[0]
+        if not is_right(word):
+            bad_word(self.place)
+        self.place += len(word) + 1
+        return word
+
+    def text(self):
+        """All that is left, which has to be printable."""
+        for place in range(self.place, len(self.line)):
+            if not 32 <= self.line[place] <= 126:
+                bad_word(place)
+        return self.line[self.place:]
+
+    def end(self):
+        if self.place <= len(self.line):
+            bad_word(self.place)
+
+
+def is_zone_name(word):
+    return name_fault(word) is None
+
+
+def is_process_name(word):
+    return re.fullmatch(rb"[A-Za-z0-9_.-]{1,16}", word) is not None
+
+
+def is_number(word):
+    return re.fullmatch(rb"0|[1-9][0-9]{0,9}", word) is not None and int(word) <= LAST_NUMBER
+
+
+def is_signal(word):
+    return word in (b"0", b"9", b"15")
+
+
+def is_privilege(word):
+    return word.decode("latin-1") in PRIVILEGES
+
+
+# The calls of a process, each with what its other words have to be; the unbuilt ones are wrong words until they move
+# into this table. Then the privilege that a call needs.
+CALLS = {
+    b"fork": [is_process_name],
+    b"exec": [is_process_name],
+    b"exit": [],
+    b"kill": [is_signal, is_number],
+    b"ps": [],
+    b"privs": [],
+    b"drop": [is_privilege],
+    b"zonename": [],
+    b"true": [],
+    b"false": [],
+}
+UNBUILT = ["mount", "umount", "read", "write", "mounts", "links", "datasets", "devices", "bootargs", "cons"]
+NEEDED = {"fork": "proc_fork", "exec": "proc_exec"}
+
+
+def call_of(words):
+    """The words of the call that a line goes on with."""
+    call = words.next(lambda word: word in CALLS)
+    rest = [words.next(is_right) for is_right in CALLS[call]]
+    words.end()
+    return [word.decode() for word in [call] + rest]
+
+
+def event_of(line, has_processes=True):
+    """("S", number, text), ("D", name), ("P", name, pid, words of the call), or None for a line that is no event."""
     if line.strip(b" ") == b"" or line[:1] == b"#":
         return None
     if line[:1] == b"@":
         raise Outside("103 GrantForm")
-    words = line.split(b" ")
-    if words[0] not in (b"S", b"D"):
+    if line.split(b" ", 1)[0] not in ([b"S", b"D", b"P"] if has_processes else [b"S", b"D"]):
         raise Outside("101 BadTag")
-    if len(words) == 1:
-        bad_word(len(line))
-    after = 2 + len(words[1]) + 1
-    if words[0] == b"D":
-        if name_fault(words[1]):
-            bad_word(2)
-        if len(words) > 2:
-            bad_word(after)
-        return ("D", words[1])
-    if words[1] not in SESSIONS:
-        bad_word(2)
-    for place in range(after, len(line)):
-        if not 32 <= line[place] <= 126:
-            bad_word(place)
-    return ("S", SESSIONS[words[1]], line[after:])
+    words = Words(line)
+    tag = words.next(lambda word: True)
+    if tag == b"S":
+        number = words.next(lambda word: word in SESSIONS)
+        return ("S", SESSIONS[number], words.text())
+    name = words.next(is_zone_name)
+    if tag == b"D":
+        words.end()
+        return ("D", name)
+    pid = words.next(is_number)
+    return ("P", name, int(pid), call_of(words))
 
 
 # What a session types.
@@ -101,7 +184,8 @@ def is_one_word(text):
 
 
 def typed(text):
-    """What a session's line asks for: (what, name, path), where the last two may be None."""
+    """What a session's line asks for: (what, name, rest), where name may be None. The rest is the path of a zone that
+    is made, or signal and number of `kill`."""
     words = text.split()
     if not words:
         return ("nothing", None, None)
@@ -115,6 +199,8 @@ def typed(text):
         form = [b"zonecfg", b"-z", words[2], b"create", b"-b;", b"set", words[6], b"set", b"brand=ipkg"]
         if words == form and is_one_word(path):
             return ("create", name, path.decode())
+    if len(words) == 3 and words[0] == b"kill" and is_signal(words[1]) and is_number(words[2]):
+        return ("kill", name, (words[1].decode(), int(words[2])))
     return ("unknown", name, None)
 
 
@@ -134,43 +220,89 @@ class Desk:
         self.waiting = []
         self.under_way = None
         self.steps = []
+        self.done = 0
+        self.outcome = "ok"
+
+
+@dataclasses.dataclass
+class Limits:
+    """What binds the processes of a zone: the privileges that they begin with, and how many there may be. No zone's
+    configuration sets either yet."""
+
+    privileges: frozenset = DEFAULT
+    most: int = None
+
+
+@dataclasses.dataclass
+class Process:
+    """A process of a zone, with the number of its parent and the privileges that it has left."""
+
+    zone: bytes
+    parent: int
+    name: str
+    privileges: frozenset
 
 
 class Host:
-    """The zones of one system, its sessions, and the last numbers given."""
+    """The zones of one system, their processes, its sessions, and the last numbers given."""
 
-    def __init__(self):
+    def __init__(self, has_processes=True):
+        self.has_processes = has_processes
         self.paths, self.states = {}, {}
         self.desks, self.tickets = {}, {}
-        self.zids, self.pids = {}, {}
+        self.zids, self.limits = {}, {}
+        self.processes, self.firsts = {}, {}
         self.last_zid, self.last_pid = 0, 0
 
     def answer(self, event):
-        """The subject of an event, the head of its reply, and whether that is a refusal."""
-        if event[0] == "D":
-            head = self.turn(event[1])
-            return event[1], head, " err " in head
-        _, number, text = event
-        what, name, path = typed(text)
-        subject = b"global" if name is None or name_fault(name) else name
-        if number in self.tickets:
-            subject, ticket = self.tickets[number]
-            return subject, "err 91 Waiting %d" % ticket, True
+        """The subject of an event, the lines of its reply (the first is the head), and whether it is refused."""
+        subject = self.subject(event)
         try:
-            return subject, self.line(number, what, name, path), False
+            lines = self.obey(event)
         except Refused as refused:
-            return subject, "err %s" % refused, True
+            lines = ["err %s" % refused]
+        head = lines[0]
+        return subject, lines, head.startswith(("err ", "failed ")) or " err " in head
 
-    def line(self, number, what, name, path):
+    def typed(self, text):
+        what, name, rest = typed(text)
+        return ("unknown" if what == "kill" and not self.has_processes else what), name, rest
+
+    def subject(self, event):
+        """The zone that an event belongs to, or `global`."""
+        if event[0] != "S":
+            return event[1]
+        _, number, text = event
+        if number in self.tickets:
+            return self.tickets[number][0]
+        what, name, rest = self.typed(text)
+        if what == "kill" and rest[1] in self.processes:
+            return self.processes[rest[1]].zone
+        return b"global" if name is None or name_fault(name) else name
+
+    def obey(self, event):
+        """Does what an event asks for."""
+        if event[0] == "D":
+            return [self.turn(event[1])]
+        if event[0] == "P":
+            return self.call(*event[1:])
+        _, number, text = event
+        if number in self.tickets:
+            raise Refused("91 Waiting %d" % self.tickets[number][1])
+        return [self.line(number, *self.typed(text))]
+
+    def line(self, number, what, name, rest):
         """Obeys the line of a session that waits for no ticket."""
         if what == "nothing":
             return "ok"
         if what == "unknown":
             raise Refused("93 Usage")
+        if what == "kill":
+            return self.kill(None, *rest)
         if name_fault(name):
             raise Refused(name_fault(name))
         if what == "create":
-            return self.create(name, path)
+            return self.create(name, rest)
         return self.request(number, what, name)
 
     def create(self, name, path):
@@ -207,15 +339,20 @@ class Host:
             if state not in FROM[kind]:
                 self.close(name, ticket)
                 return "finished %d err 81 WrongState %s" % (ticket, state)
-            desk.under_way = ticket
+            desk.under_way, desk.done, desk.outcome = ticket, 0, "ok"
             ready = READY if state == "installed" else []
             desk.steps = list({"install": INSTALL, "boot": ready + BOOT, "halt": HALT}[kind])
             return "began %d %s" % (ticket, kind)
         if desk.steps:
-            return "step %s" % self.step(name, desk.steps.pop(0))
+            desk.done += 1
+            try:
+                return "step %s" % self.step(name, desk.steps.pop(0))
+            except Refused as refused:
+                desk.steps, desk.outcome = [], "err %s" % refused
+                return "failed %d: %s" % (desk.done, refused)
         ticket, desk.under_way = desk.under_way, None
         self.close(name, ticket)
-        return "finished %d ok" % ticket
+        return "finished %d %s" % (ticket, desk.outcome)
 
     def close(self, name, ticket):
         """Ends the wait of the session whose ticket it is."""
@@ -230,36 +367,101 @@ class Host:
             self.last_zid = next_number(ZIDS, self.last_zid, self.zids.values())
             self.zids[name] = self.last_zid
             return "zid %d" % self.last_zid
+        elif kind == "limits":
+            self.limits[name] = Limits()
         elif kind == "devices":
             return "devices 0"
         elif kind == "init":
-            self.last_pid = next_number(PIDS, self.last_pid, self.pids.values())
-            self.pids[name] = self.last_pid
-            return "init %d" % self.last_pid
+            self.firsts[name] = self.enter(Process(name, 0, "init", self.limits[name].privileges))
+            return "init %d" % self.firsts[name]
         elif kind == "kill":
-            return "kill %d" % (self.pids.pop(name, None) is not None)
+            self.firsts.pop(name, None)
+            return "kill %d" % len([self.processes.pop(pid) for pid in self.pids(name)])
+        elif kind == "clear":
+            del self.limits[name]
         elif kind == "zidback":
             return "zidback %d" % self.zids.pop(name)
         return step
 
+    # Processes.
+
+    def pids(self, zone):
+        """The numbers of a zone's processes, in order."""
+        return sorted(pid for pid, process in self.processes.items() if process.zone == zone)
+
+    def enter(self, process):
+        """Gives a new process its number."""
+        most = self.limits[process.zone].most
+        if most is not None and len(self.pids(process.zone)) == most:
+            raise Refused("EAGAIN")
+        if len(self.processes) == len(PIDS):
+            raise Refused("82 Denied pids")
+        self.last_pid = next_number(PIDS, self.last_pid, self.processes)
+        self.processes[self.last_pid] = process
+        return self.last_pid
+
+    def remove(self, pid):
+        """Ends a process. Its children get the zone's first process as parent, or 0 where that is gone."""
+        zone = self.processes.pop(pid).zone
+        if self.firsts.get(zone) == pid:
+            del self.firsts[zone]
+        for process in self.processes.values():
+            if process.parent == pid:
+                process.parent = self.firsts.get(zone, 0)
+
+    def kill(self, inside, signal, pid):
+        """Sends a signal from the zone `inside`, or where that is None, from a session to any zone."""
+        if pid not in self.processes or inside not in (None, self.processes[pid].zone):
+            raise Refused("ESRCH")
+        if signal != "0" and pid != self.firsts.get(inside):
+            self.remove(pid)
+        return "ok"
+
+    def call(self, zone, pid, words):
+        """Makes the call of a process."""
+        if pid not in self.processes or self.processes[pid].zone != zone:
+            raise Refused("98 NoProcess")
+        process = self.processes[pid]
+        call, rest = words[0], words[1:]
+        if call in NEEDED and NEEDED[call] not in process.privileges:
+            raise Refused("EPERM")
+        if call == "fork":
+            return ["ok", "child %d" % self.enter(Process(zone, pid, rest[0], process.privileges))]
+        if call == "ps":
+            rows = [(number, self.processes[number]) for number in self.pids(zone)]
+            return ["ok"] + ["%d %d %s" % (number, row.parent, row.name) for number, row in rows]
+        if call == "privs":
+            return ["ok", ",".join(name for name in PRIVILEGES if name in process.privileges)]
+        if call == "zonename":
+            return ["ok", zone.decode()]
+        if call == "exec":
+            process.name = rest[0]
+        elif call == "exit":
+            self.remove(pid)
+        elif call == "kill":
+            self.kill(zone, rest[0], int(rest[1]))
+        elif call == "drop":
+            process.privileges -= {rest[0]}
+        return ["ok"]
+
 
 # The whole run.
 
-def run(data):
+def run(data, has_processes=True):
     """The status and both texts of `zones trace` over an input."""
-    host = Host()
+    host = Host(has_processes)
     out, first = [], None
     for number, line in enumerate(export_model.lines_of(data), 1):
         if number > MOST_LINES or len(line) > MOST_BYTES:
             return 8, b"".join(out), b"limit at line %d\n" % number
         try:
-            event = event_of(line)
+            event = event_of(line, has_processes)
         except Outside as fault:
             return 3, b"".join(out), ("line %d: %s\n" % (number, fault)).encode()
         if event is None:
             continue
-        subject, head, refused = host.answer(event)
-        out.append(subject + b" " + head.encode() + b"\n")
+        subject, lines, refused = host.answer(event)
+        out.append(subject + b" " + "\n| ".join(lines).encode() + b"\n")
         if refused and first is None:
             first = number
     if first is not None:
