@@ -68,10 +68,10 @@ fn new_job(
     kind: RequestKind,
     state: ZoneState,
     row: &Record,
-) -> Result<Job, AllocError>
-    ensures { IfOk result (λ job. as_job job ≡ record { ticket = ticket; config = row.now.config; left = plan kind state; place = 1; undo = []; ending = None }) }
+) -> Result<Box<Job>, AllocError>
+    ensures { IfOk result (λ job. as_job job.value ≡ record { ticket = ticket; config = row.now.config; left = plan kind state; place = 1; undo = []; ending = None }) }
 {
-    Ok(Job {
+    let job = Job {
         ticket,
         config: row.config.copy(alloc)?,
         steps: plan(alloc, kind, state)?,
@@ -79,7 +79,8 @@ fn new_job(
         place: 1,
         undo: Vec::new(alloc),
         ending: None,
-    })
+    };
+    Ok(Box::new(alloc, job)?)
 }
 
 fn first_waiting(waiting: &[(u32, RequestKind)]) -> Option<(u32, RequestKind)>
