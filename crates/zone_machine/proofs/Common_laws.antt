@@ -1,15 +1,13 @@
 -- What an event of one zone does to what is common, and what it takes from there. Nothing here opens a case of the machine.
-use Rattle.std.proofs.Common.{◌≡◌, ◌+◌, ◌∷◌, ◌++◌, [], ℕ, List, Bool, Option, Some, None, true, false, length, not, refl, ap, sym, subst, ◌∙◌, length-append}
-use Rattle.std.specs.Prelude.{bytes_eq, filter, is_some, if◌then◌else◌}
+use Rattle.std.proofs.Common.{◌≡◌, ◌+◌, ◌∷◌, ◌++◌, [], ℕ, List, Bool, Option, Some, None, true, false, length, refl, ap, sym, subst, ◌∙◌, length-append}
+use Rattle.std.specs.Prelude.{bytes_eq, is_some, if◌then◌else◌}
 use Rattle.std.specs.List.{list_any}
 use Rattle.std.proofs.lemmas.Bool.{false≢true, true≢false}
 use Rattle.zn_base.specs.Names.{Name}
-use Rattle.zone_pools.proofs.Firsts_laws.{first-placed, other-placed}
 use Rattle.zone_pools.proofs.Holding.{not_same}
-use Rattle.zone_pools.proofs.Owned_laws.{mine-edit, other-list, same_self, same_true}
+use Rattle.zone_pools.proofs.Owned_laws.{same_self, same_true}
 use Rattle.zone_pools.specs.Decisions.{asked_of}
-use Rattle.zone_pools.specs.Firsts.{first_of}
-use Rattle.zone_pools.specs.Owned_lists.{Go, mine}
+use Rattle.zone_pools.specs.Owned_lists.{mine}
 use Rattle.zone_pools.specs.Pools.{fits_asked, said_by_all}
 use Rattle.zone_pools.specs.declared.grant.Grant.{Grant}
 use Rattle.zone_pools.specs.declared.grant.Grant.TheVariants.{Nothing}
@@ -33,7 +31,6 @@ use Rattle.zone_machine.specs.declared.events.Event.{Event}
 use Rattle.zone_machine.specs.declared.events.Event.TheVariants.{Session, Turn}
 use Rattle.zone_machine.specs.declared.events.Subject.TheVariants.{Global, Zone}
 use Rattle.commit_journal.specs.declared.records.Commit.{Commit}
-use Rattle.commit_journal.specs.declared.records.Record.{Record}
 
 -- what no world shows
 record Rest : Type 0 where

@@ -8,12 +8,11 @@ use Rattle.std.specs.List.{list_any}
 use Rattle.std.proofs.lemmas.Bool.{eqb-true}
 use Rattle.zn_base.specs.Names.{Name}
 use Rattle.zone_pools.proofs.Holding.{column, come_column, gone_column, kept_column}
-use Rattle.zone_pools.proofs.Owned_laws.{same_self, same_true}
+use Rattle.zone_pools.proofs.Owned_laws.{same_self}
 use Rattle.zone_pools.specs.Firsts.{placed}
-use Rattle.zone_pools.specs.Owned_lists.{Put, edited, tag}
+use Rattle.zone_pools.specs.Owned_lists.{Put, edited}
 use Rattle.zone_pools.specs.Owners as owners
 use Rattle.zone_pools.specs.Owners.{held_by, is_owner, owner}
-use Rattle.zone_pools.specs.declared.owned.Owned.{Owned}
 use Rattle.commit_journal.proofs.Zones.{placed_is}
 use Rattle.commit_journal.specs.Zones.{rows_of}
 use Rattle.zone_machine.proofs.Acts_laws.{same_other}

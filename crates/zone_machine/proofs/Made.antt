@@ -1,14 +1,14 @@
 -- A word that is no text is no zone's path, so no zone is made with it.
-use Rattle.std.proofs.Common.{◌≡◌, ◌∷◌, ◌++◌, ◌≤◌, ◌+◌, [], ℕ, suc, List, Bool, true, false, ◌&&◌, Option, None, Some, nat_lt, length, length-append, refl, sym, ◌∙◌, arith}
+use Rattle.std.proofs.Common.{◌≡◌, ◌∷◌, ◌++◌, ◌≤◌, ◌+◌, [], ℕ, suc, List, Bool, true, false, ◌&&◌, None, nat_lt, length, length-append, refl, sym, ◌∙◌, arith}
 use Rattle.std.proofs.lemmas.Bool.{ltb-false, le-ltb, true≢false}
 use Rattle.std.specs.List.{position_or_len}
-use Rattle.std.specs.Prelude.{bytes_eq, codes, is_ok, not, position}
+use Rattle.std.specs.Prelude.{bytes_eq, codes, not}
 use Rattle.std.specs.Result.{result_ok}
 use Rattle.config_terms.specs.Rules.{obeys}
 use Rattle.config_terms.specs.declared.rules.Rule.TheVariants.{OwnPath}
 use Rattle.zn_base.proofs.Path_texts.{path_with_root}
 use Rattle.zn_base.specs.Path.{is_path}
-use Rattle.zn_base.specs.Text.{is_text, is_text_byte, text_unless}
+use Rattle.zn_base.specs.Text.{is_text, is_text_byte}
 use Rattle.zone_config.specs.Edits.{with_property}
 use Rattle.zone_config.specs.Property.{setting_named}
 use Rattle.zone_machine.specs.Session.Typed.{made_config}

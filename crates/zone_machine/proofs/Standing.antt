@@ -1,5 +1,5 @@
 -- What a cell and the shared part stand for, and what they stand for after an event of the cell's zone.
-use Rattle.std.proofs.Common.{◌≡◌, ◌∷◌, [], ℕ, List, Bool, Option, Some, None, true, false, inl, inr, refl, ap, sym, subst, ◌∙◌, IfSome}
+use Rattle.std.proofs.Common.{◌≡◌, [], ℕ, Bool, Option, Some, None, true, false, inl, inr, refl, ap, sym, subst, ◌∙◌, IfSome}
 use Rattle.indexmap.specs.IndexMap.{get}
 use Rattle.std.specs.Map.{lookup}
 use Rattle.std.specs.Prelude.{bytes_eq, is_some, nat_eq}
@@ -8,8 +8,6 @@ use Rattle.std.proofs.lemmas.Bool.{true≢false}
 use Rattle.zone_pools.proofs.Owned_laws.{same_self, same_true}
 use Rattle.zn_base.specs.Names.{Name}
 use Rattle.zone_pools.specs.declared.grant.Grant.{Grant}
-use Rattle.zone_pools.specs.Firsts.{first_of}
-use Rattle.zone_pools.specs.Owned_lists.{mine}
 use Rattle.zone_pools.specs.Owners.{held_by, is_owner, owner}
 use Rattle.commit_journal.proofs.Zones.{row_is}
 use Rattle.commit_journal.specs.Store.{row_of}

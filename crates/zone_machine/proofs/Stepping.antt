@@ -24,7 +24,7 @@ use Rattle.zone_pools.specs.declared.owned.Owned.{Owned}
 use Rattle.zone_machine.proofs.Common_laws.{any_mine, any_own}
 use Rattle.zone_machine.proofs.Own_worlds.{leaves}
 use Rattle.zone_machine.proofs.Standing.{cell-stands, decide-stands, stored-stands, subject-stands}
-use Rattle.zone_machine.specs.Code.Cells.{CellOf, Keeps, SharedOf, Stands, cell_at, cell_world, decide_in, pools_in, row_in, subject_at, subject_in, world_or_empty}
+use Rattle.zone_machine.specs.Code.Cells.{CellOf, Keeps, SharedOf, Stands, cell_at, cell_world, decide_in, empty_world, pools_in, row_in, subject_at, subject_in, world_or_empty}
 use Rattle.zone_machine.specs.Machine.Common.{Common, common}
 use Rattle.zone_machine.specs.State.Decisions.{says}
 use Rattle.zone_machine.specs.Machine.Histories.{concerns}
@@ -35,6 +35,7 @@ use Rattle.zone_machine.specs.State.{State, stored}
 use Rattle.zone_machine.specs.Code.Rooms.{Alike}
 use Rattle.zone_machine.specs.Code.Steps.{CellAnswers, IsCellStep, IsStep, IsZoneState, Answers, IsCellMisfitUnder, IsCellStepUnder, IsGrantFor, IsUnfit, IsMisfitUnder, IsTaken, Takes, AsItWas}
 use Rattle.zone_machine.specs.State.Worlds.{World, view, view_of, world}
+use Rattle.zone_machine.specs.declared.daemon.desks.Desk.{Desk}
 use Rattle.zone_machine.specs.declared.machine.cell.Cell.{Cell}
 use Rattle.zone_machine.specs.declared.events.Entry.{Entry}
 use Rattle.zone_machine.specs.declared.events.Event.{Event}
@@ -48,16 +49,11 @@ use Rattle.zone_machine.specs.declared.replies.Head.{Head}
 use Rattle.zone_machine.specs.declared.machine.shared.Shared.{Shared}
 use Rattle.zone_machine.specs.Objects.{has_pid, has_zid}
 use Rattle.zone_machine.specs.Daemon.Desks.{state_of}
-use Rattle.zone_machine.specs.Code.Decided.{IsDecided, IsDecidedZone}
 use Rattle.zone_machine.specs.State.Decisions.{Decision}
 use Rattle.zone_machine.specs.State.Worlds.{View}
-use Rattle.zone_machine.specs.declared.machine.parts.Decided.{Decided}
-use Rattle.zone_machine.specs.declared.machine.parts.Decided.TheVariants as decided
-use Rattle.std.specs.Prelude.{Box}
-use Rattle.std.specs.Global.{Global as Alloc}
 use Rattle.zone_machine.proofs.Freeing.{asks_case, freed}
 use Rattle.zone_machine.specs.Code.Cases.{decision_of}
-use Rattle.zone_machine.specs.Code.Decided.{IsCaseIn, IsFreeFor}
+use Rattle.zone_machine.specs.Code.Decided.{IsCaseIn, IsCellAt}
 use Rattle.zone_machine.specs.State.Decisions.{act_of}
 use Rattle.zone_machine.specs.Code.Rooms.{IsFreeOf}
 use Rattle.zone_machine.specs.declared.machine.cases.Case.{Case}
@@ -262,62 +258,37 @@ none_is (Some x) h = absurd (true≢false h)
 pub some_is : {A : Type 0} (x y : A) → Some x ≡ Some y → x ≡ y
 some_is x y h = cc
 
--- the grant of what was decided
-module _ (m : Parts) (e : Event) (stated : Option Grant) where
-  granted_in : (z : Name) (c : Cell) (case : Case) → subject_in m.shared e ≡ Zone z → ((row : Option Record) → world_or_empty row (cell_at z m) ≡ cell_world row c) → IsCaseIn z (row_in z m.shared) c (λ v. decide v e) case
-      → (g : Grant) → IsGrantFor z (pools_in m.shared) (asked_of (decision_of c.desk case)) stated g → IsTaken m stated e g × IsFreeOf (act_of (decision_of c.desk case) g).came (pools_in m.shared)
-  granted_in z c case is same h g takes = (
-    IsTaken-cell m z e c (asked_of (decision_of c.desk case)) is same (ap asked_of h.decided) stated g takes,
-    freed (pools_in m.shared) z (decision_of c.desk case) stated g (asks_case c.desk case) takes,
-  )
+-- the case of an event of z as it was read, on the cell that z has or would have
+module _ (m : Parts) (z : Name) (e : Event) (c : Cell) (decides : View → Decision) (is : subject_in m.shared e ≡ Zone z)
+    (same : (row : Option Record) → world_or_empty row (cell_at z m) ≡ cell_world row c) (reads : (v : View) → decides v ≡ decide v e) where
+  pub case_read : (case : Case) → IsCaseIn z (row_in z m.shared) c decides case → IsCaseIn z (row_in z m.shared) c (λ v. decide v e) case
+  case_read case h = record { decided = sym (reads _) ∙ h.decided; of = h.of; named = h.named }
 
-  unfit_in : (z : Name) (c : Cell) (case : Case) → subject_in m.shared e ≡ Zone z → ((row : Option Record) → world_or_empty row (cell_at z m) ≡ cell_world row c) → IsCaseIn z (row_in z m.shared) c (λ v. decide v e) case
-      → IsUnfit (pools_in m.shared) (asked_of (decision_of c.desk case)) stated → IsMisfitUnder stated m e m
-  unfit_in z c case is same h unfit = IsMisfitUnder-cell m z e c (asked_of (decision_of c.desk case)) is same (ap asked_of h.decided) stated unfit
+  -- the grant that it takes
+  pub taken_read : (stated : Option Grant) (g : Grant) → IsGrantFor z (pools_in m.shared) (asked_of (decides (view_of z (cell_world (row_in z m.shared) c)))) stated g → IsTaken m stated e g
+  taken_read stated g takes = IsTaken-cell m z e c (asked_of (decides (view_of z (cell_world (row_in z m.shared) c)))) is same (ap asked_of (sym (reads _))) stated g takes
 
-  module _ (at : ℕ) (z : Name) (case : Box Case Alloc) (cell : Cell) (value : slice_get (values m.cells) at ≡ Some cell) (h : IsDecided m e (decided.At at z case)) where
-    here_at : cell_at z m ≡ Some cell
-    here_at = h.1.here ∙ (sym h.1.value ∙ value)
+  pub taken : (stated : Option Grant) (case : Case) (g : Grant) → IsCaseIn z (row_in z m.shared) c decides case → IsGrantFor z (pools_in m.shared) (asked_of (decision_of c.desk case)) stated g → IsTaken m stated e g
+  taken stated case g h takes = IsTaken-cell m z e c (asked_of (decision_of c.desk case)) is same (ap asked_of (case_read case h).decided) stated g takes
 
-    case_at : IsCaseIn z (row_in z m.shared) cell (λ v. decide v e) case.value
-    case_at = subst (λ x. IsCaseIn z (row_in z m.shared) x (λ v. decide v e) case.value) (some_is h.1.cell cell (sym h.1.value ∙ value)) h.1.decides
+  pub unfit : (stated : Option Grant) → IsUnfit (pools_in m.shared) (asked_of (decides (view_of z (cell_world (row_in z m.shared) c)))) stated → IsMisfitUnder stated m e m
+  unfit stated h = IsMisfitUnder-cell m z e c (asked_of (decides (view_of z (cell_world (row_in z m.shared) c)))) is same (ap asked_of (sym (reads _))) stated h
 
-    pub granted_at : (g : Grant) → IsGrantFor z (pools_in m.shared) (asked_of (decision_of cell.desk case.value)) stated g → IsTaken m stated e g × IsFreeFor m (decided.At at z case) g
-    granted_at g takes =
-        let both = granted_in z cell case.value h.0 (λ row. ap (world_or_empty row) here_at) case_at g takes in (
-          both.0,
-          λ c is. subst (λ x. IsFreeOf (act_of (decision_of x.desk case.value) g).came (pools_in m.shared)) (some_is cell c (sym here_at ∙ is)) both.1,
-        )
+-- what comes with it is free
+pub case_freed : (P : Pools) (z : Name) (d : Desk) (case : Case) (stated : Option Grant) (g : Grant) → IsGrantFor z P (asked_of (decision_of d case)) stated g → IsFreeOf (act_of (decision_of d case) g).came P
+case_freed P z d case stated g takes = freed P z (decision_of d case) stated g (asks_case d case) takes
 
-    pub unfit_at : IsUnfit (pools_in m.shared) (asked_of (decision_of cell.desk case.value)) stated → IsMisfitUnder stated m e m
-    unfit_at unfit = unfit_in z cell case.value h.0 (λ row. ap (world_or_empty row) here_at) case_at unfit
+-- the cell at an index is the zone's
+pub here_at : (m : Parts) (z : Name) (i : ℕ) (c : Cell) → IsCellAt m i z → slice_get (values m.cells) i ≡ Some c → cell_at z m ≡ Some c
+here_at m z i c at value = sym at.value ∙ value
 
-  module _ (c : Box Cell Alloc) (key z : Name) (case : Box Case Alloc) (h : IsDecided m e (decided.New c key z case)) where
-    pub same_new : (row : Option Record) → world_or_empty row (cell_at z m) ≡ cell_world row c.value
-    same_new row = ap (world_or_empty row) h.1.none ∙ sym (h.1.nothing row)
-
-    pub granted_new : (g : Grant) → IsGrantFor z (pools_in m.shared) (asked_of (decision_of c.value.desk case.value)) stated g → IsTaken m stated e g × IsFreeFor m (decided.New c key z case) g
-    granted_new g takes = granted_in z c.value case.value h.0 same_new h.1.decides g takes
-
-    pub unfit_new : IsUnfit (pools_in m.shared) (asked_of (decision_of c.value.desk case.value)) stated → IsMisfitUnder stated m e m
-    unfit_new unfit = unfit_in z c.value case.value h.0 same_new h.1.decides unfit
+pub same_none : (m : Parts) (z : Name) (c : Cell) → cell_at z m ≡ None → ((row : Option Record) → cell_world row c ≡ empty_world row) → (row : Option Record) → world_or_empty row (cell_at z m) ≡ cell_world row c
+same_none m z c none nothing row = ap (world_or_empty row) none ∙ sym (nothing row)
 
 -- what is kept of a map in which room was made, under a key that is the zone
 pub Keeps-roomy : (m u : Parts) (z key : Name) (d : Cell) (roomy : Name → Option Cell) → key ≡ z → ((y : Name) → roomy y ≡ cell_at y m) → Keeps key d roomy (λ y. cell_at y u) → Keeps z d (λ y. cell_at y m) (λ y. cell_at y u)
 Keeps-roomy m u z key d roomy is same keeps row y =
     keeps row y ∙ (ap (λ k. if bytes_eq k y then cell_world row d else world_or_empty row (roomy y)) is ∙ ap (λ o. if bytes_eq z y then cell_world row d else world_or_empty row o) (same y))
-
--- what was decided of an event as it was read is decided of the event
-pub decided_event : (p : Parts) (e : Event) (y : Name) (decides : View → Decision) (r : Decided) → subject_in p.shared e ≡ Zone y → ((v : View) → decides v ≡ decide v e) → IsDecidedZone p y decides r → IsDecided p e r
-decided_event p e y decides (decided.At at z case) of same (is, h) = (
-  of ∙ ap Zone (sym is),
-  record { index = h.index; cell = h.cell; here = h.here; value = h.value; unique = h.unique; decides = record { decided = sym (same _) ∙ h.decides.decided; of = h.decides.of; named = h.decides.named } },
-)
-decided_event p e y decides (decided.New c key z case) of same (is, h) = (
-  of ∙ ap Zone (sym is),
-  record { none = h.none; keyed = h.keyed; nothing = h.nothing; decides = record { decided = sym (same _) ∙ h.decides.decided; of = h.decides.of; named = h.decides.named } },
-)
-decided_event p e y decides (decided.Global head) of same h = absurd h
 
 -- no event is the whole system's yet
 never_named : (word : Option (List ℕ)) → Whole ≡ named_subject word → ⊥

@@ -49,7 +49,7 @@ as_objects o = record { processes = o.processes.now; mounts = o.mounts.now; ids 
 abbrev pub object_edits : ObjectEdit → List Object_edit
 object_edits Nothing = []
 object_edits EndProcesses = Processes_go all_of ∷ []
-object_edits (Mount m) = Of_mounts (Come m) ∷ []
+object_edits (Mount m) = Of_mounts (Come m.value) ∷ []
 object_edits (Unmount dir) = Of_mounts (Go (is_at dir)) ∷ []
 object_edits EndIds = Ids_go all_of ∷ []
 
@@ -106,7 +106,7 @@ begun d j kind = reports [] (record d { job = Some j }) (Began j.ticket kind)
 -- what a turn decides
 abbrev pub turn_decision_of : Desk → TurnCase → Turn_decision
 turn_decision_of d Idle = decisions.Just (rests (as_desk d))
-turn_decision_of d (Begin job kind) = decisions.Just (begun (without_first d) (as_job job) kind)
+turn_decision_of d (Begin job kind) = decisions.Just (begun (without_first d) (as_job job.value) kind)
 turn_decision_of d (Refuse ticket s) = decisions.Just (finish (without_first d) ticket (WrongState s))
 turn_decision_of d (GoOn c) = on_job d d.job c
 

@@ -4,10 +4,8 @@ use Rattle.std.specs.Prelude.{◌≡◌, ℕ, List, [], Option, Some, None, Bool
 use Rattle.std.specs.Option.{option_map}
 use Rattle.std.specs.List.{list_any}
 use Rattle.zn_base.specs.Names.{Name}
-use Rattle.zone_pools.specs.Owned_lists.{tag}
 use Rattle.zone_pools.specs.Owners.{held_by, is_owner, owner}
 use Rattle.zone_pools.specs.Pools.{Pools}
-use Rattle.zone_pools.specs.declared.owned.Owned.{Owned}
 use Rattle.commit_journal.specs.Zones.{rows_of}
 use Rattle.zone_machine.specs.Machine.Common.{Common, common, holding}
 use Rattle.zone_machine.specs.State.Decisions.{Decision, after_came_world, says, sweeps}

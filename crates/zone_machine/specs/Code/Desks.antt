@@ -6,7 +6,7 @@ use Rattle.zone_machine.specs.declared.daemon.desks.Desk.{Desk}
 use Rattle.zone_machine.specs.declared.daemon.desks.Job.{Job}
 
 abbrev pub as_job : Job → desks.Job
-as_job j = record { ticket = j.ticket; config = j.config.value; left = drop j.at j.steps.items; place = j.place; undo = reverse j.undo.items; ending = j.ending }
+as_job j = record { ticket = j.ticket; config = j.config; left = drop j.at j.steps.items; place = j.place; undo = reverse j.undo.items; ending = j.ending }
 
 abbrev pub as_desk : Desk → desks.Desk
 as_desk d = record { last = d.last; waiting = d.waiting.items; job = option_map as_job d.job; active = d.active }

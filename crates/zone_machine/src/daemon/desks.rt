@@ -22,7 +22,7 @@ pub(crate) const TICKET_MAX: u32 = u32::MAX;
 pub(crate) struct Job {
     pub(crate) ticket: u32,
     /// The configuration as the request began.
-    pub(crate) config: Box<ZoneConfig>,
+    pub(crate) config: ZoneConfig,
     /// The whole plan, and the place of the next step in it.
     pub(crate) steps: Vec<Step>,
     pub(crate) at: usize,

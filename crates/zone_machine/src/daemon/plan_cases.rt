@@ -1,15 +1,18 @@
 //! What the steps of a request's plan come to, each one turn of the zone's daemon.
-ghost use Rattle.std.specs.Prelude.{◌++◌, ◌+◌, ◌-◌, ◌<◌, ◌∷◌, ◌≡◌, IfOk, Some, codes, drop, false, length};
+ghost use Rattle.std.specs.Prelude.{◌++◌, ◌+◌, ◌-◌, ◌<◌, ◌∷◌, ◌≡◌, [], IfOk, Some, codes, drop, false, length};
 ghost use Rattle.std.specs.Option.{option_map};
 ghost use Rattle.config_terms.specs.Fields.{path_text};
 ghost use Rattle.zone_machine.specs.Code.Cases.{IsJobCase, IsNamedJobCase, is_unmount, job_turn, as_objects};
 ghost use Rattle.zone_machine.specs.Daemon.Desks as desks;
 ghost use Rattle.zone_machine.specs.Code.Desks.{as_job};
-ghost use Rattle.zone_machine.specs.Objects.{last_dir, zid_of};
+ghost use Rattle.zone_machine.specs.Objects.{Of_mounts, last_dir, zid_of};
 ghost use Rattle.zone_machine.specs.Arrivals.{A_record};
 ghost use Rattle.zone_machine.specs.declared.daemon.desks.Job as job_types;
 ghost use Rattle.zone_pools.specs.Asked.{A_serial};
-ghost use Rattle.zone_machine.specs.Daemon.Turns.{asking, count_of, init_process, root_mount, step};
+ghost use Rattle.zone_machine.specs.Daemon.Turns.{advance, asking, count_of, init_process, root_mount, step};
+ghost use Rattle.zn_base.specs.Names.{Name};
+ghost use Rattle.zone_pools.specs.Decisions.{Just};
+ghost use Rattle.zone_pools.specs.Owned_lists.{Come};
 
 use crate::daemon::desks::Job;
 use crate::daemon::{Outcome, Step};
@@ -77,19 +80,23 @@ fn root_special(alloc: Global, config: &ZoneConfig) -> Result<Text, AllocError>
     }
 }
 
-/// The zone's root is mounted.
-pub(crate) fn mount_root(
-    alloc: Global,
-    next: usize,
-    config: &ZoneConfig,
-) -> Result<JobCase, AllocError>
-    ensures { IfOk result (λ c. c ≡ JobCase.Pass (record { next = next; objects = ObjectEdit.Mount (root_mount config.now); shown = Step.Root })) }
+fn root_mount(alloc: Global, config: &ZoneConfig) -> Result<Mount, AllocError>
+    ensures { IfOk result (λ mount. mount ≡ root_mount config.now) }
 {
-    let mount = Mount {
+    Ok(Mount {
         dir: root_dir(alloc)?,
         fstype: Text::of(alloc, b"root")?,
         special: root_special(alloc, config)?,
-    };
+    })
+}
+
+/// The zone's root is mounted.
+pub(crate) fn mount_root(alloc: Global, next: usize, config: &ZoneConfig) -> Result<JobCase, AllocError>
+    ensures decides { IfOk result (λ c. (d : desks.Desk) (j : job_types.Job) → job_turn d j c ≡ Just (advance d (as_job j) (drop next j.steps.items) (Of_mounts (Come (root_mount config.now)) ∷ []) Step.Root)) }
+    ensures of { IfOk result (λ c. (j : job_types.Job) → IsJobCase j c) }
+    ensures named { IfOk result (λ c. (z : Name) → IsNamedJobCase z c) }
+{
+    let mount = Box::new(alloc, root_mount(alloc, config)?)?;
     Ok(changed(next, ObjectEdit::Mount(mount), Step::Root))
 }
 

@@ -78,19 +78,20 @@ fn new_job(
     kind: RequestKind,
     state: ZoneState,
     row: &Record,
-) -> Result<Job, AllocError>
-    ensures { IfOk result (λ job. as_job job ≡ record { ticket = ticket; config = row.now.config; left = plan kind state; place = 1; undo = []; ending = None }) }
+) -> Result<Box<Job>, AllocError>
+    ensures { IfOk result (λ job. as_job job.value ≡ record { ticket = ticket; config = row.now.config; left = plan kind state; place = 1; undo = []; ending = None }) }
 {
     let config = copy_config(alloc, &row.config)?;
-    Ok(Job {
+    let job = Job {
         ticket,
-        config: Box::new(alloc, config)?,
+        config,
         steps: plan(alloc, kind, state)?,
         at: 0,
         place: 1,
         undo: Vec::new(alloc),
         ending: None,
-    })
+    };
+    Ok(Box::new(alloc, job)?)
 }
 
 fn first_waiting(waiting: &[(u32, RequestKind)]) -> Option<(u32, RequestKind)>

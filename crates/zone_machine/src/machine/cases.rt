@@ -1,4 +1,5 @@
 //! What an event of a zone comes to. A case is decided before anything is changed, and holds all that its event needs.
+//! What is large and rare in it is boxed, so that it is handed on at little cost.
 use crate::daemon::desks::Job;
 use crate::daemon::{Outcome, RequestKind, Step};
 use crate::machine::work::{Coming, ObjectEdit};
@@ -33,7 +34,7 @@ pub(crate) enum TurnCase {
     /// No request waits or is under way.
     Idle,
     /// The first request that waits begins.
-    Begin(Job, RequestKind),
+    Begin(Box<Job>, RequestKind),
     /// The first request that waits, of this ticket, may not begin in this state.
     Refuse(u32, ZoneState),
     /// The request under way goes on.

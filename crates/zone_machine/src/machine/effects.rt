@@ -144,7 +144,7 @@ fn edit_objects(cell: &mut Cell, shared: &mut Shared, edit: ObjectEdit)
     match edit {
         ObjectEdit::Nothing => {}
         ObjectEdit::EndProcesses => end_processes(cell, shared),
-        ObjectEdit::Mount(mount) => cell.mounts.push_reserved(mount),
+        ObjectEdit::Mount(mount) => cell.mounts.push_reserved(Box::into_inner(mount)),
         ObjectEdit::Unmount(dir) => unmount(&mut cell.mounts, &dir),
         ObjectEdit::EndIds => end_ids(cell, shared),
     }

@@ -119,7 +119,7 @@ fn edit_mounts(cell: &mut Cell, edit: ObjectEdit)
     ensures same { cell.new ≡ record cell.old { mounts = cell.new.mounts } }
 {
     match edit {
-        ObjectEdit::Mount(mount) => cell.mounts.push_reserved(mount),
+        ObjectEdit::Mount(mount) => cell.mounts.push_reserved(Box::into_inner(mount)),
         ObjectEdit::Unmount(dir) => unmount(&mut cell.mounts, &dir),
         ObjectEdit::Nothing | ObjectEdit::EndProcesses | ObjectEdit::EndIds => {}
     }

@@ -1,14 +1,23 @@
 //! The parts of the machine: a cell for each zone that has something, and what zones share. An event is decided before
 //! anything is changed.
-ghost use Rattle.std.specs.Prelude.{◌≡◌, ◌⊎◌, ◌<◌, [], IfOk, IsErrOf, IsOkUnless, Err, None, OnErr, bytes_eq};
+ghost use Rattle.std.specs.Prelude.{◌≡◌, ◌⊎◌, ◌<◌, [], IfOk, IsErrOf, IsOkUnless, Err, None, OnErr, OnOk, Option, Some, bytes_eq};
 ghost use Rattle.indexmap.specs.IndexMap.{get_by, spare};
 ghost use Rattle.zn_base.specs.Names.{Name};
 ghost use Rattle.zone_pools.specs.Pools.{Pools};
-ghost use Rattle.zone_machine.specs.Code.Cells.{Keeps, Stands, cell_at, decide_read, row_in, world_or_empty};
-ghost use Rattle.zone_machine.specs.Code.Decided.{head_of, IsDecided, IsDecidedZone, IsFreeFor};
-ghost use Rattle.zone_machine.specs.Daemon.Desks.{state_of};
-ghost use Rattle.zone_machine.specs.Machine.{opening};
+ghost use Rattle.zone_machine.specs.Code.Cases.{decision_of};
+ghost use Rattle.zone_machine.specs.Code.Cells.{Keeps, Stands, cell_at, cell_world, decide_read, empty_world, global_read, pools_in, row_in, subject_in, world_or_empty};
+ghost use Rattle.zone_machine.specs.Code.Decided.{IsCaseIn, IsCellAt, entry_of, head_of};
+ghost use Rattle.zone_machine.specs.Code.Rooms.{IsFreeOf};
 ghost use Rattle.zone_machine.specs.Code.Steps.{AsItWas, IsAllowed, IsGrantFor, IsMisfitUnder, IsStep, IsStepUnder, IsTaken, IsUnfit};
+ghost use Rattle.zone_machine.specs.Daemon.Desks.{state_of};
+ghost use Rattle.zone_machine.specs.Machine.{decide, global_reply, opening};
+ghost use Rattle.zone_machine.specs.State.{State};
+ghost use Rattle.zone_machine.specs.State.Decisions.{act_of};
+ghost use Rattle.zone_machine.specs.State.Worlds.{View};
+ghost use Rattle.zone_machine.specs.declared.events.Subject.TheVariants as subject_variants;
+ghost use Rattle.zone_machine.specs.declared.events.Subject.TheVariants.{Zone};
+ghost use Rattle.zone_machine.specs.declared.machine.cell.Cell as cell_types;
+ghost use Rattle.commit_journal.specs.declared.records.Record as record_types;
 
 use crate::events::{Entry, Event, Subject};
 use crate::faults::StepFault;
@@ -16,8 +25,10 @@ use crate::machine::cases::Case;
 use crate::machine::cell::Cell;
 use crate::machine::maps::put;
 use crate::machine::shared::Shared;
-use crate::machine::steps::{Read, answer, case_of, global_refusal, grant_of, read_event, subject};
-use crate::replies::{Body, Head, Refusal, Reply};
+use crate::machine::steps::{
+    Read, cell_grant, entry_of, global_refusal, granted_case, perform_case, read_event, subject,
+};
+use crate::replies::{Head, Refusal};
 use indexmap::IndexMap;
 use std::alloc::{AllocError, Global};
 use zn_base::{ZoneName, ZoneState};
@@ -30,17 +41,6 @@ pub(crate) struct Parts {
     pub(crate) shared: Shared,
 }
 
-/// What an event comes to, before anything is changed.
-#[derive(Drop)]
-pub(crate) enum Decided {
-    /// A case of a zone, whose cell stands at an index.
-    At(usize, ZoneName, Box<Case>),
-    /// A case of a zone that has no cell, the cell that it would have, and the name under which that would stand.
-    New(Box<Cell>, ZoneName, ZoneName, Box<Case>),
-    /// The event is no zone's, and refused or not.
-    Global(Option<Refusal>),
-}
-
 // A zone's new cell is kept, where it has something.
 fn keep(cells: &mut IndexMap<ZoneName, Cell>, zone: ZoneName, cell: Cell)
     requires none { get_by (bytes_eq zone) cells.old ≡ None }
@@ -50,6 +50,21 @@ fn keep(cells: &mut IndexMap<ZoneName, Cell>, zone: ZoneName, cell: Cell)
     if !cell.is_empty() {
         put(cells, zone, cell);
     }
+}
+
+// Room for a zone's new cell, and the name under which it will stand.
+fn room_for_cell(
+    cells: &mut IndexMap<ZoneName, Cell>,
+    alloc: Global,
+    zone: &ZoneName,
+) -> Result<ZoneName, AllocError>
+    ensures key { IfOk result (λ key. key ≡ zone.now) }
+    ensures room { OnOk result (0 < spare cells.new) }
+    ensures same { cells.new.entries ≡ cells.old.entries }
+{
+    let key = zone.copy(alloc)?;
+    cells.reserve(1)?;
+    Ok(key)
 }
 
 // The grant of an event that asks nothing.
@@ -84,60 +99,22 @@ impl Parts {
         }
     }
 
-    // A case of an event of a zone.
-    fn decide_zone(
+    // The grant that the pools give an event of a zone.
+    fn zone_grant(
         &self,
         alloc: Global,
-        zone: ZoneName,
-        read: Read<'_>,
-    ) -> Result<Decided, AllocError>
-        ensures { IfOk result (IsDecidedZone self.now zone (λ v. decide_read v read.entry)) }
-    {
-        let row = self.shared.rows.get(&zone);
-        match self.cells.get_index_of(&zone) {
-            Some(at) => {
-                let case = case_of(alloc, &zone, &self.cells[at], row, read)?;
-                Ok(Decided::At(at, zone, case))
-            }
-            None => {
-                let key = zone.copy(alloc)?;
-                let cell = Box::new(alloc, Cell::new(alloc))?;
-                let case = case_of(alloc, &zone, &cell, row, read)?;
-                Ok(Decided::New(cell, key, zone, case))
-            }
-        }
-    }
-
-    /// What an event comes to.
-    pub(crate) fn decide(&self, alloc: Global, event: &Event) -> Result<Decided, AllocError>
-        ensures { IfOk result (IsDecided self.now event.now) }
-    {
-        let read = read_event(event);
-        match subject(&self.shared, alloc, read)? {
-            Subject::Zone(zone) => self.decide_zone(alloc, zone, read),
-            Subject::Global => Ok(Decided::Global(global_refusal(alloc, read)?)),
-            Subject::Whole => unreachable!(),
-        }
-    }
-
-    // The grant that the pools give what was decided of an event, or the one that is stated, where it fits.
-    fn grant(
-        &self,
         event: &Event,
-        decided: &Decided,
-        stated: Option<Grant>,
+        read: Read<'_>,
+        zone: &ZoneName,
     ) -> Result<Grant, StepFault>
-        requires { IsDecided self.now event.now decided.now }
-        ensures takes { IfOk result (λ grant. IsTaken self.now stated event.now grant) }
-        ensures free { IfOk result (λ grant. IsFreeFor self.now decided.now grant) }
-        ensures misfit { OnErr result ((result ≡ Err StepFault.BadGrant) × IsMisfitUnder stated self.now event.now self.now) }
+        requires of { subject_in self.now.shared event.now ≡ Zone zone.now }
+        requires decides { (v : View) → decide_read v read ≡ decide v event.now }
+        ensures ok { IfOk result (IsTaken self.now None event.now) }
+        ensures err { IsOkUnless result StepFault.Memory }
     {
-        match decided {
-            Decided::At(at, zone, case) => {
-                grant_of(zone, &self.cells[*at], &self.shared, case, stated)
-            }
-            Decided::New(cell, _, zone, case) => grant_of(zone, cell, &self.shared, case, stated),
-            Decided::Global(_) => nothing_of(stated),
+        match self.cells.get(zone) {
+            Some(cell) => cell_grant(alloc, zone, cell, &self.shared, read),
+            None => cell_grant(alloc, zone, &Cell::new(alloc), &self.shared, read),
         }
     }
 
@@ -146,27 +123,31 @@ impl Parts {
         ensures ok { IfOk result (IsAllowed self.now event.now) }
         ensures err { IsOkUnless result StepFault.Memory }
     {
-        let decided = self.decide(alloc, event)?;
-        self.grant(event, &decided, None)
+        let read = read_event(event);
+        match subject(&self.shared, alloc, read)? {
+            Subject::Zone(zone) => self.zone_grant(alloc, event, read, &zone),
+            Subject::Global => Ok(Grant::Nothing),
+            Subject::Whole => unreachable!(),
+        }
     }
 
     // A case of a zone is done, whose cell stands at an index.
     fn do_at(
         &mut self,
-        event: Event,
+        event: &Event,
+        zone: &ZoneName,
         at: usize,
-        zone: ZoneName,
-        case: Box<Case>,
+        case: Case,
         grant: Grant,
-    ) -> Result<Entry, StepFault>
-        requires decided { IsDecided self.old event (Decided.At at zone case) }
-        requires free { IsFreeFor self.old (Decided.At at zone case) grant }
-        ensures grant { IfOk result (λ entry. entry.grant ≡ grant) }
-        ensures step { IfOk result (λ entry. IsStep self.old event grant entry self.new) }
-        ensures only { IsOkUnless result StepFault.Memory }
+    ) -> Result<Head, AllocError>
+        requires of { subject_in self.old.shared event.now ≡ Zone zone.now }
+        requires at { IsCellAt self.old at zone.now }
+        requires case { (c : cell_types.Cell) → cell_at zone.now self.old ≡ Some c → IsCaseIn zone.now (row_in zone.now self.old.shared) c (λ v. decide v event.now) case }
+        requires free { (c : cell_types.Cell) → cell_at zone.now self.old ≡ Some c → IsFreeOf (act_of (decision_of c.desk case) grant).came (pools_in self.old.shared) }
+        ensures step { IfOk result (λ head. IsStep self.old event.now grant (entry_of (Zone zone.now) event.now grant head) self.new) }
         ensures memory { OnErr result (AsItWas self.old self.new) }
     {
-        answer(
+        perform_case(
             &mut self.cells[at],
             &mut self.shared,
             event,
@@ -176,63 +157,146 @@ impl Parts {
         )
     }
 
+    // An event of a zone is answered, whose cell stands at an index.
+    fn answer_at(
+        &mut self,
+        alloc: Global,
+        event: &Event,
+        read: Read<'_>,
+        zone: &ZoneName,
+        at: usize,
+        stated: Option<Grant>,
+    ) -> Result<(Grant, Head), StepFault>
+        requires of { subject_in self.old.shared event.now ≡ Zone zone.now }
+        requires decides { (v : View) → decide_read v read ≡ decide v event.now }
+        requires at { IsCellAt self.old at zone.now }
+        ensures takes { IfOk result (λ r. IsTaken self.old stated event.now r.0) }
+        ensures step { IfOk result (λ r. IsStep self.old event.now r.0 (entry_of (Zone zone.now) event.now r.0 r.1) self.new) }
+        ensures memory { IsErrOf result StepFault.Memory → AsItWas self.old self.new }
+        ensures misfit { IsErrOf result StepFault.BadGrant → IsMisfitUnder stated self.old event.now self.new }
+        ensures fault { OnErr result (IsErrOf result StepFault.BadGrant ⊎ IsErrOf result StepFault.Memory) }
+    {
+        let (case, grant) = granted_case(alloc, zone, &self.cells[at], &self.shared, read, stated)?;
+        let head = self.do_at(event, zone, at, case, grant)?;
+        Ok((grant, head))
+    }
+
     // A case of a zone is done that has no cell.
     fn do_new(
         &mut self,
-        event: Event,
+        alloc: Global,
+        event: &Event,
+        zone: &ZoneName,
         cell: Box<Cell>,
-        key: ZoneName,
-        zone: ZoneName,
-        case: Box<Case>,
+        case: Case,
         grant: Grant,
-    ) -> Result<Entry, StepFault>
-        requires decided { IsDecided self.old event (Decided.New cell key zone case) }
-        requires free { IsFreeFor self.old (Decided.New cell key zone case) grant }
-        ensures grant { IfOk result (λ entry. entry.grant ≡ grant) }
-        ensures step { IfOk result (λ entry. IsStep self.old event grant entry self.new) }
-        ensures only { IsOkUnless result StepFault.Memory }
+    ) -> Result<Head, AllocError>
+        requires of { subject_in self.old.shared event.now ≡ Zone zone.now }
+        requires none { cell_at zone.now self.old ≡ None }
+        requires nothing { (row : Option record_types.Record) → cell_world row cell.value ≡ empty_world row }
+        requires case { IsCaseIn zone.now (row_in zone.now self.old.shared) cell.value (λ v. decide v event.now) case }
+        requires free { IsFreeOf (act_of (decision_of cell.value.desk case) grant).came (pools_in self.old.shared) }
+        ensures step { IfOk result (λ head. IsStep self.old event.now grant (entry_of (Zone zone.now) event.now grant head) self.new) }
         ensures memory { OnErr result (AsItWas self.old self.new) }
     {
-        self.cells.reserve(1)?;
+        let key = room_for_cell(&mut self.cells, alloc, zone)?;
         let mut cell = Box::into_inner(cell);
-        let entry = answer(&mut cell, &mut self.shared, event, zone, case, grant)?;
+        let head = perform_case(&mut cell, &mut self.shared, event, zone, case, grant)?;
         keep(&mut self.cells, key, cell);
-        Ok(entry)
+        Ok(head)
     }
 
-    // An event that is no zone's is answered.
-    fn do_global(&mut self, event: Event, refusal: Option<Refusal>, grant: Grant) -> Entry
-        requires { IsDecided self.old event (Decided.Global refusal) }
-        ensures grant { result.grant ≡ grant }
-        ensures step { IsStep self.old event grant result self.new }
+    // An event of a zone is answered that has no cell.
+    fn answer_new(
+        &mut self,
+        alloc: Global,
+        event: &Event,
+        read: Read<'_>,
+        zone: &ZoneName,
+        stated: Option<Grant>,
+    ) -> Result<(Grant, Head), StepFault>
+        requires of { subject_in self.old.shared event.now ≡ Zone zone.now }
+        requires decides { (v : View) → decide_read v read ≡ decide v event.now }
+        requires none { cell_at zone.now self.old ≡ None }
+        ensures takes { IfOk result (λ r. IsTaken self.old stated event.now r.0) }
+        ensures step { IfOk result (λ r. IsStep self.old event.now r.0 (entry_of (Zone zone.now) event.now r.0 r.1) self.new) }
+        ensures memory { IsErrOf result StepFault.Memory → AsItWas self.old self.new }
+        ensures misfit { IsErrOf result StepFault.BadGrant → IsMisfitUnder stated self.old event.now self.new }
+        ensures fault { OnErr result (IsErrOf result StepFault.BadGrant ⊎ IsErrOf result StepFault.Memory) }
     {
-        self.shared.started = true;
-        Entry {
-            event,
-            subject: Subject::Global,
-            grant,
-            reply: Reply {
-                head: answer_head(refusal),
-                body: Body::Nothing,
-            },
+        let cell = Box::new(alloc, Cell::new(alloc))?;
+        let (case, grant) = granted_case(alloc, zone, &cell, &self.shared, read, stated)?;
+        let head = self.do_new(alloc, event, zone, cell, case, grant)?;
+        Ok((grant, head))
+    }
+
+    // An event of a zone is answered.
+    fn answer_zone(
+        &mut self,
+        alloc: Global,
+        event: &Event,
+        read: Read<'_>,
+        zone: &ZoneName,
+        stated: Option<Grant>,
+    ) -> Result<(Grant, Head), StepFault>
+        requires of { subject_in self.old.shared event.now ≡ Zone zone.now }
+        requires decides { (v : View) → decide_read v read ≡ decide v event.now }
+        ensures takes { IfOk result (λ r. IsTaken self.old stated event.now r.0) }
+        ensures step { IfOk result (λ r. IsStep self.old event.now r.0 (entry_of (Zone zone.now) event.now r.0 r.1) self.new) }
+        ensures memory { IsErrOf result StepFault.Memory → AsItWas self.old self.new }
+        ensures misfit { IsErrOf result StepFault.BadGrant → IsMisfitUnder stated self.old event.now self.new }
+        ensures fault { OnErr result (IsErrOf result StepFault.BadGrant ⊎ IsErrOf result StepFault.Memory) }
+    {
+        match self.cells.get_index_of(zone) {
+            Some(at) => self.answer_at(alloc, event, read, zone, at, stated),
+            None => self.answer_new(alloc, event, read, zone, stated),
         }
     }
 
-    // What was decided is done under its grant.
-    fn perform(&mut self, event: Event, decided: Decided, grant: Grant) -> Result<Entry, StepFault>
-        requires decided { IsDecided self.old event decided }
-        requires free { IsFreeFor self.old decided grant }
-        ensures grant { IfOk result (λ entry. entry.grant ≡ grant) }
-        ensures step { IfOk result (λ entry. IsStep self.old event grant entry self.new) }
-        ensures only { IsOkUnless result StepFault.Memory }
-        ensures memory { OnErr result (AsItWas self.old self.new) }
+    // An event that is no zone's is answered.
+    fn answer_global(
+        &mut self,
+        alloc: Global,
+        event: &Event,
+        read: Read<'_>,
+        stated: Option<Grant>,
+    ) -> Result<(Grant, Head), StepFault>
+        requires of { subject_in self.old.shared event.now ≡ subject_variants.Global }
+        requires global { (S : State) → global_read read ≡ global_reply S event.now }
+        ensures takes { IfOk result (λ r. IsTaken self.old stated event.now r.0) }
+        ensures step { IfOk result (λ r. IsStep self.old event.now r.0 (entry_of subject_variants.Global event.now r.0 r.1) self.new) }
+        ensures memory { IsErrOf result StepFault.Memory → AsItWas self.old self.new }
+        ensures misfit { IsErrOf result StepFault.BadGrant → IsMisfitUnder stated self.old event.now self.new }
+        ensures fault { OnErr result (IsErrOf result StepFault.BadGrant ⊎ IsErrOf result StepFault.Memory) }
     {
-        match decided {
-            Decided::At(at, zone, case) => self.do_at(event, at, zone, case, grant),
-            Decided::New(cell, key, zone, case) => {
-                self.do_new(event, cell, key, zone, case, grant)
-            }
-            Decided::Global(refusal) => Ok(self.do_global(event, refusal, grant)),
+        let refusal = global_refusal(alloc, read)?;
+        let grant = nothing_of(stated)?;
+        self.shared.started = true;
+        Ok((grant, answer_head(refusal)))
+    }
+
+    // An event is answered: its grant, and the first line of the reply.
+    fn answer(
+        &mut self,
+        alloc: Global,
+        event: &Event,
+        read: Read<'_>,
+        subject: &Subject,
+        stated: Option<Grant>,
+    ) -> Result<(Grant, Head), StepFault>
+        requires of { subject_in self.old.shared event.now ≡ subject.now }
+        requires decides { (v : View) → decide_read v read ≡ decide v event.now }
+        requires global { (S : State) → global_read read ≡ global_reply S event.now }
+        ensures takes { IfOk result (λ r. IsTaken self.old stated event.now r.0) }
+        ensures step { IfOk result (λ r. IsStep self.old event.now r.0 (entry_of subject.now event.now r.0 r.1) self.new) }
+        ensures memory { IsErrOf result StepFault.Memory → AsItWas self.old self.new }
+        ensures misfit { IsErrOf result StepFault.BadGrant → IsMisfitUnder stated self.old event.now self.new }
+        ensures fault { OnErr result (IsErrOf result StepFault.BadGrant ⊎ IsErrOf result StepFault.Memory) }
+    {
+        match subject {
+            Subject::Zone(zone) => self.answer_zone(alloc, event, read, zone, stated),
+            Subject::Global => self.answer_global(alloc, event, read, stated),
+            Subject::Whole => unreachable!(),
         }
     }
 
@@ -248,9 +312,10 @@ impl Parts {
         ensures misfit { IsErrOf result StepFault.BadGrant → IsMisfitUnder stated self.old event self.new }
         ensures fault { OnErr result (IsErrOf result StepFault.BadGrant ⊎ IsErrOf result StepFault.Memory) }
     {
-        let decided = self.decide(alloc, &event)?;
-        let grant = self.grant(&event, &decided, stated)?;
-        self.perform(event, decided, grant)
+        let read = read_event(&event);
+        let subject = subject(&self.shared, alloc, read)?;
+        let (grant, head) = self.answer(alloc, &event, read, &subject, stated)?;
+        Ok(entry_of(event, subject, grant, head))
     }
 
     fn active(&self, zone: &ZoneName) -> Option<ZoneState>

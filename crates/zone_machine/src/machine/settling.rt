@@ -138,7 +138,7 @@ fn settle_turn(desk: &mut Desk, case: TurnCase, grant: Grant) -> Work
         TurnCase::Begin(job, kind) => {
             let ticket = job.ticket;
             drop_first(&mut desk.waiting);
-            desk.job = Some(job);
+            desk.job = Some(Box::into_inner(job));
             Work::turned(ObjectEdit::Nothing, TurnReply::Began(ticket, kind))
         }
         TurnCase::Refuse(ticket, state) => {

@@ -3,8 +3,8 @@
 ghost use Rattle.std.specs.Prelude.{◌≡◌, ◌⊎◌, IfOk, IsErrOf, IsOkUnless, None, OnErr, Some, Option};
 ghost use Rattle.std.specs.Option.{option_map};
 ghost use Rattle.zone_machine.specs.Code.Cases.{IsCaseOf, decision_of};
-ghost use Rattle.zone_machine.specs.Code.Cells.{decide_read, global_read, number_read, pools_in, row_in, subject_in, subject_read};
-ghost use Rattle.zone_machine.specs.Code.Decided.{IsCaseIn, head_of};
+ghost use Rattle.zone_machine.specs.Code.Cells.{cell_world, decide_read, global_read, number_read, pools_in, row_in, subject_in, subject_read};
+ghost use Rattle.zone_machine.specs.Code.Decided.{IsCaseIn, entry_of, head_of};
 ghost use Rattle.zone_machine.specs.State.Decisions.{act_of, says};
 ghost use Rattle.zone_machine.specs.Code.Lines.{as_line, as_word};
 ghost use Rattle.zone_machine.specs.Machine.{decide, global_reply, named_subject, session_number};
@@ -12,7 +12,8 @@ ghost use Rattle.zone_machine.specs.Code.Rooms.{Alike, IsFreeOf};
 ghost use Rattle.zone_machine.specs.State.{State};
 ghost use Rattle.zone_machine.specs.Code.Steps.{IsAllowedCellStep, IsCellMisfit, IsCellMisfitUnder, IsCellStep, IsCellStepUnder, IsFittingCellStep, IsGrantFor, IsUnfit};
 ghost use Rattle.zone_machine.specs.Session.Typed.{badly_named, global_line};
-ghost use Rattle.zone_machine.specs.State.Worlds.{View};
+ghost use Rattle.zone_machine.specs.State.Worlds.{View, view_of};
+ghost use Rattle.zone_machine.specs.declared.events.Subject.TheVariants.{Zone};
 ghost use Rattle.zone_machine.specs.declared.machine.shared.Shared as shared_types;
 ghost use Rattle.zone_pools.specs.Decisions.{asked_of};
 
@@ -26,7 +27,7 @@ use crate::machine::rooms::make_room;
 use crate::machine::shared::Shared;
 use crate::pools::needs::need_of;
 use crate::pools::{fits, grant_for};
-use crate::replies::{Body, Refusal, Reply};
+use crate::replies::{Body, Head, Refusal, Reply};
 use crate::session::line_cases::decide_line;
 use crate::session::lines::{Command, Line, line_of};
 use crate::session::waits::awaited;
@@ -119,24 +120,9 @@ pub(crate) fn global_refusal(alloc: Global, read: Read<'_>) -> Result<Option<Ref
     }
 }
 
-/// The case of an event of a zone, by its cell and what is stored of it. It is boxed, so that it crosses calls that may
-/// fail at little cost to their proofs.
-pub(crate) fn case_of(
-    alloc: Global,
-    zone: &ZoneName,
-    cell: &Cell,
-    row: Option<&Record>,
-    read: Read<'_>,
-) -> Result<Box<Case>, AllocError>
-    ensures { IfOk result (λ case. IsCaseIn zone.now (option_map (λ row. row.now) row.entry) cell.now (λ v. decide_read v read.entry) case.value) }
-{
-    let case = read_case(alloc, zone, cell, row, read)?;
-    Ok(Box::new(alloc, case)?)
-}
-
-// The same, where it is made.
+// The case of an event of a zone, by its cell and what is stored of it.
 #[tactic(auto, unfolding(crate::specs::State::Worlds::view_of))]
-fn read_case(
+fn case_of(
     alloc: Global,
     zone: &ZoneName,
     cell: &Cell,
@@ -174,45 +160,28 @@ fn session_number(event: &Event) -> Option<u8>
     }
 }
 
-/// A case that was decided for an event is done under a grant that gives only what is free.
-pub(crate) fn answer(
+/// A case that was decided for an event is done under a grant that gives only what is free: the first line of the reply.
+pub(crate) fn perform_case(
     cell: &mut Cell,
     shared: &mut Shared,
-    event: Event,
-    zone: ZoneName,
-    case: Box<Case>,
+    event: &Event,
+    zone: &ZoneName,
+    case: Case,
     grant: Grant,
-) -> Result<Entry, StepFault>
-    requires case { IsCaseIn zone (row_in zone shared.old) cell.old (λ v. decide v event) case.value }
-    requires free { IsFreeOf (act_of (decision_of cell.old.desk case.value) grant).came (pools_in shared.old) }
-    ensures event { IfOk result (λ entry. entry.event ≡ event) }
-    ensures grant { IfOk result (λ entry. entry.grant ≡ grant) }
-    ensures step { IfOk result (λ entry. IsCellStep zone cell.old shared.old event grant entry cell.new shared.new) }
-    ensures only { IsOkUnless result StepFault.Memory }
+) -> Result<Head, AllocError>
+    requires case { IsCaseIn zone.now (row_in zone.now shared.old) cell.old (λ v. decide v event.now) case }
+    requires free { IsFreeOf (act_of (decision_of cell.old.desk case) grant).came (pools_in shared.old) }
+    ensures step { IfOk result (λ head. IsCellStep zone.now cell.old shared.old event.now grant (entry_of (Zone zone.now) event.now grant head) cell.new shared.new) }
     ensures memory { OnErr result (Alike cell.old shared.old cell.new shared.new) }
 {
     make_room(cell, shared, &case)?;
-    let head = perform(
-        cell,
-        shared,
-        session_number(&event),
-        Box::into_inner(case),
-        grant,
-    );
+    let head = perform(cell, shared, session_number(event), case, grant);
     shared.started = true;
-    Ok(Entry {
-        event,
-        subject: Subject::Zone(zone),
-        grant,
-        reply: Reply {
-            head,
-            body: Body::Nothing,
-        },
-    })
+    Ok(head)
 }
 
-/// The grant that the pools give a case, or the one that is stated, where it fits.
-pub(crate) fn grant_of(
+// The grant that the pools give a case, or the one that is stated, where it fits.
+fn grant_of(
     zone: &ZoneName,
     cell: &Cell,
     shared: &Shared,
@@ -236,28 +205,75 @@ pub(crate) fn grant_of(
     }
 }
 
-// A case that was decided for an event is done, under the grant that the pools give, or under the one that is stated,
-// where it fits.
-fn do_case(
-    cell: &mut Cell,
-    shared: &mut Shared,
-    event: Event,
-    zone: ZoneName,
-    case: Box<Case>,
+/// The case of an event of a zone, and the grant that the pools give it, or the one that is stated, where it fits.
+pub(crate) fn granted_case(
+    alloc: Global,
+    zone: &ZoneName,
+    cell: &Cell,
+    shared: &Shared,
+    read: Read<'_>,
     stated: Option<Grant>,
-) -> Result<Entry, StepFault>
-    requires case { IsCaseIn zone (row_in zone shared.old) cell.old (λ v. decide v event) case.value }
-    ensures event { IfOk result (λ entry. entry.event ≡ event) }
-    ensures ok { IfOk result (λ entry. IsCellStepUnder zone stated cell.old shared.old event entry cell.new shared.new) }
-    ensures memory { IsErrOf result StepFault.Memory → Alike cell.old shared.old cell.new shared.new }
-    ensures misfit { IsErrOf result StepFault.BadGrant → IsCellMisfitUnder zone stated cell.old shared.old event cell.new shared.new }
+) -> Result<(Case, Grant), StepFault>
+    ensures case { IfOk result (λ r. IsCaseIn zone.now (row_in zone.now shared.now) cell.now (λ v. decide_read v read.entry) r.0) }
+    ensures takes { IfOk result (λ r. IsGrantFor zone.now (pools_in shared.now) (asked_of (decision_of cell.now.desk r.0)) stated r.1) }
+    ensures misfit { IsErrOf result StepFault.BadGrant → IsUnfit (pools_in shared.now) (asked_of (decide_read (view_of zone.now (cell_world (row_in zone.now shared.now) cell.now)) read.entry)) stated }
     ensures fault { OnErr result (IsErrOf result StepFault.BadGrant ⊎ IsErrOf result StepFault.Memory) }
 {
-    let grant = grant_of(&zone, cell, shared, &case, stated)?;
-    answer(cell, shared, event, zone, case, grant)
+    let case = case_of(alloc, zone, cell, shared.rows.get(zone), read)?;
+    let grant = grant_of(zone, cell, shared, &case, stated)?;
+    Ok((case, grant))
 }
 
-// An event of a zone is answered.
+/// The grant that the pools give an event of a zone.
+pub(crate) fn cell_grant(
+    alloc: Global,
+    zone: &ZoneName,
+    cell: &Cell,
+    shared: &Shared,
+    read: Read<'_>,
+) -> Result<Grant, StepFault>
+    ensures ok { IfOk result (IsGrantFor zone.now (pools_in shared.now) (asked_of (decide_read (view_of zone.now (cell_world (row_in zone.now shared.now) cell.now)) read.entry)) None) }
+    ensures err { IsOkUnless result StepFault.Memory }
+{
+    let (_case, grant) = granted_case(alloc, zone, cell, shared, read, None)?;
+    Ok(grant)
+}
+
+/// The entry of an event.
+pub(crate) fn entry_of(event: Event, subject: Subject, grant: Grant, head: Head) -> Entry
+    ensures { result ≡ entry_of subject event grant head }
+{
+    Entry {
+        event,
+        subject,
+        grant,
+        reply: Reply {
+            head,
+            body: Body::Nothing,
+        },
+    }
+}
+
+// An event of a zone is answered: its grant, and the first line of the reply.
+fn answer(
+    alloc: Global,
+    zone: &ZoneName,
+    cell: &mut Cell,
+    shared: &mut Shared,
+    event: &Event,
+    stated: Option<Grant>,
+) -> Result<(Grant, Head), StepFault>
+    ensures ok { IfOk result (λ r. IsCellStepUnder zone.now stated cell.old shared.old event.now (entry_of (Zone zone.now) event.now r.0 r.1) cell.new shared.new) }
+    ensures memory { IsErrOf result StepFault.Memory → Alike cell.old shared.old cell.new shared.new }
+    ensures misfit { IsErrOf result StepFault.BadGrant → IsCellMisfitUnder zone.now stated cell.old shared.old event.now cell.new shared.new }
+    ensures fault { OnErr result (IsErrOf result StepFault.BadGrant ⊎ IsErrOf result StepFault.Memory) }
+{
+    let (case, grant) = granted_case(alloc, zone, cell, shared, read_event(event), stated)?;
+    let head = perform_case(cell, shared, event, zone, case, grant)?;
+    Ok((grant, head))
+}
+
+// The same, as an entry.
 fn cell_event(
     alloc: Global,
     zone: &ZoneName,
@@ -272,9 +288,9 @@ fn cell_event(
     ensures misfit { IsErrOf result StepFault.BadGrant → IsCellMisfitUnder zone.now stated cell.old shared.old event cell.new shared.new }
     ensures fault { OnErr result (IsErrOf result StepFault.BadGrant ⊎ IsErrOf result StepFault.Memory) }
 {
-    let subject = zone.copy(alloc)?;
-    let case = case_of(alloc, zone, cell, shared.rows.get(zone), read_event(&event))?;
-    do_case(cell, shared, event, subject, case, stated)
+    let subject = Subject::Zone(zone.copy(alloc)?);
+    let (grant, head) = answer(alloc, zone, cell, shared, &event, stated)?;
+    Ok(entry_of(event, subject, grant, head))
 }
 
 /// An event of a zone is answered on its cell and the shared part, under the grant that the pools give it. Where memory

@@ -1,8 +1,26 @@
-use Rattle.zone_machine.proofs.Standing.{answered}
+use Rattle.std.proofs.Common.{ap, refl, rules, sym, ◌∙◌}
+use Rattle.zone_pools.specs.Decisions.{asked_of}
+use Rattle.zone_machine.proofs.Stepping.{IsCellMisfitUnder-by, IsCellStepUnder-by, case_freed}
+use Rattle.zone_machine.specs.Code.Cases.{decision_of}
+use Rattle.zone_machine.specs.Code.Cells.{cell_world, decide_read, pools_in, row_in}
+use Rattle.zone_machine.specs.Code.Decided.{entry_of}
+use Rattle.zone_machine.specs.State.Worlds.{view_of}
+use Rattle.zone_machine.specs.declared.events.Subject.TheVariants.{Zone}
 use Rattle.zone_machine.proofs.machine.steps.answer.Goals as goal
 
-pub returns-clause-step : goal.returns-clause-step
-returns-clause-step c =
-    answered c.args.zone c.args.cell.now c.args.shared.now c.make_room.new.cell c.perform-head.new.cell c.make_room.new.shared c.perform-head.new.shared c.args.event c.args.grant c.perform-head.result c.into_inner.result
-    c.in_ok-make_room.ensures.alike (rw c.into_inner.ensures c.requires.case.decided) (rw c.into_inner.ensures (rw c.deref.ensures at c.in_ok-make_room.ensures.same)) c.perform-head.ensures.head
-    (λ opens. rw (← c.session_number.ensures) (c.perform-head.ensures.does c.args.zone (rw c.into_inner.ensures c.requires.case.named) (rw c.session_number.ensures opens)))
+pub returns-in_err-case-clause-misfit : goal.returns-in_err-case-clause-misfit
+returns-in_err-case-clause-misfit c = λ bad.
+    let z = c.args.zone.now in
+    IsCellMisfitUnder-by z c.args.cell.now c.args.shared.now c.args.event.now c.args.stated
+    (asked_of (decide_read (view_of z (cell_world (row_in z c.args.shared.now) c.args.cell.now)) c.read_event.result)) (ap asked_of (sym (c.read_event.ensures.decide _))) (search rules)
+
+pub perform_case-requires-clause-free : goal.perform_case-requires-clause-free
+perform_case-requires-clause-free c =
+    case_freed (pools_in c.args.shared.now) c.args.zone.now c.args.cell.now.desk c.in_ok-case.case c.args.stated c.in_ok-case.grant c.in_ok-case.ensures.takes
+
+pub returns-clause-ok : goal.returns-clause-ok
+returns-clause-ok c =
+    IsCellStepUnder-by c.args.zone.now c.args.cell.now c.args.shared.now c.args.event.now c.args.stated c.in_ok-case.grant
+    (entry_of (Zone c.args.zone.now) c.args.event.now c.in_ok-case.grant c.in_ok-head.head) c.perform_case.new.cell c.perform_case.new.shared
+    (asked_of (decision_of c.args.cell.now.desk c.in_ok-case.case)) (ap asked_of (sym (c.read_event.ensures.decide _) ∙ c.in_ok-case.ensures.case.decided))
+    c.in_ok-case.ensures.takes refl c.in_ok-head.ensures.step

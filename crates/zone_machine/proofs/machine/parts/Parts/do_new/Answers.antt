@@ -1,14 +1,16 @@
-use Rattle.std.proofs.Common.{None, ap, bytes_eq}
+use Rattle.std.proofs.Common.{ap, bytes_eq}
 use Rattle.std.specs.Map.{lookup}
 use Rattle.std.specs.HashMap.{get_by}
-use Rattle.zone_machine.proofs.Stepping.{IsStep-cell, Keeps-roomy, same_new}
+use Rattle.zone_machine.proofs.Stepping.{IsStep-cell, Keeps-roomy, same_none}
+use Rattle.zone_machine.specs.Code.Decided.{entry_of}
+use Rattle.zone_machine.specs.declared.events.Subject.TheVariants.{Zone}
 use Rattle.zone_machine.specs.declared.machine.parts.Parts.{Parts}
 use Rattle.zone_machine.proofs.machine.parts.Parts.do_new.Goals as goal
 
 pub returns-clause-step : goal.returns-clause-step
 returns-clause-step c =
-    let m = c.args.self.now in let z = c.args.zone in let h = c.requires.decided in
-    let u : Parts = record { cells = c.keep.new.cells; shared = c.answer.new.shared } in
-    IsStep-cell m u z c.args.event c.args.cell.value c.answer.new.cell (same_new m c.args.event None c.args.cell c.args.key z c.args.case h)
-    (Keeps-roomy m u z c.args.key c.answer.new.cell (λ y. get_by (bytes_eq y) c.reserve.new.self) h.1.keyed (λ y. ap (lookup (bytes_eq y)) c.in_ok-reserve.ensures.entries) c.keep.ensures)
-    c.args.grant c.in_ok-entry.entry h.0 (rw c.into_inner-cell.ensures at c.in_ok-entry.ensures.step)
+    let m = c.args.self.now in let z = c.args.zone.now in
+    let u : Parts = record { cells = c.keep.new.cells; shared = c.perform_case.new.shared } in
+    IsStep-cell m u z c.args.event.now c.args.cell.value c.perform_case.new.cell (same_none m z c.args.cell.value c.requires.none c.requires.nothing)
+    (Keeps-roomy m u z c.in_ok-key.key c.perform_case.new.cell (λ y. get_by (bytes_eq y) c.room_for_cell.new.cells) c.in_ok-key.ensures.key (λ y. ap (lookup (bytes_eq y)) c.in_ok-key.ensures.same) c.keep.ensures)
+    c.args.grant (entry_of (Zone z) c.args.event.now c.args.grant c.in_ok-head.head) c.requires.of (rw c.into_inner-cell.ensures at c.in_ok-head.ensures.step)

@@ -1,0 +1,25 @@
+use Rattle.std.proofs.Common.{◌≡◌, Some, ap, rules, subst, sym, ◌∙◌}
+use Rattle.zone_machine.proofs.Stepping.{case_freed, here_at, some_is, taken, unfit}
+use Rattle.zone_machine.specs.Code.Cases.{decision_of}
+use Rattle.zone_machine.specs.Code.Cells.{cell_at, decide_read, pools_in, world_or_empty}
+use Rattle.zone_machine.specs.Code.Rooms.{IsFreeOf}
+use Rattle.zone_machine.specs.State.Decisions.{act_of}
+use Rattle.zone_machine.proofs.machine.parts.Parts.answer_at.Goals as goal
+
+pub returns-in_err-case-clause-misfit : goal.returns-in_err-case-clause-misfit
+returns-in_err-case-clause-misfit c = λ bad.
+    let m = c.args.self.now in let z = c.args.zone.now in let cell = c.index.result.now in
+    unfit m z c.args.event.now cell (λ v. decide_read v c.args.read) c.requires.of (λ row. ap (world_or_empty row) (here_at m z c.args.at cell c.requires.at c.index.ensures)) c.requires.decides c.args.stated (search rules)
+
+pub do_at-requires-clause-free : goal.do_at-requires-clause-free
+do_at-requires-clause-free c = λ d is.
+    let m = c.args.self.now in let z = c.args.zone.now in let cell = c.index.result.now in
+    let here : cell_at z m ≡ Some cell = here_at m z c.args.at cell c.requires.at c.index.ensures in
+    subst (λ x. IsFreeOf (act_of (decision_of x.desk c.in_ok-case.case) c.in_ok-case.grant).came (pools_in m.shared)) (some_is cell d (sym here ∙ is))
+    (case_freed (pools_in m.shared) z cell.desk c.in_ok-case.case c.args.stated c.in_ok-case.grant c.in_ok-case.ensures.takes)
+
+pub returns-clause-takes : goal.returns-clause-takes
+returns-clause-takes c =
+    let m = c.args.self.now in let z = c.args.zone.now in let cell = c.index.result.now in
+    taken m z c.args.event.now cell (λ v. decide_read v c.args.read) c.requires.of (λ row. ap (world_or_empty row) (here_at m z c.args.at cell c.requires.at c.index.ensures)) c.requires.decides
+    c.args.stated c.in_ok-case.case c.in_ok-case.grant c.in_ok-case.ensures.case c.in_ok-case.ensures.takes
