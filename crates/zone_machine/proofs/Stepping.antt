@@ -7,7 +7,6 @@ use Rattle.std.specs.Prelude.{bytes_eq, is_some, nat_eq, slice_get, if◌then◌
 use Rattle.std.specs.List.{list_any}
 use Rattle.std.specs.Option.{option_map}
 use Rattle.std.proofs.lemmas.List.Quantifiers.{position-Some}
-use Rattle.std.proofs.lemmas.Bool.{true≢false}
 use Rattle.std.proofs.lemmas.Option.{get_or_from_slice_get, slice_get-get_or, slice_get-map}
 use Rattle.zn_base.specs.Names.{Name, name_of}
 use Rattle.zn_base.specs.declared.name.NameFault.{NameFault}
@@ -251,17 +250,13 @@ module _ (m : Parts) (e : Event) (is : subject_in m.shared e ≡ Global) where
             (record { worlds = h.worlds; shared = ap (λ (k : Common). record k { started = true }) h.shared });
       }
 
-pub none_is : {A : Type 0} (o : Option A) → is_some o ≡ false → o ≡ None
-none_is None h = refl
-none_is (Some x) h = absurd (true≢false h)
-
 pub some_is : {A : Type 0} (x y : A) → Some x ≡ Some y → x ≡ y
 some_is x y h = cc
 
 -- the case of an event of z as it was read, on the cell that z has or would have
 module _ (m : Parts) (z : Name) (e : Event) (c : Cell) (decides : View → Decision) (is : subject_in m.shared e ≡ Zone z)
     (same : (row : Option Record) → world_or_empty row (cell_at z m) ≡ cell_world row c) (reads : (v : View) → decides v ≡ decide v e) where
-  pub case_read : (case : Case) → IsCaseIn z (row_in z m.shared) c decides case → IsCaseIn z (row_in z m.shared) c (λ v. decide v e) case
+  case_read : (case : Case) → IsCaseIn z (row_in z m.shared) c decides case → IsCaseIn z (row_in z m.shared) c (λ v. decide v e) case
   case_read case h = record { decided = sym (reads _) ∙ h.decided; of = h.of; named = h.named }
 
   -- the grant that it takes
