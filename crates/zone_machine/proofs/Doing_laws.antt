@@ -28,16 +28,16 @@ use Rattle.zone_machine.specs.declared.objects.Id.{Id}
 use Rattle.zone_machine.specs.declared.objects.Process.{Process}
 use Rattle.commit_journal.specs.declared.records.Record.{Record}
 use Rattle.zone_machine.specs.declared.machine.shared.Shared.{Shared}
-use Rattle.zone_machine.specs.declared.machine.work.ObjectEdit.TheVariants.{EndIds, EndProcesses}
-use Rattle.zone_machine.specs.declared.machine.work.ObjectEdit.TheVariants as object
+use Rattle.zone_machine.specs.declared.objects.changes.ObjectEdit.TheVariants.{EndIds, EndProcesses}
+use Rattle.zone_machine.specs.declared.objects.changes.ObjectEdit.TheVariants as object
 use Rattle.zone_machine.specs.Arrivals.{Arrival, New_id, New_process, New_record}
 use Rattle.zone_machine.specs.Objects.{below, has_pid, has_zid}
 use Rattle.zone_machine.specs.State.Decisions.{Act, acts_world, after_came_world, sweeps, ticket_ended}
 use Rattle.zone_machine.specs.Code.Rooms.{IsOpenTo}
 use Rattle.zone_machine.specs.declared.machine.work.Sitting.{Sitting}
-use Rattle.zone_machine.specs.declared.machine.work.Coming.{Coming}
+use Rattle.zone_machine.specs.declared.objects.changes.Coming.{Coming}
 use Rattle.zone_machine.specs.declared.machine.work.Work.{Work}
-use Rattle.zone_machine.specs.declared.machine.work.ObjectEdit.{ObjectEdit}
+use Rattle.zone_machine.specs.declared.objects.changes.ObjectEdit.{ObjectEdit}
 use Rattle.zone_machine.specs.declared.daemon.desks.Desk.{Desk}
 use Rattle.zone_machine.specs.Daemon.Desks as desks
 use Rattle.zone_machine.specs.Code.Desks.{as_desk}

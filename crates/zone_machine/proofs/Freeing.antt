@@ -26,19 +26,19 @@ use Rattle.zone_machine.specs.Daemon.Desks as desks
 use Rattle.zone_machine.specs.Code.Desks.{as_desk, as_job}
 use Rattle.zone_machine.specs.Objects.{Object_edit}
 use Rattle.zone_machine.specs.Daemon.Turns.{Turn_decision, asking}
-use Rattle.zone_machine.specs.declared.machine.cases.Case.{Case}
-use Rattle.zone_machine.specs.declared.machine.cases.Case.TheVariants as cases
-use Rattle.zone_machine.specs.declared.machine.cases.JobCase.{JobCase}
-use Rattle.zone_machine.specs.declared.machine.cases.JobCase.TheVariants as jobs
-use Rattle.zone_machine.specs.declared.machine.cases.TurnCase.{TurnCase}
-use Rattle.zone_machine.specs.declared.machine.cases.TurnCase.TheVariants as turns
+use Rattle.zone_machine.specs.declared.cases.Case.{Case}
+use Rattle.zone_machine.specs.declared.cases.Case.TheVariants as cases
+use Rattle.zone_machine.specs.declared.daemon.cases.JobCase.{JobCase}
+use Rattle.zone_machine.specs.declared.daemon.cases.JobCase.TheVariants as jobs
+use Rattle.zone_machine.specs.declared.daemon.cases.TurnCase.{TurnCase}
+use Rattle.zone_machine.specs.declared.daemon.cases.TurnCase.TheVariants as turns
 use Rattle.zone_machine.specs.declared.daemon.Step.{Step}
 use Rattle.zone_machine.specs.declared.daemon.desks.Desk.{Desk}
 use Rattle.zone_machine.specs.declared.daemon.desks.Job.{Job}
-use Rattle.zone_machine.specs.declared.machine.work.Came.{Came}
-use Rattle.zone_machine.specs.declared.machine.work.Came.TheVariants as came_type
-use Rattle.zone_machine.specs.declared.machine.work.ObjectEdit.{ObjectEdit}
-use Rattle.zone_machine.specs.declared.machine.work.ObjectEdit.TheVariants as object
+use Rattle.zone_machine.specs.declared.objects.changes.Came.{Came}
+use Rattle.zone_machine.specs.declared.objects.changes.Came.TheVariants as came_type
+use Rattle.zone_machine.specs.declared.objects.changes.ObjectEdit.{ObjectEdit}
+use Rattle.zone_machine.specs.declared.objects.changes.ObjectEdit.TheVariants as object
 
 -- a number that is found isn't used
 unused_found : (used : ℕ → Bool) (from count n : ℕ) → first_free used from count ≡ Some n → used n ≡ false

@@ -31,7 +31,7 @@ use Rattle.zone_machine.specs.declared.events.Subject.TheVariants.{Zone}
 use Rattle.commit_journal.specs.declared.records.Record.{Record}
 use Rattle.zone_machine.specs.declared.replies.Head.TheVariants.{Turned as Told}
 use Rattle.zone_machine.specs.declared.replies.Reply.{Reply}
-use Rattle.zone_machine.specs.declared.machine.work.ObjectEdit.{ObjectEdit}
+use Rattle.zone_machine.specs.declared.objects.changes.ObjectEdit.{ObjectEdit}
 use Rattle.zone_machine.specs.declared.machine.work.Work.{Work}
 
 -- what settling a turn tells to do leaves the mounts and the desk that the turn leaves

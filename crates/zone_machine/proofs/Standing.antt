@@ -37,7 +37,7 @@ use Rattle.zone_machine.specs.declared.machine.shared.Shared.{Shared}
 use Rattle.zone_machine.specs.Objects.{has_pid, has_zid}
 use Rattle.zone_machine.specs.Code.Cases.{decision_of}
 use Rattle.zone_machine.specs.Code.Rooms.{Alike, IsOpenTo}
-use Rattle.zone_machine.specs.declared.machine.cases.Case.{Case}
+use Rattle.zone_machine.specs.declared.cases.Case.{Case}
 
 -- what is stored of a zone is its row of the shared part
 pub stored-stands : (S : State) (s : Shared) (z : Name) → SharedOf s (common S) → stored z S.commits ≡ row_in z s

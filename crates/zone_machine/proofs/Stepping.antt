@@ -55,7 +55,7 @@ use Rattle.zone_machine.specs.Code.Cases.{decision_of}
 use Rattle.zone_machine.specs.Code.Decided.{IsCaseIn, IsCellAt}
 use Rattle.zone_machine.specs.State.Decisions.{act_of}
 use Rattle.zone_machine.specs.Code.Rooms.{IsFreeOf}
-use Rattle.zone_machine.specs.declared.machine.cases.Case.{Case}
+use Rattle.zone_machine.specs.declared.cases.Case.{Case}
 
 -- what the pools know
 module _ {A : Type 0} (p : A → Bool) where

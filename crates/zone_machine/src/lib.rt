@@ -5,13 +5,14 @@
 //! a zone needs these two alone, by `cell_step`, and a turn that is local the cell alone, by `local_turn`.
 #![tactic(auto)]
 
+mod cases;
 mod daemon;
 mod events;
 mod faults;
 mod laws;
 mod machine;
+mod maps;
 mod objects;
-mod pools;
 mod replies;
 mod session;
 

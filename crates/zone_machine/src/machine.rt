@@ -4,12 +4,13 @@ ghost use Rattle.zone_machine.specs.Machine.{opening};
 ghost use Rattle.zone_machine.specs.Code.Steps.{IsAllowed, IsAllowedStep, IsFittingStep, IsMisfit, IsRefusedIfUnfit, IsStarted, IsSubject, IsZoneState, AsItWas};
 ghost use Rattle.zone_machine.specs.Code.Cells.{Stands};
 
-pub(crate) mod cases;
 pub(crate) mod cell;
 pub(crate) mod effects;
 pub(crate) mod local_turns;
-pub(crate) mod maps;
+pub(crate) mod needs;
+pub(crate) mod numbers;
 pub(crate) mod parts;
+pub(crate) mod pools;
 pub(crate) mod rooms;
 pub(crate) mod settling;
 pub(crate) mod shared;

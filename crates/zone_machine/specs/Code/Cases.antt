@@ -17,12 +17,12 @@ use Rattle.zone_machine.specs.State.{Awaiting}
 use Rattle.zone_machine.specs.Daemon.Turns.{Turn_decision, Turned, active_after, advance, asking, finish, reports, rests, undone}
 use Rattle.zone_machine.specs.Session.Typed.{is_full, with_request}
 use Rattle.zone_machine.specs.State.Worlds.{World}
-use Rattle.zone_machine.specs.declared.machine.cases.Case.{Case}
-use Rattle.zone_machine.specs.declared.machine.cases.Case.TheVariants.{Says, Make, Put, Turn}
-use Rattle.zone_machine.specs.declared.machine.cases.JobCase.{JobCase}
-use Rattle.zone_machine.specs.declared.machine.cases.JobCase.TheVariants.{Finish, Pass, Ask, Undo}
-use Rattle.zone_machine.specs.declared.machine.cases.TurnCase.{TurnCase}
-use Rattle.zone_machine.specs.declared.machine.cases.TurnCase.TheVariants.{Idle, Begin, Refuse, GoOn}
+use Rattle.zone_machine.specs.declared.cases.Case.{Case}
+use Rattle.zone_machine.specs.declared.cases.Case.TheVariants.{Says, Make, Put, Turn}
+use Rattle.zone_machine.specs.declared.daemon.cases.JobCase.{JobCase}
+use Rattle.zone_machine.specs.declared.daemon.cases.JobCase.TheVariants.{Finish, Pass, Ask, Undo}
+use Rattle.zone_machine.specs.declared.daemon.cases.TurnCase.{TurnCase}
+use Rattle.zone_machine.specs.declared.daemon.cases.TurnCase.TheVariants.{Idle, Begin, Refuse, GoOn}
 use Rattle.zone_machine.specs.declared.daemon.Outcome.TheVariants.{WrongState}
 use Rattle.zone_machine.specs.declared.daemon.RequestKind.{RequestKind}
 use Rattle.zone_machine.specs.declared.daemon.Step.{Step}
@@ -36,10 +36,10 @@ use Rattle.commit_journal.specs.declared.records.Record as records
 use Rattle.config_terms.specs.Fields.{path_text}
 use Rattle.zone_machine.specs.declared.replies.Head.TheVariants.{Ok, Ticket}
 use Rattle.zone_machine.specs.declared.replies.Refusal.TheVariants.{Denied}
-use Rattle.zone_machine.specs.declared.machine.work.Came.{Came}
-use Rattle.zone_machine.specs.declared.machine.work.Came.TheVariants.{Process, Id, Record}
-use Rattle.zone_machine.specs.declared.machine.work.ObjectEdit.{ObjectEdit}
-use Rattle.zone_machine.specs.declared.machine.work.ObjectEdit.TheVariants.{Nothing, EndProcesses, Mount, Unmount, EndIds}
+use Rattle.zone_machine.specs.declared.objects.changes.Came.{Came}
+use Rattle.zone_machine.specs.declared.objects.changes.Came.TheVariants.{Process, Id, Record}
+use Rattle.zone_machine.specs.declared.objects.changes.ObjectEdit.{ObjectEdit}
+use Rattle.zone_machine.specs.declared.objects.changes.ObjectEdit.TheVariants.{Nothing, EndProcesses, Mount, Unmount, EndIds}
 use Rattle.zone_machine.specs.declared.machine.work.Sitting.{Sitting}
 use Rattle.zone_machine.specs.declared.machine.work.Work.{Work}
 

@@ -6,7 +6,7 @@ use Rattle.zone_machine.specs.Code.Cases.{IsCaseOf, IsNamedCase, decision_of}
 use Rattle.zone_machine.specs.Code.Cells.{cell_at, cell_world}
 use Rattle.zone_machine.specs.State.Decisions.{Decision}
 use Rattle.zone_machine.specs.State.Worlds.{View, view_of}
-use Rattle.zone_machine.specs.declared.machine.cases.Case.{Case}
+use Rattle.zone_machine.specs.declared.cases.Case.{Case}
 use Rattle.zone_machine.specs.declared.machine.cell.Cell.{Cell}
 use Rattle.zone_machine.specs.declared.events.Entry.{Entry}
 use Rattle.zone_machine.specs.declared.events.Event.{Event}

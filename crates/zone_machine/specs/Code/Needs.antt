@@ -1,8 +1,8 @@
 -- What the code's needs ask, as the definitions have it.
 use Rattle.std.specs.Prelude.{List, [], ◌∷◌}
 use Rattle.zone_pools.specs.Asked.{A_path, A_pid, A_serial, A_zid, A_zone, Asked}
-use Rattle.zone_machine.specs.declared.pools.needs.Need.{Need}
-use Rattle.zone_machine.specs.declared.pools.needs.Need.TheVariants.{Nothing, Pid, Zid, Record, NewZone}
+use Rattle.zone_machine.specs.declared.machine.needs.Need.{Need}
+use Rattle.zone_machine.specs.declared.machine.needs.Need.TheVariants.{Nothing, Pid, Zid, Record, NewZone}
 
 abbrev pub asked_by : Need → List Asked
 asked_by Nothing = []

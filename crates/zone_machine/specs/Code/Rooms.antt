@@ -9,13 +9,13 @@ use Rattle.zone_pools.specs.Pools.{Pools, has_room}
 use Rattle.zone_machine.specs.Arrivals.{Arrival, New_id, New_process, New_record}
 use Rattle.zone_machine.specs.Code.Cases.{HasRoomFor, decision_of, objects_of}
 use Rattle.zone_machine.specs.Code.Cells.{cell_world, common_in, pools_in}
-use Rattle.zone_machine.specs.declared.machine.cases.Case.{Case}
-use Rattle.zone_machine.specs.declared.machine.cases.Case.TheVariants as cases
+use Rattle.zone_machine.specs.declared.cases.Case.{Case}
+use Rattle.zone_machine.specs.declared.cases.Case.TheVariants as cases
 use Rattle.zone_machine.specs.declared.machine.cell.Cell.{Cell}
 use Rattle.commit_journal.specs.declared.records.Record.{Record}
 use Rattle.zone_machine.specs.declared.machine.shared.Shared.{Shared}
-use Rattle.zone_machine.specs.declared.machine.work.ObjectEdit.{ObjectEdit}
-use Rattle.zone_machine.specs.declared.machine.work.ObjectEdit.TheVariants.{Mount}
+use Rattle.zone_machine.specs.declared.objects.changes.ObjectEdit.{ObjectEdit}
+use Rattle.zone_machine.specs.declared.objects.changes.ObjectEdit.TheVariants.{Mount}
 
 -- a cell and a shared part are as they were, but for room
 pub record Alike (c : Cell) (s : Shared) (d : Cell) (t : Shared) : Type 0 where

@@ -1,13 +1,12 @@
 //! A zone's desk: the requests that wait, and the one under way.
-ghost use Rattle.std.specs.Prelude.{◌<◌, ◌∷◌, ◌≡◌, [], OnOk, Some, drop, length, true};
-ghost use Rattle.zone_machine.specs.Code.Cases.{HasRoomFor, HasUndoRoom, IsCaseOf, decision_of};
+ghost use Rattle.std.specs.Prelude.{◌<◌, ◌∷◌, ◌≡◌, [], Some, drop, length, true};
+ghost use Rattle.zone_machine.specs.Code.Cases.{HasUndoRoom};
 ghost use Rattle.zone_machine.specs.Daemon.Desks.{empty_desk, next_place};
 ghost use Rattle.zone_machine.specs.Code.Desks.{as_desk, as_job};
 ghost use Rattle.zone_machine.specs.Daemon.Plans.{undo_after};
 
 use crate::daemon::{Outcome, RequestKind, Step};
-use crate::machine::cases::{Case, JobCase, TurnCase};
-use std::alloc::{AllocError, Global};
+use std::alloc::Global;
 use zn_base::ZoneState;
 use zone_config::ZoneConfig;
 
@@ -99,23 +98,5 @@ impl Job {
         ensures rest { as_job self.new ≡ record (as_job self.old) { undo = (as_job self.new).undo } }
     {
         self.undo.take_last()
-    }
-}
-
-impl Desk {
-    /// Room for what the case puts on the desk: a request that waits, or a step that a failure undoes.
-    pub(crate) fn make_room(&mut self, case: &Case) -> Result<(), AllocError>
-        ensures desk { as_desk self.new ≡ as_desk self.old }
-        ensures same { decision_of self.new case.now ≡ decision_of self.old case.now }
-        ensures of { IsCaseOf self.old case.now → IsCaseOf self.new case.now }
-        ensures room { OnOk result (HasRoomFor self.new case.now) }
-    {
-        match (case, &mut self.job) {
-            (Case::Put(_, _), _) => self.waiting.reserve(1),
-            (Case::Turn(TurnCase::GoOn(JobCase::Pass(_) | JobCase::Ask(_, _))), Some(job)) => {
-                job.undo.reserve(1)
-            }
-            _ => Ok(()),
-        }
     }
 }

@@ -14,10 +14,10 @@ ghost use Rattle.zn_base.specs.Names.{Name};
 ghost use Rattle.zone_pools.specs.Decisions.{Just};
 ghost use Rattle.zone_pools.specs.Owned_lists.{Come};
 
+use crate::daemon::cases::{JobCase, Pass};
 use crate::daemon::desks::Job;
 use crate::daemon::{Outcome, Step};
-use crate::machine::cases::{JobCase, Pass};
-use crate::machine::work::{Came, Coming, ObjectEdit};
+use crate::objects::changes::{Came, Coming, ObjectEdit};
 use crate::objects::{Id, Mount, Objects, Process};
 use commit_journal::Record;
 use std::alloc::{AllocError, Global};
@@ -91,7 +91,11 @@ fn root_mount(alloc: Global, config: &ZoneConfig) -> Result<Mount, AllocError>
 }
 
 /// The zone's root is mounted.
-pub(crate) fn mount_root(alloc: Global, next: usize, config: &ZoneConfig) -> Result<JobCase, AllocError>
+pub(crate) fn mount_root(
+    alloc: Global,
+    next: usize,
+    config: &ZoneConfig,
+) -> Result<JobCase, AllocError>
     ensures decides { IfOk result (λ c. (d : desks.Desk) (j : job_types.Job) → job_turn d j c ≡ Just (advance d (as_job j) (drop next j.steps.items) (Of_mounts (Come (root_mount config.now)) ∷ []) Step.Root)) }
     ensures of { IfOk result (λ c. (j : job_types.Job) → IsJobCase j c) }
     ensures named { IfOk result (λ c. (z : Name) → IsNamedJobCase z c) }

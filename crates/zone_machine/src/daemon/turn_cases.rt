@@ -9,12 +9,12 @@ ghost use Rattle.zone_machine.specs.Code.Desks.{as_desk, as_job};
 ghost use Rattle.zone_machine.specs.Daemon.Plans.{plan};
 ghost use Rattle.zone_machine.specs.Daemon.Turns.{goes_on, next_request, turn, turn_at, undo, undo_edits};
 
+use crate::daemon::cases::{JobCase, TurnCase};
 use crate::daemon::desks::{Desk, Job};
 use crate::daemon::plan_cases::{plan_case, root_dir};
 use crate::daemon::plans::{may_begin, plan};
 use crate::daemon::{Outcome, RequestKind, Step};
-use crate::machine::cases::{JobCase, TurnCase};
-use crate::machine::work::ObjectEdit;
+use crate::objects::changes::ObjectEdit;
 use crate::objects::{Id, Mount, Objects, Process};
 use commit_journal::Record;
 use std::alloc::{AllocError, Global};

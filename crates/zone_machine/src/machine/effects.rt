@@ -14,12 +14,13 @@ ghost use Rattle.zone_machine.specs.Arrivals.{New_id, New_process, New_record};
 ghost use Rattle.zone_machine.specs.State.Edits.{Of_objects, comes_world, edits_world};
 ghost use Rattle.zone_machine.specs.Code.Rooms.{HasRoom, HasRoomOf, HasRoomToChange, HasRoomToSit, IsFreeOf, IsOpenTo};
 
-use crate::machine::cases::Case;
+use crate::cases::Case;
 use crate::machine::cell::Cell;
-use crate::machine::maps::put;
 use crate::machine::settling::settle;
 use crate::machine::shared::Shared;
-use crate::machine::work::{Came, Coming, ObjectEdit, Sitting, Work};
+use crate::machine::work::{Sitting, Work};
+use crate::maps::put;
+use crate::objects::changes::{Came, Coming, ObjectEdit};
 use crate::objects::lists::{enter, unmount};
 use crate::objects::{Id, Mount, Process};
 use crate::replies::Head;

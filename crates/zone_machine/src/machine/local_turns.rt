@@ -16,17 +16,18 @@ ghost use Rattle.zone_machine.specs.declared.objects.Id as ids;
 ghost use Rattle.zone_machine.specs.declared.objects.Process as processes;
 ghost use Rattle.commit_journal.specs.declared.records.Record as records;
 
+use crate::cases::Case;
+use crate::daemon::cases::{JobCase, TurnCase};
 use crate::daemon::desks::Job;
 use crate::daemon::plan_cases::{last_dir, mount_root, passed, step_at, unmounted};
 use crate::daemon::turn_cases::undoing;
 use crate::daemon::{Outcome, Step};
 use crate::events::{Entry, Event, Subject};
-use crate::machine::cases::{Case, JobCase, TurnCase};
 use crate::machine::cell::Cell;
-use crate::machine::rooms::room_to_turn;
+use crate::machine::rooms::{room_on_desk, room_to_turn};
 use crate::machine::settling::settle;
-use crate::machine::work::ObjectEdit;
 use crate::objects::Mount;
+use crate::objects::changes::ObjectEdit;
 use crate::objects::lists::unmount;
 use crate::replies::{Body, Head, Reply};
 use std::alloc::{AllocError, Global};
@@ -137,7 +138,7 @@ fn room_for(cell: &mut Cell, case: &Case) -> Result<(), AllocError>
     if let Case::Turn(turn) = case {
         room_to_turn(cell, turn)?;
     }
-    cell.desk.make_room(case)
+    room_on_desk(&mut cell.desk, case)
 }
 
 // A local turn is done.

@@ -19,15 +19,15 @@ ghost use Rattle.zone_machine.specs.declared.events.Subject.TheVariants.{Zone};
 ghost use Rattle.zone_machine.specs.declared.machine.cell.Cell as cell_types;
 ghost use Rattle.commit_journal.specs.declared.records.Record as record_types;
 
+use crate::cases::Case;
 use crate::events::{Entry, Event, Subject};
 use crate::faults::StepFault;
-use crate::machine::cases::Case;
 use crate::machine::cell::Cell;
-use crate::machine::maps::put;
 use crate::machine::shared::Shared;
 use crate::machine::steps::{
     Read, cell_grant, entry_of, global_refusal, granted_case, perform_case, read_event, subject,
 };
+use crate::maps::put;
 use crate::replies::{Head, Refusal};
 use indexmap::IndexMap;
 use std::alloc::{AllocError, Global};

@@ -1,15 +1,34 @@
 //! Room for what a case puts into its cell and into the shared part, taken before anything is changed.
 ghost use Rattle.std.specs.Prelude.{◌≡◌, OnOk};
-ghost use Rattle.zone_machine.specs.Code.Cases.{IsCaseOf, decision_of, objects_of, turn_objects};
+ghost use Rattle.zone_machine.specs.Code.Desks.{as_desk};
+ghost use Rattle.zone_machine.specs.Code.Cases.{HasRoomFor, IsCaseOf, decision_of, objects_of, turn_objects};
 ghost use Rattle.zone_machine.specs.Code.Needs.{asked_by};
 ghost use Rattle.zone_machine.specs.Code.Rooms.{Alike, HasRoom, HasRoomIfSits, HasRoomToChange, HasRoomToCome};
 
-use crate::machine::cases::{Case, JobCase, TurnCase};
+use crate::cases::Case;
+use crate::daemon::cases::{JobCase, TurnCase};
+use crate::daemon::desks::Desk;
 use crate::machine::cell::Cell;
+use crate::machine::needs::{Need, need_of};
 use crate::machine::shared::Shared;
-use crate::machine::work::ObjectEdit;
-use crate::pools::needs::{Need, need_of};
+use crate::objects::changes::ObjectEdit;
 use std::alloc::AllocError;
+
+/// Room for what the case puts on the desk: a request that waits, or a step that a failure undoes.
+pub(crate) fn room_on_desk(desk: &mut Desk, case: &Case) -> Result<(), AllocError>
+    ensures desk { as_desk desk.new ≡ as_desk desk.old }
+    ensures same { decision_of desk.new case.now ≡ decision_of desk.old case.now }
+    ensures of { IsCaseOf desk.old case.now → IsCaseOf desk.new case.now }
+    ensures room { OnOk result (HasRoomFor desk.new case.now) }
+{
+    match (case, &mut desk.job) {
+        (Case::Put(_, _), _) => desk.waiting.reserve(1),
+        (Case::Turn(TurnCase::GoOn(JobCase::Pass(_) | JobCase::Ask(_, _))), Some(job)) => {
+            job.undo.reserve(1)
+        }
+        _ => Ok(()),
+    }
+}
 
 // Room for what comes with a grant.
 fn room_to_come(cell: &mut Cell, shared: &mut Shared, need: Need<'_>) -> Result<(), AllocError>
@@ -86,5 +105,5 @@ pub(crate) fn make_room(cell: &mut Cell, shared: &mut Shared, case: &Case) -> Re
 {
     room_to_do(cell, shared, case)?;
     room_to_come(cell, shared, need_of(case))?;
-    cell.desk.make_room(case)
+    room_on_desk(&mut cell.desk, case)
 }

@@ -10,10 +10,12 @@ ghost use Rattle.zone_machine.specs.Daemon.Turns.{active_after};
 ghost use Rattle.zone_machine.specs.Session.Typed.{is_full, with_request};
 ghost use Rattle.zone_machine.specs.State.Worlds.{World};
 
+use crate::cases::Case;
+use crate::daemon::cases::{JobCase, Pass, TurnCase};
 use crate::daemon::desks::{Desk, Job};
 use crate::daemon::{Outcome, RequestKind, Step, TurnReply};
-use crate::machine::cases::{Case, JobCase, Pass, TurnCase};
-use crate::machine::work::{Came, Coming, ObjectEdit, Sitting, Work};
+use crate::machine::work::{Sitting, Work};
+use crate::objects::changes::{Came, Coming, ObjectEdit};
 use crate::objects::{Id, Process};
 use crate::replies::{Head, Refusal};
 use commit_journal::{Record, uuid_of};

@@ -13,9 +13,9 @@ ghost use Rattle.zone_machine.specs.Session.Typed.{idle_line, is_full, made_conf
 ghost use Rattle.zone_machine.specs.State.Worlds.{View};
 ghost use Rattle.zone_machine.specs.declared.daemon.desks.Desk as desk_types;
 
+use crate::cases::Case;
 use crate::daemon::RequestKind;
 use crate::daemon::desks::{Desk, REQUESTS_MAX, TICKET_MAX};
-use crate::machine::cases::Case;
 use crate::replies::{Head, Refusal};
 use crate::session::lines::Command;
 use commit_journal::Record;

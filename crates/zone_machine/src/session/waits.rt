@@ -5,7 +5,7 @@ ghost use Rattle.zone_machine.specs.Code.Cells.{is_wait_for, unless_ended, waits
 ghost use Rattle.zone_machine.specs.State.Edits.{at_session};
 ghost use Rattle.zone_pools.specs.Owners.{owner};
 
-use crate::machine::maps::put;
+use crate::maps::put;
 use indexmap::IndexMap;
 use zone_pools::Owners;
 

@@ -6,7 +6,7 @@ use Rattle.zone_machine.specs.Machine.Common.{came_common}
 use Rattle.zone_machine.specs.State.Decisions.{after_came_world, sweeps}
 use Rattle.zone_machine.specs.State.Edits.{Of_objects, edits_world}
 use Rattle.zone_machine.specs.State.Worlds.{World}
-use Rattle.zone_machine.specs.declared.machine.work.Coming.{Coming}
+use Rattle.zone_machine.specs.declared.objects.changes.Coming.{Coming}
 use Rattle.zone_machine.proofs.machine.effects.carry_out.Goals as goal
 
 pub returns-clause-does : goal.returns-clause-does

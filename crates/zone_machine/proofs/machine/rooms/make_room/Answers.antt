@@ -6,4 +6,4 @@ returns-in_err-room_to_come-clause-alike c = alike_then _ _ _ _ _ _ c.in_ok-room
 
 pub returns-clause-alike : goal.returns-clause-alike
 returns-clause-alike c = alike_then _ _ _ _ _ _ (alike_then _ _ _ _ _ _ c.in_ok-room_to_do.ensures.alike c.in_ok-room_to_come.ensures.alike)
-    (alike_desk c.room_to_come.new.cell c.room_to_come.new.shared c.make_room.new.self c.make_room.ensures.desk)
+    (alike_desk c.room_to_come.new.cell c.room_to_come.new.shared c.room_on_desk.new.desk c.room_on_desk.ensures.desk)

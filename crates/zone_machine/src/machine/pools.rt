@@ -8,12 +8,9 @@ ghost use Rattle.zone_machine.specs.Code.Needs.{asked_by};
 ghost use Rattle.zone_machine.specs.Machine.Pools.{is_path, path_taken};
 ghost use Rattle.zone_pools.specs.Pools.{fits_asked, fits_pool, has_place, has_room, is_pool, next_free, numbered, said_by_all};
 
-pub(crate) mod needs;
-pub(crate) mod numbers;
-
+use crate::machine::needs::Need;
+use crate::machine::numbers::next_free;
 use crate::machine::shared::Shared;
-use crate::pools::needs::Need;
-use crate::pools::numbers::next_free;
 use commit_journal::Record;
 use indexmap::IndexMap;
 use zn_base::{AbsPath, ZoneName};

@@ -7,8 +7,9 @@ ghost use Rattle.zone_machine.specs.Code.Needs.{asked_by};
 ghost use Rattle.zone_machine.specs.declared.daemon.desks.Desk as desk_types;
 ghost use Rattle.zone_machine.specs.declared.daemon.desks.Job as job_types;
 
-use crate::machine::cases::{Case, JobCase, TurnCase};
-use crate::machine::work::Came;
+use crate::cases::Case;
+use crate::daemon::cases::{JobCase, TurnCase};
+use crate::objects::changes::Came;
 use zone_config::Property;
 
 /// What an event asks.

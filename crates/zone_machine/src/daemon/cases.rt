@@ -1,11 +1,9 @@
-//! What an event of a zone comes to. A case is decided before anything is changed, and holds all that its event needs.
-//! What is large and rare in it is boxed, so that it is handed on at little cost.
+//! What a turn of a zone's daemon comes to. A case is decided before anything is changed, and holds all that its turn
+//! needs. What is large and rare in it is boxed, so that it is handed on at little cost.
 use crate::daemon::desks::Job;
 use crate::daemon::{Outcome, RequestKind, Step};
-use crate::machine::work::{Coming, ObjectEdit};
-use crate::replies::Head;
-use commit_journal::Record;
-use zn_base::{ZoneName, ZoneState};
+use crate::objects::changes::{Coming, ObjectEdit};
+use zn_base::ZoneState;
 
 /// A step that is done: the place of the next one, what becomes of the objects, and the step as it is told.
 #[derive(Drop)]
@@ -39,16 +37,4 @@ pub(crate) enum TurnCase {
     Refuse(u32, ZoneState),
     /// The request under way goes on.
     GoOn(JobCase),
-}
-
-/// What an event of a zone comes to.
-#[derive(Drop)]
-pub(crate) enum Case {
-    /// Nothing is done but a reply.
-    Says(Head),
-    /// A zone is made. The record's revision is the number that the grant gives.
-    Make(Box<Record>, ZoneName),
-    /// A request is put on the desk, and the session waits for its ticket.
-    Put(RequestKind, ZoneName),
-    Turn(TurnCase),
 }

@@ -1,0 +1,18 @@
+//! What an event of a zone comes to. A case is decided before anything is changed, and holds all that its event needs.
+use crate::daemon::RequestKind;
+use crate::daemon::cases::TurnCase;
+use crate::replies::Head;
+use commit_journal::Record;
+use zn_base::ZoneName;
+
+/// What an event of a zone comes to.
+#[derive(Drop)]
+pub(crate) enum Case {
+    /// Nothing is done but a reply.
+    Says(Head),
+    /// A zone is made. The record's revision is the number that the grant gives.
+    Make(Box<Record>, ZoneName),
+    /// A request is put on the desk, and the session waits for its ticket.
+    Put(RequestKind, ZoneName),
+    Turn(TurnCase),
+}
