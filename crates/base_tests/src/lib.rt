@@ -1,7 +1,10 @@
-//! Tests of `zn_base` and `priv_sets` over their public calls: texts, paths, names, patterns and states, and the
-//! limit sets that zones have. What they expect is worked out from docs/PRIVILEGES.md by hand.
+//! Tests of `zn_base`, `priv_sets` and `process_calls` over their public calls: texts, paths, names, patterns and states,
+//! the limit sets that zones have, and the calls of processes. What they expect is worked out from docs/PRIVILEGES.md and
+//! docs/TRACES.md by hand.
 #![tactic(auto)]
 
+#[cfg(test)]
+mod calls;
 #[cfg(test)]
 mod names;
 #[cfg(test)]

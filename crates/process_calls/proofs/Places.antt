@@ -7,7 +7,7 @@ use Rattle.priv_sets.specs.Table.{number_of}
 use Rattle.process_calls.specs.declared.call.Call.{Call}
 use Rattle.process_calls.specs.declared.call.Call.TheVariants.{Drop, Exec, Fork, Kill}
 use Rattle.process_calls.specs.declared.call.CallFault.{CallFault}
-use Rattle.process_calls.specs.Calls.{bare_call, call_of, call_of_words, kill_by, name_in, pid_in, signal_in}
+use Rattle.process_calls.specs.Calls.{bare_call, call_of, call_of_words, kill_by, made, name_in, pid_in, signal_in}
 use Rattle.process_calls.specs.Words.{IsWithin, Word, ◌>>=◌, is_space, last, next, no_more, placed, said_at, words_from}
 
 -- words that begin in a text or at its end
@@ -59,14 +59,14 @@ unfolding AfterWithin
 last_within read end words h =
     then_within end (AfterWithin end) Any (next read end words) (λ w. no_more w.0 w.1) (next_within read end words h) (λ r g. no_more_within r.0 end r.1 g)
 
-made_within : {A : Type 0} (read : List ℕ → Option A) (make : A → Call) (end : ℕ) (words : List Word) → AreWithin end words → IsRight end Any (last read end words >>= λ a. Ok (make a))
+made_within : {A : Type 0} (read : List ℕ → Option A) (make : A → Call) (end : ℕ) (words : List Word) → AreWithin end words → IsRight end Any (made read make end words)
 unfolding IsRight Any
 made_within read make end words h = then_within end Any Any (last read end words) (λ a. Ok (make a)) (last_within read end words h) (λ a g. tt)
 
 kill_within : (end : ℕ) (words : List Word) → AreWithin end words → IsRight end Any (kill_by end words)
 unfolding AfterWithin
 kill_within end words h =
-    then_within end (AfterWithin end) Any (next signal_in end words) (λ signal. last pid_in end signal.1 >>= λ pid. Ok (Kill signal.0 pid)) (next_within signal_in end words h)
+    then_within end (AfterWithin end) Any (next signal_in end words) (λ signal. made pid_in (Kill signal.0) end signal.1) (next_within signal_in end words h)
     (λ signal g. made_within pid_in (Kill signal.0) end signal.1 g)
 
 if_within : {A : Type 0} (end : ℕ) (P : A → Type 0) (b : Bool) (r s : Result A CallFault) → IsRight end P r → IsRight end P s → IsRight end P (if b then r else s)

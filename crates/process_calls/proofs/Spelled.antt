@@ -12,7 +12,7 @@ use Rattle.priv_sets.proofs.Names.{name_of_number, number_inside}
 use Rattle.process_calls.specs.declared.call.Call.{Call}
 use Rattle.process_calls.specs.declared.call.Call.TheVariants.{Drop, Exec, Exit, False, Fork, Kill, Privs, Ps, True, Zonename}
 use Rattle.process_calls.specs.declared.call.CallFault.{CallFault}
-use Rattle.process_calls.specs.Calls.{bare_call, call_of, call_of_words, call_text, greatest_pid, is_call, is_process_name, kill_by, name_in, pid_in, signal_in, signal_text}
+use Rattle.process_calls.specs.Calls.{bare_call, call_of, call_of_words, call_text, greatest_pid, is_call, is_process_name, kill_by, made, name_in, pid_in, signal_in, signal_text}
 use Rattle.process_calls.specs.Words.{Word, ◌>>=◌, is_space, last, next, no_more, placed, said_at, words_from}
 use Rattle.process_calls.proofs.Numbers.{pid_written}
 
@@ -101,7 +101,7 @@ signalled word signal h =
 -- a call that is made of one word more
 with_last : {A : Type 0} (read : List ℕ → Option A) (make : A → Call) (first : List ℕ) (end place : ℕ) (parts : List (List ℕ)) (call : Call)
     → ((a : A) (word : List ℕ) → read word ≡ Some a → Spells (first ++ 32 ∷ word) (make a))
-    → (last read end (placed place parts) >>= λ a. Ok (make a)) ≡ Ok call → Spells (join_with_byte 32 (first ∷ parts)) call
+    → made read make end (placed place parts) ≡ Ok call → Spells (join_with_byte 32 (first ∷ parts)) call
 with_last read make first end place parts call spells h =
     let said = then_is (last read end (placed place parts)) (λ a. Ok (make a)) call h in
     let word = last_is read end place parts said.0 said.1 in
@@ -125,7 +125,7 @@ spells_kill signal pid s p is_signal is_pid =
 
 kill_is : (end place : ℕ) (parts : List (List ℕ)) (call : Call) → kill_by end (placed place parts) ≡ Ok call → Spells (join_with_byte 32 (codes "kill" ∷ parts)) call
 kill_is end place parts call h =
-    let said = then_is (next signal_in end (placed place parts)) (λ signal. last pid_in end signal.1 >>= λ pid. Ok (Kill signal.0 pid)) call h in
+    let said = then_is (next signal_in end (placed place parts)) (λ signal. made pid_in (Kill signal.0) end signal.1) call h in
     let signal = next_is signal_in end place parts said.0 said.1 in
     let rest = then_is (last pid_in end said.0.1) (λ pid. Ok (Kill said.0.0 pid)) call said.2 in
     let pid = last_is pid_in end (place + length signal.word + 1) signal.more rest.0 (ap (last pid_in end) (sym signal.after) ∙ rest.1) in

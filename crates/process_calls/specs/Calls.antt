@@ -44,12 +44,17 @@ greatest_pid = 4294967295
 abbrev pub pid_in : List ℕ → Option ℕ
 pid_in word = if bytes_eq word (codes "0") then Some 0 else decimal_of greatest_pid word
 
+-- a call that is made of one word more
+abbrev pub made : {A : Type 0} → (List ℕ → Option A) → (A → Call) → ℕ → List Word → Said
+made read make end ws = do
+  a ← last read end ws
+  Ok (make a)
+
 -- `SIG PID`
 abbrev pub kill_by : ℕ → List Word → Said
 kill_by end ws = do
   signal ← next signal_in end ws
-  pid ← last pid_in end signal.1
-  Ok (Kill signal.0 pid)
+  made pid_in (Kill signal.0) end signal.1
 
 -- the calls of one word
 abbrev pub bare_call : List ℕ → Option Call
@@ -65,10 +70,10 @@ bare_call word =
 -- by the first word, and the words after it
 abbrev pub call_by : ℕ → Word → List Word → Said
 call_by end first ws =
-    if bytes_eq first.bytes (codes "fork") then (last name_in end ws >>= λ name. Ok (Fork name))
-    else if bytes_eq first.bytes (codes "exec") then (last name_in end ws >>= λ name. Ok (Exec name))
+    if bytes_eq first.bytes (codes "fork") then made name_in Fork end ws
+    else if bytes_eq first.bytes (codes "exec") then made name_in Exec end ws
     else if bytes_eq first.bytes (codes "kill") then kill_by end ws
-    else if bytes_eq first.bytes (codes "drop") then (last number_of end ws >>= λ number. Ok (Drop number))
+    else if bytes_eq first.bytes (codes "drop") then made number_of Drop end ws
     else last bare_call end (first ∷ ws)
 
 abbrev pub call_of_words : ℕ → List Word → Said

@@ -4,7 +4,7 @@ ghost use Rattle.std.specs.List.{list_all};
 ghost use Rattle.zn_base.specs.Answers.{AnswersUnless};
 ghost use Rattle.zn_base.specs.Names.{is_name_byte};
 ghost use Rattle.priv_sets.specs.Table.{number_of};
-ghost use Rattle.process_calls.specs.Calls.{bare_call, call_by, call_of, is_call, is_process_name, kill_by, name_in, pid_in, signal_in};
+ghost use Rattle.process_calls.specs.Calls.{bare_call, call_by, call_of, is_call, is_process_name, kill_by, made, name_in, pid_in, signal_in};
 ghost use Rattle.process_calls.specs.Reading.{as_word, end_of};
 ghost use Rattle.process_calls.specs.Words.{IsWithin, last, words_behind};
 
@@ -85,30 +85,18 @@ fn read_name(alloc: Global, text: &[u8], behind: usize) -> Result<Text, CallFaul
     Ok(Text::of(alloc, word.bytes)?)
 }
 
-// A privilege, and no more.
-fn read_privilege(text: &[u8], behind: usize) -> Result<u8, CallFault>
+fn read_fork(alloc: Global, text: &[u8], behind: usize) -> Result<Call, CallFault>
     requires { behind ≤ length text.now }
-    ensures { result ≡ last number_of (length text.now) (words_behind text.now behind) }
+    ensures { AnswersUnless CallFault.Memory (made name_in Call.Fork (length text.now) (words_behind text.now behind)) result }
 {
-    let word = next_word(text, behind)?;
-    let Some(number) = number_of(word.bytes) else {
-        return Err(CallFault::BadWord(word.place));
-    };
-    no_more(text, word.end())?;
-    Ok(number)
+    Ok(Call::Fork(read_name(alloc, text, behind)?))
 }
 
-// A process's number, and no more.
-fn read_pid(text: &[u8], behind: usize) -> Result<u32, CallFault>
+fn read_exec(alloc: Global, text: &[u8], behind: usize) -> Result<Call, CallFault>
     requires { behind ≤ length text.now }
-    ensures { result ≡ last pid_in (length text.now) (words_behind text.now behind) }
+    ensures { AnswersUnless CallFault.Memory (made name_in Call.Exec (length text.now) (words_behind text.now behind)) result }
 {
-    let word = next_word(text, behind)?;
-    let Some(pid) = pid_in(word.bytes) else {
-        return Err(CallFault::BadWord(word.place));
-    };
-    no_more(text, word.end())?;
-    Ok(pid)
+    Ok(Call::Exec(read_name(alloc, text, behind)?))
 }
 
 fn read_kill(text: &[u8], behind: usize) -> Result<Call, CallFault>
@@ -119,8 +107,24 @@ fn read_kill(text: &[u8], behind: usize) -> Result<Call, CallFault>
     let Some(signal) = signal_in(word.bytes) else {
         return Err(CallFault::BadWord(word.place));
     };
-    let pid = read_pid(text, word.end())?;
+    let word = next_word(text, word.end())?;
+    let Some(pid) = pid_in(word.bytes) else {
+        return Err(CallFault::BadWord(word.place));
+    };
+    no_more(text, word.end())?;
     Ok(Call::Kill(signal, pid))
+}
+
+fn read_drop(text: &[u8], behind: usize) -> Result<Call, CallFault>
+    requires { behind ≤ length text.now }
+    ensures { result ≡ made number_of Call.Drop (length text.now) (words_behind text.now behind) }
+{
+    let word = next_word(text, behind)?;
+    let Some(number) = number_of(word.bytes) else {
+        return Err(CallFault::BadWord(word.place));
+    };
+    no_more(text, word.end())?;
+    Ok(Call::Drop(number))
 }
 
 // A call of one word, and no more.
@@ -141,13 +145,13 @@ fn read_by(alloc: Global, text: &[u8], word: Word<'_>) -> Result<Call, CallFault
     ensures { AnswersUnless CallFault.Memory (call_by (length text.now) (as_word word.entry) (words_behind text.now (end_of word.entry))) result }
 {
     if word.bytes == b"fork".as_slice() {
-        Ok(Call::Fork(read_name(alloc, text, word.end())?))
+        read_fork(alloc, text, word.end())
     } else if word.bytes == b"exec".as_slice() {
-        Ok(Call::Exec(read_name(alloc, text, word.end())?))
+        read_exec(alloc, text, word.end())
     } else if word.bytes == b"kill".as_slice() {
         read_kill(text, word.end())
     } else if word.bytes == b"drop".as_slice() {
-        Ok(Call::Drop(read_privilege(text, word.end())?))
+        read_drop(text, word.end())
     } else {
         read_bare(text, word)
     }
