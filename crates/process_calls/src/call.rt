@@ -7,22 +7,28 @@ use std::alloc::AllocError;
 use thiserror::Error;
 use zn_base::Text;
 
-/// What a process asks of the kernel.
+/// What a process asks for.
 #[derive(Drop)]
 pub enum Call {
-    /// Another process is made, with this name.
+    /// Another process is made, with this name, by fork(2).
     Fork(Text),
-    /// The process runs another program, with this name.
+    /// The process runs another program and has its name from then on, by exec(2).
     Exec(Text),
+    /// The process ends, by exit(2).
     Exit,
-    /// A signal is sent to the process of a number.
+    /// A signal is sent to the process of a number, by kill(2).
     Kill(Signal, u32),
+    /// The processes of the zone, as ps(1) lists them.
     Ps,
+    /// The privileges that the process has, by getppriv(2).
     Privs,
-    /// The privilege of this number in the table of privileges is given up.
+    /// The privilege of this number in the table of `priv_sets` is given up, by setppriv(2).
     Drop(u8),
+    /// The name of the zone, by zonename(1).
     Zonename,
+    /// What does nothing and succeeds, by true(1).
     True,
+    /// What does nothing and fails, by false(1).
     False,
 }
 

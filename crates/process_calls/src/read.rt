@@ -159,7 +159,9 @@ fn read_by(alloc: Global, text: &[u8], word: Word<'_>) -> Result<Call, CallFault
 
 /// The call that a text spells: `fork NAME`, `exec NAME`, `exit`, `kill SIG PID`, `ps`, `privs`, `drop PRIV`,
 /// `zonename`, `true` or `false`, with one space between two words. NAME is 1 to 16 letters, digits, `_`, `-` and `.`,
-/// SIG is 0, 9 or 15, PID a decimal number without leading zeros, and PRIV a name of privileges(7).
+/// SIG is 0, 9 or 15, PID a decimal number without leading zeros of at most 4,294,967,295, and PRIV a name of
+/// privileges(7). Where the text spells no call, the place of its first wrong or missing word is answered; a word too
+/// many is a wrong one, and so is an empty one.
 pub fn read_call(alloc: Global, text: &[u8]) -> Result<Call, CallFault>
     ensures call { AnswersUnless CallFault.Memory (call_of text.now) result }
     ensures right { IfOk result (λ call. IsTrue (is_call call)) }
