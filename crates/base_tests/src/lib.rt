@@ -1,8 +1,10 @@
-//! Tests of `zn_base`, `priv_sets` and `kernel_objects` over their public calls: texts, paths, names, patterns and
-//! states, the limit sets that zones have, and what they have in the kernel. What is expected of sets is worked out from
-//! docs/PRIVILEGES.md by hand.
+//! Tests of `zn_base`, `priv_sets`, `kernel_objects` and `process_calls` over their public calls: texts, paths, names,
+//! patterns and states, the limit sets that zones have, what they have in the kernel, and the calls of processes. What is
+//! expected of sets and of calls is worked out from docs/PRIVILEGES.md and docs/TRACES.md by hand.
 #![tactic(auto)]
 
+#[cfg(test)]
+mod calls;
 #[cfg(test)]
 mod kernel;
 #[cfg(test)]

@@ -1,5 +1,5 @@
 //! Limitpriv texts and sets, by tables.
-use priv_sets::{PrivFault, PrivSet, limit_of, number_of};
+use priv_sets::{PrivFault, PrivSet, limit_of, name_of, number_of};
 use std::alloc::{AllocError, Global};
 use std::test::Fail;
 
@@ -100,7 +100,7 @@ fn a_fault_names_its_privilege(rt: HostRuntime) -> Result<(), Fail> {
 }
 
 #[test]
-fn privileges_have_their_numbers(rt: HostRuntime) {
+fn privileges_have_their_numbers_and_names(rt: HostRuntime) {
     let numbers: &[(&[u8], Option<u8>)] = &[
         (b"contract_event", Some(0)),
         (b"sys_time", Some(39)),
@@ -108,7 +108,11 @@ fn privileges_have_their_numbers(rt: HostRuntime) {
     ];
     for (name, number) in numbers {
         assert!(rt; number_of(name) == *number, "{name:?}");
+        if let Some(number) = number {
+            assert!(rt; name_of(*number).as_bytes() == *name, "{name:?}");
+        }
     }
+    assert_eq!(rt; name_of(40), "");
 }
 
 // Whether two limits, of which the second has sys_time besides, are told apart as sets.

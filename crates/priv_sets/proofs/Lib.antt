@@ -4,4 +4,5 @@ pub mod Bits
 pub mod Tokens
 pub mod Classes
 pub mod Printed
+pub mod Names
 mod Examples

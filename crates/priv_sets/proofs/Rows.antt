@@ -1,13 +1,13 @@
 -- Rows of the table.
-use Rattle.std.proofs.Common.{◌≡◌, ◌<◌, ◌∙◌, ◌+◌, ℕ, Bool, cond, not, List, [], ◌∷◌, Some, length, map, refl, sym, ap, arith}
+use Rattle.std.proofs.Common.{◌≡◌, ◌<◌, ◌≤◌, ◌∙◌, ◌+◌, ℕ, Bool, cond, not, List, [], ◌∷◌, Some, None, length, map, refl, sym, ap, arith}
 use Rattle.std.specs.List.{position, position_or_len, prefix_len, slice_get}
 use Rattle.std.specs.Option.{option_map}
 use Rattle.std.specs.Str.{bytes_eq}
 use Rattle.std.proofs.lemmas.List.{length-map}
-use Rattle.std.proofs.lemmas.Option.{slice_get-map, cond_some}
+use Rattle.std.proofs.lemmas.Option.{cond_some, slice_get-map, slice_get_past}
 use Rattle.std.proofs.lemmas.Bool.{ltb-true}
 use Rattle.priv_sets.specs.declared.table.Privilege.{Privilege}
-use Rattle.priv_sets.specs.Table.{privileges, number_of}
+use Rattle.priv_sets.specs.Table.{name_in, name_of, privileges, number_of}
 use Rattle.priv_sets.specs.Rows.{row_of}
 
 pub length_of_privileges : length privileges ≡ 40
@@ -42,3 +42,14 @@ pub row_number : (table : List Privilege) (name : List ℕ) (n : ℕ) → map ro
 row_number table name n h e =
     let below = position-below (λ p. bytes_eq p.name.now name) table n (sym e) in
     omega (arith, count_of_rows table h)
+
+-- the name of a number is that of its row, and past the table there is none
+pub name_at : (n : ℕ) (p : Privilege) → slice_get privileges n ≡ Some (row_of p) → p.name.now ≡ name_of n
+unfolding name_of
+name_at n p e = sym (ap name_in e)
+
+pub no_name_past : (n : ℕ) → 40 ≤ n → [] ≡ name_of n
+unfolding name_of
+no_name_past n past =
+    let long : length privileges ≤ n = omega (arith, length_of_privileges) in
+    sym (ap name_in (slice_get_past privileges n long))

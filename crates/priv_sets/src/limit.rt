@@ -3,7 +3,7 @@ ghost use Rattle.std.specs.Prelude.{◌≡◌, ◌≤◌, ◌∷◌, length, pos
 ghost use Rattle.priv_sets.specs.Limit.{applied, is_comma, judged, limit_of, named, rule_of, set_of_words, spoken, words_behind, words_from};
 
 use crate::set::PrivSet;
-use crate::table::{Class, name_text, number_of};
+use crate::table::{Class, name_of, number_of};
 use thiserror::Error;
 
 /// Why a limitpriv text denotes no limit set, in the order in which it is looked at.
@@ -16,10 +16,10 @@ pub enum PrivFault {
     #[error("no privilege is named at byte {0}")]
     PrivWord(usize),
     /// The number of the first required privilege that is missing.
-    #[error("the privilege {} is required", name_text(*.0))]
+    #[error("the privilege {} is required", name_of(*.0))]
     PrivRequired(u8),
     /// The number of the first prohibited privilege that is there.
-    #[error("the privilege {} is prohibited", name_text(*.0))]
+    #[error("the privilege {} is prohibited", name_of(*.0))]
     PrivProhibited(u8),
 }
 

@@ -1,7 +1,7 @@
 //! The table of privileges.
 ghost use Rattle.std.specs.Prelude.{◌≡◌, ◌<◌, IfSome, Some, bytes_eq, map, position, slice_get};
 ghost use Rattle.priv_sets.specs.Rows.{row_of};
-ghost use Rattle.priv_sets.specs.Table.{is_of, number_of, privileges};
+ghost use Rattle.priv_sets.specs.Table.{is_of, name_of, number_of, privileges};
 
 // How many privileges there are.
 pub(crate) const COUNT: u8 = 40;
@@ -231,10 +231,10 @@ pub fn number_of(name: &[u8]) -> Option<u8>
     Some(first_named(privileges(), name)? as u8)
 }
 
-// The name of a number, for messages.
-pub(crate) fn name_text(number: u8) -> &'static str {
-    match PRIVILEGES.get(number as usize) {
-        Some(privilege) => privilege.name,
-        None => "?",
-    }
+/// A privilege's name in privileges(7), by its number in the table. Of another number it is empty.
+#[tactic(auto, using(crate::proofs::Rows::name_at, crate::proofs::Rows::no_name_past))]
+pub fn name_of(number: u8) -> &'static str
+    ensures { result.now ≡ name_of number }
+{
+    if number < COUNT { row(number).name } else { "" }
 }

@@ -1,0 +1,171 @@
+//! Calls, read.
+ghost use Rattle.std.specs.Prelude.{◌≡◌, ◌≤◌, ◌∷◌, IfErr, IfOk, IsTrue, length};
+ghost use Rattle.std.specs.List.{list_all};
+ghost use Rattle.zn_base.specs.Answers.{AnswersUnless};
+ghost use Rattle.zn_base.specs.Names.{is_name_byte};
+ghost use Rattle.priv_sets.specs.Table.{number_of};
+ghost use Rattle.process_calls.specs.Calls.{bare_call, call_by, call_of, is_call, is_process_name, kill_by, made, name_in, pid_in, signal_in};
+ghost use Rattle.process_calls.specs.Reading.{as_word, end_of};
+ghost use Rattle.process_calls.specs.Words.{IsWithin, last, words_behind};
+
+use crate::words::{Word, next_word, no_more, word_at};
+use crate::{Call, CallFault};
+use kernel_objects::Signal;
+use priv_sets::number_of;
+use std::alloc::Global;
+use zn_base::{Text, is_name_byte, read_decimal};
+
+// The greatest length of a process's name.
+const NAME_MAX: usize = 16;
+
+fn has_name_bytes(word: &[u8]) -> bool
+    ensures { result ≡ list_all is_name_byte word.now }
+{
+    word.iter().all(|byte| is_name_byte(*byte))
+}
+
+fn is_process_name(word: &[u8]) -> bool
+    ensures { result ≡ is_process_name word.now }
+{
+    !word.is_empty() && word.len() <= NAME_MAX && has_name_bytes(word)
+}
+
+fn signal_in(word: &[u8]) -> Option<Signal>
+    ensures { result ≡ signal_in word.now }
+{
+    match word {
+        b"0" => Some(Signal::Zero),
+        b"9" => Some(Signal::Kill),
+        b"15" => Some(Signal::Term),
+        _ => None,
+    }
+}
+
+#[tactic(auto, using(crate::proofs::Numbers::fits))]
+fn pid_in(word: &[u8]) -> Option<u32>
+    ensures { result ≡ pid_in word.now }
+{
+    match word {
+        b"0" => Some(0),
+        _ => Some(read_decimal(word, u32::MAX as u64)? as u32),
+    }
+}
+
+fn bare_call(word: &[u8]) -> Option<Call>
+    ensures { result ≡ bare_call word.now }
+{
+    if word == b"exit".as_slice() {
+        Some(Call::Exit)
+    } else if word == b"ps".as_slice() {
+        Some(Call::Ps)
+    } else if word == b"privs".as_slice() {
+        Some(Call::Privs)
+    } else if word == b"zonename".as_slice() {
+        Some(Call::Zonename)
+    } else if word == b"true".as_slice() {
+        Some(Call::True)
+    } else if word == b"false".as_slice() {
+        Some(Call::False)
+    } else {
+        None
+    }
+}
+
+// A name, and no more.
+#[tactic(auto, using(crate::proofs::Named::name_is_text))]
+fn read_name(alloc: Global, text: &[u8], behind: usize) -> Result<Text, CallFault>
+    requires { behind ≤ length text.now }
+    ensures { AnswersUnless CallFault.Memory (last name_in (length text.now) (words_behind text.now behind)) result }
+{
+    let word = next_word(text, behind)?;
+    if !is_process_name(word.bytes) {
+        return Err(CallFault::BadWord(word.place));
+    }
+    no_more(text, word.end())?;
+    Ok(Text::of(alloc, word.bytes)?)
+}
+
+fn read_fork(alloc: Global, text: &[u8], behind: usize) -> Result<Call, CallFault>
+    requires { behind ≤ length text.now }
+    ensures { AnswersUnless CallFault.Memory (made name_in Call.Fork (length text.now) (words_behind text.now behind)) result }
+{
+    Ok(Call::Fork(read_name(alloc, text, behind)?))
+}
+
+fn read_exec(alloc: Global, text: &[u8], behind: usize) -> Result<Call, CallFault>
+    requires { behind ≤ length text.now }
+    ensures { AnswersUnless CallFault.Memory (made name_in Call.Exec (length text.now) (words_behind text.now behind)) result }
+{
+    Ok(Call::Exec(read_name(alloc, text, behind)?))
+}
+
+fn read_kill(text: &[u8], behind: usize) -> Result<Call, CallFault>
+    requires { behind ≤ length text.now }
+    ensures { result ≡ kill_by (length text.now) (words_behind text.now behind) }
+{
+    let word = next_word(text, behind)?;
+    let Some(signal) = signal_in(word.bytes) else {
+        return Err(CallFault::BadWord(word.place));
+    };
+    let word = next_word(text, word.end())?;
+    let Some(pid) = pid_in(word.bytes) else {
+        return Err(CallFault::BadWord(word.place));
+    };
+    no_more(text, word.end())?;
+    Ok(Call::Kill(signal, pid))
+}
+
+fn read_drop(text: &[u8], behind: usize) -> Result<Call, CallFault>
+    requires { behind ≤ length text.now }
+    ensures { result ≡ made number_of Call.Drop (length text.now) (words_behind text.now behind) }
+{
+    let word = next_word(text, behind)?;
+    let Some(number) = number_of(word.bytes) else {
+        return Err(CallFault::BadWord(word.place));
+    };
+    no_more(text, word.end())?;
+    Ok(Call::Drop(number))
+}
+
+// A call of one word, and no more.
+fn read_bare(text: &[u8], word: Word<'_>) -> Result<Call, CallFault>
+    requires { end_of word ≤ length text.now }
+    ensures { result ≡ last bare_call (length text.now) (as_word word.entry ∷ words_behind text.now (end_of word.entry)) }
+{
+    let Some(call) = bare_call(word.bytes) else {
+        return Err(CallFault::BadWord(word.place));
+    };
+    no_more(text, word.end())?;
+    Ok(call)
+}
+
+// The call of a first word.
+fn read_by(alloc: Global, text: &[u8], word: Word<'_>) -> Result<Call, CallFault>
+    requires { end_of word ≤ length text.now }
+    ensures { AnswersUnless CallFault.Memory (call_by (length text.now) (as_word word.entry) (words_behind text.now (end_of word.entry))) result }
+{
+    if word.bytes == b"fork".as_slice() {
+        read_fork(alloc, text, word.end())
+    } else if word.bytes == b"exec".as_slice() {
+        read_exec(alloc, text, word.end())
+    } else if word.bytes == b"kill".as_slice() {
+        read_kill(text, word.end())
+    } else if word.bytes == b"drop".as_slice() {
+        read_drop(text, word.end())
+    } else {
+        read_bare(text, word)
+    }
+}
+
+/// The call that a text spells: `fork NAME`, `exec NAME`, `exit`, `kill SIG PID`, `ps`, `privs`, `drop PRIV`,
+/// `zonename`, `true` or `false`, with one space between two words. NAME is 1 to 16 letters, digits, `_`, `-` and `.`,
+/// SIG is 0, 9 or 15, PID a decimal number without leading zeros of at most 4,294,967,295, and PRIV a name of
+/// privileges(7). Where the text spells no call, the place of its first wrong or missing word is answered; a word too
+/// many is a wrong one, and so is an empty one.
+pub fn read_call(alloc: Global, text: &[u8]) -> Result<Call, CallFault>
+    ensures call { AnswersUnless CallFault.Memory (call_of text.now) result }
+    ensures right { IfOk result (λ call. IsTrue (is_call call)) }
+    ensures place { IfErr result (IsWithin (length text.now)) }
+{
+    read_by(alloc, text, word_at(text, 0))
+}

@@ -1,0 +1,45 @@
+//! Calls, written.
+ghost use Rattle.std.specs.Prelude.{◌≡◌, ◌++◌, OnOk};
+ghost use Rattle.process_calls.specs.Calls.{call_text, signal_text};
+
+use crate::Call;
+use kernel_objects::Signal;
+use priv_sets::name_of;
+use std::alloc::AllocError;
+use zn_base::{push_both, push_numbered};
+
+fn signal_text(signal: Signal) -> &'static [u8]
+    ensures { result.now ≡ signal_text signal }
+{
+    match signal {
+        Signal::Zero => b"0",
+        Signal::Kill => b"9",
+        Signal::Term => b"15",
+    }
+}
+
+fn push_kill(text: &mut Vec<u8>, signal: Signal, pid: u32) -> Result<(), AllocError>
+    ensures { OnOk result (text.new.items ≡ text.old.items ++ call_text (Call.Kill signal pid)) }
+{
+    push_both(text, b"kill ", signal_text(signal))?;
+    push_numbered(text, b" ", pid as u64)
+}
+
+/// Puts a call after what is there, as `read_call` reads it. Where memory runs out, the text has what it had, and
+/// perhaps a front of the call.
+pub fn push_call(text: &mut Vec<u8>, call: &Call) -> Result<(), AllocError>
+    ensures { OnOk result (text.new.items ≡ text.old.items ++ call_text call.now) }
+{
+    match call {
+        Call::Fork(name) => push_both(text, b"fork ", name.bytes()),
+        Call::Exec(name) => push_both(text, b"exec ", name.bytes()),
+        Call::Exit => text.extend_from_slice(b"exit"),
+        Call::Kill(signal, pid) => push_kill(text, *signal, *pid),
+        Call::Ps => text.extend_from_slice(b"ps"),
+        Call::Privs => text.extend_from_slice(b"privs"),
+        Call::Drop(number) => push_both(text, b"drop ", name_of(*number).as_bytes()),
+        Call::Zonename => text.extend_from_slice(b"zonename"),
+        Call::True => text.extend_from_slice(b"true"),
+        Call::False => text.extend_from_slice(b"false"),
+    }
+}
