@@ -9,7 +9,6 @@ mod devices;
 mod faults;
 mod laws;
 mod limits;
-mod numbers;
 mod objects;
 mod processes;
 mod shared;

@@ -10,12 +10,11 @@ ghost use Rattle.kernel_objects.specs.Shared.{Alike, FreesPids, FreesZids, Takes
 
 use crate::faults::KernelFault;
 use crate::limits::DEVICES_MAX;
-use crate::numbers::next_free;
 use crate::processes::Processes;
 use std::alloc::{AllocError, Global};
 use std::marker::Model;
 use zn_base::{AbsPath, ZoneName};
-use zone_pools::{Grant, Owners, PID_MAX, PID_MIN, Pool, ZID_MAX, ZID_MIN, numbered};
+use zone_pools::{Grant, Owners, PID_MAX, PID_MIN, Pool, ZID_MAX, ZID_MIN, next_free, numbered};
 
 /// Who holds each number of a process and of a zone, the last ones given, and the declared devices. Contracts see
 /// `Shared`.

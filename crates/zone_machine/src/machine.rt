@@ -8,7 +8,6 @@ pub(crate) mod cell;
 pub(crate) mod effects;
 pub(crate) mod local_turns;
 pub(crate) mod needs;
-pub(crate) mod numbers;
 pub(crate) mod parts;
 pub(crate) mod pools;
 pub(crate) mod rooms;

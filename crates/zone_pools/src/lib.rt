@@ -3,10 +3,12 @@
 
 mod grant;
 mod limits;
+mod numbers;
 mod owned;
 mod owners;
 
 pub use grant::{Grant, Pool, number_in, numbered};
 pub use limits::{PID_MAX, PID_MIN, SERIAL_MAX, ZID_MAX, ZID_MIN, ZONES_MAX};
+pub use numbers::next_free;
 pub use owned::Owned;
 pub use owners::{Keyed, Owners};

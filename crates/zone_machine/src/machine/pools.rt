@@ -9,13 +9,12 @@ ghost use Rattle.zone_machine.specs.Machine.Pools.{is_path, path_taken};
 ghost use Rattle.zone_pools.specs.Pools.{fits_asked, fits_pool, has_place, has_room, is_pool, next_free, numbered, said_by_all};
 
 use crate::machine::needs::Need;
-use crate::machine::numbers::next_free;
 use crate::machine::shared::Shared;
 use commit_journal::Record;
 use indexmap::IndexMap;
 use zn_base::{AbsPath, ZoneName};
 use zone_pools::{
-    Grant, PID_MAX, PID_MIN, Pool, SERIAL_MAX, ZID_MAX, ZID_MIN, ZONES_MAX, numbered,
+    Grant, PID_MAX, PID_MIN, Pool, SERIAL_MAX, ZID_MAX, ZID_MIN, ZONES_MAX, next_free, numbered,
 };
 
 fn is_path(path: &[u8], own: &Option<AbsPath>) -> bool

@@ -1,9 +1,9 @@
-//! The next free number of a pool.
+//! The next free number of a pool. No number in use is listed.
 ghost use Rattle.std.specs.Prelude.{◌≡◌, ◌+◌, ◌-◌, ◌<◌, ◌≤◌, ◌^◌, is_some, nat_eq};
 ghost use Rattle.zone_pools.specs.Owners.{owner};
 ghost use Rattle.zone_pools.specs.Pools.{first_free, next_free};
 
-use zone_pools::Owners;
+use crate::Owners;
 
 // The least number that isn't used among so many from one on.
 fn first_free(used: &Owners<u32>, from: u32, count: u32) -> Option<u32>
@@ -18,7 +18,7 @@ fn first_free(used: &Owners<u32>, from: u32, count: u32) -> Option<u32>
     None
 }
 
-#[tactic(auto, using(zone_pools::proofs::Free_numbers::none_above))]
+#[tactic(auto, using(crate::proofs::Free_numbers::none_above))]
 fn first_above(used: &Owners<u32>, high: u32, last: u32) -> Option<u32>
     requires { high < 2 ^ 31 }
     ensures { result ≡ first_free (λ n. is_some (owner nat_eq used.now n)) (last + 1) (high - last) }
@@ -31,7 +31,7 @@ fn first_above(used: &Owners<u32>, high: u32, last: u32) -> Option<u32>
 }
 
 /// The least free number above the last one given, starting again at the lowest after the highest.
-pub(crate) fn next_free(used: &Owners<u32>, low: u32, high: u32, last: u32) -> Option<u32>
+pub fn next_free(used: &Owners<u32>, low: u32, high: u32, last: u32) -> Option<u32>
     requires { (low ≤ high) × (high < 2 ^ 31) }
     ensures { result ≡ next_free (λ n. is_some (owner nat_eq used.now n)) low high last }
 {
