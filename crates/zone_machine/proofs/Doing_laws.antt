@@ -18,7 +18,9 @@ use Rattle.commit_journal.specs.Zones.{rows_of}
 use Rattle.zone_machine.proofs.Acts_laws.{same_other}
 use Rattle.zone_machine.proofs.Lists_laws.{any-push, any-put, none_left}
 use Rattle.zone_machine.proofs.Waits_laws.{some_wait}
-use Rattle.zone_machine.specs.Code.Cells.{Agree, Does, cell_world, common_in, is_wait_for, kept, row_in, unless_ended, work_world}
+use Rattle.zone_machine.specs.Code.Cells.{Agree, Does, cell_world, common_in, kept, row_in}
+use Rattle.zone_machine.specs.Code.Waits.{is_wait_for, unless_ended}
+use Rattle.zone_machine.specs.Code.Works.{work_world}
 use Rattle.zone_machine.specs.Machine.Common.{Common, came_common, holding, holds_pid, holds_zid}
 use Rattle.zone_machine.specs.State.Edits.{Edit, Of_objects, Set_desk, at_session, comes_world, edit_world, edits_world, swept_doing}
 use Rattle.zone_machine.specs.State as state
@@ -41,7 +43,8 @@ use Rattle.zone_machine.specs.declared.objects.changes.ObjectEdit.{ObjectEdit}
 use Rattle.zone_machine.specs.declared.daemon.desks.Desk.{Desk}
 use Rattle.zone_machine.specs.Daemon.Desks as desks
 use Rattle.zone_machine.specs.Code.Desks.{as_desk}
-use Rattle.zone_machine.specs.Code.Cases.{Works, arrival_of, object_edits, sits, work_act}
+use Rattle.zone_machine.specs.Code.Cases.{object_edits}
+use Rattle.zone_machine.specs.Code.Works.{Works, arrival_of, sits, work_act}
 
 -- the columns that stay
 module _ (z : Name) (c : Cell) (s : Shared) (agree : Agree z c s) where

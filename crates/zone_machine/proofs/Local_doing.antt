@@ -10,7 +10,8 @@ use Rattle.zone_pools.specs.declared.grant.Grant.TheVariants.{Nothing}
 use Rattle.zone_machine.proofs.Local_laws.{Local, is-local, local-one, not-local, stays, subject-turn, world-after}
 use Rattle.zone_machine.proofs.Turned_laws.{has-turned, turned_act}
 use Rattle.zone_machine.specs.Arrivals.{Arrival}
-use Rattle.zone_machine.specs.Code.Cases.{Works, arrival_of, object_edits, sits}
+use Rattle.zone_machine.specs.Code.Cases.{object_edits}
+use Rattle.zone_machine.specs.Code.Works.{Works, arrival_of, sits}
 use Rattle.zone_machine.specs.Code.Cells.{CellOf, cell_world}
 use Rattle.zone_machine.specs.State.Decisions.{Decision, act_of, acts_world, effects, says, sweeps, turned}
 use Rattle.zone_machine.specs.Daemon.Desks as desks

@@ -4,7 +4,7 @@ use Rattle.std.specs.Prelude.{bytes_eq, slice_get}
 use Rattle.std.proofs.lemmas.Bool.{true≢false}
 use Rattle.zn_base.specs.Names.{Name}
 use Rattle.commit_journal.specs.Zones.{rows_of}
-use Rattle.zone_machine.specs.Code.Cells.{takes_path}
+use Rattle.zone_machine.specs.Code.Needs.{takes_path}
 use Rattle.zone_machine.specs.Machine.Pools.{is_path, path_taken}
 use Rattle.commit_journal.specs.declared.records.Record.{Record}
 

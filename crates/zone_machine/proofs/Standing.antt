@@ -16,14 +16,15 @@ use Rattle.zone_machine.proofs.Common_laws.{common-acts}
 use Rattle.zone_machine.proofs.Doing_laws.{holds_wait}
 use Rattle.zone_machine.proofs.Acts_laws.{own-acts}
 use Rattle.zone_machine.proofs.Own_worlds.{own_session, view-world}
-use Rattle.zone_machine.specs.Code.Cells.{Agree, CellOf, Does, SharedOf, cell_world, decide_in, row_in, subject_at, subject_in}
+use Rattle.zone_machine.specs.Code.Cells.{Agree, CellOf, Does, SharedOf, cell_world, row_in}
+use Rattle.zone_machine.specs.Code.Reads.{decide_in, subject_at, subject_in}
 use Rattle.zone_machine.specs.Machine.Common.{Common, acts_common, came_common, common}
 use Rattle.zone_machine.specs.State.Decisions.{Act, act_of, acts_world, says}
 use Rattle.zone_machine.specs.Session.Lines.{Line, line_of}
 use Rattle.zone_machine.specs.Machine.{decide, done_by, opening, one, one_of, session_number, session_subject, subject}
 use Rattle.zone_machine.specs.State as state
 use Rattle.zone_machine.specs.State.{State, stored}
-use Rattle.zone_machine.specs.Code.Steps.{IsCellStep}
+use Rattle.zone_machine.specs.Code.Cell_steps.{IsCellStep}
 use Rattle.zone_machine.specs.State.Worlds.{World, doing, view, view_of, world}
 use Rattle.zone_machine.specs.declared.machine.cell.Cell.{Cell}
 use Rattle.zone_machine.specs.declared.events.Event.{Event}

@@ -23,7 +23,9 @@ use Rattle.zone_pools.specs.declared.owned.Owned.{Owned}
 use Rattle.zone_machine.proofs.Common_laws.{any_mine, any_own}
 use Rattle.zone_machine.proofs.Own_worlds.{leaves}
 use Rattle.zone_machine.proofs.Standing.{cell-stands, decide-stands, stored-stands, subject-stands}
-use Rattle.zone_machine.specs.Code.Cells.{CellOf, Keeps, SharedOf, Stands, cell_at, cell_world, decide_in, empty_world, pools_in, row_in, subject_at, subject_in, world_or_empty}
+use Rattle.zone_machine.specs.Code.Cells.{CellOf, Keeps, SharedOf, Stands, cell_at, cell_world, empty_world, row_in, world_or_empty}
+use Rattle.zone_machine.specs.Code.Needs.{pools_in}
+use Rattle.zone_machine.specs.Code.Reads.{decide_in, subject_at, subject_in}
 use Rattle.zone_machine.specs.Machine.Common.{Common, common}
 use Rattle.zone_machine.specs.State.Decisions.{says}
 use Rattle.zone_machine.specs.Machine.Histories.{concerns}
@@ -32,7 +34,8 @@ use Rattle.zone_machine.specs.Machine.{decide, global_reply, named_subject, one,
 use Rattle.zone_machine.specs.Machine.Pools.{allowed, allowed_of, fits, fits_of, path_taken, pools_of}
 use Rattle.zone_machine.specs.State.{State, stored}
 use Rattle.zone_machine.specs.Code.Rooms.{Alike}
-use Rattle.zone_machine.specs.Code.Steps.{CellAnswers, IsCellStep, IsStep, IsZoneState, Answers, IsCellMisfitUnder, IsCellStepUnder, IsGrantFor, IsUnfit, IsMisfitUnder, IsTaken, Takes, AsItWas}
+use Rattle.zone_machine.specs.Code.Cell_steps.{CellAnswers, IsCellStep, IsCellMisfitUnder, IsCellStepUnder}
+use Rattle.zone_machine.specs.Code.Steps.{IsStep, IsZoneState, Answers, IsGrantFor, IsUnfit, IsMisfitUnder, IsTaken, Takes, AsItWas}
 use Rattle.zone_machine.specs.State.Worlds.{World, view, view_of, world}
 use Rattle.zone_machine.specs.declared.daemon.desks.Desk.{Desk}
 use Rattle.zone_machine.specs.declared.machine.cell.Cell.{Cell}

@@ -7,7 +7,7 @@ use Rattle.std.specs.Map.{keys_of, lookup}
 use Rattle.std.proofs.lemmas.Bool.{eqb-true}
 use Rattle.std.proofs.lemmas.Map.Entries.{lookup-filter-values, option_filter}
 use Rattle.std.proofs.lemmas.Map.Keys.{IsDistinct-head, IsDistinct-tail}
-use Rattle.zone_machine.specs.Code.Cells.{is_wait_for, unless_ended, waits_there}
+use Rattle.zone_machine.specs.Code.Waits.{is_wait_for, unless_ended, waits_there}
 
 -- whether a session waits for a ticket, by the pairs of some sessions and their tickets
 abbrev pub waits_in : ℕ → ℕ → List (ℕ × ℕ) → Bool

@@ -1,10 +1,14 @@
 -- What the code's values stand for, and what its steps do to them.
 pub mod Lines
 pub mod Desks
+pub mod Waits
+pub mod Cells
+pub mod Reads
 pub mod Needs
 pub mod Cases
-pub mod Cells
+pub mod Works
 pub mod Rooms
 pub mod Steps
+pub mod Cell_steps
 pub mod Local_turns
 pub mod Decided

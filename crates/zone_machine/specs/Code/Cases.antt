@@ -1,22 +1,20 @@
--- What the code's cases decide, and what its works do, as the definitions have it.
-use Rattle.std.specs.Prelude.{◌≡◌, ℕ, ◌+◌, ◌<◌, List, [], ◌∷◌, ◌++◌, drop, length, map, Bool, true, false, Option, Some, None, IfSome, IsSomeAnd, vec_capacity, vec_len}
-use Rattle.std.specs.Option.{option_map}
+-- What the code's cases decide, as the definitions have it.
+use Rattle.std.specs.Prelude.{◌≡◌, ℕ, ◌+◌, ◌<◌, List, [], ◌∷◌, drop, length, Bool, true, false, Option, Some, None, IsSomeAnd}
 use Rattle.zn_base.specs.Names.{Name}
 use Rattle.zn_base.specs.declared.state.ZoneState.{ZoneState}
 use Rattle.zone_pools.specs.Asked.{A_path, A_pid, A_serial, A_zid, A_zone, Asked}
 use Rattle.zone_pools.specs.Decisions as decisions
 use Rattle.zone_pools.specs.Owned_lists.{Come, Go}
-use Rattle.zone_machine.specs.Arrivals.{A_process, A_record, An_id, Arrival, Comes, New_id, New_process, New_record}
-use Rattle.zone_machine.specs.State.Decisions.{Act, Decision, acts_world, done_saying, effects, refused, says, sweeps, turned}
+use Rattle.zone_machine.specs.Arrivals.{A_process, A_record, An_id, Comes}
+use Rattle.zone_machine.specs.State.Decisions.{Decision, done_saying, effects, refused, turned}
 use Rattle.zone_machine.specs.Daemon.Desks as desks
 use Rattle.zone_machine.specs.Code.Desks.{as_desk, as_job}
-use Rattle.zone_machine.specs.State.Edits.{Edit, Here, Of_objects, Set_desk}
+use Rattle.zone_machine.specs.State.Edits.{Here, Set_desk}
 use Rattle.zone_machine.specs.Objects as objects
 use Rattle.zone_machine.specs.Objects.{Ids_go, Object_edit, Of_mounts, Processes_go, all_of, is_at}
 use Rattle.zone_machine.specs.State.{Awaiting}
 use Rattle.zone_machine.specs.Daemon.Turns.{Turn_decision, Turned, active_after, advance, asking, finish, reports, rests, undone}
 use Rattle.zone_machine.specs.Session.Typed.{is_full, with_request}
-use Rattle.zone_machine.specs.State.Worlds.{World}
 use Rattle.zone_machine.specs.declared.cases.Case.{Case}
 use Rattle.zone_machine.specs.declared.cases.Case.TheVariants.{Says, Make, Put, Turn}
 use Rattle.zone_machine.specs.declared.daemon.cases.JobCase.{JobCase}
@@ -40,8 +38,6 @@ use Rattle.zone_machine.specs.declared.objects.changes.Came.{Came}
 use Rattle.zone_machine.specs.declared.objects.changes.Came.TheVariants.{Process, Id, Record}
 use Rattle.zone_machine.specs.declared.objects.changes.ObjectEdit.{ObjectEdit}
 use Rattle.zone_machine.specs.declared.objects.changes.ObjectEdit.TheVariants.{Nothing, EndProcesses, Mount, Unmount, EndIds}
-use Rattle.zone_machine.specs.declared.machine.work.Sitting.{Sitting}
-use Rattle.zone_machine.specs.declared.machine.work.Work.{Work}
 
 abbrev pub as_objects : Objects → objects.Objects
 as_objects o = record { processes = o.processes.now; mounts = o.mounts.now; ids = o.ids.now }
@@ -154,72 +150,3 @@ IsNamedCase z (Says head) = Unit {0}
 IsNamedCase z (Make row owner) = owner ≡ z
 IsNamedCase z (Put kind owner) = owner ≡ z
 IsNamedCase z (Turn c) = IsNamedTurn z c
-
-pub record IsNamedWork (z : Name) (w : Work) : Type 0 where
-  pub came : IfSome w.came (λ c. c.owner ≡ z)
-  pub sits : IfSome w.sits (λ s. s.owner ≡ z)
-
--- what becomes of the zone's objects, whatever is granted
-abbrev pub job_objects : JobCase → ObjectEdit
-job_objects (Pass p) = p.objects
-job_objects (Undo objects) = objects
-job_objects _ = Nothing
-
-abbrev pub turn_objects : TurnCase → ObjectEdit
-turn_objects (GoOn c) = job_objects c
-turn_objects _ = Nothing
-
-abbrev pub objects_of : Case → ObjectEdit
-objects_of (Turn c) = turn_objects c
-objects_of _ = Nothing
-
--- who sits down
-abbrev pub sitting_of : Desk → Case → Option Sitting
-sitting_of d (Put kind owner) = Some (record { ticket = d.last + 1; owner = owner })
-sitting_of d _ = None
-
--- room for a step that a failure undoes
-abbrev pub HasUndoRoom : Job → Type 0
-HasUndoRoom j = vec_len j.undo < vec_capacity j.undo
-
-abbrev pub HasJobRoom : Job → JobCase → Type 0
-HasJobRoom j (Pass p) = HasUndoRoom j
-HasJobRoom j (Ask c next) = HasUndoRoom j
-HasJobRoom j _ = Unit {0}
-
-abbrev pub HasTurnRoom : Option Job → TurnCase → Type 0
-HasTurnRoom o (GoOn c) = IfSome o (λ j. HasJobRoom j c)
-HasTurnRoom o _ = Unit {0}
-
--- room for what the case puts on the desk
-abbrev pub HasRoomFor : Desk → Case → Type 0
-HasRoomFor d (Put kind owner) = vec_len d.waiting < vec_capacity d.waiting
-HasRoomFor d (Turn c) = HasTurnRoom d.job c
-HasRoomFor d _ = Unit {0}
-
--- what an event does, as an act that leaves the desk so
-abbrev pub arrival_of : Came → Arrival
-arrival_of (Process p) = New_process p
-arrival_of (Id i) = New_id i
-arrival_of (Record r) = New_record (Some r.value)
-
-abbrev pub sits : Option Sitting → List Edit
-sits None = []
-sits (Some s) = Here (Some (Awaiting s.ticket)) ∷ []
-
-abbrev pub work_act : Work → desks.Desk → Act
-work_act w d = record {
-  came = option_map (λ c. arrival_of c.it) w.came;
-  effect = record { edits = map Of_objects (object_edits w.objects) ++ (Set_desk d ∷ (sits w.sits ++ sweeps w.ended)); reply = says w.head };
-}
-
--- the request under way, where none ended
-abbrev pub unless_ended : Option ℕ → desks.Job → Option desks.Job
-unless_ended None j = Some j
-unless_ended (Some ticket) j = None
-
--- the work does what an act says in a world, and leaves the desk so
-pub record Works (n : Option ℕ) (a : Act) (v : World) (d : desks.Desk) (w : Work) : Type 0 where
-  pub came : option_map (λ c. arrival_of c.it) w.came ≡ a.came
-  pub reply : says w.head ≡ a.effect.reply
-  pub world : acts_world n (work_act w d) v ≡ acts_world n a v

@@ -1,8 +1,15 @@
--- What the code's needs ask, as the definitions have it.
-use Rattle.std.specs.Prelude.{List, [], ◌∷◌}
+-- What the code's needs ask, and what the pools know by the shared part, as the definitions have it.
+use Rattle.std.specs.Prelude.{List, [], ◌∷◌, ℕ, length, Bool, false, Option, Some, None, bytes_eq, nat_eq, not, ◌&&◌, is_some}
 use Rattle.zone_pools.specs.Asked.{A_path, A_pid, A_serial, A_zid, A_zone, Asked}
 use Rattle.zone_machine.specs.declared.machine.needs.Need.{Need}
 use Rattle.zone_machine.specs.declared.machine.needs.Need.TheVariants.{Nothing, Pid, Zid, Record, NewZone}
+use Rattle.zn_base.specs.Names.{Name}
+use Rattle.zone_pools.specs.Owners.{owner}
+use Rattle.zone_pools.specs.Pools.{Pools}
+use Rattle.commit_journal.specs.Zones.{rows_of}
+use Rattle.zone_machine.specs.Machine.Pools.{is_path, path_taken}
+use Rattle.commit_journal.specs.declared.records.Record as records
+use Rattle.zone_machine.specs.declared.machine.shared.Shared.{Shared}
 
 abbrev pub asked_by : Need → List Asked
 asked_by Nothing = []
@@ -10,3 +17,20 @@ asked_by Pid = A_pid ∷ []
 asked_by Zid = A_zid ∷ []
 asked_by Record = A_serial ∷ []
 asked_by (NewZone path) = A_zone ∷ A_path path.now ∷ A_serial ∷ []
+
+-- a stored zone other than z has the path
+abbrev pub takes_path : Name → List ℕ → Option (Name × records.Record) → Bool
+takes_path z path None = false
+takes_path z path (Some e) = not (bytes_eq z e.0) && is_path path e.1.config.zonepath
+
+-- what the pools know, by the shared part
+abbrev pub pools_in : Shared → Pools
+pools_in s = record {
+  pid_used = λ n. is_some (owner nat_eq s.pids n);
+  zid_used = λ n. is_some (owner nat_eq s.zids n);
+  last_pid = s.last_pid;
+  last_zid = s.last_zid;
+  zones = length (rows_of s.rows.entries);
+  path_taken = path_taken (rows_of s.rows.entries);
+  serial = s.serial;
+}

@@ -8,18 +8,13 @@ use Rattle.zone_machine.specs.Machine.Histories.{entry_at}
 use Rattle.zone_machine.specs.Machine.{one, subject}
 use Rattle.zone_machine.specs.Machine.Pools.{allowed, fits}
 use Rattle.zone_machine.specs.State.{State, zone_state}
-use Rattle.zone_machine.specs.Code.Cells.{CellOf, SharedOf, Stands}
-use Rattle.zone_machine.specs.Machine.Common.{common}
+use Rattle.zone_machine.specs.Code.Cells.{Stands}
 use Rattle.zone_machine.specs.declared.events.Entry.{Entry}
 use Rattle.zone_machine.specs.declared.events.Event.{Event}
 use Rattle.zone_machine.specs.declared.events.Subject.{Subject}
-use Rattle.zone_machine.specs.declared.events.Subject.TheVariants.{Zone}
 use Rattle.zone_machine.specs.declared.faults.StepFault.{StepFault}
 use Rattle.zone_machine.specs.declared.faults.StepFault.TheVariants.{Memory, BadGrant}
-use Rattle.zone_machine.specs.State.Worlds.{world}
-use Rattle.zone_machine.specs.declared.machine.cell.Cell.{Cell}
 use Rattle.zone_machine.specs.declared.machine.parts.Parts.{Parts}
-use Rattle.zone_machine.specs.declared.machine.shared.Shared.{Shared}
 use Rattle.zone_pools.specs.declared.grant.Grant.TheVariants.{Nothing}
 use Rattle.zone_pools.specs.Pools.{Pools, fits_asked, said_by_all}
 
@@ -83,41 +78,6 @@ IsMisfitUnder (Some g) t e u = IsMisfit t e g u
 -- the parts stand for what they stood for
 abbrev pub AsItWas : Parts → Parts → Type 0
 AsItWas t u = (S : State) → (Stands S t → Stands S u) × (Stands S u → Stands S t)
-
--- the same of a zone's cell and the shared part: the entry is the definitions', and what is left has the world and what is common of
--- the state after it
-pub record CellAnswers (z : Name) (S : State) (e : Event) (g : Grant) (entry : Entry) (d : Cell) (t : Shared) : Type 0 where
-  pub told : entry ≡ entry_at S e g
-  pub cell : CellOf d (world z (one S e g).state)
-  pub shared : SharedOf t (common (one S e g).state)
-
--- whatever state they stood for in which the event is the zone's
-abbrev pub IsCellStep : Name → Cell → Shared → Event → Grant → Entry → Cell → Shared → Type 0
-IsCellStep z c s e g entry d t = (S : State) → CellOf c (world z S) → SharedOf s (common S) → subject S e ≡ Zone z → CellAnswers z S e g entry d t
-
--- under the grant that the pools give
-abbrev pub IsAllowedCellStep : Name → Cell → Shared → Event → Entry → Cell → Shared → Type 0
-IsAllowedCellStep z c s e entry d t = (S : State) → CellOf c (world z S) → SharedOf s (common S) → subject S e ≡ Zone z → CellAnswers z S e (allowed S e) entry d t
-
--- under a grant that fits
-abbrev pub IsFittingCellStep : Name → Cell → Shared → Event → Grant → Entry → Cell → Shared → Type 0
-IsFittingCellStep z c s e g entry d t = (S : State) → CellOf c (world z S) → SharedOf s (common S) → subject S e ≡ Zone z → (fits S e g ≡ true) × CellAnswers z S e g entry d t
-
--- under the one or the other
-pub record CellStepsUnder (z : Name) (stated : Option Grant) (S : State) (e : Event) (entry : Entry) (d : Cell) (t : Shared) : Type 0 where
-  pub takes : Takes stated S e entry.grant
-  pub answers : CellAnswers z S e entry.grant entry d t
-
-abbrev pub IsCellStepUnder : Name → Option Grant → Cell → Shared → Event → Entry → Cell → Shared → Type 0
-IsCellStepUnder z stated c s e entry d t = (S : State) → CellOf c (world z S) → SharedOf s (common S) → subject S e ≡ Zone z → CellStepsUnder z stated S e entry d t
-
--- the grant doesn't fit, and nothing is changed
-abbrev pub IsCellMisfit : Name → Cell → Shared → Event → Grant → Cell → Shared → Type 0
-IsCellMisfit z c s e g d t = ((S : State) → CellOf c (world z S) → SharedOf s (common S) → subject S e ≡ Zone z → fits S e g ≡ false) × (d ≡ c) × (t ≡ s)
-
-abbrev pub IsCellMisfitUnder : Name → Option Grant → Cell → Shared → Event → Cell → Shared → Type 0
-IsCellMisfitUnder z None c s e d t = ⊥
-IsCellMisfitUnder z (Some g) c s e d t = IsCellMisfit z c s e g d t
 
 -- the grant that a case takes: what the pools say, or the stated one, which fits what it asks
 abbrev pub IsGrantFor : Name → Pools → List Asked → Option Grant → Grant → Type 0

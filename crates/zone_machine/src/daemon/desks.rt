@@ -1,6 +1,6 @@
 //! A zone's desk: the requests that wait, and the one under way.
 ghost use Rattle.std.specs.Prelude.{◌<◌, ◌∷◌, ◌≡◌, [], Some, drop, length, true};
-ghost use Rattle.zone_machine.specs.Code.Cases.{HasUndoRoom};
+ghost use Rattle.zone_machine.specs.Code.Rooms.{HasUndoRoom};
 ghost use Rattle.zone_machine.specs.Daemon.Desks.{empty_desk, next_place};
 ghost use Rattle.zone_machine.specs.Code.Desks.{as_desk, as_job};
 ghost use Rattle.zone_machine.specs.Daemon.Plans.{undo_after};

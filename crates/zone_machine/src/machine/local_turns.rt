@@ -1,7 +1,9 @@
 //! Turns of a zone's daemon that touch nothing which other zones may ask, on the zone's cell alone.
 ghost use Rattle.std.specs.Prelude.{◌≡◌, IfOk, IfSome, List, None, OnErr, OnOk, Some, drop, false, is_some, true};
 ghost use Rattle.zone_pools.specs.Decisions.{Just};
-ghost use Rattle.zone_machine.specs.Code.Cases.{HasRoomFor, IsCaseOf, IsJobCase, IsTurnOf, decision_of, job_turn, object_edits, objects_of, turn_decision_of};
+ghost use Rattle.zone_machine.specs.Code.Cases.{IsCaseOf, IsJobCase, IsTurnOf, decision_of, job_turn, object_edits, turn_decision_of};
+ghost use Rattle.zone_machine.specs.Code.Rooms.{HasRoomFor};
+ghost use Rattle.zone_machine.specs.Code.Works.{objects_of};
 ghost use Rattle.zone_machine.specs.Code.Cells.{cell_world};
 ghost use Rattle.zone_machine.specs.State.Decisions.{act_of, effects, says, turned};
 ghost use Rattle.zone_machine.specs.Daemon.Desks as desks;

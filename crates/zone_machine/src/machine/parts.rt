@@ -5,7 +5,9 @@ ghost use Rattle.indexmap.specs.IndexMap.{get_by, spare};
 ghost use Rattle.zn_base.specs.Names.{Name};
 ghost use Rattle.zone_pools.specs.Pools.{Pools};
 ghost use Rattle.zone_machine.specs.Code.Cases.{decision_of};
-ghost use Rattle.zone_machine.specs.Code.Cells.{Keeps, Stands, cell_at, cell_world, decide_read, empty_world, global_read, pools_in, row_in, subject_in, world_or_empty};
+ghost use Rattle.zone_machine.specs.Code.Cells.{Keeps, Stands, cell_at, cell_world, empty_world, row_in, world_or_empty};
+ghost use Rattle.zone_machine.specs.Code.Needs.{pools_in};
+ghost use Rattle.zone_machine.specs.Code.Reads.{decide_read, global_read, subject_in};
 ghost use Rattle.zone_machine.specs.Code.Decided.{IsCaseIn, IsCellAt, entry_of, head_of};
 ghost use Rattle.zone_machine.specs.Code.Rooms.{IsFreeOf};
 ghost use Rattle.zone_machine.specs.Code.Steps.{AsItWas, IsAllowed, IsGrantFor, IsMisfitUnder, IsStep, IsStepUnder, IsTaken, IsUnfit};
@@ -23,10 +25,9 @@ use crate::cases::Case;
 use crate::events::{Entry, Event, Subject};
 use crate::faults::StepFault;
 use crate::machine::cell::Cell;
+use crate::machine::reads::{Read, global_refusal, read_event, subject};
 use crate::machine::shared::Shared;
-use crate::machine::steps::{
-    Read, cell_grant, entry_of, global_refusal, granted_case, perform_case, read_event, subject,
-};
+use crate::machine::steps::{cell_grant, entry_of, granted_case, perform_case};
 use crate::maps::put;
 use crate::replies::{Head, Refusal};
 use indexmap::IndexMap;

@@ -3,7 +3,7 @@ ghost use Rattle.std.specs.Prelude.{◌≡◌, ◌&&◌, ◌∷◌, [], ◌+◌,
 ghost use Rattle.std.specs.List.{list_any};
 ghost use Rattle.zone_pools.specs.Asked.{A_path, A_pid, A_serial, A_zid, A_zone};
 ghost use Rattle.commit_journal.specs.Zones.{rows_of};
-ghost use Rattle.zone_machine.specs.Code.Cells.{pools_in, takes_path};
+ghost use Rattle.zone_machine.specs.Code.Needs.{pools_in, takes_path};
 ghost use Rattle.zone_machine.specs.Code.Needs.{asked_by};
 ghost use Rattle.zone_machine.specs.Machine.Pools.{is_path, path_taken};
 ghost use Rattle.zone_pools.specs.Pools.{fits_asked, fits_pool, has_place, has_room, is_pool, next_free, numbered, said_by_all};

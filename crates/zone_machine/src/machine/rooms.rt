@@ -1,7 +1,9 @@
 //! Room for what a case puts into its cell and into the shared part, taken before anything is changed.
 ghost use Rattle.std.specs.Prelude.{◌≡◌, OnOk};
 ghost use Rattle.zone_machine.specs.Code.Desks.{as_desk};
-ghost use Rattle.zone_machine.specs.Code.Cases.{HasRoomFor, IsCaseOf, decision_of, objects_of, turn_objects};
+ghost use Rattle.zone_machine.specs.Code.Cases.{IsCaseOf, decision_of};
+ghost use Rattle.zone_machine.specs.Code.Rooms.{HasRoomFor};
+ghost use Rattle.zone_machine.specs.Code.Works.{objects_of, turn_objects};
 ghost use Rattle.zone_machine.specs.Code.Needs.{asked_by};
 ghost use Rattle.zone_machine.specs.Code.Rooms.{Alike, HasRoom, HasRoomIfSits, HasRoomToChange, HasRoomToCome};
 

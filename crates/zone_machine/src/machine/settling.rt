@@ -2,7 +2,9 @@
 ghost use Rattle.std.specs.Prelude.{◌+◌, ◌<◌, ◌≡◌, IfSome, None, Option, Some, drop, false, length, vec_capacity, vec_len, ℕ};
 ghost use Rattle.zn_base.specs.Names.{Name};
 ghost use Rattle.zone_machine.specs.Arrivals.{arrived};
-ghost use Rattle.zone_machine.specs.Code.Cases.{HasJobRoom, HasRoomFor, HasTurnRoom, HasUndoRoom, IsCaseOf, IsJobCase, IsNamedCase, IsNamedJobCase, IsNamedTurn, IsNamedWork, IsTurnOf, Works, active_with, arrival_of, decision_of, comes_of, job_objects, job_turn, made, objects_of, shown_under, sitting_of, turn_objects, turn_decision_of, unless_ended, work_act};
+ghost use Rattle.zone_machine.specs.Code.Cases.{IsCaseOf, IsJobCase, IsNamedCase, IsNamedJobCase, IsNamedTurn, IsTurnOf, active_with, decision_of, comes_of, job_turn, made, shown_under, turn_decision_of};
+ghost use Rattle.zone_machine.specs.Code.Rooms.{HasJobRoom, HasRoomFor, HasTurnRoom, HasUndoRoom};
+ghost use Rattle.zone_machine.specs.Code.Works.{IsNamedWork, Works, arrival_of, job_objects, objects_of, sitting_of, turn_objects, unless_ended, work_act};
 ghost use Rattle.zone_machine.specs.State.Decisions.{act_of, effects, turned};
 ghost use Rattle.zone_machine.specs.Daemon.Desks as desks;
 ghost use Rattle.zone_machine.specs.Code.Desks.{as_desk, as_job};

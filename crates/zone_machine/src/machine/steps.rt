@@ -3,18 +3,18 @@
 ghost use Rattle.std.specs.Prelude.{◌≡◌, ◌⊎◌, IfOk, IsErrOf, IsOkUnless, None, OnErr, Some, Option};
 ghost use Rattle.std.specs.Option.{option_map};
 ghost use Rattle.zone_machine.specs.Code.Cases.{IsCaseOf, decision_of};
-ghost use Rattle.zone_machine.specs.Code.Cells.{cell_world, decide_read, global_read, number_read, pools_in, row_in, subject_in, subject_read};
-ghost use Rattle.zone_machine.specs.Code.Decided.{IsCaseIn, entry_of, head_of};
-ghost use Rattle.zone_machine.specs.State.Decisions.{act_of, says};
-ghost use Rattle.zone_machine.specs.Code.Lines.{as_line, as_word};
-ghost use Rattle.zone_machine.specs.Machine.{decide, global_reply, named_subject, session_number};
+ghost use Rattle.zone_machine.specs.Code.Cells.{cell_world, row_in};
+ghost use Rattle.zone_machine.specs.Code.Needs.{pools_in};
+ghost use Rattle.zone_machine.specs.Code.Reads.{decide_read};
+ghost use Rattle.zone_machine.specs.Code.Decided.{IsCaseIn, entry_of};
+ghost use Rattle.zone_machine.specs.State.Decisions.{act_of};
+ghost use Rattle.zone_machine.specs.Machine.{decide, session_number};
 ghost use Rattle.zone_machine.specs.Code.Rooms.{Alike, IsFreeOf};
 ghost use Rattle.zone_machine.specs.State.{State};
-ghost use Rattle.zone_machine.specs.Code.Steps.{IsAllowedCellStep, IsCellMisfit, IsCellMisfitUnder, IsCellStep, IsCellStepUnder, IsFittingCellStep, IsGrantFor, IsUnfit};
-ghost use Rattle.zone_machine.specs.Session.Typed.{badly_named, global_line};
-ghost use Rattle.zone_machine.specs.State.Worlds.{View, view_of};
+ghost use Rattle.zone_machine.specs.Code.Cell_steps.{IsAllowedCellStep, IsCellMisfit, IsCellMisfitUnder, IsCellStep, IsCellStepUnder, IsFittingCellStep};
+ghost use Rattle.zone_machine.specs.Code.Steps.{IsGrantFor, IsUnfit};
+ghost use Rattle.zone_machine.specs.State.Worlds.{view_of};
 ghost use Rattle.zone_machine.specs.declared.events.Subject.TheVariants.{Zone};
-ghost use Rattle.zone_machine.specs.declared.machine.shared.Shared as shared_types;
 ghost use Rattle.zone_pools.specs.Decisions.{asked_of};
 
 use crate::cases::Case;
@@ -25,100 +25,16 @@ use crate::machine::cell::Cell;
 use crate::machine::effects::perform;
 use crate::machine::needs::need_of;
 use crate::machine::pools::{fits, grant_for};
+use crate::machine::reads::{Read, read_event};
 use crate::machine::rooms::make_room;
 use crate::machine::shared::Shared;
-use crate::replies::{Body, Head, Refusal, Reply};
+use crate::replies::{Body, Head, Reply};
 use crate::session::line_cases::decide_line;
-use crate::session::lines::{Command, Line, line_of};
 use crate::session::waits::awaited;
 use commit_journal::Record;
 use std::alloc::{AllocError, Global};
-use zn_base::{NameFault, ZoneName};
+use zn_base::ZoneName;
 use zone_pools::Grant;
-
-/// An event as it is read, once: what a session types, or a turn of a zone's daemon.
-#[derive(Clone, Copy)]
-pub(crate) enum Read<'e> {
-    Line(u8, Line<'e>),
-    Turn(&'e ZoneName),
-}
-
-/// An event is read.
-#[tactic(auto, unfolding(crate::specs::Machine::decide))]
-pub(crate) fn read_event(event: &Event) -> Read<'_>
-    ensures subject { (s : shared_types.Shared) → subject_read s result ≡ subject_in s event.now }
-    ensures decide { (v : View) → decide_read v result ≡ decide v event.now }
-    ensures number { number_read result ≡ session_number event.now }
-    ensures global { (S : State) → global_read result ≡ global_reply S event.now }
-{
-    match event {
-        Event::Session { number, text } => Read::Line(*number, line_of(text.bytes())),
-        Event::Turn { zone } => Read::Turn(zone),
-    }
-}
-
-// The zone that a word names, or the global zone.
-fn named_subject(alloc: Global, word: Option<&[u8]>) -> Result<Subject, AllocError>
-    ensures { IfOk result (λ subject. subject ≡ named_subject (as_word word.entry)) }
-{
-    let Some(word) = word else {
-        return Ok(Subject::Global);
-    };
-    match ZoneName::read(alloc, word) {
-        Ok(zone) => Ok(Subject::Zone(zone)),
-        Err(NameFault::Memory) => Err(AllocError),
-        Err(NameFault::Empty | NameFault::TooLong | NameFault::BadByte(_) | NameFault::Reserved) =>
-            Ok(Subject::Global),
-    }
-}
-
-/// Whose an event is: the zone that its session waits in, else the zone that its line names.
-pub(crate) fn subject(shared: &Shared, alloc: Global, read: Read<'_>) -> Result<Subject, AllocError>
-    ensures { IfOk result (λ subject. subject ≡ subject_read shared.now read.entry) }
-{
-    match read {
-        Read::Turn(zone) => Ok(Subject::Zone(zone.copy(alloc)?)),
-        Read::Line(number, line) => match shared.sessions.owner(&number) {
-            Some(zone) => Ok(Subject::Zone(zone.copy(alloc)?)),
-            None => named_subject(alloc, line.zone),
-        },
-    }
-}
-
-// Why a word names no zone.
-fn badly_named(alloc: Global, word: Option<&[u8]>) -> Result<Refusal, AllocError>
-    ensures { IfOk result (λ refusal. refusal ≡ badly_named (as_word word.entry)) }
-{
-    let Some(word) = word else {
-        return Ok(Refusal::Usage);
-    };
-    match ZoneName::read(alloc, word) {
-        Ok(_) => Ok(Refusal::Usage),
-        Err(NameFault::Memory) => Err(AllocError),
-        Err(fault) => Ok(Refusal::BadName(fault)),
-    }
-}
-
-// Why a line is refused that belongs to no zone, if it is.
-fn global_line(alloc: Global, line: Line<'_>) -> Result<Option<Refusal>, AllocError>
-    ensures { IfOk result (λ refusal. says (head_of refusal) ≡ global_line (as_line line.entry)) }
-{
-    match line.command {
-        Command::Blank => Ok(None),
-        Command::Unknown => Ok(Some(Refusal::Usage)),
-        Command::Make(_) | Command::Request(_) => Ok(Some(badly_named(alloc, line.zone)?)),
-    }
-}
-
-/// Why an event is refused that is no zone's, if it is.
-pub(crate) fn global_refusal(alloc: Global, read: Read<'_>) -> Result<Option<Refusal>, AllocError>
-    ensures { IfOk result (λ refusal. says (head_of refusal) ≡ global_read read.entry) }
-{
-    match read {
-        Read::Line(_, line) => global_line(alloc, line),
-        Read::Turn(_) => Ok(None),
-    }
-}
 
 // The case of an event of a zone, by its cell and what is stored of it.
 #[tactic(auto, unfolding(crate::specs::State::Worlds::view_of))]

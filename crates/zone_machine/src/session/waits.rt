@@ -1,7 +1,7 @@
 //! What sessions wait for in a zone. A session that isn't there does nothing in it.
 ghost use Rattle.indexmap.specs.IndexMap.{get, spare};
 ghost use Rattle.std.specs.Prelude.{◌≡◌, ℕ, None, Some, nat_eq, not, slice_get, if◌then◌else◌, ◌<◌};
-ghost use Rattle.zone_machine.specs.Code.Cells.{is_wait_for, unless_ended, waits_there};
+ghost use Rattle.zone_machine.specs.Code.Waits.{is_wait_for, unless_ended, waits_there};
 ghost use Rattle.zone_machine.specs.State.Edits.{at_session};
 ghost use Rattle.zone_pools.specs.Owners.{owner};
 

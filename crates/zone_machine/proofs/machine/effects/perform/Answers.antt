@@ -3,7 +3,8 @@ use Rattle.zone_pools.specs.Decisions.{asked_of}
 use Rattle.zone_machine.proofs.Doing_laws.{does_work}
 use Rattle.zone_machine.proofs.Freeing.{asks_case, room_change, room_desk, roomy}
 use Rattle.zone_machine.specs.Code.Cases.{decision_of}
-use Rattle.zone_machine.specs.Code.Cells.{cell_world, pools_in, row_in}
+use Rattle.zone_machine.specs.Code.Cells.{cell_world, row_in}
+use Rattle.zone_machine.specs.Code.Needs.{pools_in}
 use Rattle.zone_machine.specs.State.Decisions.{act_of, says}
 use Rattle.zone_machine.specs.Code.Rooms.{HasRoomOf, HasRoomToChange, IsFreeOf}
 use Rattle.zone_machine.proofs.machine.effects.perform.Goals as goal

@@ -2,7 +2,9 @@ use Rattle.std.proofs.Common.{ap, refl, rules, sym, ◌∙◌}
 use Rattle.zone_pools.specs.Decisions.{asked_of}
 use Rattle.zone_machine.proofs.Stepping.{IsCellMisfitUnder-by, IsCellStepUnder-by, case_freed}
 use Rattle.zone_machine.specs.Code.Cases.{decision_of}
-use Rattle.zone_machine.specs.Code.Cells.{cell_world, decide_read, pools_in, row_in}
+use Rattle.zone_machine.specs.Code.Cells.{cell_world, row_in}
+use Rattle.zone_machine.specs.Code.Needs.{pools_in}
+use Rattle.zone_machine.specs.Code.Reads.{decide_read}
 use Rattle.zone_machine.specs.Code.Decided.{entry_of}
 use Rattle.zone_machine.specs.State.Worlds.{view_of}
 use Rattle.zone_machine.specs.declared.events.Subject.TheVariants.{Zone}

@@ -5,7 +5,7 @@ use Rattle.std.proofs.lemmas.List.{take_all}
 use Rattle.indexmap.proofs.CallerLemmas.{filter-RetainsPairs}
 use Rattle.zone_pools.specs.Owners.{owner}
 use Rattle.zone_machine.proofs.Waits_laws.{ends_more, in-all, in-more, lookup-kept, waits_in}
-use Rattle.zone_machine.specs.Code.Cells.{waits_there}
+use Rattle.zone_machine.specs.Code.Waits.{waits_there}
 use Rattle.zone_machine.proofs.session.waits.end_waits.Goals as goal
 
 pub loop-at-preserved : goal.loop-at-preserved

@@ -1,7 +1,9 @@
 use Rattle.std.proofs.Common.{◌≡◌, Some, ap, rules, subst, sym, ◌∙◌}
 use Rattle.zone_machine.proofs.Stepping.{case_freed, here_at, some_is, taken, unfit}
 use Rattle.zone_machine.specs.Code.Cases.{decision_of}
-use Rattle.zone_machine.specs.Code.Cells.{cell_at, decide_read, pools_in, world_or_empty}
+use Rattle.zone_machine.specs.Code.Cells.{cell_at, world_or_empty}
+use Rattle.zone_machine.specs.Code.Needs.{pools_in}
+use Rattle.zone_machine.specs.Code.Reads.{decide_read}
 use Rattle.zone_machine.specs.Code.Rooms.{IsFreeOf}
 use Rattle.zone_machine.specs.State.Decisions.{act_of}
 use Rattle.zone_machine.proofs.machine.parts.Parts.answer_at.Goals as goal

@@ -1,7 +1,9 @@
 use Rattle.std.proofs.Common.{rules}
 use Rattle.zone_pools.specs.Decisions.{asked_of}
 use Rattle.zone_machine.proofs.Stepping.{case_freed, same_none, taken, unfit}
-use Rattle.zone_machine.specs.Code.Cells.{cell_world, decide_read, pools_in, row_in}
+use Rattle.zone_machine.specs.Code.Cells.{cell_world, row_in}
+use Rattle.zone_machine.specs.Code.Needs.{pools_in}
+use Rattle.zone_machine.specs.Code.Reads.{decide_read}
 use Rattle.zone_machine.specs.Code.Steps.{IsUnfit}
 use Rattle.zone_machine.specs.State.Worlds.{view_of}
 use Rattle.zone_machine.proofs.machine.parts.Parts.answer_new.Goals as goal

@@ -1,7 +1,8 @@
 use Rattle.std.proofs.Common.{None, ap, sym}
 use Rattle.zone_machine.proofs.Results.{if_ok}
 use Rattle.zone_machine.proofs.Stepping.{same_none, taken_read}
-use Rattle.zone_machine.specs.Code.Cells.{decide_read, world_or_empty}
+use Rattle.zone_machine.specs.Code.Cells.{world_or_empty}
+use Rattle.zone_machine.specs.Code.Reads.{decide_read}
 use Rattle.zone_machine.proofs.machine.parts.Parts.zone_grant.Goals as goal
 
 pub returns-in-Some-clause-ok : goal.returns-in-Some-clause-ok

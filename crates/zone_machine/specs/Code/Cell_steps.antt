@@ -1,0 +1,52 @@
+-- A step on a zone's cell and the shared part, as the definitions have it.
+use Rattle.std.specs.Prelude.{◌≡◌, true, false, Option, Some, None}
+use Rattle.zn_base.specs.Names.{Name}
+use Rattle.zone_machine.specs.Machine.Common.{common}
+use Rattle.zone_machine.specs.State.{State}
+use Rattle.zone_machine.specs.State.Worlds.{world}
+use Rattle.zone_machine.specs.declared.machine.cell.Cell.{Cell}
+use Rattle.zone_machine.specs.declared.events.Event.{Event}
+use Rattle.zone_machine.specs.declared.events.Subject.TheVariants.{Zone}
+use Rattle.zone_machine.specs.declared.machine.shared.Shared.{Shared}
+use Rattle.zone_pools.specs.declared.grant.Grant.{Grant}
+use Rattle.zone_machine.specs.Machine.Histories.{entry_at}
+use Rattle.zone_machine.specs.Machine.{one, subject}
+use Rattle.zone_machine.specs.Machine.Pools.{allowed, fits}
+use Rattle.zone_machine.specs.Code.Cells.{CellOf, SharedOf}
+use Rattle.zone_machine.specs.declared.events.Entry.{Entry}
+use Rattle.zone_machine.specs.Code.Steps.{Takes}
+
+-- the same of a zone's cell and the shared part: the entry is the definitions', and what is left has the world and what is common of
+-- the state after it
+pub record CellAnswers (z : Name) (S : State) (e : Event) (g : Grant) (entry : Entry) (d : Cell) (t : Shared) : Type 0 where
+  pub told : entry ≡ entry_at S e g
+  pub cell : CellOf d (world z (one S e g).state)
+  pub shared : SharedOf t (common (one S e g).state)
+
+-- whatever state they stood for in which the event is the zone's
+abbrev pub IsCellStep : Name → Cell → Shared → Event → Grant → Entry → Cell → Shared → Type 0
+IsCellStep z c s e g entry d t = (S : State) → CellOf c (world z S) → SharedOf s (common S) → subject S e ≡ Zone z → CellAnswers z S e g entry d t
+
+-- under the grant that the pools give
+abbrev pub IsAllowedCellStep : Name → Cell → Shared → Event → Entry → Cell → Shared → Type 0
+IsAllowedCellStep z c s e entry d t = (S : State) → CellOf c (world z S) → SharedOf s (common S) → subject S e ≡ Zone z → CellAnswers z S e (allowed S e) entry d t
+
+-- under a grant that fits
+abbrev pub IsFittingCellStep : Name → Cell → Shared → Event → Grant → Entry → Cell → Shared → Type 0
+IsFittingCellStep z c s e g entry d t = (S : State) → CellOf c (world z S) → SharedOf s (common S) → subject S e ≡ Zone z → (fits S e g ≡ true) × CellAnswers z S e g entry d t
+
+-- under the one or the other
+pub record CellStepsUnder (z : Name) (stated : Option Grant) (S : State) (e : Event) (entry : Entry) (d : Cell) (t : Shared) : Type 0 where
+  pub takes : Takes stated S e entry.grant
+  pub answers : CellAnswers z S e entry.grant entry d t
+
+abbrev pub IsCellStepUnder : Name → Option Grant → Cell → Shared → Event → Entry → Cell → Shared → Type 0
+IsCellStepUnder z stated c s e entry d t = (S : State) → CellOf c (world z S) → SharedOf s (common S) → subject S e ≡ Zone z → CellStepsUnder z stated S e entry d t
+
+-- the grant doesn't fit, and nothing is changed
+abbrev pub IsCellMisfit : Name → Cell → Shared → Event → Grant → Cell → Shared → Type 0
+IsCellMisfit z c s e g d t = ((S : State) → CellOf c (world z S) → SharedOf s (common S) → subject S e ≡ Zone z → fits S e g ≡ false) × (d ≡ c) × (t ≡ s)
+
+abbrev pub IsCellMisfitUnder : Name → Option Grant → Cell → Shared → Event → Cell → Shared → Type 0
+IsCellMisfitUnder z None c s e d t = ⊥
+IsCellMisfitUnder z (Some g) c s e d t = IsCellMisfit z c s e g d t

@@ -1,0 +1,103 @@
+//! An event is read, once: what it says, whose it is, and what it is answered where it is no zone's.
+ghost use Rattle.std.specs.Prelude.{◌≡◌, IfOk, None, Some, Option};
+ghost use Rattle.zone_machine.specs.Code.Reads.{decide_read, global_read, number_read, subject_in, subject_read};
+ghost use Rattle.zone_machine.specs.Code.Decided.{head_of};
+ghost use Rattle.zone_machine.specs.State.Decisions.{says};
+ghost use Rattle.zone_machine.specs.Code.Lines.{as_line, as_word};
+ghost use Rattle.zone_machine.specs.Machine.{decide, global_reply, named_subject, session_number};
+ghost use Rattle.zone_machine.specs.State.{State};
+ghost use Rattle.zone_machine.specs.Session.Typed.{badly_named, global_line};
+ghost use Rattle.zone_machine.specs.State.Worlds.{View};
+ghost use Rattle.zone_machine.specs.declared.events.Subject.TheVariants.{Zone};
+ghost use Rattle.zone_machine.specs.declared.machine.shared.Shared as shared_types;
+
+use crate::events::{Event, Subject};
+use crate::machine::shared::Shared;
+use crate::replies::Refusal;
+use crate::session::lines::{Command, Line, line_of};
+use std::alloc::{AllocError, Global};
+use zn_base::{NameFault, ZoneName};
+
+/// An event as it is read, once: what a session types, or a turn of a zone's daemon.
+#[derive(Clone, Copy)]
+pub(crate) enum Read<'e> {
+    Line(u8, Line<'e>),
+    Turn(&'e ZoneName),
+}
+
+/// An event is read.
+#[tactic(auto, unfolding(crate::specs::Machine::decide))]
+pub(crate) fn read_event(event: &Event) -> Read<'_>
+    ensures subject { (s : shared_types.Shared) → subject_read s result ≡ subject_in s event.now }
+    ensures decide { (v : View) → decide_read v result ≡ decide v event.now }
+    ensures number { number_read result ≡ session_number event.now }
+    ensures global { (S : State) → global_read result ≡ global_reply S event.now }
+{
+    match event {
+        Event::Session { number, text } => Read::Line(*number, line_of(text.bytes())),
+        Event::Turn { zone } => Read::Turn(zone),
+    }
+}
+
+// The zone that a word names, or the global zone.
+fn named_subject(alloc: Global, word: Option<&[u8]>) -> Result<Subject, AllocError>
+    ensures { IfOk result (λ subject. subject ≡ named_subject (as_word word.entry)) }
+{
+    let Some(word) = word else {
+        return Ok(Subject::Global);
+    };
+    match ZoneName::read(alloc, word) {
+        Ok(zone) => Ok(Subject::Zone(zone)),
+        Err(NameFault::Memory) => Err(AllocError),
+        Err(NameFault::Empty | NameFault::TooLong | NameFault::BadByte(_) | NameFault::Reserved) =>
+            Ok(Subject::Global),
+    }
+}
+
+/// Whose an event is: the zone that its session waits in, else the zone that its line names.
+pub(crate) fn subject(shared: &Shared, alloc: Global, read: Read<'_>) -> Result<Subject, AllocError>
+    ensures { IfOk result (λ subject. subject ≡ subject_read shared.now read.entry) }
+{
+    match read {
+        Read::Turn(zone) => Ok(Subject::Zone(zone.copy(alloc)?)),
+        Read::Line(number, line) => match shared.sessions.owner(&number) {
+            Some(zone) => Ok(Subject::Zone(zone.copy(alloc)?)),
+            None => named_subject(alloc, line.zone),
+        },
+    }
+}
+
+// Why a word names no zone.
+fn badly_named(alloc: Global, word: Option<&[u8]>) -> Result<Refusal, AllocError>
+    ensures { IfOk result (λ refusal. refusal ≡ badly_named (as_word word.entry)) }
+{
+    let Some(word) = word else {
+        return Ok(Refusal::Usage);
+    };
+    match ZoneName::read(alloc, word) {
+        Ok(_) => Ok(Refusal::Usage),
+        Err(NameFault::Memory) => Err(AllocError),
+        Err(fault) => Ok(Refusal::BadName(fault)),
+    }
+}
+
+// Why a line is refused that belongs to no zone, if it is.
+fn global_line(alloc: Global, line: Line<'_>) -> Result<Option<Refusal>, AllocError>
+    ensures { IfOk result (λ refusal. says (head_of refusal) ≡ global_line (as_line line.entry)) }
+{
+    match line.command {
+        Command::Blank => Ok(None),
+        Command::Unknown => Ok(Some(Refusal::Usage)),
+        Command::Make(_) | Command::Request(_) => Ok(Some(badly_named(alloc, line.zone)?)),
+    }
+}
+
+/// Why an event is refused that is no zone's, if it is.
+pub(crate) fn global_refusal(alloc: Global, read: Read<'_>) -> Result<Option<Refusal>, AllocError>
+    ensures { IfOk result (λ refusal. says (head_of refusal) ≡ global_read read.entry) }
+{
+    match read {
+        Read::Line(_, line) => global_line(alloc, line),
+        Read::Turn(_) => Ok(None),
+    }
+}
