@@ -1,6 +1,6 @@
 //! What zones have in the kernel: each call where it does something, and each refusal in its order. What is done goes
 //! through helpers without contracts, so that no test's proof follows what a cell holds.
-use kernel_objects::{DEVICES_MAX, Errno, KernelCell, KernelFault, KernelShared, Signal};
+use kernel_objects::{DEVICES_MAX, Errno, KernelCell, KernelFault, KernelShared, Running, Signal};
 use priv_sets::{PROC_EXEC, PROC_FORK, PrivSet, limit_of};
 use std::alloc::Global;
 use std::test::Fail;
@@ -106,6 +106,14 @@ impl Zone {
         ))
     }
 
+    fn begin(&mut self, alloc: Global, pid: u32, running: &Running) -> bool {
+        self.shared.pid_free(pid)
+            && self
+                .cell
+                .begin(alloc, &mut self.shared, &self.name, pid, running)
+                .is_ok()
+    }
+
     fn rename(&mut self, alloc: Global, pid: u32, name: &[u8]) -> Result<Came, Fail> {
         let name = Text::read(alloc, name)?;
         Ok(refused(self.cell.rename(pid, name)))
@@ -144,7 +152,7 @@ impl Zone {
         if listed.len() != rows.len() {
             return Ok(false);
         }
-        for (row, (pid, parent, name)) in listed.iter().zip(rows) {
+        for (row, (pid, parent, name)) in listed.as_slice().iter().zip(rows) {
             if row.pid != *pid || row.parent != *parent || row.name.bytes() != *name {
                 return Ok(false);
             }
@@ -377,6 +385,59 @@ fn all_processes_end(rt: HostRuntime) -> Result<(), Fail> {
     Ok(())
 }
 
+// Whether a process and its child begin, which are looked at first.
+fn decides_and_begins(alloc: Global, zone: &mut Zone) -> Result<bool, Fail> {
+    let init = zone.cell.entering(Text::read(alloc, b"init")?, true);
+    if !zone.begin(alloc, 2, &init) {
+        return Ok(false);
+    }
+    match zone.cell.forking(2, Text::read(alloc, b"a")?) {
+        Ok(child) => Ok(
+            zone.begin(alloc, 3, &child)
+                && zone.may(3, PROC_FORK)
+                && zone.lists(alloc, &[(2, 0, b"init"), (3, 2, b"a")])?,
+        ),
+        Err(_) => Ok(false),
+    }
+}
+
+// Whether the child and then its parent are changed, after each is looked at.
+fn decides_and_changes(alloc: Global, zone: &mut Zone) -> Result<bool, Fail> {
+    let may = refused(zone.cell.check_exec(3)) == DONE && refused(zone.cell.check_there(2)) == DONE;
+    zone.cell.set_name(3, Text::read(alloc, b"sh")?);
+    zone.cell.give_up(2, PROC_EXEC);
+    Ok(
+        may && refused(zone.cell.check_exec(2)) == EPERM
+            && refused(zone.cell.check_there(4)) == ESRCH
+            && zone.may(3, PROC_EXEC)
+            && zone.lists(alloc, &[(2, 0, b"init"), (3, 2, b"sh")])?,
+    )
+}
+
+// Whether a signal ends a process.
+fn is_ended(zone: &Zone, inside: bool, pid: u32) -> bool {
+    match zone.cell.check_signal(inside, Signal::Kill, pid) {
+        Ok(ended) => ended,
+        Err(_) => false,
+    }
+}
+
+// Whether the parent ends, once a signal of the global zone is looked at.
+fn decides_and_ends(alloc: Global, zone: &mut Zone) -> Result<bool, Fail> {
+    let outside_only = is_ended(zone, false, 2) && !is_ended(zone, true, 2);
+    zone.cell.end(&mut zone.shared, 2);
+    Ok(outside_only && zone.shared.pid_free(2) && zone.lists(alloc, &[(3, 0, b"sh")])?)
+}
+
+#[test]
+fn what_is_decided_is_done(rt: HostRuntime) -> Result<(), Fail> {
+    let mut zone = Zone::limited(rt.alloc(), b"default", None)?;
+    assert!(rt; decides_and_begins(rt.alloc(), &mut zone)?);
+    assert!(rt; decides_and_changes(rt.alloc(), &mut zone)?);
+    assert!(rt; decides_and_ends(rt.alloc(), &mut zone)?);
+    Ok(())
+}
+
 // Whether the zone's id has these boot arguments and types of file systems.
 fn has_texts(zone: &Zone, args: &[u8], types: &[u8]) -> bool {
     match (zone.cell.bootargs_of(), zone.cell.fs_allowed_of()) {
@@ -434,6 +495,23 @@ fn ids_come_and_go(alloc: Global, zone: &mut Zone) -> Result<bool, Fail> {
 fn an_id_has_what_was_set(rt: HostRuntime) -> Result<(), Fail> {
     let mut zone = Zone::new(rt.alloc())?;
     assert!(rt; ids_come_and_go(rt.alloc(), &mut zone)?);
+    Ok(())
+}
+
+// Whether an id's limits go, then the id, and then nothing more.
+fn gives_up(alloc: Global, zone: &mut Zone) -> Result<bool, Fail> {
+    let set = sets(alloc, zone)?;
+    zone.cell.clear_limits(alloc);
+    let cleared = !zone.cell.at_limit() && has_texts(zone, b"", b"");
+    zone.cell.give_up_id(&mut zone.shared);
+    zone.cell.give_up_id(&mut zone.shared);
+    Ok(set && cleared && zone.shared.zid_free(1) && is_without_id(zone))
+}
+
+#[test]
+fn an_id_is_given_up(rt: HostRuntime) -> Result<(), Fail> {
+    let mut zone = Zone::limited(rt.alloc(), b"default", None)?;
+    assert!(rt; gives_up(rt.alloc(), &mut zone)?);
     Ok(())
 }
 

@@ -41,16 +41,20 @@ parents_set true false own set h = cc
 parents_set true true own set h = cc
 parents_set false full own set h = cc
 
--- a process that comes with its parent's number and set is forked
-pub forks : (k new : Kernel) (parent pid : ℕ) (name set : List ℕ) (full : Bool) → fork_set (with_pid parent k.processes) full ≡ Ok set
-    → new ≡ with_process (record { pid = pid; parent = parent; name = name; first = false; privileges = set }) k
-    → IfSome (with_pid parent k.processes) (λ p. new ≡ with_process (forked p name pid) k)
-forks k new parent pid name set full said made = at_parent (with_pid parent k.processes) refl said
+-- a process with its parent's number and set is forked
+pub forks : (ps : List Process) (parent : ℕ) (name set : List ℕ) (full : Bool) → fork_set (with_pid parent ps) full ≡ Ok set → (pid : ℕ)
+    → IfSome (with_pid parent ps) (λ p. record { pid = pid; parent = parent; name = name; first = false; privileges = set } ≡ forked p name pid)
+forks ps parent name set full said pid = at_parent (with_pid parent ps) refl said
   where
-    at_parent : (o : Option Process) → with_pid parent k.processes ≡ o → fork_set o full ≡ Ok set → IfSome o (λ p. new ≡ with_process (forked p name pid) k)
+    at_parent : (o : Option Process) → with_pid parent ps ≡ o → fork_set o full ≡ Ok set → IfSome o (λ p. record { pid = pid; parent = parent; name = name; first = false; privileges = set } ≡ forked p name pid)
     at_parent None e h = tt
     at_parent (Some p) e h =
-        let its : p.pid ≡ parent = has_its_pid parent k.processes p e in
+        let its : p.pid ≡ parent = has_its_pid parent ps p e in
         let own : p.privileges ≡ set = parents_set (may_fork p) full p.privileges set h in
-        made ∙ (ap (λ n. with_process (record { pid = pid; parent = n; name = name; first = false; privileges = set }) k) (sym its)
-        ∙ ap (λ set. with_process (record { pid = pid; parent = p.pid; name = name; first = false; privileges = set }) k) (sym own))
+        ap (λ n. record { pid = pid; parent = n; name = name; first = false; privileges = set }) (sym its)
+        ∙ ap (λ set. record { pid = pid; parent = p.pid; name = name; first = false; privileges = set }) (sym own)
+
+-- the zone has what is forked, once it began
+pub comes : (k new : Kernel) (child : Process) (o : Option Process) (becomes : Process → Process) → new ≡ with_process child k → IfSome o (λ p. child ≡ becomes p) → IfSome o (λ p. new ≡ with_process (becomes p) k)
+comes k new child None becomes made same = tt
+comes k new child (Some p) becomes made same = made ∙ ap (λ q. with_process q k) same

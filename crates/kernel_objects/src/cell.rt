@@ -136,13 +136,20 @@ impl KernelCell {
         }
     }
 
-    /// The limits and the boot arguments are as `activate` set them, and the devices are gone. It takes no memory.
-    pub fn clear(&mut self, alloc: Global)
-        ensures { self.new ≡ record (with_id cleared self.old) { devices = [] } }
+    /// The limits and the boot arguments are as `activate` set them. A zone without an id has none. It takes no memory.
+    pub fn clear_limits(&mut self, alloc: Global)
+        ensures { self.new ≡ with_id cleared self.old }
     {
         if let Some(id) = &mut self.id {
             *id = Id::new(alloc, id.zid);
         }
+    }
+
+    /// The limits and the boot arguments are as `activate` set them, and the devices are gone. It takes no memory.
+    pub fn clear(&mut self, alloc: Global)
+        ensures { self.new ≡ record (with_id cleared self.old) { devices = [] } }
+    {
+        self.clear_limits(alloc);
         self.devices.clear();
     }
 
@@ -166,6 +173,15 @@ impl KernelCell {
         }
     }
 
+    /// The zone gives its id back, if it has one: its number is nobody's from now on. It takes no memory.
+    pub fn give_up_id(&mut self, shared: &mut KernelShared)
+        ensures id { self.new ≡ record self.old { id = None } }
+        ensures freed { FreesZids (λ n. has_zid n self.old.id) shared.old shared.new }
+    {
+        self.free_zid(shared);
+        self.id = None;
+    }
+
     /// The zone gives its id back, and its number is answered. It takes no memory.
     pub fn deactivate(&mut self, shared: &mut KernelShared) -> u32
         requires { is_some self.old.id ≡ true }
@@ -175,8 +191,7 @@ impl KernelCell {
     {
         match self.zid_of() {
             Some(zid) => {
-                shared.free_zid(zid);
-                self.id = None;
+                self.give_up_id(shared);
                 zid
             }
             None => unreachable!(),

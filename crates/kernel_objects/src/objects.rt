@@ -1,9 +1,9 @@
 //! Processes and ids.
-ghost use Rattle.std.specs.Prelude.{◌≡◌};
+ghost use Rattle.std.specs.Prelude.{◌≡◌, IfOk};
 ghost use Rattle.kernel_objects.specs.Kernel.{new_id};
 
 use priv_sets::PrivSet;
-use std::alloc::Global;
+use std::alloc::{AllocError, Global};
 use zn_base::Text;
 
 /// A signal of kill(1).
@@ -26,15 +26,29 @@ pub struct ProcRow {
     pub name: Text,
 }
 
-/// A process, but for its number.
+/// A process but for its number: what it is before it begins, and what the map of processes has at its number.
 #[derive(Drop)]
-pub(crate) struct Running {
+pub struct Running {
     /// The parent's number, or 0.
     pub(crate) parent: u32,
     pub(crate) name: Text,
     /// Whether it is the zone's first process.
     pub(crate) first: bool,
     pub(crate) privileges: PrivSet,
+}
+
+impl Running {
+    /// An equal one.
+    pub(crate) fn copy(&self, alloc: Global) -> Result<Running, AllocError>
+        ensures { IfOk result (λ running. running ≡ self.now) }
+    {
+        Ok(Running {
+            parent: self.parent,
+            name: self.name.copy(alloc)?,
+            first: self.first,
+            privileges: self.privileges.copy(),
+        })
+    }
 }
 
 /// A zone's id, with what was set at the zone's boot.

@@ -13,7 +13,7 @@ use priv_sets::PrivSet;
 use std::alloc::{AllocError, Global};
 use std::collections::BTreeMap;
 use std::marker::Model;
-use zn_base::Text;
+use zn_base::{Listing, Text};
 use zone_pools::Owners;
 
 /// The processes of a zone. Contracts see their list, in order of their numbers.
@@ -33,12 +33,12 @@ impl Model for Processes {
 
 // Puts a process as it is listed behind others.
 fn push_row(
-    rows: &mut Vec<ProcRow>,
+    rows: &mut Listing<ProcRow>,
     alloc: Global,
     pid: u32,
     running: &Running,
 ) -> Result<(), AllocError>
-    ensures { OnOk result (rows.new.items ≡ rows.old.items ++ row_of (process_of (pid, running.now)) ∷ []) }
+    ensures { OnOk result (rows.new ≡ rows.old ++ row_of (process_of (pid, running.now)) ∷ []) }
 {
     let name = running.name.copy(alloc)?;
     rows.push(ProcRow {
@@ -158,11 +158,11 @@ impl Processes {
     }
 
     /// The processes as they are listed, in order of their numbers.
-    pub(crate) fn rows(&self, alloc: Global) -> Result<Vec<ProcRow>, AllocError>
-        ensures rows { IfOk result (λ rows. rows.items ≡ map row_of self.now) }
-        ensures ordered { IfOk result (λ rows. IsStrictlySortedBy nat_cmp (map (λ p. p.pid) rows.items)) }
+    pub(crate) fn rows(&self, alloc: Global) -> Result<Listing<ProcRow>, AllocError>
+        ensures rows { IfOk result (λ rows. rows ≡ map row_of self.now) }
+        ensures ordered { IfOk result (λ rows. IsStrictlySortedBy nat_cmp (map (λ p. p.pid) rows)) }
     {
-        let mut rows = Vec::new(alloc);
+        let mut rows = Listing::new(alloc);
         for (pid, running) in self.by_pid.iter() {
             push_row(&mut rows, alloc, *pid, running)?;
         }

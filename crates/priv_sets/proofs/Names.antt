@@ -1,6 +1,6 @@
 -- The names of the table are read back as their numbers, and numbers have the names that they were read from.
-use Rattle.std.proofs.Common.{◌≡◌, ◌<◌, ◌∙◌, ℕ, Bool, true, false, List, [], get_or, length, Some, None, Option, nat_eq, refl, sym, ap, arith}
-use Rattle.std.specs.List.{list_all, position, slice_get}
+use Rattle.std.proofs.Common.{◌≡◌, ◌<◌, ◌∙◌, ℕ, Bool, true, false, List, [], get_or, length, Some, None, Option, nat_eq, refl, ap}
+use Rattle.std.specs.List.{list_all}
 use Rattle.std.specs.Str.{bytes_eq}
 use Rattle.std.proofs.lemmas.Bool.{agree_below_at, eqb-true}
 use Rattle.std.proofs.lemmas.Option.{slice_get-get_or}

@@ -25,6 +25,12 @@ impl Model for PrivSet {
     ghost invariant = { λ s. s.bits < 2 ^ 40 };
 }
 
+// The length of the text of all privileges.
+const TEXT_MAX: usize = 507;
+
+// The bits of what a zone has unless its configuration says otherwise.
+const DEFAULT_BITS: u64 = 0x4deedfff87;
+
 // Whether the bit of a number is set.
 fn is_set(bits: u64, number: u8) -> bool
     ensures { result ≡ has (set_of_bits bits) number }
@@ -156,11 +162,11 @@ impl PrivSet {
         set
     }
 
-    #[tactic(auto, unfolding(crate::specs::Sets::default_set))]
-    pub(crate) fn default_set() -> PrivSet
+    /// What a zone has unless its configuration says otherwise, by zonecfg(8).
+    pub fn default_set() -> PrivSet
         ensures { result ≡ default_set }
     {
-        PrivSet::all_of(Class::Default).union(&PrivSet::all_of(Class::Required))
+        PrivSet { bits: DEFAULT_BITS }
     }
 
     /// The names in the set, in the table's order, with a comma between two.
@@ -168,7 +174,7 @@ impl PrivSet {
         ensures { IfOk result (λ text. text.items ≡ print_of self.now) }
     {
         let bits = self.bits;
-        let mut text = Vec::new(alloc);
+        let mut text = Vec::with_capacity(alloc, TEXT_MAX)?;
         for number in 0..COUNT {
             if is_set(bits, number) {
                 push_name(&mut text, row(number).name.as_bytes())?;

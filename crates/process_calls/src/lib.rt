@@ -10,5 +10,5 @@ mod write;
 
 pub use call::{Call, CallFault};
 pub use laws::{calls_are_read_back, read_calls_are_right};
-pub use read::read_call;
+pub use read::{pid_in, read_call, signal_in};
 pub use write::push_call;

@@ -30,7 +30,8 @@ fn is_process_name(word: &[u8]) -> bool
     !word.is_empty() && word.len() <= NAME_MAX && has_name_bytes(word)
 }
 
-fn signal_in(word: &[u8]) -> Option<Signal>
+/// The signal that a word of kill(1) names by its number: 0, 9 or 15.
+pub fn signal_in(word: &[u8]) -> Option<Signal>
     ensures { result ≡ signal_in word.now }
 {
     match word {
@@ -41,8 +42,9 @@ fn signal_in(word: &[u8]) -> Option<Signal>
     }
 }
 
+/// The number of a process that a word of kill(1) is, at most 4,294,967,295.
 #[tactic(auto, using(crate::proofs::Numbers::fits))]
-fn pid_in(word: &[u8]) -> Option<u32>
+pub fn pid_in(word: &[u8]) -> Option<u32>
     ensures { result ≡ pid_in word.now }
 {
     match word {

@@ -1,7 +1,7 @@
-use Rattle.std.proofs.Common.{sym}
-use Rattle.kernel_objects.proofs.Sharing.{forks}
+use Rattle.kernel_objects.specs.Kernel.{forked}
+use Rattle.kernel_objects.proofs.Sharing.{comes}
 use Rattle.kernel_objects.proofs.cell.KernelCell.fork.Goals as goal
 
 pub returns-clause-forked : goal.returns-clause-forked
 returns-clause-forked c = λ none.
-    forks c.args.self.now c.begin.new.self c.args.parent c.args.pid c.args.name c.in_ok-fork_set.field-0 _ (sym c.in_ok-fork_set.ensures) (c.in_ok-begin.ensures.begun none)
+    comes c.args.self.now c.begin.new.self _ _ (λ p. forked p c.args.name c.args.pid) (c.in_ok-begin.ensures.begun none) (c.in_ok-running.ensures.forked c.args.pid)

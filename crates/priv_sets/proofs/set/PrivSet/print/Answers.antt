@@ -5,7 +5,7 @@ use Rattle.priv_sets.proofs.set.PrivSet.print.Goals as goal
 use Rattle.priv_sets.proofs.set.PrivSet.print.Goals.{then-is_set+in_ok-push_name, else-is_set}
 
 pub loop-number-init : goal.loop-number-init
-loop-number-init c = c.new-text.ensures.items ∙ sym (printed-none (set_of_bits c.self.inside.bits))
+loop-number-init c = c.in_ok-text.ensures.items ∙ sym (printed-none (set_of_bits c.self.inside.bits))
 
 pub loop-number-preserved : goal.loop-number-preserved
 loop-number-preserved c =
