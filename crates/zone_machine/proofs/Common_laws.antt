@@ -1,6 +1,6 @@
 -- What an event of one zone does to what is common, and what it takes from there. Nothing here opens a case of the machine.
 use Rattle.std.proofs.Common.{◌≡◌, ◌+◌, ◌∷◌, ◌++◌, [], ℕ, List, Bool, Option, Some, None, true, false, length, refl, ap, sym, subst, ◌∙◌, length-append}
-use Rattle.std.specs.Prelude.{bytes_eq, is_some, if◌then◌else◌}
+use Rattle.std.specs.Prelude.{bytes_eq, filter, is_some, if◌then◌else◌}
 use Rattle.std.specs.List.{list_any}
 use Rattle.std.proofs.lemmas.Bool.{false≢true, true≢false}
 use Rattle.zn_base.specs.Names.{Name}
@@ -15,12 +15,14 @@ use Rattle.zone_pools.specs.declared.owned.Owned.{Owned}
 use Rattle.zone_machine.proofs.Acts_laws.{OwnSession, other-acts, own-acts}
 use Rattle.zone_machine.proofs.Own_worlds.{decide-world, need-world, own_session, view-world}
 use Rattle.zone_machine.specs.Arrivals.{Arrival, New_id, New_process, New_record}
-use Rattle.zone_machine.specs.Machine.Common.{Common, acts_common, came_common, common, holds_pid, holds_session, holds_zid}
+use Rattle.zone_machine.specs.Machine.Common.{Common, HoldOnce, acts_common, came_common, common, holds_pid, holds_session, holds_zid}
 use Rattle.zone_machine.specs.State.Decisions.{Act, act_of, acts, acts_world, after_came}
 use Rattle.zone_machine.specs.State.Edits.{Edit, Of_objects, comes, edit, edits}
-use Rattle.zone_machine.specs.Session.Lines.{Line, line_of}
-use Rattle.zone_machine.specs.Machine.{decide, need, one, one_of, session_number, session_subject, started, subject}
-use Rattle.zone_machine.specs.Objects.{Processes_go, has_pid, has_zid}
+use Rattle.zone_machine.specs.Session.Lines.{Command, Kill, Line, line_of}
+use Rattle.zone_machine.specs.Machine.{decide, holder, line_subject, need, one, one_of, session_number, session_subject, started, subject}
+use Rattle.kernel_objects.specs.Processes.{Process, has_pid}
+use Rattle.zone_machine.specs.Objects.{Processes_go, has_zid}
+use Rattle.zone_pools.specs.Firsts.{first_of}
 use Rattle.zone_machine.specs.Machine.Pools.{allowed, allowed_of, fits, fits_of, path_taken, pools_of}
 use Rattle.commit_journal.proofs.Applied.{stored-push}
 use Rattle.commit_journal.specs.Stored as rows
@@ -28,7 +30,7 @@ use Rattle.commit_journal.specs.Stored.{Rows}
 use Rattle.zone_machine.specs.State.{At, Idle, Session as Session_mode, State}
 use Rattle.zone_machine.specs.State.Worlds.{World, doing, view, view_of, world}
 use Rattle.zone_machine.specs.declared.events.Event.{Event}
-use Rattle.zone_machine.specs.declared.events.Event.TheVariants.{Session, Turn}
+use Rattle.zone_machine.specs.declared.events.Event.TheVariants.{Process as Call_of, Session, Turn}
 use Rattle.zone_machine.specs.declared.events.Subject.TheVariants.{Global, Zone}
 use Rattle.commit_journal.specs.declared.records.Commit.{Commit}
 
@@ -156,30 +158,94 @@ pools-common S T h = λ i. record {
   serial = (h i).serial;
 }
 
-session-common : (line : Line) (m n : Session_mode) → ((z : Name) → is_some (doing z m) ≡ is_some (doing z n)) → session_subject line m ≡ session_subject line n
-session-common line Idle Idle h = refl
-session-common line (At x d) Idle h = let e : is_some (doing x (At x d)) ≡ false = h x in absurd (true≢false (simp (same_self x) at e))
-session-common line Idle (At y d) h = let e : false ≡ is_some (doing y (At y d)) = h y in absurd (false≢true (simp (same_self y) at e))
-session-common line (At x c) (At y d) h = ap Zone (at_zone (bytes_eq x y) refl)
+-- the zone that has the process of a number, where one zone at most has it
+module _ (n : ℕ) where
+  abbrev found : List (Owned Process) → Option (Owned Process)
+  found os = first_of (filter (λ o. has_pid n o.it) os)
+
+  abbrev pub has_it : Name → List (Owned Process) → Bool
+  has_it z os = list_any (has_pid n) (mine z os)
+
+  found-has : (os : List (Owned Process)) (o : Owned Process) → found os ≡ Some o → has_it o.zone os ≡ true
+  found-has [] o h = absurd (cc)
+  found-has (p ∷ os) o h = at_head (found-has os o) (has_pid n p.it) refl h
+    where
+      at_rest : has_pid n p.it ≡ false → has_it o.zone os ≡ true → (b : Bool) → bytes_eq o.zone p.zone ≡ b → has_it o.zone (p ∷ os) ≡ true
+      at_rest e ih true f = simp (f, e, ih)
+      at_rest e ih false f = simp (f, ih)
+
+      at_head : (found os ≡ Some o → has_it o.zone os ≡ true) → (b : Bool) → has_pid n p.it ≡ b → found (p ∷ os) ≡ Some o → has_it o.zone (p ∷ os) ≡ true
+      at_head ih true e h = let first : Some p ≡ Some o = simp e at h in let same : p ≡ o = cc in subst (λ q. has_it q.zone (p ∷ os) ≡ true) same (simp (same_self p.zone, e))
+      at_head ih false e h = at_rest e (ih (simp e at h)) (bytes_eq o.zone p.zone) refl
+
+  none-has : (os : List (Owned Process)) → found os ≡ None → (z : Name) → has_it z os ≡ false
+  none-has [] h z = refl
+  none-has (p ∷ os) h z = at_head (λ h. none-has os h z) (has_pid n p.it) refl h
+    where
+      at_rest : has_pid n p.it ≡ false → has_it z os ≡ false → (b : Bool) → bytes_eq z p.zone ≡ b → has_it z (p ∷ os) ≡ false
+      at_rest e ih true f = simp (f, e, ih)
+      at_rest e ih false f = simp (f, ih)
+
+      at_head : (found os ≡ None → has_it z os ≡ false) → (b : Bool) → has_pid n p.it ≡ b → found (p ∷ os) ≡ None → has_it z (p ∷ os) ≡ false
+      at_head ih true e h = let first : Some p ≡ None = simp e at h in absurd (cc)
+      at_head ih false e h = at_rest e (ih (simp e at h)) (bytes_eq z p.zone) refl
+
+  pub holder-one : (os : List (Owned Process)) (y : Name) → has_it y os ≡ true → ((z : Name) → has_it z os ≡ true → z ≡ y) → holder (found os) ≡ Zone y
+  holder-one os y has only = at_found (found os) refl
+    where
+      at_found : (o : Option (Owned Process)) → found os ≡ o → holder o ≡ Zone y
+      at_found (Some o) e = ap Zone (only o.zone (found-has os o e))
+      at_found None e = absurd (false≢true (sym (none-has os e y) ∙ has))
+
+  pub holder-none : (os : List (Owned Process)) → ((z : Name) → has_it z os ≡ false) → holder (found os) ≡ Global
+  holder-none os none = at_found (found os) refl
+    where
+      at_found : (o : Option (Owned Process)) → found os ≡ o → holder o ≡ Global
+      at_found (Some o) e = absurd (false≢true (sym (none o.zone) ∙ found-has os o e))
+      at_found None e = refl
+
+  holder-common : (os ps : List (Owned Process)) → ((z : Name) → has_it z os ≡ has_it z ps) → ((y z : Name) → has_it y os ≡ true → has_it z os ≡ true → y ≡ z) → holder (found os) ≡ holder (found ps)
+  holder-common os ps same once = at_found (found os) refl
+    where
+      at_found : (o : Option (Owned Process)) → found os ≡ o → holder o ≡ holder (found ps)
+      at_found (Some o) e = let has = found-has os o e in sym (holder-one ps o.zone (sym (same o.zone) ∙ has) (λ z h. once z o.zone (same z ∙ h) has))
+      at_found None e = sym (holder-none ps (λ z. sym (same z) ∙ none-has os e z))
+
+line-common : (zone : Option (List ℕ)) (os ps : List (Owned Process)) (c : Command) → ((z : Name) (n : ℕ) → has_it n z os ≡ has_it n z ps) → HoldOnce (λ z n. has_it n z os)
+    → line_subject zone os c ≡ line_subject zone ps c
+line-common word os ps (Kill signal pid) same once = holder-common pid os ps (λ z. same z pid) (λ y z. once y z pid)
+line-common word os ps _ same once = refl
+
+session-common : (line : Line) (os ps : List (Owned Process)) (m n : Session_mode) → ((z : Name) → is_some (doing z m) ≡ is_some (doing z n)) → line_subject line.zone os line.command ≡ line_subject line.zone ps line.command
+    → session_subject line os m ≡ session_subject line ps n
+session-common line os ps Idle Idle h same = same
+session-common line os ps (At x d) Idle h same = let e : is_some (doing x (At x d)) ≡ false = h x in absurd (true≢false (simp (same_self x) at e))
+session-common line os ps Idle (At y d) h same = let e : false ≡ is_some (doing y (At y d)) = h y in absurd (false≢true (simp (same_self y) at e))
+session-common line os ps (At x c) (At y d) h same = ap Zone (at_zone (bytes_eq x y) refl)
   where
     at_zone : (b : Bool) → bytes_eq x y ≡ b → x ≡ y
     at_zone true e = same_true x y e
     at_zone false e = let f : is_some (doing x (At x c)) ≡ is_some (doing x (At y d)) = h x in absurd (true≢false (simp (same_self x, e) at f))
 
-pub subject-common : (S T : State) (e : Event) → common S ≡ common T → subject S e ≡ subject T e
+pub subject-common : (S T : State) (e : Event) → HoldOnce (common S).pids → common S ≡ common T → subject S e ≡ subject T e
 unfolding subject
-subject-common S T (Session n text) h = session-common (line_of text) (S.sessions n) (T.sessions n) (λ z. ap (λ k. k.sessions z n) h)
-subject-common S T (Turn z) h = refl
+subject-common S T (Session n text) once h =
+    let line = line_of text in
+    session-common line S.processes T.processes (S.sessions n) (T.sessions n) (λ z. ap (λ k. k.sessions z n) h) (line-common line.zone S.processes T.processes line.command (λ z n. ap (λ k. k.pids z n) h) once)
+subject-common S T (Turn z) once h = refl
+subject-common S T (Call_of z pid c) once h = refl
 
-pub need-common : (z : Name) (S T : State) (e : Event) → subject S e ≡ Zone z → common S ≡ common T → world z S ≡ world z T → need S e ≡ need T e
-need-common z S T e is h w = need-world z S T e is (sym (subject-common S T e h) ∙ is) w
+module _ (z : Name) (S T : State) (e : Event) (is : subject S e ≡ Zone z) (once : HoldOnce (common S).pids) (h : common S ≡ common T) (w : world z S ≡ world z T) where
+  it : subject T e ≡ Zone z
+  it = sym (subject-common S T e once h) ∙ is
 
-pub allowed-common : (z : Name) (S T : State) (e : Event) → subject S e ≡ Zone z → common S ≡ common T → world z S ≡ world z T → allowed S e ≡ allowed T e
-unfolding allowed
-allowed-common z S T e is h w =
-    ap (λ x. allowed_of x S e) is ∙ ((λ i. said_by_all (pools-common S T h i) z (asked_of (decide-world z S T e w i)) Nothing) ∙ sym (ap (λ x. allowed_of x T e) (sym (subject-common S T e h) ∙ is)))
+  pub need-common : need S e ≡ need T e
+  need-common = need-world z S T e is it w
 
-pub fits-common : (z : Name) (S T : State) (e : Event) (g : Grant) → subject S e ≡ Zone z → common S ≡ common T → world z S ≡ world z T → fits S e g ≡ fits T e g
-unfolding fits
-fits-common z S T e g is h w =
-    ap (λ x. fits_of x S e g) is ∙ ((λ i. fits_asked (pools-common S T h i) (asked_of (decide-world z S T e w i)) g) ∙ sym (ap (λ x. fits_of x T e g) (sym (subject-common S T e h) ∙ is)))
+  pub allowed-common : allowed S e ≡ allowed T e
+  unfolding allowed
+  allowed-common = ap (λ x. allowed_of x S e) is ∙ ((λ i. said_by_all (pools-common S T h i) z (asked_of (decide-world z S T e w i)) Nothing) ∙ sym (ap (λ x. allowed_of x T e) it))
+
+  pub fits-common : (g : Grant) → fits S e g ≡ fits T e g
+  unfolding fits
+  fits-common g = ap (λ x. fits_of x S e g) is ∙ ((λ i. fits_asked (pools-common S T h i) (asked_of (decide-world z S T e w i)) g) ∙ sym (ap (λ x. fits_of x T e g) it))

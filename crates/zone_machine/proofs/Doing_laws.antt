@@ -1,24 +1,22 @@
 -- Changes of a cell and the shared part.
-use Rattle.std.proofs.Common.{◌≡◌, ◌∷◌, ◌++◌, [], ℕ, List, Bool, Option, Some, None, true, false, not, ◌&&◌, ◌||◌, inl, inr, refl, ap, sym, subst, ◌∙◌, ◌+◌, Global, map, true≢false}
+use Rattle.std.proofs.Common.{◌≡◌, ◌∷◌, ◌++◌, [], ℕ, List, Bool, Option, Some, None, true, false, not, ◌&&◌, ◌||◌, inl, inr, refl, ap, sym, subst, ◌∙◌, ◌+◌, map}
 use Rattle.indexmap.specs.IndexMap.{get, insert_entry}
-use Rattle.std.specs.Prelude.{◌≢◌, Vec, bytes_eq, nat_eq, is_some, if◌then◌else◌}
+use Rattle.std.specs.Prelude.{◌≢◌, bytes_eq, nat_eq, is_some, if◌then◌else◌}
 use Rattle.std.specs.Cmp.{nat_eq_equiv}
 use Rattle.std.specs.Option.{option_map}
 use Rattle.std.specs.List.{list_any}
 use Rattle.std.proofs.lemmas.Bool.{eqb-true}
 use Rattle.zn_base.specs.Names.{Name}
-use Rattle.zone_pools.proofs.Holding.{column, come_column, gone_column, kept_column}
+use Rattle.zone_pools.proofs.Holding.{column, gone_column, kept_column}
 use Rattle.zone_pools.proofs.Owned_laws.{same_self}
 use Rattle.zone_pools.specs.Firsts.{placed}
-use Rattle.zone_pools.specs.Owned_lists.{Put, edited}
 use Rattle.zone_pools.specs.Owners as owners
 use Rattle.zone_pools.specs.Owners.{held_by, is_owner, owner}
 use Rattle.commit_journal.proofs.Zones.{placed_is}
 use Rattle.commit_journal.specs.Zones.{rows_of}
 use Rattle.zone_machine.proofs.Acts_laws.{same_other}
-use Rattle.zone_machine.proofs.Lists_laws.{any-push, any-put, none_left}
 use Rattle.zone_machine.proofs.Waits_laws.{some_wait}
-use Rattle.zone_machine.specs.Code.Cells.{Agree, Does, cell_world, common_in, kept, row_in}
+use Rattle.zone_machine.specs.Code.Cells.{Agree, Does, cell_world, common_in, ids_of, kept, row_in}
 use Rattle.zone_machine.specs.Code.Waits.{is_wait_for, unless_ended}
 use Rattle.zone_machine.specs.Code.Works.{work_world}
 use Rattle.zone_machine.specs.Machine.Common.{Common, came_common, holding, holds_pid, holds_zid}
@@ -26,60 +24,47 @@ use Rattle.zone_machine.specs.State.Edits.{Edit, Of_objects, Set_desk, at_sessio
 use Rattle.zone_machine.specs.State as state
 use Rattle.zone_machine.specs.State.Worlds.{World}
 use Rattle.zone_machine.specs.declared.machine.cell.Cell.{Cell}
-use Rattle.zone_machine.specs.declared.objects.Id.{Id}
-use Rattle.zone_machine.specs.declared.objects.Process.{Process}
+use Rattle.kernel_objects.specs.Processes.{has_pid}
+use Rattle.kernel_objects.specs.Shared.{pid_owner, zid_owner}
 use Rattle.commit_journal.specs.declared.records.Record.{Record}
 use Rattle.zone_machine.specs.declared.machine.shared.Shared.{Shared}
 use Rattle.zone_machine.specs.declared.objects.changes.ObjectEdit.TheVariants.{EndIds, EndProcesses}
 use Rattle.zone_machine.specs.declared.objects.changes.ObjectEdit.TheVariants as object
 use Rattle.zone_machine.specs.Arrivals.{Arrival, New_id, New_process, New_record}
-use Rattle.zone_machine.specs.Objects.{below, has_pid, has_zid}
+use Rattle.zone_machine.specs.Objects.{has_zid}
 use Rattle.zone_machine.specs.State.Decisions.{Act, acts_world, after_came_world, sweeps, ticket_ended}
 use Rattle.zone_machine.specs.Code.Rooms.{IsOpenTo}
 use Rattle.zone_machine.specs.declared.machine.work.Sitting.{Sitting}
-use Rattle.zone_machine.specs.declared.objects.changes.Coming.{Coming}
 use Rattle.zone_machine.specs.declared.machine.work.Work.{Work}
 use Rattle.zone_machine.specs.declared.objects.changes.ObjectEdit.{ObjectEdit}
 use Rattle.zone_machine.specs.declared.daemon.desks.Desk.{Desk}
 use Rattle.zone_machine.specs.Daemon.Desks as desks
 use Rattle.zone_machine.specs.Code.Desks.{as_desk}
 use Rattle.zone_machine.specs.Code.Cases.{object_edits}
-use Rattle.zone_machine.specs.Code.Works.{Works, arrival_of, sits, work_act}
+use Rattle.zone_machine.specs.Code.Works.{Works, arrival_of, in_kernel, in_store, rest_of, sits, work_act}
 
 -- the columns that stay
 module _ (z : Name) (c : Cell) (s : Shared) (agree : Agree z c s) where
-  pub same_pids : (y : Name) (n : ℕ) → held_by (owner nat_eq s.pids) y n ≡ owners.holding z (λ n. list_any (has_pid n) c.processes.items) (held_by (owner nat_eq s.pids)) y n
-  same_pids = kept_column z (λ n. list_any (has_pid n) c.processes.items) (owner nat_eq s.pids) agree.pids
+  pub same_pids : (y : Name) (n : ℕ) → held_by (pid_owner s.kernel) y n ≡ owners.holding z (λ n. list_any (has_pid n) c.kernel.processes) (held_by (pid_owner s.kernel)) y n
+  same_pids = kept_column z (λ n. list_any (has_pid n) c.kernel.processes) (pid_owner s.kernel) agree.pids
 
-  pub same_zids : (y : Name) (n : ℕ) → held_by (owner nat_eq s.zids) y n ≡ owners.holding z (λ n. list_any (has_zid n) c.ids.items) (held_by (owner nat_eq s.zids)) y n
-  same_zids = kept_column z (λ n. list_any (has_zid n) c.ids.items) (owner nat_eq s.zids) agree.zids
+  pub same_zids : (y : Name) (n : ℕ) → held_by (zid_owner s.kernel) y n ≡ owners.holding z (λ n. list_any (has_zid n) (ids_of c.kernel.id)) (held_by (zid_owner s.kernel)) y n
+  same_zids = kept_column z (λ n. list_any (has_zid n) (ids_of c.kernel.id)) (zid_owner s.kernel) agree.zids
 
   pub same_sessions : (y : Name) (n : ℕ) → held_by (owner nat_eq s.sessions) y n ≡ owners.holding z (λ n. is_some (get nat_eq c.waits n)) (held_by (owner nat_eq s.sessions)) y n
   same_sessions = kept_column z (λ n. is_some (get nat_eq c.waits n)) (owner nat_eq s.sessions) agree.sessions
-
--- nobody holds a key that is this one
-free_at : (o : ℕ → Option Name) (n : ℕ) → o n ≡ None → (k : ℕ) → nat_eq n k ≡ true → o k ≡ None
-free_at o n free k e = subst (λ m. o m ≡ None) (eqb-true n k e) free
-
-pub none_owner : (o : Option Name) → is_some o ≡ false → o ≡ None
-none_owner None h = refl
-none_owner (Some y) h = absurd (true≢false h)
-
-none_of : (b : Bool) → false ≡ (b && not b)
-none_of true = refl
-none_of false = refl
 
 pub holds_wait : (o : Option ℕ) → is_some (option_map state.Awaiting o) ≡ is_some o
 holds_wait None = refl
 holds_wait (Some t) = refl
 
 -- what is common, by its columns
-common_by : (z : Name) (w : World) (g : Common) (t : Shared) (waits : ℕ → Option ℕ)
-    → ((y : Name) (n : ℕ) → held_by (owner nat_eq t.pids) y n ≡ owners.holding z (holds_pid w) g.pids y n)
-    → ((y : Name) (n : ℕ) → held_by (owner nat_eq t.zids) y n ≡ owners.holding z (holds_zid w) g.zids y n)
+pub common_by : (z : Name) (w : World) (g : Common) (t : Shared) (waits : ℕ → Option ℕ)
+    → ((y : Name) (n : ℕ) → held_by (pid_owner t.kernel) y n ≡ owners.holding z (holds_pid w) g.pids y n)
+    → ((y : Name) (n : ℕ) → held_by (zid_owner t.kernel) y n ≡ owners.holding z (holds_zid w) g.zids y n)
     → ((y : Name) (n : ℕ) → held_by (owner nat_eq t.sessions) y n ≡ owners.holding z (λ n. is_some (waits n)) g.sessions y n)
     → ((n : ℕ) → is_some (w.sessions n) ≡ is_some (waits n))
-    → rows_of t.rows.entries ≡ g.rows → t.serial ≡ g.serial → t.last_pid ≡ g.last_pid → t.last_zid ≡ g.last_zid → t.started ≡ g.started
+    → rows_of t.rows.entries ≡ g.rows → t.serial ≡ g.serial → t.kernel.last_pid ≡ g.last_pid → t.kernel.last_zid ≡ g.last_zid → t.started ≡ g.started
     → common_in t ≡ holding z w g
 common_by z w g t waits pids zids sessions seen rows serial last_pid last_zid started = λ i. record {
   pids = λ y n. pids y n i;
@@ -92,61 +77,13 @@ common_by z w g t waits pids zids sessions seen rows serial last_pid last_zid st
   started = started i;
 }
 
--- a process comes, or all go; t is the shared part with the new owners
-pub does_process : (z : Name) (c : Cell) (s t : Shared) (p : Process) (v : Vec Process Global) → owner nat_eq s.pids p.pid ≡ None
-    → ((n : ℕ) → owner nat_eq t.pids n ≡ (if nat_eq p.pid n then Some z else owner nat_eq s.pids n)) → v.items ≡ edited (Put (below p.pid) p) c.processes.items
-    → Does z (comes_world (New_process p)) (came_common z (Some (New_process p))) c s (record c { processes = v }) (record s { pids = t.pids; last_pid = p.pid })
-does_process z c s t p v free taken h = record {
-  world = λ i. record (cell_world (row_in z s) c) { processes = h i };
-  common = λ a. common_by z (record (cell_world (row_in z s) c) { processes = edited (Put (below p.pid) p) c.processes.items }) (record (common_in s) { last_pid = p.pid })
-      (record s { pids = t.pids; last_pid = p.pid }) (get nat_eq c.waits)
-      (come_column z (λ n. list_any (has_pid n) c.processes.items) (λ n. list_any (has_pid n) (edited (Put (below p.pid) p) c.processes.items)) (owner nat_eq s.pids) (owner nat_eq t.pids) (nat_eq p.pid)
-      a.pids (free_at (owner nat_eq s.pids) p.pid free) taken (λ n. any-put (has_pid n) (below p.pid) p c.processes.items))
-      (same_zids z c s a) (same_sessions z c s a) (λ n. holds_wait (get nat_eq c.waits n)) refl refl refl refl refl;
-}
-
-pub does_end_processes : (z : Name) (c : Cell) (s t : Shared) (v : Vec Process Global) → v.items ≡ []
-    → ((n : ℕ) → owner nat_eq t.pids n ≡ (if list_any (has_pid n) c.processes.items then None else owner nat_eq s.pids n))
-    → (n : Option ℕ) → Does z (edits_world n (map Of_objects (object_edits EndProcesses))) kept c s (record c { processes = v }) (record s { pids = t.pids })
-does_end_processes z c s t v h given n = record {
-  world = λ i. record (cell_world (row_in z s) c) { processes = (h ∙ sym (none_left c.processes.items)) i };
-  common = λ a. rw (none_left c.processes.items) (common_by z (record (cell_world (row_in z s) c) { processes = [] }) (common_in s) (record s { pids = t.pids }) (get nat_eq c.waits)
-      (gone_column z (λ n. list_any (has_pid n) c.processes.items) (λ n. false) (λ n. list_any (has_pid n) c.processes.items) (owner nat_eq s.pids) (owner nat_eq t.pids)
-      a.pids (λ n e. e) given (λ n. none_of (list_any (has_pid n) c.processes.items)))
-      (same_zids z c s a) (same_sessions z c s a) (λ n. holds_wait (get nat_eq c.waits n)) refl refl refl refl refl);
-}
-
--- an id comes, or all go
-pub does_id : (z : Name) (c : Cell) (s t : Shared) (d : Id) (v : Vec Id Global) → owner nat_eq s.zids d.zid ≡ None
-    → ((n : ℕ) → owner nat_eq t.zids n ≡ (if nat_eq d.zid n then Some z else owner nat_eq s.zids n)) → v.items ≡ c.ids.items ++ d ∷ []
-    → Does z (comes_world (New_id d)) (came_common z (Some (New_id d))) c s (record c { ids = v }) (record s { zids = t.zids; last_zid = d.zid })
-does_id z c s t d v free taken h = record {
-  world = λ i. record (cell_world (row_in z s) c) { ids = h i };
-  common = λ a. common_by z (record (cell_world (row_in z s) c) { ids = c.ids.items ++ d ∷ [] }) (record (common_in s) { last_zid = d.zid })
-      (record s { zids = t.zids; last_zid = d.zid }) (get nat_eq c.waits) (same_pids z c s a)
-      (come_column z (λ n. list_any (has_zid n) c.ids.items) (λ n. list_any (has_zid n) (c.ids.items ++ d ∷ [])) (owner nat_eq s.zids) (owner nat_eq t.zids) (nat_eq d.zid)
-      a.zids (free_at (owner nat_eq s.zids) d.zid free) taken (λ n. any-push (has_zid n) c.ids.items d))
-      (same_sessions z c s a) (λ n. holds_wait (get nat_eq c.waits n)) refl refl refl refl refl;
-}
-
-pub does_end_ids : (z : Name) (c : Cell) (s t : Shared) (v : Vec Id Global) → v.items ≡ []
-    → ((n : ℕ) → owner nat_eq t.zids n ≡ (if list_any (has_zid n) c.ids.items then None else owner nat_eq s.zids n))
-    → (n : Option ℕ) → Does z (edits_world n (map Of_objects (object_edits EndIds))) kept c s (record c { ids = v }) (record s { zids = t.zids })
-does_end_ids z c s t v h given n = record {
-  world = λ i. record (cell_world (row_in z s) c) { ids = (h ∙ sym (none_left c.ids.items)) i };
-  common = λ a. rw (none_left c.ids.items) (common_by z (record (cell_world (row_in z s) c) { ids = [] }) (common_in s) (record s { zids = t.zids }) (get nat_eq c.waits) (same_pids z c s a)
-      (gone_column z (λ n. list_any (has_zid n) c.ids.items) (λ n. false) (λ n. list_any (has_zid n) c.ids.items) (owner nat_eq s.zids) (owner nat_eq t.zids)
-      a.zids (λ n e. e) given (λ n. none_of (list_any (has_zid n) c.ids.items)))
-      (same_sessions z c s a) (λ n. holds_wait (get nat_eq c.waits n)) refl refl refl refl refl);
-}
-
 -- a session waits, or those of a ticket wait no more; d is the cell with what sessions wait for then
 pub does_sits : (z : Name) (c d : Cell) (s t : Shared) (k : ℕ) (x : Sitting) → IsOpenTo z (owner nat_eq s.sessions k)
     → ((n : ℕ) → owner nat_eq t.sessions n ≡ (if nat_eq k n then Some z else owner nat_eq s.sessions n))
     → ((n : ℕ) → get nat_eq d.waits n ≡ at_session (Some k) n (Some x.ticket) (get nat_eq c.waits n))
     → Does z (edits_world (Some k) (sits (Some x))) kept c s (record c { waits = d.waits }) (record s { sessions = t.sessions })
 does_sits z c d s t k x is_open taken h = record {
-  world = λ i. record (cell_world (row_in z s) c) { sessions = λ n. waits n i };
+  world = λ a i. record (cell_world (row_in z s) c) { sessions = λ n. waits n i };
   common = λ a. common_by z (record (cell_world (row_in z s) c) { sessions = λ n. at_session (Some k) n (Some (state.Awaiting x.ticket)) (option_map state.Awaiting (get nat_eq c.waits n)) }) (common_in s)
       (record s { sessions = t.sessions }) (get nat_eq d.waits) (same_pids z c s a) (same_zids z c s a)
       (column z (λ n. is_some (get nat_eq d.waits n)) (owner nat_eq s.sessions) (owner nat_eq t.sessions)
@@ -182,7 +119,7 @@ pub does_ends : (z : Name) (c d : Cell) (s t : Shared) (ticket : ℕ) → ((n : 
     → ((n : ℕ) → owner nat_eq t.sessions n ≡ (if is_wait_for ticket (get nat_eq c.waits n) then None else owner nat_eq s.sessions n))
     → (n : Option ℕ) → Does z (edits_world n (sweeps (Some ticket))) kept c s (record c { waits = d.waits }) (record s { sessions = t.sessions })
 does_ends z c d s t ticket h given n = record {
-  world = λ i. record (cell_world (row_in z s) c) { sessions = λ n. waits n i };
+  world = λ a i. record (cell_world (row_in z s) c) { sessions = λ n. waits n i };
   common = λ a. common_by z (record (cell_world (row_in z s) c) { sessions = λ n. swept_doing (ticket_ended ticket) (option_map state.Awaiting (get nat_eq c.waits n)) }) (common_in s)
       (record s { sessions = t.sessions }) (get nat_eq d.waits) (same_pids z c s a) (same_zids z c s a)
       (gone_column z (λ n. is_some (get nat_eq c.waits n)) (λ n. is_some (get nat_eq d.waits n)) (λ n. is_wait_for ticket (get nat_eq c.waits n)) (owner nat_eq s.sessions) (owner nat_eq t.sessions)
@@ -213,7 +150,7 @@ does_ends z c d s t ticket h given n = record {
 pub does_record : (z : Name) (c : Cell) (s t : Shared) (r : Record) → t.rows.entries ≡ insert_entry bytes_eq s.rows.entries z r → row_in z t ≡ Some r
     → Does z (comes_world (New_record (Some r))) (came_common z (Some (New_record (Some r)))) c s c (record s { rows = t.rows; serial = s.serial + 1 })
 does_record z c s t r h found = record {
-  world = λ i. record (cell_world (row_in z s) c) { stored = found i };
+  world = λ a i. record (cell_world (row_in z s) c) { stored = found i };
   common = λ a. common_by z (record (cell_world (row_in z s) c) { stored = Some r }) (record (common_in s) { rows = placed z r (rows_of s.rows.entries); serial = s.serial + 1 })
       (record s { rows = t.rows; serial = s.serial + 1 }) (get nat_eq c.waits) (same_pids z c s a) (same_zids z c s a) (same_sessions z c s a) (λ n. holds_wait (get nat_eq c.waits n))
       (ap rows_of h ∙ placed_is z r s.rows.entries) refl refl refl refl;
@@ -240,20 +177,32 @@ own_if z a b = ap (λ e. if e then a else b) (same_self z)
 -- the shared part still agrees with the cell
 pub does_agree : (z : Name) (f : World → World) (g : Common → Common) (c d : Cell) (s t : Shared) → Does z f g c s d t → Agree z c s → Agree z d t
 does_agree z f g c d s t does a = record {
-  pids = λ n. ap (λ w. list_any (has_pid n) w.processes) does.world ∙ sym (ap (λ k. k.pids z n) (does.common a) ∙ own_if z _ _);
-  zids = λ n. ap (λ w. list_any (has_zid n) w.ids) does.world ∙ sym (ap (λ k. k.zids z n) (does.common a) ∙ own_if z _ _);
-  sessions = λ n. sym (holds_wait (get nat_eq d.waits n)) ∙ (ap (λ w. is_some (w.sessions n)) does.world ∙ sym (ap (λ k. k.sessions z n) (does.common a) ∙ own_if z _ _));
+  pids = λ n. ap (λ w. list_any (has_pid n) w.processes) (does.world a) ∙ sym (ap (λ k. k.pids z n) (does.common a) ∙ own_if z _ _);
+  zids = λ n. ap (λ w. list_any (has_zid n) w.ids) (does.world a) ∙ sym (ap (λ k. k.zids z n) (does.common a) ∙ own_if z _ _);
+  sessions = λ n. sym (holds_wait (get nat_eq d.waits n)) ∙ (ap (λ w. is_some (w.sessions n)) (does.world a) ∙ sym (ap (λ k. k.sessions z n) (does.common a) ∙ own_if z _ _));
 }
 
-pub does_then : (z : Name) (f f' : World → World) (g : Common → Common) (c d e : Cell) (s t u : Shared) → Does z f g c s d t → Does z f' kept d t e u → Does z (λ w. f' (f w)) g c s e u
-does_then z f f' g c d e s t u one two = record {
-  world = two.world ∙ ap f' one.world;
+pub does_then : (z : Name) (f f' : World → World) (g g' : Common → Common) (c d e : Cell) (s t u : Shared) → ((w : World) (k : Common) → g' (holding z w k) ≡ holding z w (g' k))
+    → Does z f g c s d t → Does z f' g' d t e u → Does z (λ w. f' (f w)) (λ k. g' (g k)) c s e u
+does_then z f f' g g' c d e s t u apart one two = record {
+  world = λ a. two.world (does_agree z f g c d s t one a) ∙ ap f' (one.world a);
   common = λ a.
       two.common (does_agree z f g c d s t one a)
-      ∙ (ap (λ w. holding z (f' w) (common_in t)) one.world
-      ∙ (ap (holding z (f' (f (cell_world (row_in z s) c)))) (one.common a)
-      ∙ holding_again z (f (cell_world (row_in z s) c)) (f' (f (cell_world (row_in z s) c))) (g (common_in s))));
+      ∙ (ap (λ w. holding z (f' w) (g' (common_in t))) (one.world a)
+      ∙ (ap (λ k. holding z (f' (f (cell_world (row_in z s) c))) (g' k)) (one.common a)
+      ∙ (ap (holding z (f' (f (cell_world (row_in z s) c)))) (apart (f (cell_world (row_in z s) c)) (g (common_in s)))
+      ∙ holding_again z (f (cell_world (row_in z s) c)) (f' (f (cell_world (row_in z s) c))) (g' (g (common_in s))))));
 }
+
+-- what comes is apart from what the zones hold
+pub kept_apart : (z : Name) (w : World) (k : Common) → kept (holding z w k) ≡ holding z w (kept k)
+kept_apart z w k = refl
+
+pub came_apart : (z : Name) (a : Option Arrival) (w : World) (k : Common) → came_common z a (holding z w k) ≡ holding z w (came_common z a k)
+came_apart z None w k = refl
+came_apart z (Some (New_process p)) w k = refl
+came_apart z (Some (New_id i)) w k = refl
+came_apart z (Some (New_record row)) w k = refl
 
 -- what is taken after it was given back
 pub retaken : (b : Bool) (z : Name) (o : Option Name) → (if b then Some z else (if b then None else o)) ≡ (if b then Some z else o)
@@ -277,10 +226,15 @@ desk-objects n object.EndProcesses w d = refl
 desk-objects n (object.Mount m) w d = refl
 desk-objects n (object.Unmount dir) w d = refl
 desk-objects n object.EndIds w d = refl
+desk-objects n (object.EndProcess pid) w d = refl
+desk-objects n (object.Rename pid name) w d = refl
+desk-objects n (object.GiveUp pid number) w d = refl
+desk-objects n object.SetLimits w d = refl
+desk-objects n object.ClearLimits w d = refl
 
 work-desk : (n : Option ℕ) (w : World) (d : desks.Desk) (work : Work) → work_world n work (record w { desk = d }) ≡ acts_world n (work_act work d) w
 work-desk n w d work =
-    let came = option_map (λ (c : Coming). arrival_of c.it) work.came in
+    let came = arrival_of work.stored in
     let objects = map Of_objects (object_edits work.objects) in
     let after = after_came_world came w in
     ap (λ (v : World). edits_world n (sweeps work.ended) (edits_world n (sits work.sits) v)) (ap (edits_world n objects) (desk-came came w d) ∙ desk-objects n work.objects after d)
@@ -289,14 +243,38 @@ work-desk n w d work =
 
 -- so work that does what an act says does it, where the desk is changed before
 pub does_work : (z : Name) (n : Option ℕ) (a : Act) (work : Work) (c d : Cell) (desk : Desk) (s t : Shared) → Works n a (cell_world (row_in z s) c) (as_desk desk) work
-    → Does z (work_world n work) (came_common z (option_map (λ (c : Coming). arrival_of c.it) work.came)) (record c { desk = desk }) s d t → Does z (acts_world n a) (came_common z a.came) c s d t
+    → Does z (work_world n work) (came_common z (arrival_of work.stored)) (record c { desk = desk }) s d t → Does z (acts_world n a) (came_common z a.came) c s d t
 does_work z n a work c d desk s t works does =
     let w = cell_world (row_in z s) c in
     let lasts : work_world n work (record w { desk = as_desk desk }) ≡ acts_world n a w = work-desk n w (as_desk desk) work ∙ works.world in
     record {
-      world = does.world ∙ lasts;
+      world = λ a. does.world (record { pids = a.pids; zids = a.zids; sessions = a.sessions }) ∙ lasts;
       common = λ agree.
           does.common (record { pids = agree.pids; zids = agree.zids; sessions = agree.sessions })
-          ∙ (ap (λ v. holding z v (came_common z (option_map (λ (c : Coming). arrival_of c.it) work.came) (common_in s))) lasts
+          ∙ (ap (λ v. holding z v (came_common z (arrival_of work.stored) (common_in s))) lasts
           ∙ ap (λ x. holding z (acts_world n a w) (came_common z x (common_in s))) works.came);
+    }
+
+-- a whole act: what comes to the kernel, and then the rest
+came_parts : (a : Option Arrival) (w : World) → after_came_world (in_store a) (after_came_world (in_kernel a) w) ≡ after_came_world a w
+came_parts None w = refl
+came_parts (Some (New_process p)) w = refl
+came_parts (Some (New_id i)) w = refl
+came_parts (Some (New_record row)) w = refl
+
+common_parts : (z : Name) (a : Option Arrival) (k : Common) → came_common z (in_store a) (came_common z (in_kernel a) k) ≡ came_common z a k
+common_parts z None k = refl
+common_parts z (Some (New_process p)) k = refl
+common_parts z (Some (New_id i)) k = refl
+common_parts z (Some (New_record row)) k = refl
+
+pub does_whole : (z : Name) (n : Option ℕ) (a : Act) (c d e : Cell) (s t u : Shared) → Does z (after_came_world (in_kernel a.came)) (came_common z (in_kernel a.came)) c s d t
+    → Does z (acts_world n (rest_of a)) (came_common z (in_store a.came)) d t e u → Does z (acts_world n a) (came_common z a.came) c s e u
+does_whole z n a c d e s t u one two =
+    let both = does_then z (after_came_world (in_kernel a.came)) (acts_world n (rest_of a)) (came_common z (in_kernel a.came)) (came_common z (in_store a.came)) c d e s t u (came_apart z (in_store a.came)) one two in
+    let w = cell_world (row_in z s) c in
+    let acts : acts_world n (rest_of a) (after_came_world (in_kernel a.came) w) ≡ acts_world n a w = ap (edits_world n a.effect.edits) (came_parts a.came w) in
+    record {
+      world = λ g. both.world g ∙ acts;
+      common = λ g. both.common g ∙ (ap (λ v. holding z v (came_common z (in_store a.came) (came_common z (in_kernel a.came) (common_in s)))) acts ∙ ap (holding z (acts_world n a w)) (common_parts z a.came (common_in s)));
     }

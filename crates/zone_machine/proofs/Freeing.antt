@@ -15,9 +15,10 @@ use Rattle.zone_pools.specs.declared.grant.Pool.TheVariants.{Paths, Pids, Store,
 use Rattle.zone_pools.specs.declared.limits.TheConstants.{PID_MAX, PID_MIN, ZID_MAX, ZID_MIN}
 use Rattle.zone_machine.proofs.Asking.{asks_rightly}
 use Rattle.zone_machine.proofs.Of_turns.{is_asked_for}
-use Rattle.zone_machine.specs.Arrivals.{A_process, A_record, An_id, Arrival, Comes, arrived}
+use Rattle.zone_machine.specs.Arrivals.{A_process, A_record, An_id, Arrival, Comes, arrived, New_process, New_id, New_record}
 use Rattle.zone_machine.specs.State.Decisions.{Decision, act_of, effects, turned}
-use Rattle.zone_machine.specs.Code.Rooms.{HasRoomOf, HasRoomToChange, HasRoomToCome, IsFreeOf}
+use Rattle.zone_machine.specs.Code.Works.{in_kernel, in_store}
+use Rattle.zone_machine.specs.Code.Rooms.{HasRoomOf, HasRoomToChange, HasRoomToStore, IsFreeOf, HasRoomToStore}
 use Rattle.zone_machine.specs.Code.Steps.{IsGrantFor}
 use Rattle.zone_machine.specs.declared.machine.cell.Cell.{Cell}
 use Rattle.zone_machine.specs.declared.machine.shared.Shared.{Shared}
@@ -150,18 +151,30 @@ freed P z (Ask c asked denied given) None g h takes =
 freed P z (Ask c asked denied given) (Some stated) g h takes =
     subst (λ o. IsFreeOf o P) (sym (came_is c asked denied given g)) (subst (λ g. IsFreeOf (came c (number_in g)) P) (sym takes.0) (grant_free P c asked stated h takes.1))
 
--- room for what comes, by what is asked
-room_came : (c : Comes) (asked : List Asked) (r : Result ℕ Pool) (cell : Cell) (s : Shared) → is_asked_for c asked ≡ true → HasRoomToCome asked cell s → HasRoomOf (came c r) cell s
-room_came c asked (Err pool) cell s h room = tt
-room_came (A_process p) (A_pid ∷ []) (Right n) cell s h room = room
-room_came (An_id i) (A_zid ∷ []) (Right n) cell s h room = room
-room_came (A_record row) (A_serial ∷ []) (Right n) cell s h room = room
-room_came (A_record row) (A_zone ∷ A_path path ∷ A_serial ∷ []) (Right n) cell s h room = room
-room_came c asked (Right n) cell s h room = absurd (false≢true h)
+-- what comes to the kernel and what is stored is free as well, and where a record is stored there is room for it
+pub free_kernel : (a : Option Arrival) (P : Pools) → IsFreeOf a P → IsFreeOf (in_kernel a) P
+free_kernel None P h = tt
+free_kernel (Some (New_process p)) P h = h
+free_kernel (Some (New_id i)) P h = h
+free_kernel (Some (New_record row)) P h = tt
 
-pub roomy : (d : Decision) (g : Grant) (cell : Cell) (s : Shared) → asks_rightly d ≡ true → HasRoomToCome (asked_of d) cell s → HasRoomOf (act_of d g).came cell s
-roomy (Just e) g cell s h room = tt
-roomy (Ask c asked denied given) g cell s h room = subst (λ o. HasRoomOf o cell s) (sym (came_is c asked denied given g)) (room_came c asked (number_in g) cell s h room)
+pub free_store : (a : Option Arrival) (P Q : Pools) → has_room Q ≡ has_room P → IsFreeOf a P → IsFreeOf (in_store a) Q
+free_store None P Q same h = tt
+free_store (Some (New_process p)) P Q same h = tt
+free_store (Some (New_id i)) P Q same h = tt
+free_store (Some (New_record row)) P Q same h = same ∙ h
+
+room_came : (c : Comes) (asked : List Asked) (r : Result ℕ Pool) (s : Shared) → is_asked_for c asked ≡ true → HasRoomToStore asked s → HasRoomOf (in_store (came c r)) s
+room_came c asked (Err pool) s h room = tt
+room_came (A_process p) (A_pid ∷ []) (Right n) s h room = tt
+room_came (An_id i) (A_zid ∷ []) (Right n) s h room = tt
+room_came (A_record row) (A_serial ∷ []) (Right n) s h room = room
+room_came (A_record row) (A_zone ∷ A_path path ∷ A_serial ∷ []) (Right n) s h room = room
+room_came c asked (Right n) s h room = absurd (false≢true h)
+
+pub roomy : (d : Decision) (g : Grant) (s : Shared) → asks_rightly d ≡ true → HasRoomToStore (asked_of d) s → HasRoomOf (in_store (act_of d g).came) s
+roomy (Just e) g s h room = tt
+roomy (Ask c asked denied given) g s h room = subst (λ o. HasRoomOf (in_store o) s) (sym (came_is c asked denied given g)) (room_came c asked (number_in g) s h room)
 
 -- what a case of the code asks goes with what comes
 asks_turn : (d : Turn_decision) → asks_rightly d ≡ true → asks_rightly (effects turned d) ≡ true
@@ -170,8 +183,8 @@ asks_turn (Ask c asked denied given) h = h
 
 asks_came : (d : desks.Desk) (j : desks.Job) (rest : List Step) (c : Came) → asks_rightly (asking d j rest (comes_of c) (asked_for c) (shown_under c)) ≡ true
 asks_came d j rest (came_type.Process p) = refl
-asks_came d j rest (came_type.Id i) = refl
-asks_came d j rest (came_type.Record r) = refl
+asks_came d j rest came_type.Id = refl
+asks_came d j rest (came_type.Record r owner) = refl
 
 asks_undo : (d : desks.Desk) (j : desks.Job) (edits : List Object_edit) (undo : List Step) → asks_rightly (undo_with d j edits undo) ≡ true
 asks_undo d j edits [] = refl
@@ -180,7 +193,7 @@ asks_undo d j edits (s ∷ rest) = refl
 asks_job : (d : desks.Desk) (j : Job) (c : JobCase) → asks_rightly (job_turn d j c) ≡ true
 asks_job d j (jobs.Finish outcome) = refl
 asks_job d j (jobs.Pass p) = refl
-asks_job d j (jobs.Ask c next) = asks_came d (as_job j) (drop next j.steps.items) c.it
+asks_job d j (jobs.Ask it next) = asks_came d (as_job j) (drop next j.steps.items) it
 asks_job d j (jobs.Undo objects) = asks_undo d (as_job j) (object_edits objects) (as_job j).undo
 
 asks_on : (d : Desk) (o : Option Job) (c : JobCase) → asks_rightly (on_job d o c) ≡ true
@@ -195,22 +208,22 @@ asks_turn_case d (turns.GoOn c) = asks_on d d.job c
 
 pub asks_case : (d : Desk) (c : Case) → asks_rightly (decision_of d c) ≡ true
 asks_case d (cases.Says head) = refl
+asks_case d (cases.Tells body) = refl
+asks_case d (cases.Change edit) = refl
+asks_case d (cases.Fork p) = refl
 asks_case d (cases.Make row owner) = refl
 asks_case d (cases.Put kind owner) = refl
 asks_case d (cases.Turn c) = asks_turn (turn_decision_of d c) (asks_turn_case d c)
 
 -- room doesn't go by the desk
-pub room_desk : (asked : List Asked) (c : Cell) (d : Desk) (s : Shared) → HasRoomToCome asked c s → HasRoomToCome asked (record c { desk = d }) s
-room_desk [] c d s h = h
-room_desk (A_pid ∷ asked) c d s h = h
-room_desk (A_zid ∷ asked) c d s h = h
-room_desk (A_zone ∷ asked) c d s h = h
-room_desk (A_path path ∷ asked) c d s h = h
-room_desk (A_serial ∷ asked) c d s h = h
-
 pub room_change : (o : ObjectEdit) (c : Cell) (d : Desk) → HasRoomToChange o c → HasRoomToChange o (record c { desk = d })
 room_change object.Nothing c d h = h
 room_change object.EndProcesses c d h = h
 room_change (object.Mount m) c d h = h
 room_change (object.Unmount dir) c d h = h
 room_change object.EndIds c d h = h
+room_change (object.EndProcess pid) c d h = h
+room_change (object.Rename pid name) c d h = h
+room_change (object.GiveUp pid number) c d h = h
+room_change object.SetLimits c d h = h
+room_change object.ClearLimits c d h = h

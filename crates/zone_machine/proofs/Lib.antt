@@ -18,6 +18,8 @@ pub mod Pools_laws
 pub mod Lists_laws
 pub mod Waits_laws
 pub mod Doing_laws
+pub mod Kernel_doing
+pub mod Kernel_cases
 pub mod Rooms_laws
 pub mod Standing
 pub mod Stepping

@@ -1,5 +1,5 @@
 -- A local turn on its zone's cell: what is done to the cell is what the turn does to the zone's world.
-use Rattle.std.proofs.Common.{◌≡◌, ◌∷◌, ◌++◌, ◌||◌, Bool, not, Option, Some, None, true, false, map, refl, ap, subst, sym, ◌∙◌}
+use Rattle.std.proofs.Common.{◌≡◌, ◌∷◌, ◌++◌, ◌||◌, [], ℕ, List, Bool, not, Option, Some, None, true, false, map, refl, ap, subst, sym, ◌∙◌}
 use Rattle.std.specs.Prelude.{is_some}
 use Rattle.std.specs.Option.{option_map}
 use Rattle.std.proofs.lemmas.Bool.{false≢true}
@@ -11,16 +11,16 @@ use Rattle.zone_machine.proofs.Local_laws.{Local, is-local, local-one, not-local
 use Rattle.zone_machine.proofs.Turned_laws.{has-turned, turned_act}
 use Rattle.zone_machine.specs.Arrivals.{Arrival}
 use Rattle.zone_machine.specs.Code.Cases.{object_edits}
-use Rattle.zone_machine.specs.Code.Works.{Works, arrival_of, sits}
-use Rattle.zone_machine.specs.Code.Cells.{CellOf, cell_world}
-use Rattle.zone_machine.specs.State.Decisions.{Decision, act_of, acts_world, effects, says, sweeps, turned}
+use Rattle.zone_machine.specs.Code.Works.{Works, arrival_of, rest_of, sits}
+use Rattle.zone_machine.specs.Code.Cells.{CellOf, cell_world, ids_of}
+use Rattle.zone_machine.specs.State.Decisions.{Decision, act_of, acts_world, after_came_world, effects, says, sweeps, turned}
 use Rattle.zone_machine.specs.Daemon.Desks as desks
 use Rattle.zone_machine.specs.Code.Desks.{as_desk, as_job}
-use Rattle.zone_machine.specs.State.Edits.{Of_objects, Set_desk}
+use Rattle.zone_machine.specs.State.Edits.{Of_objects, Set_desk, edit_world, edits_world}
 use Rattle.zone_machine.specs.Machine.Local.{is_local, is_local_turn, job_has_record}
 use Rattle.zone_machine.specs.Code.Local_turns.{After, IsDone, IsLocalTurn, IsNext, IsNotLocal}
 use Rattle.zone_machine.specs.Machine.{Answered, one, subject}
-use Rattle.zone_machine.specs.Objects.{Objects, mounts_after}
+use Rattle.zone_machine.specs.Objects.{Object_edit, Objects, Processes_go, ids_after, mounts_after}
 use Rattle.zone_machine.specs.Daemon.Turns.{Turn_decision, Turned, turn}
 use Rattle.zone_machine.specs.State.Worlds.{World, objects_of, world}
 use Rattle.zone_machine.specs.declared.machine.cell.Cell.{Cell}
@@ -33,30 +33,49 @@ use Rattle.commit_journal.specs.declared.records.Record.{Record}
 use Rattle.zone_machine.specs.declared.replies.Head.TheVariants.{Turned as Told}
 use Rattle.zone_machine.specs.declared.replies.Reply.{Reply}
 use Rattle.zone_machine.specs.declared.objects.changes.ObjectEdit.{ObjectEdit}
+use Rattle.zone_machine.specs.declared.machine.work.Stored.{Stored}
 use Rattle.zone_machine.specs.declared.machine.work.Work.{Work}
 
--- what settling a turn tells to do leaves the mounts and the desk that the turn leaves
-pub settled : (decided : Decision) (t : Turned) (d : desks.Desk) (w : Work) (v : World) → decided ≡ effects turned (Just t) → w.sits ≡ None
-    → Works None (act_of decided Nothing) v d w → (mounts_after (object_edits w.objects) v.mounts ≡ mounts_after t.objects v.mounts) × (d ≡ t.desk)
+-- the ids after a turn, where none came
+ids-edits : (n : Option ℕ) (es : List Object_edit) (d : desks.Desk) (ended : Option ℕ) (w : World) → (edits_world n (map Of_objects es ++ Set_desk d ∷ sweeps ended) w).ids ≡ ids_after es w.ids
+ids-edits n [] d None w = refl
+ids-edits n [] d (Some t) w = refl
+ids-edits n (Processes_go p ∷ es) d ended w = ids-edits n es d ended (edit_world n (Of_objects (Processes_go p)) w)
+ids-edits n (e ∷ es) d ended w = ids-edits n es d ended (edit_world n (Of_objects e) w)
+
+has-ids : (n : Option ℕ) (a : decisions.Act Arrival Turned) (w : World) → ((v : World) → (after_came_world a.came v).ids ≡ v.ids) → (acts_world n (turned_act a) w).ids ≡ ids_after a.effect.objects w.ids
+has-ids n a w apart = ids-edits n a.effect.objects a.effect.desk a.effect.ended (after_came_world a.came w) ∙ ap (ids_after a.effect.objects) (apart w)
+
+stored_apart : (s : Option Stored) (v : World) → (after_came_world (arrival_of s) v).ids ≡ v.ids
+stored_apart None v = refl
+stored_apart (Some s) v = refl
+
+-- what settling a turn tells to do leaves the mounts, the ids and the desk that the turn leaves
+pub settled : (decided : Decision) (t : Turned) (d : desks.Desk) (w : Work) (v : World) → decided ≡ effects turned (Just t) → w.sits ≡ None → Works None (rest_of (act_of decided Nothing)) v d w
+    → (mounts_after (object_edits w.objects) v.mounts ≡ mounts_after t.objects v.mounts) × (ids_after (object_edits w.objects) v.ids ≡ ids_after t.objects v.ids) × (d ≡ t.desk)
 settled decided t d w v is sat works =
-    let told : decisions.Act Arrival Turned = record { came = option_map (λ c. arrival_of c.it) w.came; effect = record { objects = object_edits w.objects; desk = d; ended = w.ended; reply = Idle } } in
+    let told : decisions.Act Arrival Turned = record { came = arrival_of w.stored; effect = record { objects = object_edits w.objects; desk = d; ended = w.ended; reply = Idle } } in
     let done : decisions.Act Arrival Turned = record { came = None; effect = t } in
     let left = has-turned None told v in let right = has-turned None done v in
+    let left_ids = has-ids None told v (stored_apart w.stored) in let right_ids = has-ids None done v (λ w. refl) in
     let same : acts_world None (turned_act told) v ≡ acts_world None (turned_act done) v =
-    sym (ap (λ s. acts_world None (record { came = option_map (λ c. arrival_of c.it) w.came; effect = record { edits = map Of_objects (object_edits w.objects) ++ (Set_desk d ∷ (sits s ++ sweeps w.ended)); reply = says w.head } }) v) sat)
-    ∙ (works.world ∙ ap (λ x. acts_world None (act_of x Nothing) v) is) in
-    (sym left.mounts ∙ (ap (λ (u : World). u.mounts) same ∙ right.mounts), sym left.desk ∙ (ap (λ (u : World). u.desk) same ∙ right.desk))
+    sym (ap (λ s. acts_world None (record { came = arrival_of w.stored; effect = record { edits = map Of_objects (object_edits w.objects) ++ (Set_desk d ∷ (sits s ++ sweeps w.ended)); reply = w.reply } }) v) sat)
+    ∙ (works.world ∙ ap (λ x. acts_world None (rest_of (act_of x Nothing)) v) is) in (
+      sym left.mounts ∙ (ap (λ (u : World). u.mounts) same ∙ right.mounts),
+      sym left_ids ∙ (ap (λ (u : World). u.ids) same ∙ right_ids),
+      sym left.desk ∙ (ap (λ (u : World). u.desk) same ∙ right.desk),
+    )
 
 -- and so they stand in the cell
 pub after : (row : Option Record) (old mid new : Cell) (d : Desk) (o : ObjectEdit) (t : Turned) → cell_world row mid ≡ cell_world row old
-    → new ≡ record mid { desk = d; mounts = new.mounts } → new.mounts.items ≡ mounts_after (object_edits o) mid.mounts.items
-    → (mounts_after (object_edits o) mid.mounts.items ≡ mounts_after t.objects mid.mounts.items) × (as_desk d ≡ t.desk)
-    → cell_world row new ≡ record (cell_world row old) { mounts = mounts_after t.objects old.mounts.items; desk = t.desk }
-after row old mid new d o t same is mounts left =
+    → new ≡ record mid { desk = d; kernel = new.kernel; mounts = new.mounts } → new.kernel.processes ≡ mid.kernel.processes
+    → new.mounts.items ≡ mounts_after (object_edits o) mid.mounts.items → ids_of new.kernel.id ≡ ids_after (object_edits o) (ids_of mid.kernel.id)
+    → (mounts_after (object_edits o) mid.mounts.items ≡ mounts_after t.objects mid.mounts.items) × (ids_after (object_edits o) (ids_of mid.kernel.id) ≡ ids_after t.objects (ids_of mid.kernel.id)) × (as_desk d ≡ t.desk)
+    → cell_world row new ≡ record (cell_world row old) { mounts = mounts_after t.objects old.mounts.items; ids = ids_after t.objects (ids_of old.kernel.id); desk = t.desk }
+after row old mid new d o t same is processes mounts ids left =
     ap (cell_world row) is
-    ∙ (ap (λ ms. record (cell_world row mid) { mounts = ms; desk = as_desk d }) (mounts ∙ left.0)
-    ∙ (ap (λ e. record (cell_world row mid) { mounts = mounts_after t.objects mid.mounts.items; desk = e }) left.1
-    ∙ ap (λ (w : World). record w { mounts = mounts_after t.objects w.mounts; desk = t.desk }) same))
+    ∙ ((λ i. record (cell_world row mid) { processes = processes i; mounts = (mounts ∙ left.0) i; ids = (ids ∙ left.1) i; desk = left.2 i })
+    ∙ ap (λ (w : World). record w { mounts = mounts_after t.objects w.mounts; ids = ids_after t.objects w.ids; desk = t.desk }) same)
 
 -- a stored zone's world, by its cell
 stored-world : (w : World) (c : Cell) (row : Record) → CellOf c w → w.stored ≡ Some row → w ≡ cell_world (Some row) c
@@ -97,7 +116,7 @@ done z c d t job next local left S of served = in-stored (world z S).stored (sto
         let l : Local z w entry t = record { event = refl; subject = refl; grant = refl; decided = decided; local = local; stays = stays w t decided local; reply = refl } in
         let world-is = world-after z S entry t l in
         let cell-is : world z (one S (Turn z) Nothing).state ≡ cell_world w.stored d =
-        world-is ∙ (ap (λ (v : World). record v { mounts = mounts_after t.objects v.mounts; desk = t.desk }) of ∙ sym (left w.stored)) in
+        world-is ∙ (ap (λ (v : World). record v { mounts = mounts_after t.objects v.mounts; ids = ids_after t.objects v.ids; desk = t.desk }) of ∙ sym (left w.stored)) in
         record {
           local = is-local z w entry t l;
           told = ap (λ s. record entry { subject = s }) (sym (subject-turn S z))

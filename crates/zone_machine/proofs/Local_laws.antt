@@ -1,14 +1,17 @@
--- Local turns change their zone's mounts and desk alone; and a zone that has work has a turn.
-use Rattle.std.proofs.Common.{◌≡◌, ◌∷◌, ◌++◌, [], ◌&&◌, ℕ, List, Bool, Option, Some, None, true, false, map, refl, ap, subst, sym, ◌∙◌}
-use Rattle.std.specs.Prelude.{◌≢◌}
-use Rattle.std.specs.List.{list_all}
+-- Local turns change their zone's mounts, its id but for the number, and its desk alone; and a zone that has work has a turn.
+use Rattle.std.proofs.Common.{◌≡◌, ◌∷◌, ◌++◌, [], ◌&&◌, ◌||◌, ℕ, List, Bool, Option, Some, None, true, false, map, refl, ap, subst, sym, ◌∙◌}
+use Rattle.std.specs.Prelude.{◌≢◌, bytes_eq}
+use Rattle.std.specs.List.{list_all, list_any}
 use Rattle.std.proofs.lemmas.Bool.{and_from, and_parts, false≢true, true≢false}
 use Rattle.zn_base.specs.Names.{Name}
 use Rattle.zone_pools.proofs.Owned_laws.{same_self, same_true}
 use Rattle.zone_pools.proofs.Same_laws.{grant-Decides}
 use Rattle.zone_pools.specs.Decisions as decisions
 use Rattle.zone_pools.specs.Decisions.{Ask, Just, asked_of}
+use Rattle.kernel_objects.specs.declared.objects.Id.{Id}
+use Rattle.zone_pools.specs.Owned_lists.{Change, edit_list, mine}
 use Rattle.zone_pools.specs.Pools.{said_by_all}
+use Rattle.zone_pools.specs.declared.owned.Owned.{Owned}
 use Rattle.zone_pools.specs.Same.{same_grant}
 use Rattle.zone_pools.specs.declared.grant.Grant.{Grant}
 use Rattle.zone_pools.specs.declared.grant.Grant.TheVariants.{Nothing}
@@ -18,13 +21,13 @@ use Rattle.zone_machine.proofs.Of_turns.{of_turn}
 use Rattle.zone_machine.proofs.Turned_laws.{In, in-act, one-turn, turn-reply, turn_act, turned_act}
 use Rattle.zone_machine.specs.Arrivals.{Arrival, arrived}
 use Rattle.zone_machine.specs.Machine.Common.{Common, common}
-use Rattle.zone_machine.specs.Machine.Local.{is_busy, is_idle, is_local, is_local_reply, is_local_turn, is_turn_of, tells_local}
+use Rattle.zone_machine.specs.Machine.Local.{is_busy, is_idle, is_local, is_local_reply, is_local_turn, is_of_own, is_turn_of, tells_local}
 use Rattle.zone_machine.specs.State.Decisions.{effects, says, sweeps, turned}
 use Rattle.zone_machine.specs.Daemon.Desks.{Desk, Job, state_now}
 use Rattle.zone_machine.specs.State.Edits.{Of_objects, Set_desk, edit, edit_world, edits, edits_world}
 use Rattle.zone_machine.specs.Machine.Histories.{is_allowed, is_told}
 use Rattle.zone_machine.specs.Machine.{Answered, decide, done_by, one, started, subject}
-use Rattle.zone_machine.specs.Objects.{Object_edit, Objects, Of_mounts, last_dir, mounts_after}
+use Rattle.zone_machine.specs.Objects.{Ids_change, Object_edit, Objects, Of_mounts, has_zid, ids_after, keeping_zid, last_dir, mounts_after}
 use Rattle.zone_machine.specs.Daemon.Plans.{may_begin}
 use Rattle.zone_machine.specs.Machine.Pools.{allowed, pools_of}
 use Rattle.zone_machine.specs.Machine.Same.{same_reply, same_subject}
@@ -42,19 +45,14 @@ use Rattle.zone_config.specs.declared.terms.Contents.{Contents}
 use Rattle.commit_journal.specs.declared.records.Record.{Record}
 use Rattle.zone_machine.specs.declared.events.Entry.{Entry}
 use Rattle.zone_machine.specs.declared.events.Event.{Event}
-use Rattle.zone_machine.specs.declared.events.Event.TheVariants.{Session, Turn}
+use Rattle.zone_machine.specs.declared.events.Event.TheVariants.{Process as Call_of, Session, Turn}
 use Rattle.zone_machine.specs.declared.events.Subject.TheVariants.{Zone}
 use Rattle.zone_machine.specs.declared.objects.Mount.{Mount}
 use Rattle.zone_machine.specs.declared.replies.Head.TheVariants.{Turned as Told}
 
--- an edit of the zone's mounts
-abbrev is_of_mounts : Object_edit → Bool
-is_of_mounts (Of_mounts e) = true
-is_of_mounts _ = false
-
--- of the zone's objects a turn changes the mounts alone, it ends no ticket, and it isn't idle
+-- of the zone's objects a turn changes these alone, it ends no ticket, and it isn't idle
 pub record Stays (t : Turned) : Type 0 where
-  pub mounts : list_all is_of_mounts t.objects ≡ true
+  pub own : list_all is_of_own t.objects ≡ true
   pub ended : t.ended ≡ None
   pub busy : is_idle t.reply ≡ false
 
@@ -65,25 +63,25 @@ If_local (Ask c asked denied given) = Unit {0}
 
 stays-undo : (d : Desk) (j : Job) (outcome : Outcome) (undone : List Step) → If_local (Just (undo d j outcome undone))
 stays-undo d j outcome [] h = absurd (false≢true h)
-stays-undo d j outcome (Limits ∷ rest) h = record { mounts = refl; ended = refl; busy = refl }
-stays-undo d j outcome (Devices count ∷ rest) h = record { mounts = refl; ended = refl; busy = refl }
-stays-undo d j outcome (Root ∷ rest) h = record { mounts = refl; ended = refl; busy = refl }
+stays-undo d j outcome (Limits ∷ rest) h = record { own = refl; ended = refl; busy = refl }
+stays-undo d j outcome (Devices count ∷ rest) h = record { own = refl; ended = refl; busy = refl }
+stays-undo d j outcome (Root ∷ rest) h = record { own = refl; ended = refl; busy = refl }
 stays-undo d j outcome (_ ∷ rest) h = absurd (false≢true h)
 
 stays-step : (o : Objects) (d : Desk) (j : Job) (row : Record) (left : List Step) → If_local (step o d j row left)
 stays-step o d j row [] = λ h. absurd (false≢true h)
-stays-step o d j row (Hook change ∷ rest) = λ h. record { mounts = refl; ended = refl; busy = refl }
+stays-step o d j row (Hook change ∷ rest) = λ h. record { own = refl; ended = refl; busy = refl }
 stays-step o d j row (Record_step s ∷ rest) = tt
-stays-step o d j row (Copy part ∷ rest) = λ h. record { mounts = refl; ended = refl; busy = refl }
+stays-step o d j row (Copy part ∷ rest) = λ h. record { own = refl; ended = refl; busy = refl }
 stays-step o d j row (Zid _ ∷ rest) = tt
-stays-step o d j row (Limits ∷ rest) = λ h. record { mounts = refl; ended = refl; busy = refl }
-stays-step o d j row (Root ∷ rest) = λ h. record { mounts = refl; ended = refl; busy = refl }
+stays-step o d j row (Limits ∷ rest) = λ h. record { own = refl; ended = refl; busy = refl }
+stays-step o d j row (Root ∷ rest) = λ h. record { own = refl; ended = refl; busy = refl }
 stays-step o d j row (Init _ ∷ rest) = tt
 stays-step o d j row (Unmount dir ∷ rest) = at_mount (last_dir o.mounts) (stays-step o d j row rest)
   where
     at_mount : (m : Option (List ℕ)) → If_local (step o d j row rest) → If_local (unmount d j (Unmount dir ∷ rest) (step o d j row rest) m)
     at_mount None ih = ih
-    at_mount (Some m) ih = λ h. record { mounts = refl; ended = refl; busy = refl }
+    at_mount (Some m) ih = λ h. record { own = refl; ended = refl; busy = refl }
 stays-step o d j row (_ ∷ rest) = λ h. absurd (false≢true h)
 
 begun : (d : Desk) (t : ℕ) (kind : RequestKind) (s : ZoneState) (config : Contents) → is_local_reply (begin d t kind s config).reply ≡ false
@@ -145,6 +143,7 @@ local-turn z w e h =
     turn_of : (x : Event) → is_turn_of z x ≡ true → x ≡ Turn z
     turn_of (Session n text) h = absurd (false≢true h)
     turn_of (Turn y) h = ap Turn (sym (same_true z y h))
+    turn_of (Call_of y pid c) h = absurd (false≢true h)
 
     at_decision : (d : Turn_decision) → turn (objects_of w) w.stored w.desk ≡ d → e.event ≡ Turn z → e.subject ≡ Zone z → e.grant ≡ Nothing → tells_local d e.reply ≡ true → (t : Turned) × Local z w e t
     at_decision (Just t) is event subject grant h =
@@ -201,11 +200,25 @@ local-right z S e h =
       (grant-Decides e.grant (allowed S e.event)).1 grant,
     )
 
+-- an id that keeps its number
+zids-kept : (y z : Name) (f : Id → Id) (n : ℕ) (os : List (Owned Id)) → list_any (has_zid n) (mine y (edit_list z (Change (keeping_zid f)) os)) ≡ list_any (has_zid n) (mine y os)
+zids-kept y z f n [] = refl
+zids-kept y z f n (o ∷ os) = at_tests (zids-kept y z f n os) (bytes_eq z o.zone) (bytes_eq y o.zone) refl refl
+  where
+    at_tests : list_any (has_zid n) (mine y (edit_list z (Change (keeping_zid f)) os)) ≡ list_any (has_zid n) (mine y os)
+        → (b c : Bool) → bytes_eq z o.zone ≡ b → bytes_eq y o.zone ≡ c → list_any (has_zid n) (mine y (edit_list z (Change (keeping_zid f)) (o ∷ os))) ≡ list_any (has_zid n) (mine y (o ∷ os))
+    at_tests ih true true d e = simp (d, e) (ap (λ b. has_zid n o.it || b) ih)
+    at_tests ih true false d e = simp (d, e) ih
+    at_tests ih false true d e = simp (d, e) (ap (λ b. has_zid n o.it || b) ih)
+    at_tests ih false false d e = simp (d, e) ih
+
 -- it leaves what is common, but for the start
-common-edits : (z : Name) (es : List Object_edit) (d : Desk) (S : State) → list_all is_of_mounts es ≡ true → common (edits z None (map Of_objects es ++ Set_desk d ∷ []) S) ≡ common S
+common-edits : (z : Name) (es : List Object_edit) (d : Desk) (S : State) → list_all is_of_own es ≡ true → common (edits z None (map Of_objects es ++ Set_desk d ∷ []) S) ≡ common S
 unfolding edit
 common-edits z [] d S h = refl
 common-edits z (Of_mounts e ∷ es) d S h = common-edits z es d (edit z None (Of_objects (Of_mounts e)) S) h
+common-edits z (Ids_change f ∷ es) d S h =
+    common-edits z es d (edit z None (Of_objects (Ids_change f)) S) h ∙ λ i. record (common S) { zids = λ y n. zids-kept y z f n S.ids i }
 common-edits z (_ ∷ es) d S h = absurd (false≢true h)
 
 pub local-common : (z : Name) (S : State) (e : Entry) → is_local z (world z S) e ≡ true → common (one S e.event e.grant).state ≡ record (common S) { started = true }
@@ -213,24 +226,29 @@ local-common z S e h =
     let found = local-turn z (world z S) e h in let t = found.0 in let l = found.1 in
     ap (λ (r : Answered). common r.state) (local-one z S e t l)
     ∙ (ap (λ o. common (started (edits z None (map Of_objects t.objects ++ Set_desk t.desk ∷ sweeps o) S))) l.stays.ended
-    ∙ ap (λ (c : Common). record c { started = true }) (common-edits z t.objects t.desk S l.stays.mounts))
+    ∙ ap (λ (c : Common). record c { started = true }) (common-edits z t.objects t.desk S l.stays.own))
 
--- of the zone's world it changes the mounts and the desk alone
-world-edits : (es : List Object_edit) (d : Desk) (w : World) → list_all is_of_mounts es ≡ true → edits_world None (map Of_objects es ++ Set_desk d ∷ []) w ≡ record w { mounts = mounts_after es w.mounts; desk = d }
+-- of the zone's world it changes the mounts, the id and the desk alone
+world-edits : (es : List Object_edit) (d : Desk) (w : World) → list_all is_of_own es ≡ true
+    → edits_world None (map Of_objects es ++ Set_desk d ∷ []) w ≡ record w { mounts = mounts_after es w.mounts; ids = ids_after es w.ids; desk = d }
 world-edits [] d w h = refl
 world-edits (Of_mounts e ∷ es) d w h = world-edits es d (edit_world None (Of_objects (Of_mounts e)) w) h
+world-edits (Ids_change f ∷ es) d w h = world-edits es d (edit_world None (Of_objects (Ids_change f)) w) h
 world-edits (_ ∷ es) d w h = absurd (false≢true h)
 
 pub world-after : (z : Name) (S : State) (e : Entry) (t : Turned) → Local z (world z S) e t
-    → world z (one S e.event e.grant).state ≡ record (world z S) { mounts = mounts_after t.objects (world z S).mounts; desk = t.desk }
+    → world z (one S e.event e.grant).state ≡ record (world z S) { mounts = mounts_after t.objects (world z S).mounts; ids = ids_after t.objects (world z S).ids; desk = t.desk }
 world-after z S e t l =
     let w = world z S in
     ap (λ (r : Answered). world z r.state) (local-one z S e t l)
     ∙ (own-acts z None (turned_act (record { came = None; effect = t })) S
-    ∙ (ap (λ o. edits_world None (map Of_objects t.objects ++ Set_desk t.desk ∷ sweeps o) w) l.stays.ended ∙ world-edits t.objects t.desk w l.stays.mounts))
+    ∙ (ap (λ o. edits_world None (map Of_objects t.objects ++ Set_desk t.desk ∷ sweeps o) w) l.stays.ended ∙ world-edits t.objects t.desk w l.stays.own))
 
-pub local-world : (z : Name) (S : State) (e : Entry) → is_local z (world z S) e ≡ true → (ms : List Mount) × (d : Desk) × (world z (one S e.event e.grant).state ≡ record (world z S) { mounts = ms; desk = d })
-local-world z S e h = let found = local-turn z (world z S) e h in (mounts_after found.0.objects (world z S).mounts, found.0.desk, world-after z S e found.0 found.1)
+pub local-world : (z : Name) (S : State) (e : Entry) → is_local z (world z S) e ≡ true
+    → (ms : List Mount) × (is : List Id) × (d : Desk) × (world z (one S e.event e.grant).state ≡ record (world z S) { mounts = ms; ids = is; desk = d })
+local-world z S e h =
+    let found = local-turn z (world z S) e h in
+    (mounts_after found.0.objects (world z S).mounts, ids_after found.0.objects (world z S).ids, found.0.desk, world-after z S e found.0 found.1)
 
 -- it isn't idle
 awake : (r : TurnReply) → is_idle r ≡ false → says (Told r) ≢ says (Told Idle)

@@ -6,6 +6,7 @@ use Rattle.zone_pools.specs.Decisions.{Just}
 use Rattle.zone_pools.specs.Firsts.{is_nil}
 use Rattle.zn_base.specs.declared.state.ZoneState.{ZoneState}
 use Rattle.zone_machine.specs.Arrivals.{A_process, A_record, An_id, Comes}
+use Rattle.kernel_objects.specs.Kernel.{new_id}
 use Rattle.zone_machine.specs.Machine.Local.{is_idle}
 use Rattle.zone_machine.specs.Daemon.Desks.{Desk, Job, state_now}
 use Rattle.zone_machine.specs.Objects.{Objects, last_dir}
@@ -42,8 +43,8 @@ module _ (P : Turn_decision → Type 0) (done : (t : Turned) → is_idle t.reply
   of_step : (o : Objects) (d : Desk) (j : Job) (row : Record) (left : List Step) → P (step o d j row left)
   of_step o d j row [] = done _ refl
   of_step o d j row (Record_step s ∷ rest) = asks d j rest (A_record (λ n. Some (record row { state = s }))) A_serial (λ n. Record_step s) refl
-  of_step o d j row (Zid _ ∷ rest) = asks d j rest (An_id (record { zid = 0 })) A_zid (λ n. Zid (Some n)) refl
-  of_step o d j row (Init _ ∷ rest) = asks d j rest (A_process init_process) A_pid (λ n. Init (Some n)) refl
+  of_step o d j row (Zid _ ∷ rest) = asks d j rest (An_id (new_id 0)) A_zid (λ n. Zid (Some n)) refl
+  of_step o d j row (Init _ ∷ rest) = asks d j rest (A_process (init_process o)) A_pid (λ n. Init (Some n)) refl
   of_step o d j row (Unmount dir ∷ rest) = at_mount (last_dir o.mounts) (of_step o d j row rest)
     where
       at_mount : (m : Option (List ℕ)) → P (step o d j row rest) → P (unmount d j (Unmount dir ∷ rest) (step o d j row rest) m)

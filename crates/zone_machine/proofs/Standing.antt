@@ -1,8 +1,13 @@
 -- What a cell and the shared part stand for, and what they stand for after an event of the cell's zone.
-use Rattle.std.proofs.Common.{◌≡◌, [], ℕ, Bool, Option, Some, None, true, false, inl, inr, refl, ap, sym, subst, ◌∙◌, IfSome}
+use Rattle.zone_machine.proofs.Kernel_cases.{first_id}
+use Rattle.zone_pools.specs.declared.owned.Owned.{Owned}
+use Rattle.zone_pools.specs.Firsts.{first_of}
+use Rattle.kernel_objects.specs.Shared.{Shared as Kernel, pid_owner, zid_owner}
+use Rattle.kernel_objects.specs.Processes.{Process, has_pid}
+use Rattle.std.proofs.Common.{◌≡◌, [], ℕ, Bool, Option, Some, None, true, false, inl, inr, refl, ap, sym, subst, ◌∙◌, IfSome, List}
 use Rattle.indexmap.specs.IndexMap.{get}
 use Rattle.std.specs.Map.{lookup}
-use Rattle.std.specs.Prelude.{bytes_eq, is_some, nat_eq}
+use Rattle.std.specs.Prelude.{bytes_eq, is_some, nat_eq, filter}
 use Rattle.std.specs.List.{list_any}
 use Rattle.std.proofs.lemmas.Bool.{true≢false}
 use Rattle.zone_pools.proofs.Owned_laws.{same_self, same_true}
@@ -12,16 +17,16 @@ use Rattle.zone_pools.specs.Owners.{held_by, is_owner, owner}
 use Rattle.commit_journal.proofs.Zones.{row_is}
 use Rattle.commit_journal.specs.Store.{row_of}
 use Rattle.commit_journal.specs.Zones.{rows_of}
-use Rattle.zone_machine.proofs.Common_laws.{common-acts}
+use Rattle.zone_machine.proofs.Common_laws.{common-acts, has_it, holder-none, holder-one}
 use Rattle.zone_machine.proofs.Doing_laws.{holds_wait}
 use Rattle.zone_machine.proofs.Acts_laws.{own-acts}
 use Rattle.zone_machine.proofs.Own_worlds.{own_session, view-world}
-use Rattle.zone_machine.specs.Code.Cells.{Agree, CellOf, Does, SharedOf, cell_world, row_in}
-use Rattle.zone_machine.specs.Code.Reads.{decide_in, subject_at, subject_in}
+use Rattle.zone_machine.specs.Code.Cells.{Agree, CellOf, Does, SharedOf, cell_world, row_in, Shows}
+use Rattle.zone_machine.specs.Code.Reads.{decide_in, subject_at, subject_in, held_subject, idle_subject}
 use Rattle.zone_machine.specs.Machine.Common.{Common, acts_common, came_common, common}
-use Rattle.zone_machine.specs.State.Decisions.{Act, act_of, acts_world, says}
-use Rattle.zone_machine.specs.Session.Lines.{Line, line_of}
-use Rattle.zone_machine.specs.Machine.{decide, done_by, opening, one, one_of, session_number, session_subject, subject}
+use Rattle.zone_machine.specs.State.Decisions.{Act, act_of, acts_world}
+use Rattle.zone_machine.specs.Session.Lines.{Line, line_of, Command, Kill}
+use Rattle.zone_machine.specs.Machine.{decide, done_by, opening, one, one_of, session_number, session_subject, subject, holder, line_subject}
 use Rattle.zone_machine.specs.State as state
 use Rattle.zone_machine.specs.State.{State, stored}
 use Rattle.zone_machine.specs.Code.Cell_steps.{IsCellStep}
@@ -32,10 +37,9 @@ use Rattle.zone_machine.specs.declared.events.Event.TheVariants as event
 use Rattle.zone_machine.specs.declared.events.Subject.{Subject}
 use Rattle.zone_machine.specs.declared.events.Subject.TheVariants.{Zone}
 use Rattle.commit_journal.specs.declared.records.Record.{Record}
-use Rattle.zone_machine.specs.declared.replies.Body.TheVariants.{Nothing as No_body}
-use Rattle.zone_machine.specs.declared.replies.Head.{Head}
+use Rattle.zone_machine.specs.declared.replies.Reply.{Reply}
 use Rattle.zone_machine.specs.declared.machine.shared.Shared.{Shared}
-use Rattle.zone_machine.specs.Objects.{has_pid, has_zid}
+use Rattle.zone_machine.specs.Objects.{has_zid}
 use Rattle.zone_machine.specs.Code.Cases.{decision_of}
 use Rattle.zone_machine.specs.Code.Rooms.{Alike, IsOpenTo}
 use Rattle.zone_machine.specs.declared.cases.Case.{Case}
@@ -63,11 +67,11 @@ agrees z S c s cell shared = record {
 held_nowhere : (o : ℕ → Option Name) → ((n : ℕ) → o n ≡ None) → (z : Name) (n : ℕ) → false ≡ held_by o z n
 held_nowhere o none z n = sym (ap (is_owner z) (none n))
 
-pub nothing-shared : (s : Shared) → ((n : ℕ) → owner nat_eq s.pids n ≡ None) → ((n : ℕ) → owner nat_eq s.zids n ≡ None) → ((n : ℕ) → owner nat_eq s.sessions n ≡ None)
-    → s.rows.entries ≡ [] → s.serial ≡ 0 → s.last_pid ≡ 1 → s.last_zid ≡ 0 → s.started ≡ false → SharedOf s (common (opening []))
+pub nothing-shared : (s : Shared) → ((n : ℕ) → pid_owner s.kernel n ≡ None) → ((n : ℕ) → zid_owner s.kernel n ≡ None) → ((n : ℕ) → owner nat_eq s.sessions n ≡ None)
+    → s.rows.entries ≡ [] → s.serial ≡ 0 → s.kernel.last_pid ≡ 1 → s.kernel.last_zid ≡ 0 → s.started ≡ false → SharedOf s (common (opening []))
 nothing-shared s pids zids sessions rows serial last_pid last_zid started = λ i. record {
-  pids = λ z n. held_nowhere (owner nat_eq s.pids) pids z n i;
-  zids = λ z n. held_nowhere (owner nat_eq s.zids) zids z n i;
+  pids = λ z n. held_nowhere (pid_owner s.kernel) pids z n i;
+  zids = λ z n. held_nowhere (zid_owner s.kernel) zids z n i;
   sessions = λ z n. held_nowhere (owner nat_eq s.sessions) sessions z n i;
   rows = ap rows_of (sym rows) i;
   serial = sym serial i;
@@ -77,20 +81,36 @@ nothing-shared s pids zids sessions rows serial last_pid last_zid started = λ i
 }
 
 -- whose an event is
-session-stands : (line : Line) (m : state.Session) (o : Option Name) → ((z : Name) → is_some (doing z m) ≡ is_owner z o) → session_subject line m ≡ subject_at line o
-session-stands line state.Idle None h = refl
-session-stands line (state.At x d) None h = let e : is_some (doing x (state.At x d)) ≡ false = h x in absurd (true≢false (simp (same_self x) at e))
-session-stands line state.Idle (Some y) h = absurd (true≢false (sym (h y ∙ same_self y)))
-session-stands line (state.At x d) (Some y) h = ap Zone (at_zone (bytes_eq x y) refl)
-  where
-    at_zone : (b : Bool) → bytes_eq x y ≡ b → x ≡ y
-    at_zone true e = same_true x y e
-    at_zone false e = let f : is_some (doing x (state.At x d)) ≡ bytes_eq x y = h x in absurd (true≢false (simp (same_self x) at f ∙ e))
+module _ (os : List (Owned Process)) (k : Kernel) (held : (z : Name) (n : ℕ) → has_it n z os ≡ is_owner z (pid_owner k n)) where
+  holder-stands : (n : ℕ) (o : Option Name) → pid_owner k n ≡ o → holder (first_of (filter (λ o. has_pid n o.it) os)) ≡ held_subject o
+  holder-stands n None e = holder-none n os (λ z. held z n ∙ ap (is_owner z) e)
+  holder-stands n (Some y) e = holder-one n os y (held y n ∙ (ap (is_owner y) e ∙ same_self y)) (λ z h. same_true z y (sym (ap (is_owner z) e) ∙ (sym (held z n) ∙ h)))
+
+  line-stands : (zone : Option (List ℕ)) (c : Command) → line_subject zone os c ≡ idle_subject zone k c
+  line-stands word (Kill signal pid) = holder-stands pid (pid_owner k pid) refl
+  line-stands word _ = refl
+
+  session-stands : (line : Line) (m : state.Session) (o : Option Name) → ((z : Name) → is_some (doing z m) ≡ is_owner z o) → session_subject line os m ≡ subject_at line k o
+  session-stands line state.Idle None h = line-stands line.zone line.command
+  session-stands line (state.At x d) None h = let e : is_some (doing x (state.At x d)) ≡ false = h x in absurd (true≢false (simp (same_self x) at e))
+  session-stands line state.Idle (Some y) h = absurd (true≢false (sym (h y ∙ same_self y)))
+  session-stands line (state.At x d) (Some y) h = ap Zone (at_zone (bytes_eq x y) refl)
+    where
+      at_zone : (b : Bool) → bytes_eq x y ≡ b → x ≡ y
+      at_zone true e = same_true x y e
+      at_zone false e = let f : is_some (doing x (state.At x d)) ≡ bytes_eq x y = h x in absurd (true≢false (simp (same_self x) at f ∙ e))
 
 pub subject-stands : (S : State) (s : Shared) (e : Event) → SharedOf s (common S) → subject S e ≡ subject_in s e
 unfolding subject
-subject-stands S s (event.Session n text) h = session-stands (line_of text) (S.sessions n) (owner nat_eq s.sessions n) (λ z. ap (λ k. k.sessions z n) h)
+subject-stands S s (event.Session n text) h =
+    session-stands S.processes s.kernel (λ z n. ap (λ k. k.pids z n) h) (line_of text) (S.sessions n) (owner nat_eq s.sessions n) (λ z. ap (λ k. k.sessions z n) h)
 subject-stands S s (event.Turn z) h = refl
+subject-stands S s (event.Process z pid c) h = refl
+
+-- what a view of the cell's zone shows
+pub shows : (z : Name) (row : Option Record) (c : Cell) → Shows (view_of z (cell_world row c)) z c.kernel
+unfolding view_of
+shows z row c = record { zone = refl; kernel = λ i. record { id = first_id c.kernel.id i; processes = c.kernel.processes; devices = [] }; process = λ n. refl }
 
 -- the case of an event
 pub decide-stands : (S : State) (z : Name) (w : World) (e : Event) → world z S ≡ w → decide (view z S) e ≡ decide (view_of z w) e
@@ -99,9 +119,10 @@ decide-stands S z w e h = ap (λ v. decide v e) (view-world z S ∙ ap (view_of 
 -- the session of an event of z is nobody's or z's
 pub open-to : (z : Name) (s : Shared) (e : Event) → subject_in s e ≡ Zone z → IfSome (session_number e) (λ n. IsOpenTo z (owner nat_eq s.sessions n))
 open-to z s (event.Turn y) is = tt
+open-to z s (event.Process y pid c) is = tt
 open-to z s (event.Session n text) is = at_owner (owner nat_eq s.sessions n) is
   where
-    at_owner : (o : Option Name) → subject_at (line_of text) o ≡ Zone z → IsOpenTo z o
+    at_owner : (o : Option Name) → subject_at (line_of text) s.kernel o ≡ Zone z → IsOpenTo z o
     at_owner None h = inl refl
     at_owner (Some y) h = inr (ap Some (same h))
       where
@@ -114,21 +135,21 @@ unfolding one
 one-of S e g s is = ap (λ s. one_of s S e g) is
 
 -- an event of z, whose case on the cell c and the shared part s was done and left d and t
-module _ (z : Name) (c d : Cell) (s t : Shared) (e : Event) (g : Grant) (head : Head) where
+module _ (z : Name) (c d : Cell) (s t : Shared) (e : Event) (g : Grant) (reply : Reply) where
   abbrev done_in : Act
   done_in = act_of (decide_in z (row_in z s) c e) g
 
-  pub cell-answered : says head ≡ done_in.effect.reply
+  pub cell-answered : reply ≡ done_in.effect.reply
       → (IfSome (session_number e) (λ n. IsOpenTo z (owner nat_eq s.sessions n)) → Does z (acts_world (session_number e) done_in) (came_common z done_in.came) c s d t)
-      → IsCellStep z c s e g (record { event = e; subject = Zone z; grant = g; reply = record { head = head; body = No_body } }) d (record t { started = true })
+      → IsCellStep z c s e g (record { event = e; subject = Zone z; grant = g; reply = reply }) d (record t { started = true })
   cell-answered said done S has shares is =
       let n = session_number e in let w = cell_world (row_in z s) c in let a = done_in in
       let here : world z S ≡ w = cell-stands z S c s has shares in
       let does = done (open-to z s e (sym (subject-stands S s e shares) ∙ is)) in
       let case : decide (view z S) e ≡ decide_in z (row_in z s) c e = decide-stands S z w e here in
       let steps : one S e g ≡ done_by z n a S = one-of S e g (Zone z) is ∙ ap (λ x. done_by z n (act_of x g) S) case in
-      let told : says head ≡ (one S e g).reply = said ∙ ap (λ x. x.reply) (sym steps) in
-      let left : world z (done_by z n a S).state ≡ cell_world (row_in z t) d = own-acts z n a S ∙ (ap (acts_world n a) here ∙ sym does.world) in
+      let told : reply ≡ (one S e g).reply = said ∙ ap (λ x. x.reply) (sym steps) in
+      let left : world z (done_by z n a S).state ≡ cell_world (row_in z t) d = own-acts z n a S ∙ (ap (acts_world n a) here ∙ sym (does.world (agrees z S c s has shares))) in
       record {
         told = λ i. record { event = e; subject = sym is i; grant = g; reply = told i };
         cell = subst (λ x. CellOf d (world z x.state)) (sym steps) (cell-of (world z (done_by z n a S).state) (row_in z t) d left);
@@ -138,17 +159,17 @@ module _ (z : Name) (c d : Cell) (s t : Shared) (e : Event) (g : Grant) (head : 
       }
 
 -- the same, where room was taken between: c and s are as they were, c' and s' with the room
-module _ (z : Name) (c : Cell) (s : Shared) (c' d : Cell) (s' t : Shared) (e : Event) (g : Grant) (head : Head) (case : Case) (alike : Alike c s c' s') where
+module _ (z : Name) (c : Cell) (s : Shared) (c' d : Cell) (s' t : Shared) (e : Event) (g : Grant) (reply : Reply) (case : Case) (alike : Alike c s c' s') where
   row_alike : row_in z s' ≡ row_in z s
   row_alike = ap (lookup (bytes_eq z)) alike.rows
 
-  pub answered : decide_in z (row_in z s) c e ≡ decision_of c.desk case → decision_of c'.desk case ≡ decision_of c.desk case → says head ≡ (act_of (decision_of c'.desk case) g).effect.reply
+  pub answered : decide_in z (row_in z s) c e ≡ decision_of c.desk case → decision_of c'.desk case ≡ decision_of c.desk case → reply ≡ (act_of (decision_of c'.desk case) g).effect.reply
       → (IfSome (session_number e) (λ n. IsOpenTo z (owner nat_eq s'.sessions n)) → Does z (acts_world (session_number e) (act_of (decision_of c'.desk case) g)) (came_common z (act_of (decision_of c'.desk case) g).came) c' s' d t)
-      → IsCellStep z c s e g (record { event = e; subject = Zone z; grant = g; reply = record { head = head; body = No_body } }) d (record t { started = true })
+      → IsCellStep z c s e g (record { event = e; subject = Zone z; grant = g; reply = reply }) d (record t { started = true })
   answered decided same said done S cell shared is =
       let here : decide_in z (row_in z s') c' e ≡ decision_of c'.desk case =
       ap (λ (w : World). decide (view_of z w) e) (ap (λ row. cell_world row c') row_alike ∙ alike.world (row_in z s)) ∙ (decided ∙ sym same) in
-      cell-answered z c' d s' t e g head
+      cell-answered z c' d s' t e g reply
       (said ∙ ap (λ x. (act_of x g).effect.reply) (sym here))
       (λ opens. subst (λ x. Does z (acts_world (session_number e) (act_of x g)) (came_common z (act_of x g).came) c' s' d t) (sym here) (done opens))
       S (cell ∙ sym (alike.world (world z S).stored)) (shared ∙ sym alike.common) is

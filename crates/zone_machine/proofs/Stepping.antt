@@ -25,11 +25,10 @@ use Rattle.zone_machine.proofs.Own_worlds.{leaves}
 use Rattle.zone_machine.proofs.Standing.{cell-stands, decide-stands, stored-stands, subject-stands}
 use Rattle.zone_machine.specs.Code.Cells.{CellOf, Keeps, SharedOf, Stands, cell_at, cell_world, empty_world, row_in, world_or_empty}
 use Rattle.zone_machine.specs.Code.Needs.{pools_in}
-use Rattle.zone_machine.specs.Code.Reads.{decide_in, subject_at, subject_in}
+use Rattle.zone_machine.specs.Code.Reads.{decide_in, held_subject, idle_subject, subject_at, subject_in}
 use Rattle.zone_machine.specs.Machine.Common.{Common, common}
-use Rattle.zone_machine.specs.State.Decisions.{says}
 use Rattle.zone_machine.specs.Machine.Histories.{concerns}
-use Rattle.zone_machine.specs.Session.Lines.{Line, line_of}
+use Rattle.zone_machine.specs.Session.Lines.{Blank, Command, Kill, Line, Make, Request, Unknown, line_of}
 use Rattle.zone_machine.specs.Machine.{decide, global_reply, named_subject, one, one_of, subject, subject_of_name}
 use Rattle.zone_machine.specs.Machine.Pools.{allowed, allowed_of, fits, fits_of, path_taken, pools_of}
 use Rattle.zone_machine.specs.State.{State, stored}
@@ -46,10 +45,11 @@ use Rattle.zone_machine.specs.declared.events.Subject.{Subject}
 use Rattle.zone_machine.specs.declared.events.Subject.TheVariants.{Zone, Global, Whole}
 use Rattle.zone_machine.specs.declared.machine.parts.Parts.{Parts}
 use Rattle.commit_journal.specs.declared.records.Record.{Record}
-use Rattle.zone_machine.specs.declared.replies.Body.TheVariants.{Nothing as No_body}
-use Rattle.zone_machine.specs.declared.replies.Head.{Head}
+use Rattle.zone_machine.specs.declared.replies.Reply.{Reply}
 use Rattle.zone_machine.specs.declared.machine.shared.Shared.{Shared}
-use Rattle.zone_machine.specs.Objects.{has_pid, has_zid}
+use Rattle.kernel_objects.specs.Processes.{has_pid}
+use Rattle.kernel_objects.specs.Shared.{Shared as Kernel, pid_owner, zid_owner}
+use Rattle.zone_machine.specs.Objects.{has_zid}
 use Rattle.zone_machine.specs.Daemon.Desks.{state_of}
 use Rattle.zone_machine.specs.State.Decisions.{Decision}
 use Rattle.zone_machine.specs.State.Worlds.{View}
@@ -73,8 +73,8 @@ module _ {A : Type 0} (p : A → Bool) where
 
 pub pools-stand : (S : State) (s : Shared) → SharedOf s (common S) → pools_of S ≡ pools_in s
 pools-stand S s h = λ i. record {
-  pid_used = λ n. used-stands (has_pid n) S.processes (owner nat_eq s.pids n) (λ z. ap (λ k. k.pids z n) h) i;
-  zid_used = λ n. used-stands (has_zid n) S.ids (owner nat_eq s.zids n) (λ z. ap (λ k. k.zids z n) h) i;
+  pid_used = λ n. used-stands (has_pid n) S.processes (pid_owner s.kernel n) (λ z. ap (λ k. k.pids z n) h) i;
+  zid_used = λ n. used-stands (has_zid n) S.ids (zid_owner s.kernel n) (λ z. ap (λ k. k.zids z n) h) i;
   last_pid = (h i).last_pid;
   last_zid = (h i).last_zid;
   zones = length (h i).rows;
@@ -243,9 +243,9 @@ module _ (m : Parts) (e : Event) (is : subject_in m.shared e ≡ Global) where
   IsMisfitUnder-global None unfit = absurd (unfit (pools_in m.shared))
   IsMisfitUnder-global (Some stated) unfit = (λ S h. fits-of S e stated Global (of_global S h) ∙ unfit (pools_of S), refl)
 
-  pub IsStep-global : (g : Grant) (head : Head) → ((S : State) → says head ≡ global_reply S e)
-      → IsStep m e g (record { event = e; subject = Global; grant = g; reply = record { head = head; body = No_body } }) (record m { shared = record m.shared { started = true } })
-  IsStep-global g head said S h =
+  pub IsStep-global : (g : Grant) (reply : Reply) → ((S : State) → reply ≡ global_reply S e)
+      → IsStep m e g (record { event = e; subject = Global; grant = g; reply = reply }) (record m { shared = record m.shared { started = true } })
+  IsStep-global g reply said S h =
       let steps = one-global S g h in
       record {
         told = λ i. record { event = e; subject = sym (of_global S h) i; grant = g; reply = (said S ∙ ap (λ r. r.reply) (sym steps)) i };
@@ -297,10 +297,22 @@ never_named (Some word) h = at_name (name_of word) h
     at_name (Right z) h = cc
     at_name (Err fault) h = cc
 
-never_at : (line : Line) (o : Option Name) → Whole ≡ subject_at line o → ⊥
-never_at line None h = never_named line.zone h
-never_at line (Some y) h = cc
+never_held : (o : Option Name) → Whole ≡ held_subject o → ⊥
+never_held None h = cc
+never_held (Some y) h = cc
+
+never_idle : (zone : Option (List ℕ)) (k : Kernel) (c : Command) → Whole ≡ idle_subject zone k c → ⊥
+never_idle named k (Kill signal pid) h = never_held (pid_owner k pid) h
+never_idle named k Blank h = never_named named h
+never_idle named k (Make word) h = never_named named h
+never_idle named k (Request kind) h = never_named named h
+never_idle named k Unknown h = never_named named h
+
+never_at : (line : Line) (k : Kernel) (o : Option Name) → Whole ≡ subject_at line k o → ⊥
+never_at line k None h = never_idle line.zone k line.command h
+never_at line k (Some y) h = cc
 
 pub never_whole : (s : Shared) (e : Event) → Whole ≡ subject_in s e → ⊥
-never_whole s (event.Session n text) h = never_at (line_of text) (owner nat_eq s.sessions n) h
+never_whole s (event.Session n text) h = never_at (line_of text) s.kernel (owner nat_eq s.sessions n) h
 never_whole s (event.Turn z) h = cc
+never_whole s (event.Process z pid c) h = cc

@@ -1,7 +1,7 @@
 -- What comes with a grant, and takes its number from there: nothing else can make these.
 use Rattle.std.specs.Prelude.{ℕ, Option}
-use Rattle.zone_machine.specs.declared.objects.Id.{Id}
-use Rattle.zone_machine.specs.declared.objects.Process.{Process}
+use Rattle.kernel_objects.specs.Processes.{Process}
+use Rattle.kernel_objects.specs.declared.objects.Id.{Id}
 use Rattle.commit_journal.specs.declared.records.Record.{Record}
 
 pub data Comes : Type 0 where

@@ -1,8 +1,10 @@
 //! What an event of a zone comes to. A case is decided before anything is changed, and holds all that its event needs.
 use crate::daemon::RequestKind;
 use crate::daemon::cases::TurnCase;
-use crate::replies::Head;
+use crate::objects::changes::ObjectEdit;
+use crate::replies::{Body, Head};
 use commit_journal::Record;
+use kernel_objects::Running;
 use zn_base::ZoneName;
 
 /// What an event of a zone comes to.
@@ -10,6 +12,12 @@ use zn_base::ZoneName;
 pub(crate) enum Case {
     /// Nothing is done but a reply.
     Says(Head),
+    /// Nothing is done but a reply that tells something.
+    Tells(Body),
+    /// The zone's objects change.
+    Change(ObjectEdit),
+    /// A process makes another.
+    Fork(Box<Running>),
     /// A zone is made. The record's revision is the number that the grant gives.
     Make(Box<Record>, ZoneName),
     /// A request is put on the desk, and the session waits for its ticket.

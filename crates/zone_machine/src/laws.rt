@@ -2,8 +2,9 @@
 ghost use Rattle.std.specs.Prelude.{◌≡◌, ◌≢◌, List, true};
 ghost use Rattle.zn_base.specs.Names.{Name};
 ghost use Rattle.commit_journal.specs.Store.{row_of};
+ghost use Rattle.kernel_objects.specs.declared.objects.Id.{Id};
 ghost use Rattle.zone_pools.specs.declared.grant.Grant.{Grant};
-ghost use Rattle.zone_machine.specs.Machine.Common.{acts_common, common};
+ghost use Rattle.zone_machine.specs.Machine.Common.{HoldOnce, acts_common, common};
 ghost use Rattle.zone_machine.specs.State.Decisions.{act_of, says};
 ghost use Rattle.zone_machine.specs.Daemon.Desks.{Desk};
 ghost use Rattle.zone_machine.specs.Machine.Histories.{is_allowed, is_told};
@@ -29,19 +30,19 @@ pub fn changes_what_is_common()
         → common (one S e g).state ≡ record (common S) { started = true } }
 {}
 
-/// Whose an event is follows from what is common.
+/// Whose an event is follows from what is common, where no two zones hold one number of a process.
 pub fn subject_by_what_is_common()
-    ensures { (S T : State) (e : Event) → common S ≡ common T → subject S e ≡ subject T e }
+    ensures { (S T : State) (e : Event) → HoldOnce (common S).pids → common S ≡ common T → subject S e ≡ subject T e }
 {}
 
 /// What an event of a zone asks, the grant that the pools give it, and which grants may be stated follow from
-/// what is common and the zone's world.
+/// what is common and the zone's world, where no two zones hold one number of a process.
 pub fn allowed_by_what_is_common()
-    ensures need { (z : Name) (S T : State) (e : Event) → subject S e ≡ Zone z
+    ensures need { (z : Name) (S T : State) (e : Event) → subject S e ≡ Zone z → HoldOnce (common S).pids
         → common S ≡ common T → world z S ≡ world z T → need S e ≡ need T e }
-    ensures allowed { (z : Name) (S T : State) (e : Event) → subject S e ≡ Zone z
+    ensures allowed { (z : Name) (S T : State) (e : Event) → subject S e ≡ Zone z → HoldOnce (common S).pids
         → common S ≡ common T → world z S ≡ world z T → allowed S e ≡ allowed T e }
-    ensures fits { (z : Name) (S T : State) (e : Event) (g : Grant) → subject S e ≡ Zone z
+    ensures fits { (z : Name) (S T : State) (e : Event) (g : Grant) → subject S e ≡ Zone z → HoldOnce (common S).pids
         → common S ≡ common T → world z S ≡ world z T → fits S e g ≡ fits T e g }
 {}
 
@@ -51,12 +52,12 @@ pub fn is_stored_in_common()
 {}
 
 /// A local turn is told as it is and under the grant that the pools give, leaves what is common as it is but for the
-/// start, changes its zone's mounts and desk alone, and isn't idle.
+/// start, changes its zone's mounts, its id and its desk alone, and isn't idle.
 pub fn local_turns_touch_nothing_common()
     ensures right { (z : Name) (S : State) (e : Entry) → is_local z (world z S) e ≡ true → (is_told S e ≡ true) × (is_allowed S e.event e.grant ≡ true) }
     ensures common { (z : Name) (S : State) (e : Entry) → is_local z (world z S) e ≡ true → common (one S e.event e.grant).state ≡ record (common S) { started = true } }
     ensures world { (z : Name) (S : State) (e : Entry) → is_local z (world z S) e ≡ true
-        → (ms : List Mount) × (d : Desk) × (world z (one S e.event e.grant).state ≡ record (world z S) { mounts = ms; desk = d }) }
+        → (ms : List Mount) × (is : List Id) × (d : Desk) × (world z (one S e.event e.grant).state ≡ record (world z S) { mounts = ms; ids = is; desk = d }) }
     ensures awake { (z : Name) (w : World) (e : Entry) → is_local z w e ≡ true → e.reply ≢ says (Turned Idle) }
 {}
 

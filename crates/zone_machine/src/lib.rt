@@ -5,6 +5,7 @@
 //! a zone needs these two alone, by `cell_step`, and a turn that is local the cell alone, by `local_turn`.
 #![tactic(auto)]
 
+mod calls;
 mod cases;
 mod daemon;
 mod events;
@@ -28,5 +29,5 @@ pub use machine::cell::Cell;
 pub use machine::local_turns::local_turn;
 pub use machine::shared::Shared;
 pub use machine::steps::{cell_step, cell_step_given};
-pub use objects::{Id, Mount, Process};
+pub use objects::Mount;
 pub use replies::{Body, Head, Refusal, Reply};

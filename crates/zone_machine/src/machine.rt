@@ -5,6 +5,7 @@ ghost use Rattle.zone_machine.specs.Code.Steps.{IsAllowed, IsAllowedStep, IsFitt
 ghost use Rattle.zone_machine.specs.Code.Cells.{Stands};
 
 pub(crate) mod cell;
+pub(crate) mod comings;
 pub(crate) mod effects;
 pub(crate) mod local_turns;
 pub(crate) mod needs;

@@ -1,22 +1,26 @@
 -- What the code's cases decide, as the definitions have it.
-use Rattle.std.specs.Prelude.{◌≡◌, ℕ, ◌+◌, ◌<◌, List, [], ◌∷◌, drop, length, Bool, true, false, Option, Some, None, IsSomeAnd}
+use Rattle.std.specs.Prelude.{◌≡◌, ℕ, ◌+◌, ◌<◌, List, [], ◌∷◌, drop, length, map, Bool, true, false, Option, Some, None, IsSomeAnd}
 use Rattle.zn_base.specs.Names.{Name}
 use Rattle.zn_base.specs.declared.state.ZoneState.{ZoneState}
 use Rattle.zone_pools.specs.Asked.{A_path, A_pid, A_serial, A_zid, A_zone, Asked}
 use Rattle.zone_pools.specs.Decisions as decisions
 use Rattle.zone_pools.specs.Owned_lists.{Come, Go}
 use Rattle.zone_machine.specs.Arrivals.{A_process, A_record, An_id, Comes}
-use Rattle.zone_machine.specs.State.Decisions.{Decision, done_saying, effects, refused, turned}
+use Rattle.zone_machine.specs.State.Decisions.{Decision, done_saying, effects, refused, tells, turned}
 use Rattle.zone_machine.specs.Daemon.Desks as desks
+use Rattle.kernel_objects.specs.Kernel.{cleared, new_id}
+use Rattle.kernel_objects.specs.Processes.{at_pid, dropping, process_of, renamed}
+use Rattle.zone_machine.specs.Code.Cells.{ids_of}
+use Rattle.zone_machine.specs.declared.replies.Body.TheVariants.{Child}
 use Rattle.zone_machine.specs.Code.Desks.{as_desk, as_job}
-use Rattle.zone_machine.specs.State.Edits.{Here, Set_desk}
+use Rattle.zone_machine.specs.State.Edits.{Here, Of_objects, Set_desk}
 use Rattle.zone_machine.specs.Objects as objects
-use Rattle.zone_machine.specs.Objects.{Ids_go, Object_edit, Of_mounts, Processes_go, all_of, is_at}
+use Rattle.zone_machine.specs.Objects.{Ids_change, Ids_go, Object_edit, Of_mounts, Process_goes, Processes_change, Processes_go, all_of, is_at}
 use Rattle.zone_machine.specs.State.{Awaiting}
-use Rattle.zone_machine.specs.Daemon.Turns.{Turn_decision, Turned, active_after, advance, asking, finish, reports, rests, undone}
+use Rattle.zone_machine.specs.Daemon.Turns.{Turn_decision, Turned, active_after, advance, asking, default_limits, finish, reports, rests, undone}
 use Rattle.zone_machine.specs.Session.Typed.{is_full, with_request}
 use Rattle.zone_machine.specs.declared.cases.Case.{Case}
-use Rattle.zone_machine.specs.declared.cases.Case.TheVariants.{Says, Make, Put, Turn}
+use Rattle.zone_machine.specs.declared.cases.Case.TheVariants.{Change, Fork, Says, Make, Put, Tells, Turn}
 use Rattle.zone_machine.specs.declared.daemon.cases.JobCase.{JobCase}
 use Rattle.zone_machine.specs.declared.daemon.cases.JobCase.TheVariants.{Finish, Pass, Ask, Undo}
 use Rattle.zone_machine.specs.declared.daemon.cases.TurnCase.{TurnCase}
@@ -37,33 +41,38 @@ use Rattle.zone_machine.specs.declared.replies.Refusal.TheVariants.{Denied}
 use Rattle.zone_machine.specs.declared.objects.changes.Came.{Came}
 use Rattle.zone_machine.specs.declared.objects.changes.Came.TheVariants.{Process, Id, Record}
 use Rattle.zone_machine.specs.declared.objects.changes.ObjectEdit.{ObjectEdit}
-use Rattle.zone_machine.specs.declared.objects.changes.ObjectEdit.TheVariants.{Nothing, EndProcesses, Mount, Unmount, EndIds}
+use Rattle.zone_machine.specs.declared.objects.changes.ObjectEdit.TheVariants.{ClearLimits, EndIds, EndProcess, EndProcesses, GiveUp, Mount, Nothing, Rename, SetLimits, Unmount}
 
 abbrev pub as_objects : Objects → objects.Objects
-as_objects o = record { processes = o.processes.now; mounts = o.mounts.now; ids = o.ids.now }
+as_objects o = record { processes = o.kernel.now.processes; mounts = o.mounts.now; ids = ids_of o.kernel.now.id }
 
 abbrev pub object_edits : ObjectEdit → List Object_edit
 object_edits Nothing = []
 object_edits EndProcesses = Processes_go all_of ∷ []
+object_edits (EndProcess pid) = Process_goes pid ∷ []
+object_edits (Rename pid name) = Processes_change (at_pid pid (renamed name)) ∷ []
+object_edits (GiveUp pid number) = Processes_change (at_pid pid (dropping number)) ∷ []
 object_edits (Mount m) = Of_mounts (Come m.value) ∷ []
 object_edits (Unmount dir) = Of_mounts (Go (is_at dir)) ∷ []
 object_edits EndIds = Ids_go all_of ∷ []
+object_edits SetLimits = Ids_change default_limits ∷ []
+object_edits ClearLimits = Ids_change cleared ∷ []
 
 -- what comes with a grant, the pool that is asked for it, and the step as it is told under the number
 abbrev pub comes_of : Came → Comes
-comes_of (Process p) = A_process p
-comes_of (Id i) = An_id i
-comes_of (Record r) = A_record (λ n. Some r.value)
+comes_of (Process p) = A_process (process_of (0, p.value))
+comes_of Id = An_id (new_id 0)
+comes_of (Record r owner) = A_record (λ n. Some r.value)
 
 abbrev pub asked_for : Came → Asked
 asked_for (Process p) = A_pid
-asked_for (Id i) = A_zid
-asked_for (Record r) = A_serial
+asked_for Id = A_zid
+asked_for (Record r owner) = A_serial
 
 abbrev pub shown_under : Came → ℕ → Step
 shown_under (Process p) n = step.Init (Some n)
-shown_under (Id i) n = step.Zid (Some n)
-shown_under (Record r) n = step.Record r.value.state
+shown_under Id n = step.Zid (Some n)
+shown_under (Record r owner) n = step.Record r.value.state
 
 -- a step that is a turn only where something is mounted
 abbrev pub is_unmount : Step → Bool
@@ -84,7 +93,7 @@ undo_with d j edits (s ∷ rest) = decisions.Just (undone d j rest edits s)
 abbrev pub job_turn : desks.Desk → Job → JobCase → Turn_decision
 job_turn d j (Finish outcome) = decisions.Just (finish d j.ticket outcome)
 job_turn d j (Pass p) = decisions.Just (advance (record d { active = active_with p.shown d.active }) (as_job j) (drop p.next j.steps.items) (object_edits p.objects) p.shown)
-job_turn d j (Ask c next) = asking d (as_job j) (drop next j.steps.items) (comes_of c.it) (asked_for c.it) (shown_under c.it)
+job_turn d j (Ask it next) = asking d (as_job j) (drop next j.steps.items) (comes_of it) (asked_for it) (shown_under it)
 job_turn d j (Undo objects) = undo_with d (as_job j) (object_edits objects) (as_job j).undo
 
 -- a desk without a request under way has no such case
@@ -115,6 +124,9 @@ made z row =
 -- what an event decides
 abbrev pub decision_of : Desk → Case → Decision
 decision_of d (Says head) = decisions.Just (done_saying [] head)
+decision_of d (Tells body) = decisions.Just (tells body)
+decision_of d (Change edit) = decisions.Just (done_saying (map Of_objects (object_edits edit)) Ok)
+decision_of d (Fork p) = decisions.Ask (A_process (process_of (0, p.value))) (A_pid ∷ []) (λ pool. refused (Denied pool)) (λ n. tells (Child n))
 decision_of d (Make row owner) = made owner row.value
 decision_of d (Put kind owner) =
     decisions.Just (done_saying (Set_desk (with_request (as_desk d) kind) ∷ Here (Some (Awaiting (d.last + 1))) ∷ []) (Ticket (d.last + 1)))
@@ -137,8 +149,12 @@ IsCaseOf d (Turn c) = IsTurnOf d c
 IsCaseOf d _ = Unit {0}
 
 -- what comes and who sits down is named by the zone
+abbrev pub IsNamedCame : Name → Came → Type 0
+IsNamedCame z (Record r owner) = owner ≡ z
+IsNamedCame z _ = Unit {0}
+
 abbrev pub IsNamedJobCase : Name → JobCase → Type 0
-IsNamedJobCase z (Ask c next) = c.owner ≡ z
+IsNamedJobCase z (Ask it next) = IsNamedCame z it
 IsNamedJobCase z _ = Unit {0}
 
 abbrev pub IsNamedTurn : Name → TurnCase → Type 0
@@ -146,7 +162,7 @@ IsNamedTurn z (GoOn c) = IsNamedJobCase z c
 IsNamedTurn z _ = Unit {0}
 
 abbrev pub IsNamedCase : Name → Case → Type 0
-IsNamedCase z (Says head) = Unit {0}
 IsNamedCase z (Make row owner) = owner ≡ z
 IsNamedCase z (Put kind owner) = owner ≡ z
 IsNamedCase z (Turn c) = IsNamedTurn z c
+IsNamedCase z _ = Unit {0}

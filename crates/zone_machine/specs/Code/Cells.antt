@@ -1,6 +1,6 @@
 -- The machine's cells and its shared part, as the definitions have them.
 use Rattle.indexmap.specs.IndexMap.{get, get_by}
-use Rattle.std.specs.Prelude.{◌≡◌, ℕ, [], Option, Some, None, bytes_eq, nat_eq, is_some, if◌then◌else◌}
+use Rattle.std.specs.Prelude.{◌≡◌, ℕ, List, [], ◌∷◌, Option, Some, None, bytes_eq, nat_eq, is_some, if◌then◌else◌}
 use Rattle.std.specs.Option.{option_map}
 use Rattle.std.specs.List.{list_any}
 use Rattle.zn_base.specs.Names.{Name}
@@ -9,20 +9,29 @@ use Rattle.commit_journal.specs.Zones.{rows_of}
 use Rattle.zone_machine.specs.Machine.Common.{Common, common, holding}
 use Rattle.zone_machine.specs.Code.Desks.{as_desk}
 use Rattle.zone_machine.specs.State.{Awaiting, State, stored}
-use Rattle.zone_machine.specs.State.Worlds.{World, world}
+use Rattle.zone_machine.specs.State.Worlds.{View, World, objects_of, world}
 use Rattle.zone_machine.specs.declared.machine.cell.Cell.{Cell}
 use Rattle.zone_machine.specs.declared.machine.parts.Parts.{Parts}
 use Rattle.commit_journal.specs.declared.records.Record.{Record}
 use Rattle.zone_machine.specs.declared.machine.shared.Shared.{Shared}
-use Rattle.zone_machine.specs.Objects.{has_pid, has_zid}
+use Rattle.kernel_objects.specs.Kernel.{Kernel}
+use Rattle.kernel_objects.specs.Processes.{has_pid, with_pid}
+use Rattle.kernel_objects.specs.Shared.{pid_owner, zid_owner}
+use Rattle.kernel_objects.specs.declared.objects.Id.{Id}
+use Rattle.zone_machine.specs.Objects.{has_zid, kernel_of}
 use Rattle.zone_machine.specs.Daemon.Desks.{empty_desk}
+
+-- the ids of a zone, which has one at most
+abbrev pub ids_of : Option Id → List Id
+ids_of None = []
+ids_of (Some i) = i ∷ []
 
 -- the world that a cell has, with what is stored of its zone
 abbrev pub cell_world : Option Record → Cell → World
 cell_world row c = record {
-  processes = c.processes.items;
+  processes = c.kernel.processes;
   mounts = c.mounts.items;
-  ids = c.ids.items;
+  ids = ids_of c.kernel.id;
   stored = row;
   desk = as_desk c.desk;
   sessions = λ n. option_map Awaiting (get nat_eq c.waits n);
@@ -41,15 +50,21 @@ row_in z s = get_by (bytes_eq z) s.rows
 
 abbrev pub common_in : Shared → Common
 common_in s = record {
-  pids = held_by (owner nat_eq s.pids);
-  zids = held_by (owner nat_eq s.zids);
+  pids = held_by (pid_owner s.kernel);
+  zids = held_by (zid_owner s.kernel);
   sessions = held_by (owner nat_eq s.sessions);
   rows = rows_of s.rows.entries;
   serial = s.serial;
-  last_pid = s.last_pid;
-  last_zid = s.last_zid;
+  last_pid = s.kernel.last_pid;
+  last_zid = s.kernel.last_zid;
   started = s.started;
 }
+
+-- a view of z shows what the zone has in the kernel
+pub record Shows (v : View) (z : Name) (k : Kernel) : Type 0 where
+  pub zone : v.zone ≡ z
+  pub kernel : kernel_of (objects_of v.world) ≡ record k { devices = [] }
+  pub process : (n : ℕ) → v.process n ≡ with_pid n k.processes
 
 -- a cell has a world, but for what is stored
 abbrev pub CellOf : Cell → World → Type 0
@@ -73,13 +88,14 @@ Keeps z d old new = (row : Option Record) (y : Name) → world_or_empty row (new
 
 -- the shared part names for z exactly what its cell has
 pub record Agree (z : Name) (c : Cell) (s : Shared) : Type 0 where
-  pub pids : (n : ℕ) → list_any (has_pid n) c.processes.items ≡ is_owner z (owner nat_eq s.pids n)
-  pub zids : (n : ℕ) → list_any (has_zid n) c.ids.items ≡ is_owner z (owner nat_eq s.zids n)
+  pub pids : (n : ℕ) → list_any (has_pid n) c.kernel.processes ≡ is_owner z (pid_owner s.kernel n)
+  pub zids : (n : ℕ) → list_any (has_zid n) (ids_of c.kernel.id) ≡ is_owner z (zid_owner s.kernel n)
   pub sessions : (n : ℕ) → is_some (get nat_eq c.waits n) ≡ is_owner z (owner nat_eq s.sessions n)
 
--- z's world was changed so and what is common so: z holds what it has then, and the other zones hold what they held
+-- where the shared part names what the cell has, z's world was changed so and what is common so: z holds what it has then, and
+-- the other zones hold what they held
 pub record Does (z : Name) (f : World → World) (g : Common → Common) (c : Cell) (s : Shared) (d : Cell) (t : Shared) : Type 0 where
-  pub world : cell_world (row_in z t) d ≡ f (cell_world (row_in z s) c)
+  pub world : Agree z c s → cell_world (row_in z t) d ≡ f (cell_world (row_in z s) c)
   pub common : Agree z c s → common_in t ≡ holding z (f (cell_world (row_in z s) c)) (g (common_in s))
 
 abbrev pub kept : Common → Common

@@ -13,10 +13,10 @@ use Rattle.zone_machine.specs.declared.events.Event.{Event}
 use Rattle.zone_machine.specs.declared.events.Subject.{Subject}
 use Rattle.zone_machine.specs.declared.machine.parts.Parts.{Parts}
 use Rattle.commit_journal.specs.declared.records.Record.{Record}
-use Rattle.zone_machine.specs.declared.replies.Body.TheVariants.{Nothing as No_body}
 use Rattle.zone_machine.specs.declared.replies.Head.{Head}
 use Rattle.zone_machine.specs.declared.replies.Head.TheVariants.{Ok, Refused}
 use Rattle.zone_machine.specs.declared.replies.Refusal.{Refusal}
+use Rattle.zone_machine.specs.declared.replies.Reply.{Reply}
 use Rattle.zone_pools.specs.declared.grant.Grant.{Grant}
 
 -- a case of z's cell, of what is decided in its view
@@ -36,6 +36,6 @@ abbrev pub head_of : Option Refusal → Head
 head_of None = Ok
 head_of (Some r) = Refused r
 
--- the entry of an event, by what it is granted and the first line of the reply
-abbrev pub entry_of : Subject → Event → Grant → Head → Entry
-entry_of s e g head = record { event = e; subject = s; grant = g; reply = record { head = head; body = No_body } }
+-- the entry of an event, by what it is granted and the reply
+abbrev pub entry_of : Subject → Event → Grant → Reply → Entry
+entry_of s e g reply = record { event = e; subject = s; grant = g; reply = reply }

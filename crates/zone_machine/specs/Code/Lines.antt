@@ -5,7 +5,7 @@ use Rattle.std.specs.Option.{option_map}
 use Rattle.zone_machine.specs.Session.Lines as lines
 use Rattle.zone_machine.specs.Session.Lines.{is_space, words}
 use Rattle.zone_machine.specs.declared.session.lines.Command.{Command}
-use Rattle.zone_machine.specs.declared.session.lines.Command.TheVariants.{Blank, Make, Request, Unknown}
+use Rattle.zone_machine.specs.declared.session.lines.Command.TheVariants.{Blank, Kill, Make, Request, Unknown}
 use Rattle.zone_machine.specs.declared.session.lines.Line.{Line}
 
 -- a text begins with a word
@@ -40,6 +40,7 @@ abbrev pub as_command : Command → lines.Command
 as_command Blank = lines.Blank
 as_command (Make word) = lines.Make word.now
 as_command (Request kind) = lines.Request kind
+as_command (Kill signal pid) = lines.Kill signal pid
 as_command Unknown = lines.Unknown
 
 abbrev pub as_line : Line → lines.Line

@@ -2,11 +2,11 @@
 use Rattle.std.specs.Prelude.{◌≡◌, Option, Some, true, false}
 use Rattle.zn_base.specs.Names.{Name}
 use Rattle.zone_pools.specs.declared.grant.Grant.TheVariants.{Nothing}
-use Rattle.zone_machine.specs.Code.Cells.{CellOf, cell_world}
+use Rattle.zone_machine.specs.Code.Cells.{CellOf, cell_world, ids_of}
 use Rattle.zone_machine.specs.Machine.Histories.{entry_at}
 use Rattle.zone_machine.specs.Machine.Local.{is_local, job_has_record}
 use Rattle.zone_machine.specs.Machine.{one}
-use Rattle.zone_machine.specs.Objects.{mounts_after}
+use Rattle.zone_machine.specs.Objects.{ids_after, mounts_after}
 use Rattle.zone_machine.specs.State.{State}
 use Rattle.zone_machine.specs.Daemon.Turns.{Turn_decision, Turned, turn}
 use Rattle.zone_machine.specs.State.Worlds.{objects_of, world}
@@ -21,7 +21,7 @@ IsNext c d = (row : Record) → turn (objects_of (cell_world (Some row) c)) (Som
 
 -- the turn was done on the cell
 abbrev pub After : Turned → Cell → Cell → Type 0
-After t c d = (row : Option Record) → cell_world row d ≡ record (cell_world row c) { mounts = mounts_after t.objects c.mounts.items; desk = t.desk }
+After t c d = (row : Option Record) → cell_world row d ≡ record (cell_world row c) { mounts = mounts_after t.objects c.mounts.items; ids = ids_after t.objects (ids_of c.kernel.id); desk = t.desk }
 
 -- the turn of z was local and answered by this entry, and the cell has its world after it
 pub record IsDone (z : Name) (S : State) (entry : Entry) (d : Cell) : Type 0 where

@@ -1,10 +1,10 @@
 -- What the code's needs ask, and what the pools know by the shared part, as the definitions have it.
-use Rattle.std.specs.Prelude.{List, [], ◌∷◌, ℕ, length, Bool, false, Option, Some, None, bytes_eq, nat_eq, not, ◌&&◌, is_some}
+use Rattle.std.specs.Prelude.{List, [], ◌∷◌, ℕ, length, Bool, false, Option, Some, None, bytes_eq, not, ◌&&◌}
 use Rattle.zone_pools.specs.Asked.{A_path, A_pid, A_serial, A_zid, A_zone, Asked}
 use Rattle.zone_machine.specs.declared.machine.needs.Need.{Need}
 use Rattle.zone_machine.specs.declared.machine.needs.Need.TheVariants.{Nothing, Pid, Zid, Record, NewZone}
 use Rattle.zn_base.specs.Names.{Name}
-use Rattle.zone_pools.specs.Owners.{owner}
+use Rattle.kernel_objects.specs.Shared.{pid_used, zid_used}
 use Rattle.zone_pools.specs.Pools.{Pools}
 use Rattle.commit_journal.specs.Zones.{rows_of}
 use Rattle.zone_machine.specs.Machine.Pools.{is_path, path_taken}
@@ -26,10 +26,10 @@ takes_path z path (Some e) = not (bytes_eq z e.0) && is_path path e.1.config.zon
 -- what the pools know, by the shared part
 abbrev pub pools_in : Shared → Pools
 pools_in s = record {
-  pid_used = λ n. is_some (owner nat_eq s.pids n);
-  zid_used = λ n. is_some (owner nat_eq s.zids n);
-  last_pid = s.last_pid;
-  last_zid = s.last_zid;
+  pid_used = pid_used s.kernel;
+  zid_used = zid_used s.kernel;
+  last_pid = s.kernel.last_pid;
+  last_zid = s.kernel.last_zid;
   zones = length (rows_of s.rows.entries);
   path_taken = path_taken (rows_of s.rows.entries);
   serial = s.serial;

@@ -1,18 +1,20 @@
 -- An event as the code reads it once, as the definitions have it.
-use Rattle.std.specs.Prelude.{ℕ, Option, Some, None, nat_eq}
+use Rattle.std.specs.Prelude.{ℕ, List, Option, Some, None, nat_eq}
+use Rattle.kernel_objects.specs.Shared.{Shared as Kernel, pid_owner}
+use Rattle.zone_machine.specs.Calls.{called}
 use Rattle.zn_base.specs.Names.{Name}
 use Rattle.zone_machine.specs.State.Decisions.{Decision, says}
 use Rattle.zone_machine.specs.declared.replies.Head.TheVariants.{Ok}
 use Rattle.commit_journal.specs.declared.records.Record.{Record}
 use Rattle.zone_pools.specs.Owners.{owner}
-use Rattle.zone_machine.specs.Session.Lines.{Line, line_of}
+use Rattle.zone_machine.specs.Session.Lines.{Command, Kill, Line, line_of}
 use Rattle.zone_machine.specs.Machine.{decide, named_subject, turn}
 use Rattle.zone_machine.specs.State.Worlds.{view_of, View}
 use Rattle.zone_machine.specs.declared.machine.cell.Cell.{Cell}
 use Rattle.zone_machine.specs.declared.events.Event.{Event}
 use Rattle.zone_machine.specs.declared.events.Event.TheVariants as event
 use Rattle.zone_machine.specs.declared.events.Subject.{Subject}
-use Rattle.zone_machine.specs.declared.events.Subject.TheVariants.{Zone}
+use Rattle.zone_machine.specs.declared.events.Subject.TheVariants.{Global, Zone}
 use Rattle.zone_machine.specs.declared.machine.shared.Shared.{Shared}
 use Rattle.zone_machine.specs.declared.replies.Reply.{Reply}
 use Rattle.zone_machine.specs.declared.machine.reads.Read.TheVariants as read
@@ -22,31 +24,44 @@ use Rattle.zone_machine.specs.Code.Lines.{as_line}
 use Rattle.zone_machine.specs.Code.Cells.{cell_world}
 
 -- whose an event is, by the shared part
-abbrev pub subject_at : Line → Option Name → Subject
-subject_at line None = named_subject line.zone
-subject_at line (Some y) = Zone y
+abbrev pub held_subject : Option Name → Subject
+held_subject None = Global
+held_subject (Some y) = Zone y
+
+abbrev pub idle_subject : Option (List ℕ) → Kernel → Command → Subject
+idle_subject word k (Kill signal pid) = held_subject (pid_owner k pid)
+idle_subject word k _ = named_subject word
+
+abbrev pub subject_at : Line → Kernel → Option Name → Subject
+subject_at line k None = idle_subject line.zone k line.command
+subject_at line k (Some y) = Zone y
 
 abbrev pub subject_in : Shared → Event → Subject
-subject_in s (event.Session n text) = subject_at (line_of text) (owner nat_eq s.sessions n)
+subject_in s (event.Session n text) = subject_at (line_of text) s.kernel (owner nat_eq s.sessions n)
 subject_in s (event.Turn z) = Zone z
+subject_in s (event.Process z pid c) = Zone z
 
 -- an event as it is read once: whose it is, its case in a view, the session that it is typed in, and what it is answered where
 -- it is no zone's
 abbrev pub subject_read : Shared → Read → Subject
-subject_read s (read.Line n line) = subject_at (as_line line) (owner nat_eq s.sessions n)
+subject_read s (read.Line n line) = subject_at (as_line line) s.kernel (owner nat_eq s.sessions n)
 subject_read s (read.Turn z) = Zone z.now
+subject_read s (read.Process z pid c) = Zone z.now
 
 abbrev pub decide_read : View → Read → Decision
 decide_read v (read.Line n line) = typed v (v.world.sessions n) (as_line line)
 decide_read v (read.Turn z) = turn v
+decide_read v (read.Process z pid c) = called v pid c.now
 
 abbrev pub number_read : Read → Option ℕ
 number_read (read.Line n line) = Some n
 number_read (read.Turn z) = None
+number_read (read.Process z pid c) = None
 
 abbrev pub global_read : Read → Reply
 global_read (read.Line n line) = global_line (as_line line)
 global_read (read.Turn z) = says Ok
+global_read (read.Process z pid c) = says Ok
 
 -- the case of an event of z, by its cell and what is stored of it
 abbrev pub decide_in : Name → Option Record → Cell → Event → Decision

@@ -52,19 +52,17 @@ HasRoomFor d (Put kind owner) = vec_len d.waiting < vec_capacity d.waiting
 HasRoomFor d (Turn c) = HasTurnRoom d.job c
 HasRoomFor d _ = Unit {0}
 
--- room for what comes, by the pools that are asked for it
-abbrev pub HasRoomToCome : List Asked → Cell → Shared → Type 0
-HasRoomToCome [] c s = Unit {0}
-HasRoomToCome (A_pid ∷ asked) c s = (vec_len c.processes < vec_capacity c.processes) × (0 < s.pids.room)
-HasRoomToCome (A_zid ∷ asked) c s = (vec_len c.ids < vec_capacity c.ids) × (0 < s.zids.room)
-HasRoomToCome (a ∷ asked) c s = 0 < spare s.rows
+-- room for a record, by the pools that are asked for it. What comes to the kernel takes its room as it comes
+abbrev pub HasRoomToStore : List Asked → Shared → Type 0
+HasRoomToStore [] s = Unit {0}
+HasRoomToStore (A_pid ∷ asked) s = Unit {0}
+HasRoomToStore (A_zid ∷ asked) s = Unit {0}
+HasRoomToStore (a ∷ asked) s = 0 < spare s.rows
 
 -- the same of what came
-abbrev pub HasRoomOf : Option Arrival → Cell → Shared → Type 0
-HasRoomOf None c s = Unit {0}
-HasRoomOf (Some (New_process p)) c s = (vec_len c.processes < vec_capacity c.processes) × (0 < s.pids.room)
-HasRoomOf (Some (New_id i)) c s = (vec_len c.ids < vec_capacity c.ids) × (0 < s.zids.room)
-HasRoomOf (Some (New_record row)) c s = 0 < spare s.rows
+abbrev pub HasRoomOf : Option Arrival → Shared → Type 0
+HasRoomOf (Some (New_record row)) s = 0 < spare s.rows
+HasRoomOf _ s = Unit {0}
 
 -- no zone holds the number of what came, and a record can be counted
 abbrev pub IsFreeOf : Option Arrival → Pools → Type 0
@@ -88,7 +86,7 @@ HasRoomIfSits _ c s = Unit {0}
 
 -- room for all that a case does
 pub record HasRoom (case : Case) (c : Cell) (s : Shared) : Type 0 where
-  pub came : HasRoomToCome (asked_of (decision_of c.desk case)) c s
+  pub stored : HasRoomToStore (asked_of (decision_of c.desk case)) s
   pub objects : HasRoomToChange (objects_of case) c
   pub sits : HasRoomIfSits case c s
   pub desk : HasRoomFor c.desk case

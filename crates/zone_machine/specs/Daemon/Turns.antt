@@ -1,5 +1,9 @@
 -- What a turn of a zone's daemon does: from the zone's objects, what is stored of it, and its desk.
-use Rattle.std.specs.Prelude.{ℕ, List, [], ◌∷◌, ◌++◌, length, ◌-◌, ◌^◌, min, Option, Some, None, codes, if◌then◌else◌}
+use Rattle.std.specs.Prelude.{ℕ, List, [], ◌∷◌, ◌++◌, Option, Some, None, true, codes, if◌then◌else◌}
+use Rattle.kernel_objects.specs.Kernel.{cleared, entered, limited, new_id}
+use Rattle.kernel_objects.specs.Processes.{Process, count_of}
+use Rattle.kernel_objects.specs.declared.objects.Id.{Id}
+use Rattle.priv_sets.specs.Sets.{default_set}
 use Rattle.zone_pools.specs.Owned_lists.{Come, Go}
 use Rattle.zone_pools.specs.Asked.{A_pid, A_serial, A_zid, Asked}
 use Rattle.zone_pools.specs.Decisions as decisions
@@ -8,7 +12,7 @@ use Rattle.zn_base.specs.declared.state.ZoneState.{ZoneState}
 use Rattle.zn_base.specs.declared.state.ZoneState.TheVariants.{Installed}
 use Rattle.zone_machine.specs.Arrivals.{A_process, A_record, An_id, Comes}
 use Rattle.zone_machine.specs.Daemon.Desks.{Desk, Job, next_place, state_now}
-use Rattle.zone_machine.specs.Objects.{Ids_go, Object_edit, Objects, Of_mounts, Processes_go, all_of, is_at, last_dir, zid_of}
+use Rattle.zone_machine.specs.Objects.{Ids_change, Ids_go, Object_edit, Objects, Of_mounts, Processes_go, all_of, is_at, kernel_of, last_dir, zid_of}
 use Rattle.zone_machine.specs.Daemon.Plans.{may_begin, plan, undo_after}
 use Rattle.zone_machine.specs.declared.daemon.Outcome.{Outcome}
 use Rattle.zone_machine.specs.declared.daemon.Outcome.TheVariants.{Done, WrongState, Denied}
@@ -18,7 +22,6 @@ use Rattle.zone_machine.specs.declared.daemon.Step.TheVariants.{Hook, Record as 
 use Rattle.zone_machine.specs.declared.daemon.TurnReply.{TurnReply}
 use Rattle.zone_machine.specs.declared.daemon.TurnReply.TheVariants.{Idle, Began, Stepped, Failed, Undone, Finished}
 use Rattle.zone_machine.specs.declared.objects.Mount.{Mount}
-use Rattle.zone_machine.specs.declared.objects.Process.{Process}
 use Rattle.config_terms.specs.Fields.{path_text}
 use Rattle.zone_config.specs.declared.terms.Contents.{Contents}
 use Rattle.commit_journal.specs.declared.records.Record.{Record}
@@ -70,15 +73,17 @@ abbrev pub active_after : ZoneState → Option ZoneState
 active_after Installed = None
 active_after s = Some s
 
-abbrev pub init_process : Process
-init_process = record { pid = 0; parent = 0; name = codes "init" }
+-- the first process, which has the zone's limit set
+abbrev pub init_process : Objects → Process
+init_process o = entered (kernel_of o) (codes "init") true 0
+
+-- what a zone may have until its configuration says more: the default privileges, any number of processes, no type of file
+-- systems
+abbrev pub default_limits : Id → Id
+default_limits i = limited default_set None [] i
 
 abbrev pub root_mount : Contents → Mount
 root_mount config = record { dir = codes "/"; fstype = codes "root"; special = path_text config.zonepath ++ codes "/root" }
-
--- how many there are, where the count stands still at the end of its type
-abbrev pub count_of : {A : Type 0} → List A → ℕ
-count_of xs = min (length xs) (2 ^ 32 - 1)
 
 -- the last mount goes, and the plan stays where it is; without one the plan goes on. A zone has one mount at most today
 abbrev pub unmount : Desk → Job → List Step → Turn_decision → Option (List ℕ) → Turn_decision
@@ -91,15 +96,15 @@ step o d j row [] = Just (finish d j.ticket Done)
 step o d j row (Hook change ∷ rest) = Just (advance d j rest [] (Hook change))
 step o d j row (Record_step s ∷ rest) = asking d j rest (A_record (λ n. Some (record row { state = s }))) A_serial (λ n. Record_step s)
 step o d j row (Copy k ∷ rest) = Just (advance d j rest [] (Copy k))
-step o d j row (Zid _ ∷ rest) = asking d j rest (An_id (record { zid = 0 })) A_zid (λ n. Zid (Some n))
-step o d j row (Limits ∷ rest) = Just (advance d j rest [] Limits)
+step o d j row (Zid _ ∷ rest) = asking d j rest (An_id (new_id 0)) A_zid (λ n. Zid (Some n))
+step o d j row (Limits ∷ rest) = Just (advance d j rest (Ids_change default_limits ∷ []) Limits)
 step o d j row (Devices _ ∷ rest) = Just (advance d j rest [] (Devices (Some 0)))
 step o d j row (Root ∷ rest) = Just (advance d j rest (Of_mounts (Come (root_mount j.config)) ∷ []) Root)
 step o d j row (State_step s ∷ rest) = Just (advance (record d { active = active_after s }) j rest [] (State_step s))
-step o d j row (Init _ ∷ rest) = asking d j rest (A_process init_process) A_pid (λ n. Init (Some n))
+step o d j row (Init _ ∷ rest) = asking d j rest (A_process (init_process o)) A_pid (λ n. Init (Some n))
 step o d j row (Kill _ ∷ rest) = Just (advance d j rest (Processes_go all_of ∷ []) (Kill (Some (count_of o.processes))))
 step o d j row (Unmount dir ∷ rest) = unmount d j (Unmount dir ∷ rest) (step o d j row rest) (last_dir o.mounts)
-step o d j row (Clear ∷ rest) = Just (advance d j rest [] Clear)
+step o d j row (Clear ∷ rest) = Just (advance d j rest (Ids_change cleared ∷ []) Clear)
 step o d j row (ZidBack _ ∷ rest) = Just (advance d j rest (Ids_go all_of ∷ []) (ZidBack (zid_of o.ids)))
 
 -- one step back
@@ -109,6 +114,7 @@ undone d j rest edits shown = reports edits (record d { job = Some (record j { u
 -- what undoes a step of the ready part
 abbrev pub undo_edits : Step → List Object_edit
 undo_edits (Zid n) = Ids_go all_of ∷ []
+undo_edits Limits = Ids_change cleared ∷ []
 undo_edits Root = Of_mounts (Go (is_at (codes "/"))) ∷ []
 undo_edits s = []
 

@@ -1,11 +1,12 @@
 -- What more than one zone may ask of the state: who holds which number, what is stored, and the last numbers given.
-use Rattle.std.specs.Prelude.{ℕ, ◌+◌, Option, Some, None, Bool, true, is_some, length}
+use Rattle.std.specs.Prelude.{◌≡◌, ℕ, ◌+◌, Option, Some, None, Bool, true, is_some, length}
 use Rattle.std.specs.List.{list_any}
 use Rattle.zn_base.specs.Names.{Name}
 use Rattle.zone_pools.specs.Owners as owners
 use Rattle.zone_machine.specs.Arrivals.{Arrival, New_id, New_process, New_record}
 use Rattle.zone_machine.specs.State.Decisions.{Act, acts_world}
-use Rattle.zone_machine.specs.Objects.{has_pid, has_zid}
+use Rattle.kernel_objects.specs.Processes.{has_pid}
+use Rattle.zone_machine.specs.Objects.{has_zid}
 use Rattle.commit_journal.specs.Stored.{Rows, stored, with_stored}
 use Rattle.zone_machine.specs.State.{State}
 use Rattle.zone_machine.specs.State.Worlds.{World, world}
@@ -20,6 +21,10 @@ pub record Common : Type 0 where
   pub last_pid : ℕ
   pub last_zid : ℕ
   pub started : Bool
+
+-- each process's number is held by one zone at most
+abbrev pub HoldOnce : (Name → ℕ → Bool) → Type 0
+HoldOnce held = (y z : Name) (n : ℕ) → held y n ≡ true → held z n ≡ true → y ≡ z
 
 -- what a world holds
 abbrev pub holds_pid : World → ℕ → Bool

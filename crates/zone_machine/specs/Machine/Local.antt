@@ -5,6 +5,7 @@ use Rattle.zone_pools.specs.Decisions.{Ask, Just}
 use Rattle.zone_pools.specs.Firsts.{is_nil}
 use Rattle.zone_pools.specs.Same.{same_grant}
 use Rattle.zone_pools.specs.declared.grant.Grant.TheVariants.{Nothing}
+use Rattle.zone_machine.specs.Objects.{Ids_change, Object_edit, Of_mounts}
 use Rattle.zone_machine.specs.State.Decisions.{says}
 use Rattle.zone_machine.specs.Machine.Same.{same_reply, same_subject}
 use Rattle.zone_machine.specs.Daemon.Turns.{Turn_decision, turn}
@@ -15,7 +16,7 @@ use Rattle.zone_machine.specs.declared.daemon.TurnReply.{TurnReply}
 use Rattle.zone_machine.specs.declared.daemon.TurnReply.TheVariants.{Idle, Stepped, Undone}
 use Rattle.zone_machine.specs.declared.events.Entry.{Entry}
 use Rattle.zone_machine.specs.declared.events.Event.{Event}
-use Rattle.zone_machine.specs.declared.events.Event.TheVariants.{Session, Turn}
+use Rattle.zone_machine.specs.declared.events.Event.TheVariants.{Process as Call_of, Session, Turn}
 use Rattle.zone_machine.specs.declared.events.Subject.TheVariants.{Zone}
 use Rattle.zone_machine.specs.declared.replies.Head.TheVariants.{Turned}
 use Rattle.zone_machine.specs.declared.replies.Reply.{Reply}
@@ -31,6 +32,12 @@ job_has_record w = not (is_some w.desk.job) || is_some w.stored
 abbrev pub is_idle : TurnReply → Bool
 is_idle Idle = true
 is_idle _ = false
+
+-- an edit of the zone's mounts, or of its id but for the number
+abbrev pub is_of_own : Object_edit → Bool
+is_of_own (Of_mounts e) = true
+is_of_own (Ids_change f) = true
+is_of_own _ = false
 
 -- a step of a hook, of the zone's files and limits, and of what is mounted in it
 abbrev pub is_local_step : Step → Bool
@@ -65,6 +72,7 @@ tells_local (Ask c asked denied given) reply = false
 abbrev pub is_turn_of : Name → Event → Bool
 is_turn_of z (Session n text) = false
 is_turn_of z (Turn y) = bytes_eq z y
+is_turn_of z (Call_of y pid c) = false
 
 -- the entry of such a turn of z
 abbrev pub is_local : Name → World → Entry → Bool

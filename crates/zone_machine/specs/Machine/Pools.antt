@@ -9,7 +9,8 @@ use Rattle.zone_pools.specs.declared.grant.Grant.TheVariants.{Nothing}
 use Rattle.zone_machine.specs.Machine.{decide, subject}
 use Rattle.commit_journal.specs.Stored.{Rows, stored}
 use Rattle.zone_machine.specs.State.{State}
-use Rattle.zone_machine.specs.Objects.{has_pid, has_zid}
+use Rattle.kernel_objects.specs.Processes.{has_pid}
+use Rattle.zone_machine.specs.Objects.{has_zid}
 use Rattle.zone_machine.specs.State.Worlds.{view}
 use Rattle.zone_machine.specs.declared.events.Event.{Event}
 use Rattle.zone_machine.specs.declared.events.Subject.{Subject}

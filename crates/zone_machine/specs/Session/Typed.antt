@@ -1,5 +1,5 @@
 -- What a line does that a session types.
-use Rattle.std.specs.Prelude.{ℕ, List, [], ◌∷◌, ◌++◌, ◌+◌, length, Bool, ◌||◌, ◌==◌, nat_le, Option, Some, None, Result, Ok as Right, Err, codes, if◌then◌else◌}
+use Rattle.std.specs.Prelude.{ℕ, List, [], ◌∷◌, ◌++◌, ◌+◌, length, Bool, false, ◌||◌, ◌==◌, nat_le, Option, Some, None, Result, Ok as Right, Err, codes, if◌then◌else◌}
 use Rattle.std.specs.Result.{result_ok}
 use Rattle.zn_base.specs.Names.{Name, name_of}
 use Rattle.zn_base.specs.declared.values.Value.TheVariants.{Simple}
@@ -10,7 +10,9 @@ use Rattle.zone_pools.specs.Decisions.{Ask, Just}
 use Rattle.zone_machine.specs.Arrivals.{A_record}
 use Rattle.zone_machine.specs.Daemon.Desks.{Desk}
 use Rattle.zone_machine.specs.State.Edits.{Here, Set_desk}
-use Rattle.zone_machine.specs.Session.Lines.{Blank, Command, Line, Make, Request, Unknown}
+use Rattle.zone_machine.specs.Calls.{signals}
+use Rattle.kernel_objects.specs.declared.faults.Errno.TheVariants.{ESRCH}
+use Rattle.zone_machine.specs.Session.Lines.{Blank, Command, Kill, Line, Make, Request, Unknown}
 use Rattle.zone_machine.specs.State.{Awaiting, Doing}
 use Rattle.zone_machine.specs.State.Worlds.{View}
 use Rattle.zone_machine.specs.declared.daemon.RequestKind.{RequestKind}
@@ -24,7 +26,7 @@ use Rattle.commit_journal.specs.Uuids.{uuid_of}
 use Rattle.commit_journal.specs.declared.records.Record.{Record}
 use Rattle.zone_machine.specs.declared.replies.Head.TheVariants.{Ok, Ticket, Refused}
 use Rattle.zone_machine.specs.declared.replies.Refusal.{Refusal}
-use Rattle.zone_machine.specs.declared.replies.Refusal.TheVariants.{BadName, BadValue, NeedForce, NoZone, Waiting, DeskFull, Usage, Denied}
+use Rattle.zone_machine.specs.declared.replies.Refusal.TheVariants.{BadName, BadValue, NeedForce, NoZone, Waiting, DeskFull, Usage, Denied, Errno as Of_errno}
 use Rattle.zone_machine.specs.declared.replies.Reply.{Reply}
 
 -- a property is set, where nothing was refused before
@@ -68,6 +70,7 @@ abbrev pub idle_line : View → Command → Decision
 idle_line v Blank = Just (done_saying [] Ok)
 idle_line v (Make word) = make v.zone v.world.stored word
 idle_line v (Request kind) = Just (put_request v.world.desk kind v.world.stored)
+idle_line v (Kill signal pid) = signals false signal pid (v.process pid)
 idle_line v Unknown = Just (refused Usage)
 
 -- by what the session does in the zone
@@ -87,5 +90,6 @@ abbrev pub global_line : Line → Reply
 global_line line = elim line.command as (λ c. Reply) [
   | Blank ↦ says Ok
   | Unknown ↦ says (Refused Usage)
+  | Kill signal pid ↦ says (Refused (Of_errno ESRCH))
   | _ ↦ says (Refused (badly_named line.zone))
 ]

@@ -9,9 +9,10 @@ use Rattle.zone_machine.specs.State.Edits.{Edit, Of_objects, Set_desk, Sweep, co
 use Rattle.zone_machine.specs.State.{Awaiting, Doing, State}
 use Rattle.zone_machine.specs.Daemon.Turns as turns
 use Rattle.zone_machine.specs.State.Worlds.{World}
+use Rattle.zone_machine.specs.declared.replies.Body.{Body}
 use Rattle.zone_machine.specs.declared.replies.Body.TheVariants.{Nothing as No_body}
 use Rattle.zone_machine.specs.declared.replies.Head.{Head}
-use Rattle.zone_machine.specs.declared.replies.Head.TheVariants.{Refused, Turned}
+use Rattle.zone_machine.specs.declared.replies.Head.TheVariants.{Ok, Refused, Turned}
 use Rattle.zone_machine.specs.declared.replies.Refusal.{Refusal}
 use Rattle.zone_machine.specs.declared.replies.Reply.{Reply}
 
@@ -53,6 +54,9 @@ done_saying edits head = record { edits = edits; reply = says head }
 
 abbrev pub refused : Refusal → Effect
 refused r = done_saying [] (Refused r)
+
+abbrev pub tells : Body → Effect
+tells body = record { edits = []; reply = record { head = Ok; body = body } }
 
 -- whoever waits for a ticket that ended is idle again
 abbrev pub ticket_ended : ℕ → Doing → Option Doing

@@ -1,10 +1,12 @@
 -- What an event of a zone may do to the state. No edit names a zone: it is applied with the zone of its event.
 use Rattle.std.specs.Prelude.{ℕ, List, [], ◌∷◌, ◌++◌, Option, Some, None, bytes_eq, nat_eq, if◌then◌else◌}
 use Rattle.zn_base.specs.Names.{Name}
-use Rattle.zone_pools.specs.Owned_lists.{Come, Go, Put, edit_list, edited}
+use Rattle.kernel_objects.specs.Processes.{Process, adopted, below, has_pid, heir, without_pid}
+use Rattle.zone_pools.specs.Owned_lists.{Change, Come, Go, Put, edit_list, edited, mine}
+use Rattle.zone_pools.specs.declared.owned.Owned.{Owned}
 use Rattle.zone_machine.specs.Arrivals.{Arrival, New_id, New_process, New_record}
 use Rattle.zone_machine.specs.Daemon.Desks.{Desk}
-use Rattle.zone_machine.specs.Objects.{Ids_go, Object_edit, Of_mounts, Processes_go, below}
+use Rattle.zone_machine.specs.Objects.{Ids_change, Ids_go, Object_edit, Of_mounts, Process_goes, Processes_change, Processes_go, all_of, keeping_pid, keeping_zid}
 use Rattle.zone_machine.specs.State.{At, Doing, Idle, Session, State}
 use Rattle.zone_machine.specs.State.Worlds.{World}
 
@@ -27,11 +29,18 @@ abbrev pub at_session : {A : Type 0} → Option ℕ → ℕ → A → A → A
 at_session None k new old = old
 at_session (Some n) k new old = if nat_eq n k then new else old
 
+-- the children of a process of z that went get another parent
+abbrev pub adopt_list : Name → (gone : ℕ) → List (Owned Process) → List (Owned Process)
+adopt_list z gone os = edit_list z (Change (adopted gone (heir (mine z os)))) os
+
 -- an edit of an event of z, which is typed in the session n or in none
 unfoldable pub edit : Name → Option ℕ → Edit → State → State
 edit z n (Of_objects (Processes_go p)) S = record S { processes = edit_list z (Go p) S.processes }
+edit z n (Of_objects (Process_goes pid)) S = record S { processes = adopt_list z pid (edit_list z (Go (has_pid pid)) S.processes) }
+edit z n (Of_objects (Processes_change f)) S = record S { processes = edit_list z (Change (keeping_pid f)) S.processes }
 edit z n (Of_objects (Of_mounts e)) S = record S { mounts = edit_list z e S.mounts }
 edit z n (Of_objects (Ids_go p)) S = record S { ids = edit_list z (Go p) S.ids }
+edit z n (Of_objects (Ids_change f)) S = record S { ids = edit_list z (Change (keeping_zid f)) S.ids }
 edit z n (Set_desk d) S = record S { desks = λ y. if bytes_eq z y then d else S.desks y }
 edit z n (Here d) S = record S { sessions = λ k. at_session n k (session_of z d) (S.sessions k) }
 edit z n (Sweep f) S = record S { sessions = λ k. swept z f (S.sessions k) }
@@ -47,8 +56,11 @@ swept_doing f (Some d) = f d
 -- the same edit, seen from the zone alone
 abbrev pub edit_world : Option ℕ → Edit → World → World
 edit_world n (Of_objects (Processes_go p)) w = record w { processes = edited (Go p) w.processes }
+edit_world n (Of_objects (Process_goes pid)) w = record w { processes = without_pid pid w.processes }
+edit_world n (Of_objects (Processes_change f)) w = record w { processes = edited (Change (keeping_pid f)) w.processes }
 edit_world n (Of_objects (Of_mounts e)) w = record w { mounts = edited e w.mounts }
 edit_world n (Of_objects (Ids_go p)) w = record w { ids = edited (Go p) w.ids }
+edit_world n (Of_objects (Ids_change f)) w = record w { ids = edited (Change (keeping_zid f)) w.ids }
 edit_world n (Set_desk d) w = record w { desk = d }
 edit_world n (Here d) w = record w { sessions = λ k. at_session n k d (w.sessions k) }
 edit_world n (Sweep f) w = record w { sessions = λ k. swept_doing f (w.sessions k) }
@@ -57,12 +69,13 @@ abbrev pub edits_world : Option ℕ → List Edit → World → World
 edits_world n [] w = w
 edits_world n (e ∷ es) w = edits_world n es (edit_world n e w)
 
+-- what comes. An id comes in place of the one that the zone had, if any
 unfoldable pub comes : Name → Arrival → State → State
 comes z (New_process p) S = record S { processes = edit_list z (Put (below p.pid) p) S.processes; last_pid = p.pid }
-comes z (New_id i) S = record S { ids = edit_list z (Come i) S.ids; last_zid = i.zid }
+comes z (New_id i) S = record S { ids = edit_list z (Come i) (edit_list z (Go all_of) S.ids); last_zid = i.zid }
 comes z (New_record row) S = record S { commits = S.commits ++ record { zone = z; stored = row } ∷ [] }
 
 abbrev pub comes_world : Arrival → World → World
 comes_world (New_process p) w = record w { processes = edited (Put (below p.pid) p) w.processes }
-comes_world (New_id i) w = record w { ids = edited (Come i) w.ids }
+comes_world (New_id i) w = record w { ids = i ∷ [] }
 comes_world (New_record row) w = record w { stored = row }

@@ -5,11 +5,12 @@ use Rattle.zone_pools.specs.Owned_lists.{mine}
 use Rattle.zone_pools.specs.Firsts.{first_of}
 use Rattle.zone_pools.specs.declared.owned.Owned.{Owned}
 use Rattle.zone_machine.specs.Daemon.Desks.{Desk}
-use Rattle.zone_machine.specs.Objects.{Objects, has_pid}
+use Rattle.kernel_objects.specs.Processes.{has_pid, with_pid}
+use Rattle.zone_machine.specs.Objects.{Objects}
 use Rattle.zone_machine.specs.State.{At, Doing, Idle, Session, State, stored}
-use Rattle.zone_machine.specs.declared.objects.Id.{Id}
+use Rattle.kernel_objects.specs.declared.objects.Id.{Id}
 use Rattle.zone_machine.specs.declared.objects.Mount.{Mount}
-use Rattle.zone_machine.specs.declared.objects.Process.{Process}
+use Rattle.kernel_objects.specs.Processes.{Process}
 use Rattle.commit_journal.specs.declared.records.Record.{Record}
 
 -- what a session does in z; nothing where it is away
@@ -55,4 +56,4 @@ view z S = record { zone = z; world = world z S; process = process_of z S.proces
 
 -- the same, from the zone's world alone
 unfoldable pub view_of : Name → World → View
-view_of z w = record { zone = z; world = w; process = λ pid. first_of (filter (has_pid pid) w.processes) }
+view_of z w = record { zone = z; world = w; process = λ pid. with_pid pid w.processes }

@@ -2,7 +2,7 @@
 //! needs. What is large and rare in it is boxed, so that it is handed on at little cost.
 use crate::daemon::desks::Job;
 use crate::daemon::{Outcome, RequestKind, Step};
-use crate::objects::changes::{Coming, ObjectEdit};
+use crate::objects::changes::{Came, ObjectEdit};
 use zn_base::ZoneState;
 
 /// A step that is done: the place of the next one, what becomes of the objects, and the step as it is told.
@@ -21,7 +21,7 @@ pub(crate) enum JobCase {
     /// A step is done.
     Pass(Pass),
     /// A step asks a pool for what comes; then the plan goes on at this place.
-    Ask(Coming, usize),
+    Ask(Came, usize),
     /// The latest step that is to be undone is undone.
     Undo(ObjectEdit),
 }

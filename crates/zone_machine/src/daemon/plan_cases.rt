@@ -1,15 +1,22 @@
 //! What the steps of a request's plan come to, each one turn of the zone's daemon.
-ghost use Rattle.std.specs.Prelude.{◌++◌, ◌+◌, ◌-◌, ◌<◌, ◌∷◌, ◌≡◌, [], IfOk, Some, codes, drop, false, length};
+ghost use Rattle.zone_machine.specs.Code.Works.{job_objects};
+ghost use Rattle.zone_machine.specs.Machine.Local.{is_of_own};
+ghost use Rattle.std.specs.List.{list_all};
+ghost use Rattle.std.specs.Prelude.{◌++◌, ◌+◌, ◌-◌, ◌<◌, ◌∷◌, ◌≡◌, [], IfOk, Some, codes, drop, false, length, true};
 ghost use Rattle.std.specs.Option.{option_map};
 ghost use Rattle.config_terms.specs.Fields.{path_text};
-ghost use Rattle.zone_machine.specs.Code.Cases.{IsJobCase, IsNamedJobCase, is_unmount, job_turn, as_objects};
+ghost use Rattle.zone_machine.specs.Code.Cases.{IsJobCase, IsNamedJobCase, is_unmount, job_turn, as_objects, object_edits};
 ghost use Rattle.zone_machine.specs.Daemon.Desks as desks;
 ghost use Rattle.zone_machine.specs.Code.Desks.{as_job};
 ghost use Rattle.zone_machine.specs.Objects.{Of_mounts, last_dir, zid_of};
-ghost use Rattle.zone_machine.specs.Arrivals.{A_record};
+ghost use Rattle.zone_machine.specs.Arrivals.{A_process, A_record};
 ghost use Rattle.zone_machine.specs.declared.daemon.desks.Job as job_types;
-ghost use Rattle.zone_pools.specs.Asked.{A_serial};
-ghost use Rattle.zone_machine.specs.Daemon.Turns.{advance, asking, count_of, init_process, root_mount, step};
+ghost use Rattle.zone_pools.specs.Asked.{A_pid, A_serial};
+ghost use Rattle.zone_machine.specs.Daemon.Turns.{advance, asking, init_process, root_mount, step};
+ghost use Rattle.std.specs.Prelude.{List};
+ghost use Rattle.kernel_objects.specs.Processes.{count_of};
+ghost use Rattle.zone_machine.specs.Code.Cells.{ids_of};
+ghost use Rattle.zone_machine.specs.declared.objects.Mount as mounts;
 ghost use Rattle.zn_base.specs.Names.{Name};
 ghost use Rattle.zone_pools.specs.Decisions.{Just};
 ghost use Rattle.zone_pools.specs.Owned_lists.{Come};
@@ -17,9 +24,10 @@ ghost use Rattle.zone_pools.specs.Owned_lists.{Come};
 use crate::daemon::cases::{JobCase, Pass};
 use crate::daemon::desks::Job;
 use crate::daemon::{Outcome, Step};
-use crate::objects::changes::{Came, Coming, ObjectEdit};
-use crate::objects::{Id, Mount, Objects, Process};
+use crate::objects::changes::{Came, ObjectEdit};
+use crate::objects::{Mount, Objects};
 use commit_journal::Record;
+use kernel_objects::KernelCell;
 use std::alloc::{AllocError, Global};
 use zn_base::{AbsPath, Text, ZoneName, ZoneState};
 use zone_config::ZoneConfig;
@@ -46,12 +54,11 @@ fn changed(next: usize, objects: ObjectEdit, shown: Step) -> JobCase
     })
 }
 
-// A step asks for what comes.
-fn asking(alloc: Global, zone: &ZoneName, next: usize, it: Came) -> Result<JobCase, AllocError>
-    ensures { IfOk result (λ c. c ≡ JobCase.Ask (record { it = it; owner = zone.now }) next) }
+/// The zone's limits are set.
+pub(crate) fn limits_set(next: usize) -> JobCase
+    ensures { result ≡ JobCase.Pass (record { next = next; objects = ObjectEdit.SetLimits; shown = Step.Limits }) }
 {
-    let owner = zone.copy(alloc)?;
-    Ok(JobCase::Ask(Coming { it, owner }, next))
+    changed(next, ObjectEdit::SetLimits, Step::Limits)
 }
 
 /// The root directory.
@@ -91,12 +98,14 @@ fn root_mount(alloc: Global, config: &ZoneConfig) -> Result<Mount, AllocError>
 }
 
 /// The zone's root is mounted.
+#[inline(never)]
 pub(crate) fn mount_root(
     alloc: Global,
     next: usize,
     config: &ZoneConfig,
 ) -> Result<JobCase, AllocError>
     ensures decides { IfOk result (λ c. (d : desks.Desk) (j : job_types.Job) → job_turn d j c ≡ Just (advance d (as_job j) (drop next j.steps.items) (Of_mounts (Come (root_mount config.now)) ∷ []) Step.Root)) }
+    ensures own { IfOk result (λ c. list_all is_of_own (object_edits (job_objects c)) ≡ true) }
     ensures of { IfOk result (λ c. (j : job_types.Job) → IsJobCase j c) }
     ensures named { IfOk result (λ c. (z : Name) → IsNamedJobCase z c) }
 {
@@ -105,18 +114,20 @@ pub(crate) fn mount_root(
 }
 
 // The first process begins.
-fn start_init(alloc: Global, zone: &ZoneName, next: usize) -> Result<JobCase, AllocError>
-    ensures { IfOk result (λ c. c ≡ JobCase.Ask (record { it = Came.Process init_process; owner = zone.now }) next) }
+#[inline(never)]
+fn start_init(alloc: Global, next: usize, kernel: &KernelCell) -> Result<JobCase, AllocError>
+    ensures decides { IfOk result (λ c. (ms : List mounts.Mount) (d : desks.Desk) (j : job_types.Job)
+        → job_turn d j c ≡ asking d (as_job j) (drop next j.steps.items) (A_process (init_process (record { processes = kernel.now.processes; mounts = ms; ids = ids_of kernel.now.id }))) A_pid (λ n. Step.Init (Some n))) }
+    ensures of { IfOk result (λ c. (j : job_types.Job) → IsJobCase j c) }
+    ensures named { IfOk result (λ c. (z : Name) → IsNamedJobCase z c) }
 {
-    let process = Process {
-        pid: 0,
-        parent: 0,
-        name: Text::of(alloc, b"init")?,
-    };
-    asking(alloc, zone, next, Came::Process(process))
+    let name = Text::of(alloc, b"init")?;
+    let running = Box::new(alloc, kernel.entering(name, true))?;
+    Ok(JobCase::Ask(Came::Process(running), next))
 }
 
 // The stored state changes.
+#[inline(never)]
 fn store_state(
     alloc: Global,
     zone: &ZoneName,
@@ -132,22 +143,23 @@ fn store_state(
     let mut stored = row.copy(alloc)?;
     stored.state = to;
     let stored = Box::new(alloc, stored)?;
-    asking(alloc, zone, next, Came::Record(stored))
+    let owner = zone.copy(alloc)?;
+    Ok(JobCase::Ask(Came::Record(stored, owner), next))
 }
 
-// All processes end. Their count stands still at its type's end.
-fn kill_all(next: usize, processes: &[Process]) -> JobCase
-    ensures { result ≡ JobCase.Pass (record { next = next; objects = ObjectEdit.EndProcesses; shown = Step.Kill (Some (count_of processes.now)) }) }
+// All processes end.
+fn kill_all(next: usize, kernel: &KernelCell) -> JobCase
+    ensures { result ≡ JobCase.Pass (record { next = next; objects = ObjectEdit.EndProcesses; shown = Step.Kill (Some (count_of kernel.now.processes)) }) }
 {
-    let count = processes.len().min(u32::MAX as usize) as u32;
+    let count = kernel.count_procs();
     changed(next, ObjectEdit::EndProcesses, Step::Kill(Some(count)))
 }
 
 // The zone gives its id back.
-fn give_zid_back(next: usize, ids: &[Id]) -> JobCase
-    ensures { result ≡ JobCase.Pass (record { next = next; objects = ObjectEdit.EndIds; shown = Step.ZidBack (zid_of ids.now) }) }
+fn give_zid_back(next: usize, kernel: &KernelCell) -> JobCase
+    ensures { result ≡ JobCase.Pass (record { next = next; objects = ObjectEdit.EndIds; shown = Step.ZidBack (zid_of (ids_of kernel.now.id)) }) }
 {
-    let zid = ids.first().map(|id| id.zid);
+    let zid = kernel.zid_of();
     changed(next, ObjectEdit::EndIds, Step::ZidBack(zid))
 }
 
@@ -180,20 +192,21 @@ fn step_case(
         Step::Hook(change) => Ok(passed(next, Step::Hook(*change))),
         Step::Record(to) => store_state(alloc, zone, next, row, *to),
         Step::Copy(part) => Ok(passed(next, Step::Copy(*part))),
-        Step::Zid(_) => asking(alloc, zone, next, Came::Id(Id { zid: 0 })),
-        Step::Limits => Ok(passed(next, Step::Limits)),
+        Step::Zid(_) => Ok(JobCase::Ask(Came::Id, next)),
+        Step::Limits => Ok(limits_set(next)),
         Step::Devices(_) => Ok(passed(next, Step::Devices(Some(0)))),
         Step::Root => mount_root(alloc, next, &job.config),
         Step::State(to) => Ok(passed(next, Step::State(*to))),
-        Step::Init(_) => start_init(alloc, zone, next),
-        Step::Kill(_) => Ok(kill_all(next, objects.processes)),
+        Step::Init(_) => start_init(alloc, next, objects.kernel),
+        Step::Kill(_) => Ok(kill_all(next, objects.kernel)),
         Step::Unmount(_) => unreachable!(),
-        Step::Clear => Ok(passed(next, Step::Clear)),
-        Step::ZidBack(_) => Ok(give_zid_back(next, objects.ids)),
+        Step::Clear => Ok(changed(next, ObjectEdit::ClearLimits, Step::Clear)),
+        Step::ZidBack(_) => Ok(give_zid_back(next, objects.kernel)),
     }
 }
 
 /// One mount goes, and the plan stays where it is.
+#[inline(never)]
 pub(crate) fn unmounted(alloc: Global, at: usize, dir: &AbsPath) -> Result<JobCase, AllocError>
     ensures { IfOk result (λ c. c ≡ JobCase.Pass (record { next = at; objects = ObjectEdit.Unmount dir.now; shown = Step.Unmount (Some dir.now) })) }
 {

@@ -5,6 +5,7 @@ ghost use Rattle.zn_base.specs.Names.{Name};
 ghost use Rattle.zone_pools.specs.Decisions.{Just};
 ghost use Rattle.zone_machine.specs.Code.Cases.{IsJobCase, IsNamedJobCase, IsNamedTurn, IsTurnOf, job_turn, object_edits, as_objects, turn_decision_of};
 ghost use Rattle.zone_machine.specs.Daemon.Desks as desks;
+ghost use Rattle.zone_machine.specs.Code.Cells.{ids_of};
 ghost use Rattle.zone_machine.specs.Code.Desks.{as_desk, as_job};
 ghost use Rattle.zone_machine.specs.Daemon.Plans.{plan};
 ghost use Rattle.zone_machine.specs.Daemon.Turns.{goes_on, next_request, turn, turn_at, undo, undo_edits};
@@ -15,8 +16,9 @@ use crate::daemon::plan_cases::{plan_case, root_dir};
 use crate::daemon::plans::{may_begin, plan};
 use crate::daemon::{Outcome, RequestKind, Step};
 use crate::objects::changes::ObjectEdit;
-use crate::objects::{Id, Mount, Objects, Process};
+use crate::objects::{Mount, Objects};
 use commit_journal::Record;
+use kernel_objects::KernelCell;
 use std::alloc::{AllocError, Global};
 use zn_base::{ZoneName, ZoneState};
 use zone_config::ZoneConfig;
@@ -27,12 +29,14 @@ pub(crate) fn undoing(alloc: Global, shown: &Step) -> Result<ObjectEdit, AllocEr
 {
     match shown {
         Step::Zid(_) => Ok(ObjectEdit::EndIds),
+        Step::Limits => Ok(ObjectEdit::ClearLimits),
         Step::Root => Ok(ObjectEdit::Unmount(root_dir(alloc)?)),
         _ => Ok(ObjectEdit::Nothing),
     }
 }
 
 // One step back, or the end of the request where none is left.
+#[inline(never)]
 fn undo_case(alloc: Global, job: &Job, outcome: Outcome) -> Result<JobCase, AllocError>
     ensures decides { IfOk result (λ c. (d : desks.Desk) → Just (undo d (as_job job.now) outcome (as_job job.now).undo) ≡ job_turn d job.now c) }
     ensures of { IfOk result (IsJobCase job.now) }
@@ -72,6 +76,7 @@ fn copy_config(alloc: Global, config: &ZoneConfig) -> Result<ZoneConfig, AllocEr
 }
 
 // The request that begins in a state.
+#[inline(never)]
 fn new_job(
     alloc: Global,
     ticket: u32,
@@ -105,6 +110,7 @@ fn first_waiting(waiting: &[(u32, RequestKind)]) -> Option<(u32, RequestKind)>
 }
 
 // The first request that waits begins, or may not begin in the zone's state.
+#[inline(never)]
 fn first_case(alloc: Global, desk: &Desk, row: &Record) -> Result<TurnCase, AllocError>
     ensures decides { IfOk result (λ c. Just (next_request (as_desk desk.now) (as_desk desk.now).waiting row.now) ≡ turn_decision_of desk.now c) }
     ensures of { IfOk result (IsTurnOf desk.now) }
@@ -150,19 +156,14 @@ pub(crate) fn decide_turn(
     zone: &ZoneName,
     desk: &Desk,
     row: Option<&Record>,
-    processes: &[Process],
+    kernel: &KernelCell,
     mounts: &[Mount],
-    ids: &[Id],
 ) -> Result<TurnCase, AllocError>
-    ensures decides { IfOk result (λ c. turn (record { processes = processes.now; mounts = mounts.now; ids = ids.now }) (option_map (λ r. r.now) row.entry) (as_desk desk.now) ≡ turn_decision_of desk.now c) }
+    ensures decides { IfOk result (λ c. turn (record { processes = kernel.now.processes; mounts = mounts.now; ids = ids_of kernel.now.id }) (option_map (λ r. r.now) row.entry) (as_desk desk.now) ≡ turn_decision_of desk.now c) }
     ensures of { IfOk result (IsTurnOf desk.now) }
     ensures named { IfOk result (IsNamedTurn zone.now) }
 {
-    let objects = Objects {
-        processes,
-        mounts,
-        ids,
-    };
+    let objects = Objects { kernel, mounts };
     match row {
         Some(row) => stored_case(alloc, zone, desk, row, objects),
         None => Ok(TurnCase::Idle),

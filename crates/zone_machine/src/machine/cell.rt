@@ -4,17 +4,16 @@ ghost use Rattle.zone_machine.specs.Code.Cells.{cell_world, empty_world};
 ghost use Rattle.commit_journal.specs.declared.records.Record as record_types;
 
 use crate::daemon::desks::Desk;
-use crate::objects::{Id, Mount, Process};
+use crate::objects::Mount;
 use crate::session::waits::Waits;
 use indexmap::IndexMap;
+use kernel_objects::KernelCell;
 use std::alloc::Global;
 
 /// Everything that one zone has, but for its name and what is stored of it.
 pub struct Cell {
-    /// In the order of their numbers.
-    pub(crate) processes: Vec<Process>,
+    pub(crate) kernel: KernelCell,
     pub(crate) mounts: Vec<Mount>,
-    pub(crate) ids: Vec<Id>,
     pub(crate) desk: Desk,
     pub(crate) waits: Waits,
 }
@@ -22,9 +21,8 @@ pub struct Cell {
 impl Drop for Cell {
     fn drop(self) {
         let Cell {
-            processes: _processes,
+            kernel: _kernel,
             mounts: _mounts,
-            ids: _ids,
             desk: _desk,
             waits: _waits,
         } = self;
@@ -37,9 +35,8 @@ impl Cell {
         ensures { (row : Option record_types.Record) → cell_world row result ≡ empty_world row }
     {
         Self {
-            processes: Vec::new(alloc),
+            kernel: KernelCell::new(alloc),
             mounts: Vec::new(alloc),
-            ids: Vec::new(alloc),
             desk: Desk::new(alloc),
             waits: IndexMap::new(alloc),
         }
@@ -49,9 +46,8 @@ impl Cell {
     pub fn is_empty(&self) -> bool
         ensures { result ≡ true → (row : Option record_types.Record) → cell_world row self.now ≡ empty_world row }
     {
-        self.processes.is_empty()
+        self.kernel.is_empty()
             && self.mounts.is_empty()
-            && self.ids.is_empty()
             && self.desk.is_new()
             && self.waits.is_empty()
     }

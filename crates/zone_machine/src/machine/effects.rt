@@ -7,7 +7,10 @@ ghost use Rattle.zn_base.specs.Names.{Name};
 ghost use Rattle.zone_pools.specs.Owners.{owner};
 ghost use Rattle.zone_pools.specs.Pools.{has_room};
 ghost use Rattle.zone_machine.specs.Code.Cases.{IsCaseOf, IsNamedCase, decision_of, object_edits};
-ghost use Rattle.zone_machine.specs.Code.Works.{IsNamedWork, arrival_of, sits};
+ghost use Rattle.zone_machine.specs.Code.Works.{IsNamedWork, arrival_of, in_store, rest_of, sits};
+ghost use Rattle.kernel_objects.specs.Kernel.{with_id};
+ghost use Rattle.zone_machine.specs.Daemon.Turns.{default_limits};
+ghost use Rattle.zone_machine.specs.declared.machine.shared.Shared as shared_types;
 ghost use Rattle.zone_machine.specs.Code.Cells.{Does, kept};
 ghost use Rattle.zone_machine.specs.Code.Needs.{pools_in};
 ghost use Rattle.zone_machine.specs.Code.Works.{work_world};
@@ -21,125 +24,100 @@ use crate::cases::Case;
 use crate::machine::cell::Cell;
 use crate::machine::settling::settle;
 use crate::machine::shared::Shared;
-use crate::machine::work::{Sitting, Work};
+use crate::machine::work::{Sitting, Stored, Work};
 use crate::maps::put;
-use crate::objects::changes::{Came, Coming, ObjectEdit};
-use crate::objects::lists::{enter, unmount};
-use crate::objects::{Id, Mount, Process};
-use crate::replies::Head;
+use crate::objects::changes::ObjectEdit;
+use crate::objects::lists::unmount;
+use crate::replies::Reply;
 use crate::session::waits::{end_waits, wait};
-use commit_journal::Record;
-use std::hash::Hash;
-use zn_base::ZoneName;
-use zone_pools::{Grant, Owners};
-
-// What nobody holds is the zone's from now on.
-fn take<K: Eq + Hash + Drop>(owners: &mut Owners<K>, key: K, zone: ZoneName)
-    requires free { owner K.eq owners.old key ≡ None }
-    requires room { 0 < owners.old.room }
-    ensures { (k : K) → owner K.eq owners.new k ≡ (if K.eq key k then Some zone else owner K.eq owners.old k) }
-{
-    match owners.take(key, zone) {
-        Ok(()) => {}
-        Err(_) => unreachable!(),
-    }
-}
-
-// A process begins.
-fn begin(cell: &mut Cell, shared: &mut Shared, process: Process, owner: ZoneName)
-    requires free { (pools_in shared.old).pid_used process.pid ≡ false }
-    requires list { vec_len cell.old.processes < vec_capacity cell.old.processes }
-    requires room { 0 < shared.old.pids.room }
-    ensures does { Does owner (comes_world (New_process process)) (came_common owner (Some (New_process process))) cell.old shared.old cell.new shared.new }
-    ensures mounts { cell.new.mounts ≡ cell.old.mounts }
-    ensures waits { cell.new.waits ≡ cell.old.waits }
-    ensures sessions { shared.new.sessions ≡ shared.old.sessions }
-{
-    let pid = process.pid;
-    take(&mut shared.pids, pid, owner);
-    shared.last_pid = pid;
-    enter(&mut cell.processes, process);
-}
-
-// The zone gets an id.
-fn give_id(cell: &mut Cell, shared: &mut Shared, id: Id, owner: ZoneName)
-    requires free { (pools_in shared.old).zid_used id.zid ≡ false }
-    requires list { vec_len cell.old.ids < vec_capacity cell.old.ids }
-    requires room { 0 < shared.old.zids.room }
-    ensures does { Does owner (comes_world (New_id id)) (came_common owner (Some (New_id id))) cell.old shared.old cell.new shared.new }
-    ensures mounts { cell.new.mounts ≡ cell.old.mounts }
-    ensures waits { cell.new.waits ≡ cell.old.waits }
-    ensures sessions { shared.new.sessions ≡ shared.old.sessions }
-{
-    take(&mut shared.zids, id.zid, owner);
-    shared.last_zid = id.zid;
-    cell.ids.push_reserved(id);
-}
+use kernel_objects::KernelCell;
+use priv_sets::PrivSet;
+use std::alloc::Global;
+use zn_base::Text;
+use zone_pools::Grant;
 
 // What is stored of the zone from now on.
-fn store(cell: &Cell, shared: &mut Shared, row: Record, owner: ZoneName)
+#[inline(never)]
+fn store(cell: &Cell, shared: &mut Shared, stored: Stored)
     requires free { has_room (pools_in shared.old) ≡ true }
     requires room { 0 < spare shared.old.rows }
-    ensures does { Does owner (comes_world (New_record (Some row))) (came_common owner (Some (New_record (Some row)))) cell.now shared.old cell.now shared.new }
+    ensures does { Does stored.owner (comes_world (New_record (Some stored.row.value))) (came_common stored.owner (Some (New_record (Some stored.row.value)))) cell.now shared.old cell.now shared.new }
     ensures sessions { shared.new.sessions ≡ shared.old.sessions }
 {
-    put(&mut shared.rows, owner, row);
+    put(&mut shared.rows, stored.owner, Box::into_inner(stored.row));
     shared.serial += 1;
 }
 
-// What came with a grant.
-fn take_in(cell: &mut Cell, shared: &mut Shared, coming: Coming)
-    requires free { IsFreeOf (Some (arrival_of coming.it)) (pools_in shared.old) }
-    requires room { HasRoomOf (Some (arrival_of coming.it)) cell.old shared.old }
-    ensures does { Does coming.owner (comes_world (arrival_of coming.it)) (came_common coming.owner (Some (arrival_of coming.it))) cell.old shared.old cell.new shared.new }
-    ensures mounts { cell.new.mounts ≡ cell.old.mounts }
-    ensures waits { cell.new.waits ≡ cell.old.waits }
+// What is stored of the zone, if that changes.
+fn store_some(cell: &Cell, shared: &mut Shared, stored: Option<Stored>)
+    requires free { IsFreeOf (arrival_of stored) (pools_in shared.old) }
+    requires room { HasRoomOf (arrival_of stored) shared.old }
+    ensures does { (z : Name) → IfSome stored (λ s. s.owner ≡ z) → Does z (after_came_world (arrival_of stored)) (came_common z (arrival_of stored)) cell.now shared.old cell.now shared.new }
     ensures sessions { shared.new.sessions ≡ shared.old.sessions }
 {
-    let Coming { it, owner } = coming;
-    match it {
-        Came::Process(process) => begin(cell, shared, process, owner),
-        Came::Id(id) => give_id(cell, shared, id, owner),
-        Came::Record(record) => store(cell, shared, Box::into_inner(record), owner),
-    }
-}
-
-// What came, if anything did.
-fn take_in_some(cell: &mut Cell, shared: &mut Shared, came: Option<Coming>)
-    requires free { IsFreeOf (option_map (λ c. arrival_of c.it) came) (pools_in shared.old) }
-    requires room { HasRoomOf (option_map (λ c. arrival_of c.it) came) cell.old shared.old }
-    ensures does { (z : Name) → IfSome came (λ c. c.owner ≡ z) → Does z (after_came_world (option_map (λ c. arrival_of c.it) came)) (came_common z (option_map (λ c. arrival_of c.it) came)) cell.old shared.old cell.new shared.new }
-    ensures mounts { cell.new.mounts ≡ cell.old.mounts }
-    ensures waits { cell.new.waits ≡ cell.old.waits }
-    ensures sessions { shared.new.sessions ≡ shared.old.sessions }
-{
-    match came {
-        Some(coming) => take_in(cell, shared, coming),
+    match stored {
+        Some(stored) => store(cell, shared, stored),
         None => {}
     }
 }
 
 // All processes end.
+#[inline(never)]
 fn end_processes(cell: &mut Cell, shared: &mut Shared)
     ensures does { (z : Name) (n : Option ℕ) → Does z (edits_world n (map Of_objects (object_edits ObjectEdit.EndProcesses))) kept cell.old shared.old cell.new shared.new }
     ensures waits { cell.new.waits ≡ cell.old.waits }
     ensures sessions { shared.new.sessions ≡ shared.old.sessions }
 {
-    shared.pids.give_all_back(&cell.processes);
-    cell.processes.clear();
+    cell.kernel.kill_all(&mut shared.kernel);
 }
 
 // The zone gives its id back.
+#[inline(never)]
 fn end_ids(cell: &mut Cell, shared: &mut Shared)
     ensures does { (z : Name) (n : Option ℕ) → Does z (edits_world n (map Of_objects (object_edits ObjectEdit.EndIds))) kept cell.old shared.old cell.new shared.new }
     ensures waits { cell.new.waits ≡ cell.old.waits }
     ensures sessions { shared.new.sessions ≡ shared.old.sessions }
 {
-    shared.zids.give_all_back(&cell.ids);
-    cell.ids.clear();
+    cell.kernel.give_up_id(&mut shared.kernel);
 }
 
-fn edit_objects(cell: &mut Cell, shared: &mut Shared, edit: ObjectEdit)
+// The process of a number ends.
+#[inline(never)]
+fn end_process(cell: &mut Cell, shared: &mut Shared, pid: u32)
+    ensures does { (z : Name) (n : Option ℕ) → Does z (edits_world n (map Of_objects (object_edits (ObjectEdit.EndProcess pid)))) kept cell.old shared.old cell.new shared.new }
+    ensures waits { cell.new.waits ≡ cell.old.waits }
+    ensures sessions { shared.new.sessions ≡ shared.old.sessions }
+{
+    cell.kernel.end(&mut shared.kernel, pid);
+}
+
+// A process runs another program.
+#[inline(never)]
+fn rename(cell: &mut Cell, pid: u32, name: Text)
+    ensures does { (z : Name) (n : Option ℕ) (s : shared_types.Shared) → Does z (edits_world n (map Of_objects (object_edits (ObjectEdit.Rename pid name)))) kept cell.old s cell.new s }
+    ensures waits { cell.new.waits ≡ cell.old.waits }
+{
+    cell.kernel.set_name(pid, name);
+}
+
+// A process gives up a privilege.
+#[inline(never)]
+fn give_up(cell: &mut Cell, pid: u32, number: u8)
+    ensures does { (z : Name) (n : Option ℕ) (s : shared_types.Shared) → Does z (edits_world n (map Of_objects (object_edits (ObjectEdit.GiveUp pid number)))) kept cell.old s cell.new s }
+    ensures waits { cell.new.waits ≡ cell.old.waits }
+{
+    cell.kernel.give_up(pid, number);
+}
+
+/// The zone's limits are set.
+#[inline(never)]
+pub(crate) fn set_limits(alloc: Global, kernel: &mut KernelCell)
+    ensures { kernel.new ≡ with_id default_limits kernel.old }
+{
+    kernel.set_limits(PrivSet::default_set(), None, Text::empty(alloc));
+}
+
+fn edit_objects(alloc: Global, cell: &mut Cell, shared: &mut Shared, edit: ObjectEdit)
     requires { HasRoomToChange edit cell.old }
     ensures does { (z : Name) (n : Option ℕ) → Does z (edits_world n (map Of_objects (object_edits edit))) kept cell.old shared.old cell.new shared.new }
     ensures waits { cell.new.waits ≡ cell.old.waits }
@@ -148,19 +126,25 @@ fn edit_objects(cell: &mut Cell, shared: &mut Shared, edit: ObjectEdit)
     match edit {
         ObjectEdit::Nothing => {}
         ObjectEdit::EndProcesses => end_processes(cell, shared),
+        ObjectEdit::EndProcess(pid) => end_process(cell, shared, pid),
+        ObjectEdit::Rename(pid, name) => rename(cell, pid, name),
+        ObjectEdit::GiveUp(pid, number) => give_up(cell, pid, number),
         ObjectEdit::Mount(mount) => cell.mounts.push_reserved(Box::into_inner(mount)),
         ObjectEdit::Unmount(dir) => unmount(&mut cell.mounts, &dir),
         ObjectEdit::EndIds => end_ids(cell, shared),
+        ObjectEdit::SetLimits => set_limits(alloc, &mut cell.kernel),
+        ObjectEdit::ClearLimits => cell.kernel.clear_limits(alloc),
     }
 }
 
 // A session waits for a ticket.
+#[inline(never)]
 fn sit(cell: &mut Cell, shared: &mut Shared, number: u8, sitting: Sitting)
     requires room { HasRoomToSit cell.old shared.old }
     ensures { IsOpenTo sitting.owner (owner nat_eq shared.old.sessions number) → Does sitting.owner (edits_world (Some number) (sits (Some sitting))) kept cell.old shared.old cell.new shared.new }
 {
     shared.sessions.give_back(&number);
-    take(&mut shared.sessions, number, sitting.owner);
+    shared.sessions.take_reserved(number, sitting.owner);
     wait(&mut cell.waits, number, sitting.ticket);
 }
 
@@ -185,36 +169,43 @@ fn end_ticket(cell: &mut Cell, shared: &mut Shared, ended: Option<u32>)
 }
 
 // What an event does beside its change of the desk.
-fn carry_out(cell: &mut Cell, shared: &mut Shared, number: Option<u8>, work: Work) -> Head
-    requires free { IsFreeOf (option_map (λ c. arrival_of c.it) work.came) (pools_in shared.old) }
-    requires came { HasRoomOf (option_map (λ c. arrival_of c.it) work.came) cell.old shared.old }
+fn carry_out(
+    alloc: Global,
+    cell: &mut Cell,
+    shared: &mut Shared,
+    number: Option<u8>,
+    work: Work,
+) -> Reply
+    requires free { IsFreeOf (arrival_of work.stored) (pools_in shared.old) }
+    requires stored { HasRoomOf (arrival_of work.stored) shared.old }
     requires objects { HasRoomToChange work.objects cell.old }
     requires sits { IfSome work.sits (λ s. HasRoomToSit cell.old shared.old) }
-    ensures head { result ≡ work.head }
-    ensures does { (z : Name) → IsNamedWork z work → IfSome number (λ n. IsOpenTo z (owner nat_eq shared.old.sessions n)) → Does z (work_world number work) (came_common z (option_map (λ c. arrival_of c.it) work.came)) cell.old shared.old cell.new shared.new }
+    ensures reply { result ≡ work.reply }
+    ensures does { (z : Name) → IsNamedWork z work → IfSome number (λ n. IsOpenTo z (owner nat_eq shared.old.sessions n)) → Does z (work_world number work) (came_common z (arrival_of work.stored)) cell.old shared.old cell.new shared.new }
 {
-    take_in_some(cell, shared, work.came);
-    edit_objects(cell, shared, work.objects);
+    store_some(cell, shared, work.stored);
+    edit_objects(alloc, cell, shared, work.objects);
     sit_down(cell, shared, number, work.sits);
     end_ticket(cell, shared, work.ended);
-    work.head
+    work.reply
 }
 
-/// A case is done under a grant that fits.
+/// A case is done under a grant that fits, but for what it brings to the kernel.
 pub(crate) fn perform(
+    alloc: Global,
     cell: &mut Cell,
     shared: &mut Shared,
     number: Option<u8>,
     case: Case,
     grant: Grant,
-) -> Head
+) -> Reply
     requires of { IsCaseOf cell.old.desk case }
     requires room { HasRoom case cell.old shared.old }
-    requires free { IsFreeOf (act_of (decision_of cell.old.desk case) grant).came (pools_in shared.old) }
-    ensures head { says result ≡ (act_of (decision_of cell.old.desk case) grant).effect.reply }
+    requires free { IsFreeOf (in_store (act_of (decision_of cell.old.desk case) grant).came) (pools_in shared.old) }
+    ensures reply { result ≡ (act_of (decision_of cell.old.desk case) grant).effect.reply }
     ensures does { (z : Name) → IsNamedCase z case → IfSome number (λ n. IsOpenTo z (owner nat_eq shared.old.sessions n))
-        → Does z (acts_world number (act_of (decision_of cell.old.desk case) grant)) (came_common z (act_of (decision_of cell.old.desk case) grant).came) cell.old shared.old cell.new shared.new }
+        → Does z (acts_world number (rest_of (act_of (decision_of cell.old.desk case) grant))) (came_common z (in_store (act_of (decision_of cell.old.desk case) grant).came)) cell.old shared.old cell.new shared.new }
 {
     let work = settle(&mut cell.desk, case, grant);
-    carry_out(cell, shared, number, work)
+    carry_out(alloc, cell, shared, number, work)
 }

@@ -1,37 +1,39 @@
 //! Turns of a zone's daemon that touch nothing which other zones may ask, on the zone's cell alone.
 ghost use Rattle.std.specs.Prelude.{◌≡◌, IfOk, IfSome, List, None, OnErr, OnOk, Some, drop, false, is_some, true};
+ghost use Rattle.std.specs.List.{list_all};
 ghost use Rattle.zone_pools.specs.Decisions.{Just};
 ghost use Rattle.zone_machine.specs.Code.Cases.{IsCaseOf, IsJobCase, IsTurnOf, decision_of, job_turn, object_edits, turn_decision_of};
 ghost use Rattle.zone_machine.specs.Code.Rooms.{HasRoomFor};
-ghost use Rattle.zone_machine.specs.Code.Works.{objects_of};
-ghost use Rattle.zone_machine.specs.Code.Cells.{cell_world};
-ghost use Rattle.zone_machine.specs.State.Decisions.{act_of, effects, says, turned};
+ghost use Rattle.zone_machine.specs.Code.Works.{job_objects, objects_of, turn_objects};
+ghost use Rattle.zone_machine.specs.Code.Cells.{cell_world, ids_of};
+ghost use Rattle.zone_machine.specs.State.Decisions.{act_of, effects, turned};
 ghost use Rattle.zone_machine.specs.Daemon.Desks as desks;
 ghost use Rattle.zone_machine.specs.Code.Desks.{as_desk, as_job};
-ghost use Rattle.zone_machine.specs.Machine.Local.{is_local_turn};
+ghost use Rattle.zone_machine.specs.Machine.Local.{is_local_turn, is_of_own};
 ghost use Rattle.zone_machine.specs.Code.Local_turns.{After, IsAsItWas, IsLocalTurn, IsNext, IsNotLocal};
-ghost use Rattle.zone_machine.specs.Objects.{mounts_after};
+ghost use Rattle.zone_machine.specs.Objects.{ids_after, mounts_after};
 ghost use Rattle.zone_machine.specs.Code.Rooms.{HasRoomToChange};
 ghost use Rattle.zone_machine.specs.Daemon.Turns.{Turned, goes_on, step, turn, undo};
 ghost use Rattle.zone_machine.specs.State.Worlds as worlds;
-ghost use Rattle.zone_machine.specs.declared.objects.Id as ids;
-ghost use Rattle.zone_machine.specs.declared.objects.Process as processes;
+ghost use Rattle.kernel_objects.specs.declared.objects.Id as ids;
+ghost use Rattle.kernel_objects.specs.Processes as processes;
 ghost use Rattle.commit_journal.specs.declared.records.Record as records;
 
 use crate::cases::Case;
 use crate::daemon::cases::{JobCase, TurnCase};
 use crate::daemon::desks::Job;
-use crate::daemon::plan_cases::{last_dir, mount_root, passed, step_at, unmounted};
+use crate::daemon::plan_cases::{last_dir, limits_set, mount_root, passed, step_at, unmounted};
 use crate::daemon::turn_cases::undoing;
 use crate::daemon::{Outcome, Step};
 use crate::events::{Entry, Event, Subject};
 use crate::machine::cell::Cell;
-use crate::machine::rooms::{room_on_desk, room_to_turn};
+use crate::machine::effects::set_limits;
+use crate::machine::rooms::{room_for_objects, room_on_desk};
 use crate::machine::settling::settle;
 use crate::objects::Mount;
 use crate::objects::changes::ObjectEdit;
 use crate::objects::lists::unmount;
-use crate::replies::{Body, Head, Reply};
+use crate::replies::Reply;
 use std::alloc::{AllocError, Global};
 use zn_base::ZoneName;
 use zone_pools::Grant;
@@ -46,6 +48,7 @@ fn local_step(
     ensures some { IfOk result (λ o. IfSome o (λ c. (ps : List processes.Process) (is : List ids.Id) (d : desks.Desk) (row : records.Record)
         → step (record { processes = ps; mounts = mounts.now; ids = is }) d (as_job job.now) row (drop at job.now.steps.items) ≡ job_turn d job.now c)) }
     ensures local { IfOk result (λ o. IfSome o (λ c. (d : desks.Desk) → is_local_turn (job_turn d job.now c) ≡ true)) }
+    ensures own { IfOk result (λ o. IfSome o (λ c. list_all is_of_own (object_edits (job_objects c)) ≡ true)) }
     ensures of { IfOk result (λ o. IfSome o (IsJobCase job.now)) }
     ensures none { IfOk result (λ o. o ≡ None → (ps : List processes.Process) (is : List ids.Id) (d : desks.Desk) (row : records.Record)
         → is_local_turn (step (record { processes = ps; mounts = mounts.now; ids = is }) d (as_job job.now) row (drop at job.now.steps.items)) ≡ false) }
@@ -57,7 +60,7 @@ fn local_step(
     match step_at(job, at) {
         Step::Hook(change) => Ok(Some(passed(next, Step::Hook(*change)))),
         Step::Copy(part) => Ok(Some(passed(next, Step::Copy(*part)))),
-        Step::Limits => Ok(Some(passed(next, Step::Limits))),
+        Step::Limits => Ok(Some(limits_set(next))),
         Step::Root => Ok(Some(mount_root(alloc, next, &job.config)?)),
         Step::Unmount(_) => match last_dir(mounts) {
             Some(dir) => Ok(Some(unmounted(alloc, at, dir)?)),
@@ -71,6 +74,7 @@ fn local_step(
 fn local_undo(alloc: Global, job: &Job) -> Result<Option<JobCase>, AllocError>
     ensures some { IfOk result (λ o. IfSome o (λ c. (d : desks.Desk) (e : Outcome) → Just (undo d (as_job job.now) e (as_job job.now).undo) ≡ job_turn d job.now c)) }
     ensures local { IfOk result (λ o. IfSome o (λ c. (d : desks.Desk) → is_local_turn (job_turn d job.now c) ≡ true)) }
+    ensures own { IfOk result (λ o. IfSome o (λ c. list_all is_of_own (object_edits (job_objects c)) ≡ true)) }
     ensures of { IfOk result (λ o. IfSome o (IsJobCase job.now)) }
     ensures none { IfOk result (λ o. o ≡ None → (d : desks.Desk) (e : Outcome) → is_local_turn (Just (undo d (as_job job.now) e (as_job job.now).undo)) ≡ false) }
 {
@@ -87,6 +91,7 @@ fn local_job(alloc: Global, job: &Job, mounts: &[Mount]) -> Result<Option<JobCas
     ensures some { IfOk result (λ o. IfSome o (λ c. (ps : List processes.Process) (is : List ids.Id) (d : desks.Desk) (row : records.Record)
         → goes_on (record { processes = ps; mounts = mounts.now; ids = is }) d (as_job job.now) row (as_job job.now).ending ≡ job_turn d job.now c)) }
     ensures local { IfOk result (λ o. IfSome o (λ c. (d : desks.Desk) → is_local_turn (job_turn d job.now c) ≡ true)) }
+    ensures own { IfOk result (λ o. IfSome o (λ c. list_all is_of_own (object_edits (job_objects c)) ≡ true)) }
     ensures of { IfOk result (λ o. IfSome o (IsJobCase job.now)) }
     ensures none { IfOk result (λ o. o ≡ None → (ps : List processes.Process) (is : List ids.Id) (d : desks.Desk) (row : records.Record)
         → is_local_turn (goes_on (record { processes = ps; mounts = mounts.now; ids = is }) d (as_job job.now) row (as_job job.now).ending) ≡ false) }
@@ -103,6 +108,7 @@ fn local_case(alloc: Global, cell: &Cell) -> Result<Option<TurnCase>, AllocError
     ensures some { IfOk result (λ o. IfSome o (λ c. IsNext cell.now (turn_decision_of cell.now.desk c))) }
     ensures local { IfOk result (λ o. IfSome o (λ c. is_local_turn (turn_decision_of cell.now.desk c) ≡ true)) }
     ensures of { IfOk result (λ o. IfSome o (IsTurnOf cell.now.desk)) }
+    ensures own { IfOk result (λ o. IfSome o (λ c. list_all is_of_own (object_edits (turn_objects c)) ≡ true)) }
     ensures job { IfOk result (λ o. IfSome o (λ c. is_some cell.now.desk.job ≡ true)) }
     ensures none { IfOk result (λ o. o ≡ None → (row : records.Record) → is_local_turn (turn (worlds.objects_of (cell_world (Some row) cell.now)) (Some row) (as_desk cell.now.desk)) ≡ false) }
 {
@@ -115,16 +121,26 @@ fn local_case(alloc: Global, cell: &Cell) -> Result<Option<TurnCase>, AllocError
     }
 }
 
-// What becomes of the zone's mounts.
-fn edit_mounts(cell: &mut Cell, edit: ObjectEdit)
-    requires { HasRoomToChange edit cell.old }
+// What becomes of the zone's mounts and limits.
+fn edit_own(alloc: Global, cell: &mut Cell, edit: ObjectEdit)
+    requires own { list_all is_of_own (object_edits edit) ≡ true }
+    requires room { HasRoomToChange edit cell.old }
     ensures mounts { cell.new.mounts.items ≡ mounts_after (object_edits edit) cell.old.mounts.items }
-    ensures same { cell.new ≡ record cell.old { mounts = cell.new.mounts } }
+    ensures ids { ids_of cell.new.kernel.id ≡ ids_after (object_edits edit) (ids_of cell.old.kernel.id) }
+    ensures processes { cell.new.kernel.processes ≡ cell.old.kernel.processes }
+    ensures same { cell.new ≡ record cell.old { kernel = cell.new.kernel; mounts = cell.new.mounts } }
 {
     match edit {
+        ObjectEdit::Nothing => {}
         ObjectEdit::Mount(mount) => cell.mounts.push_reserved(Box::into_inner(mount)),
         ObjectEdit::Unmount(dir) => unmount(&mut cell.mounts, &dir),
-        ObjectEdit::Nothing | ObjectEdit::EndProcesses | ObjectEdit::EndIds => {}
+        ObjectEdit::SetLimits => set_limits(alloc, &mut cell.kernel),
+        ObjectEdit::ClearLimits => cell.kernel.clear_limits(alloc),
+        ObjectEdit::EndProcesses
+        | ObjectEdit::EndProcess(_)
+        | ObjectEdit::Rename(_, _)
+        | ObjectEdit::GiveUp(_, _)
+        | ObjectEdit::EndIds => unreachable!(),
     }
 }
 
@@ -137,24 +153,23 @@ fn room_for(cell: &mut Cell, case: &Case) -> Result<(), AllocError>
     ensures objects { OnOk result (HasRoomToChange (objects_of case.now) cell.new) }
     ensures desk { OnOk result (HasRoomFor cell.new.desk case.now) }
 {
-    if let Case::Turn(turn) = case {
-        room_to_turn(cell, turn)?;
-    }
+    room_for_objects(cell, case)?;
     room_on_desk(&mut cell.desk, case)
 }
 
 // A local turn is done.
-fn do_local(cell: &mut Cell, case: TurnCase) -> Result<Head, AllocError>
+fn do_local(alloc: Global, cell: &mut Cell, case: TurnCase) -> Result<Reply, AllocError>
     requires of { IsTurnOf cell.old.desk case }
-    ensures head { IfOk result (λ head. says head ≡ (act_of (effects turned (turn_decision_of cell.old.desk case)) Grant.Nothing).effect.reply) }
-    ensures done { IfOk result (λ head. (t : Turned) → effects turned (turn_decision_of cell.old.desk case) ≡ effects turned (Just t) → After t cell.old cell.new) }
+    requires own { list_all is_of_own (object_edits (turn_objects case)) ≡ true }
+    ensures reply { IfOk result (λ reply. reply ≡ (act_of (effects turned (turn_decision_of cell.old.desk case)) Grant.Nothing).effect.reply) }
+    ensures done { IfOk result (λ reply. (t : Turned) → effects turned (turn_decision_of cell.old.desk case) ≡ effects turned (Just t) → After t cell.old cell.new) }
     ensures memory { OnErr result (IsAsItWas cell.old cell.new) }
 {
     let case = Case::Turn(case);
     room_for(cell, &case)?;
     let work = settle(&mut cell.desk, case, Grant::Nothing);
-    edit_mounts(cell, work.objects);
-    Ok(work.head)
+    edit_own(alloc, cell, work.objects);
+    Ok(work.reply)
 }
 
 /// The next turn of a zone's daemon is done on the zone's cell, where it is local: it steps through a hook, through
@@ -178,14 +193,11 @@ pub fn local_turn(
         zone: zone.copy(alloc)?,
     };
     let subject = Subject::Zone(zone.copy(alloc)?);
-    let head = do_local(cell, case)?;
+    let reply = do_local(alloc, cell, case)?;
     Ok(Some(Entry {
         event,
         subject,
         grant: Grant::Nothing,
-        reply: Reply {
-            head,
-            body: Body::Nothing,
-        },
+        reply,
     }))
 }

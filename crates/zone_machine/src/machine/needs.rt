@@ -29,8 +29,8 @@ fn came_need(it: &Came) -> Need<'_>
 {
     match it {
         Came::Process(_) => Need::Pid,
-        Came::Id(_) => Need::Zid,
-        Came::Record(_) => Need::Record,
+        Came::Id => Need::Zid,
+        Came::Record(_, _) => Need::Record,
     }
 }
 
@@ -38,7 +38,7 @@ fn job_need(case: &JobCase) -> Need<'_>
     ensures { (d : desks.Desk) (j : job_types.Job) → asked_of (job_turn d j case.now) ≡ asked_by result }
 {
     match case {
-        JobCase::Ask(coming, _) => came_need(&coming.it),
+        JobCase::Ask(it, _) => came_need(it),
         JobCase::Finish(_) => Need::Nothing,
         JobCase::Pass(_) => Need::Nothing,
         JobCase::Undo(_) => Need::Nothing,
@@ -61,7 +61,8 @@ pub(crate) fn need_of(case: &Case) -> Need<'_>
     ensures { (d : desk_types.Desk) → IsCaseOf d case.now → asked_of (decision_of d case.now) ≡ asked_by result }
 {
     match case {
-        Case::Says(_) => Need::Nothing,
+        Case::Says(_) | Case::Tells(_) | Case::Change(_) => Need::Nothing,
+        Case::Fork(_) => Need::Pid,
         Case::Make(row, _) => Need::NewZone(row.config.shown(Property::Zonepath)),
         Case::Put(_, _) => Need::Nothing,
         Case::Turn(case) => turn_need(case),

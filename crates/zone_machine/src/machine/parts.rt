@@ -14,7 +14,7 @@ ghost use Rattle.zone_machine.specs.Code.Steps.{AsItWas, IsAllowed, IsGrantFor, 
 ghost use Rattle.zone_machine.specs.Daemon.Desks.{state_of};
 ghost use Rattle.zone_machine.specs.Machine.{decide, global_reply, opening};
 ghost use Rattle.zone_machine.specs.State.{State};
-ghost use Rattle.zone_machine.specs.State.Decisions.{act_of};
+ghost use Rattle.zone_machine.specs.State.Decisions.{act_of, says};
 ghost use Rattle.zone_machine.specs.State.Worlds.{View};
 ghost use Rattle.zone_machine.specs.declared.events.Subject.TheVariants as subject_variants;
 ghost use Rattle.zone_machine.specs.declared.events.Subject.TheVariants.{Zone};
@@ -27,9 +27,9 @@ use crate::faults::StepFault;
 use crate::machine::cell::Cell;
 use crate::machine::reads::{Read, global_refusal, read_event, subject};
 use crate::machine::shared::Shared;
-use crate::machine::steps::{cell_grant, entry_of, granted_case, perform_case};
+use crate::machine::steps::{cell_grant, granted_case, perform_case};
 use crate::maps::put;
-use crate::replies::{Head, Refusal};
+use crate::replies::{Body, Head, Refusal, Reply};
 use indexmap::IndexMap;
 use std::alloc::{AllocError, Global};
 use zn_base::{ZoneName, ZoneState};
@@ -79,13 +79,17 @@ fn nothing_of(stated: Option<Grant>) -> Result<Grant, StepFault>
     }
 }
 
-// The first line of a reply that says no more than whether a line is refused.
-fn answer_head(refusal: Option<Refusal>) -> Head
-    ensures { result ≡ head_of refusal }
+// A reply that says no more than whether a line is refused.
+fn answer_reply(refusal: Option<Refusal>) -> Reply
+    ensures { result ≡ says (head_of refusal) }
 {
-    match refusal {
+    let head = match refusal {
         None => Head::Ok,
         Some(refusal) => Head::Refused(refusal),
+    };
+    Reply {
+        head,
+        body: Body::Nothing,
     }
 }
 
@@ -135,20 +139,22 @@ impl Parts {
     // A case of a zone is done, whose cell stands at an index.
     fn do_at(
         &mut self,
+        alloc: Global,
         event: &Event,
         zone: &ZoneName,
         at: usize,
         case: Case,
         grant: Grant,
-    ) -> Result<Head, AllocError>
+    ) -> Result<Reply, AllocError>
         requires of { subject_in self.old.shared event.now ≡ Zone zone.now }
         requires at { IsCellAt self.old at zone.now }
         requires case { (c : cell_types.Cell) → cell_at zone.now self.old ≡ Some c → IsCaseIn zone.now (row_in zone.now self.old.shared) c (λ v. decide v event.now) case }
         requires free { (c : cell_types.Cell) → cell_at zone.now self.old ≡ Some c → IsFreeOf (act_of (decision_of c.desk case) grant).came (pools_in self.old.shared) }
-        ensures step { IfOk result (λ head. IsStep self.old event.now grant (entry_of (Zone zone.now) event.now grant head) self.new) }
+        ensures step { IfOk result (λ reply. IsStep self.old event.now grant (entry_of (Zone zone.now) event.now grant reply) self.new) }
         ensures memory { OnErr result (AsItWas self.old self.new) }
     {
         perform_case(
+            alloc,
             &mut self.cells[at],
             &mut self.shared,
             event,
@@ -167,7 +173,7 @@ impl Parts {
         zone: &ZoneName,
         at: usize,
         stated: Option<Grant>,
-    ) -> Result<(Grant, Head), StepFault>
+    ) -> Result<(Grant, Reply), StepFault>
         requires of { subject_in self.old.shared event.now ≡ Zone zone.now }
         requires decides { (v : View) → decide_read v read ≡ decide v event.now }
         requires at { IsCellAt self.old at zone.now }
@@ -178,8 +184,8 @@ impl Parts {
         ensures fault { OnErr result (IsErrOf result StepFault.BadGrant ⊎ IsErrOf result StepFault.Memory) }
     {
         let (case, grant) = granted_case(alloc, zone, &self.cells[at], &self.shared, read, stated)?;
-        let head = self.do_at(event, zone, at, case, grant)?;
-        Ok((grant, head))
+        let reply = self.do_at(alloc, event, zone, at, case, grant)?;
+        Ok((grant, reply))
     }
 
     // A case of a zone is done that has no cell.
@@ -191,23 +197,24 @@ impl Parts {
         cell: Box<Cell>,
         case: Case,
         grant: Grant,
-    ) -> Result<Head, AllocError>
+    ) -> Result<Reply, AllocError>
         requires of { subject_in self.old.shared event.now ≡ Zone zone.now }
         requires none { cell_at zone.now self.old ≡ None }
         requires nothing { (row : Option record_types.Record) → cell_world row cell.value ≡ empty_world row }
         requires case { IsCaseIn zone.now (row_in zone.now self.old.shared) cell.value (λ v. decide v event.now) case }
         requires free { IsFreeOf (act_of (decision_of cell.value.desk case) grant).came (pools_in self.old.shared) }
-        ensures step { IfOk result (λ head. IsStep self.old event.now grant (entry_of (Zone zone.now) event.now grant head) self.new) }
+        ensures step { IfOk result (λ reply. IsStep self.old event.now grant (entry_of (Zone zone.now) event.now grant reply) self.new) }
         ensures memory { OnErr result (AsItWas self.old self.new) }
     {
         let key = room_for_cell(&mut self.cells, alloc, zone)?;
         let mut cell = Box::into_inner(cell);
-        let head = perform_case(&mut cell, &mut self.shared, event, zone, case, grant)?;
+        let reply = perform_case(alloc, &mut cell, &mut self.shared, event, zone, case, grant)?;
         keep(&mut self.cells, key, cell);
-        Ok(head)
+        Ok(reply)
     }
 
     // An event of a zone is answered that has no cell.
+    #[inline(never)]
     fn answer_new(
         &mut self,
         alloc: Global,
@@ -215,7 +222,7 @@ impl Parts {
         read: Read<'_>,
         zone: &ZoneName,
         stated: Option<Grant>,
-    ) -> Result<(Grant, Head), StepFault>
+    ) -> Result<(Grant, Reply), StepFault>
         requires of { subject_in self.old.shared event.now ≡ Zone zone.now }
         requires decides { (v : View) → decide_read v read ≡ decide v event.now }
         requires none { cell_at zone.now self.old ≡ None }
@@ -227,8 +234,8 @@ impl Parts {
     {
         let cell = Box::new(alloc, Cell::new(alloc))?;
         let (case, grant) = granted_case(alloc, zone, &cell, &self.shared, read, stated)?;
-        let head = self.do_new(alloc, event, zone, cell, case, grant)?;
-        Ok((grant, head))
+        let reply = self.do_new(alloc, event, zone, cell, case, grant)?;
+        Ok((grant, reply))
     }
 
     // An event of a zone is answered.
@@ -239,7 +246,7 @@ impl Parts {
         read: Read<'_>,
         zone: &ZoneName,
         stated: Option<Grant>,
-    ) -> Result<(Grant, Head), StepFault>
+    ) -> Result<(Grant, Reply), StepFault>
         requires of { subject_in self.old.shared event.now ≡ Zone zone.now }
         requires decides { (v : View) → decide_read v read ≡ decide v event.now }
         ensures takes { IfOk result (λ r. IsTaken self.old stated event.now r.0) }
@@ -255,13 +262,14 @@ impl Parts {
     }
 
     // An event that is no zone's is answered.
+    #[inline(never)]
     fn answer_global(
         &mut self,
         alloc: Global,
         event: &Event,
         read: Read<'_>,
         stated: Option<Grant>,
-    ) -> Result<(Grant, Head), StepFault>
+    ) -> Result<(Grant, Reply), StepFault>
         requires of { subject_in self.old.shared event.now ≡ subject_variants.Global }
         requires global { (S : State) → global_read read ≡ global_reply S event.now }
         ensures takes { IfOk result (λ r. IsTaken self.old stated event.now r.0) }
@@ -273,10 +281,10 @@ impl Parts {
         let refusal = global_refusal(alloc, read)?;
         let grant = nothing_of(stated)?;
         self.shared.started = true;
-        Ok((grant, answer_head(refusal)))
+        Ok((grant, answer_reply(refusal)))
     }
 
-    // An event is answered: its grant, and the first line of the reply.
+    // An event is answered: its grant, and the reply.
     fn answer(
         &mut self,
         alloc: Global,
@@ -284,7 +292,7 @@ impl Parts {
         read: Read<'_>,
         subject: &Subject,
         stated: Option<Grant>,
-    ) -> Result<(Grant, Head), StepFault>
+    ) -> Result<(Grant, Reply), StepFault>
         requires of { subject_in self.old.shared event.now ≡ subject.now }
         requires decides { (v : View) → decide_read v read ≡ decide v event.now }
         requires global { (S : State) → global_read read ≡ global_reply S event.now }
@@ -315,8 +323,13 @@ impl Parts {
     {
         let read = read_event(&event);
         let subject = subject(&self.shared, alloc, read)?;
-        let (grant, head) = self.answer(alloc, &event, read, &subject, stated)?;
-        Ok(entry_of(event, subject, grant, head))
+        let (grant, reply) = self.answer(alloc, &event, read, &subject, stated)?;
+        Ok(Entry {
+            event,
+            subject,
+            grant,
+            reply,
+        })
     }
 
     fn active(&self, zone: &ZoneName) -> Option<ZoneState>

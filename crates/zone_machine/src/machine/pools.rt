@@ -13,9 +13,7 @@ use crate::machine::shared::Shared;
 use commit_journal::Record;
 use indexmap::IndexMap;
 use zn_base::{AbsPath, ZoneName};
-use zone_pools::{
-    Grant, PID_MAX, PID_MIN, Pool, SERIAL_MAX, ZID_MAX, ZID_MIN, ZONES_MAX, next_free, numbered,
-};
+use zone_pools::{Grant, Pool, SERIAL_MAX, ZONES_MAX};
 
 fn is_path(path: &[u8], own: &Option<AbsPath>) -> bool
     ensures { result ≡ is_path path.now own.now }
@@ -44,24 +42,6 @@ fn path_taken(rows: &IndexMap<ZoneName, Record>, zone: &ZoneName, path: &[u8]) -
         }
     }
     false
-}
-
-fn next_pid(shared: &Shared) -> Grant
-    ensures { result ≡ numbered Pool.Pids (next_free (pools_in shared.now).pid_used PID_MIN PID_MAX shared.now.last_pid) }
-{
-    numbered(
-        Pool::Pids,
-        next_free(&shared.pids, PID_MIN, PID_MAX, shared.last_pid),
-    )
-}
-
-fn next_zid(shared: &Shared) -> Grant
-    ensures { result ≡ numbered Pool.Zids (next_free (pools_in shared.now).zid_used ZID_MIN ZID_MAX shared.now.last_zid) }
-{
-    numbered(
-        Pool::Zids,
-        next_free(&shared.zids, ZID_MIN, ZID_MAX, shared.last_zid),
-    )
 }
 
 // Whether a new zone still has a place.
@@ -107,8 +87,8 @@ pub(crate) fn grant_for(shared: &Shared, zone: &ZoneName, need: &Need) -> Grant
 {
     match need {
         Need::Nothing => Grant::Nothing,
-        Need::Pid => next_pid(shared),
-        Need::Zid => next_zid(shared),
+        Need::Pid => shared.kernel.next_pid(),
+        Need::Zid => shared.kernel.next_zid(),
         Need::Record => next_serial(shared),
         Need::NewZone(path) => new_zone(shared, zone, path),
     }
@@ -126,18 +106,6 @@ fn asks_pool(need: &Need, pool: Pool) -> bool
     }
 }
 
-fn pid_fits(shared: &Shared, number: u32) -> bool
-    ensures { result ≡ fits_pool (pools_in shared.now) number A_pid }
-{
-    (PID_MIN..=PID_MAX).contains(&number) && !shared.pids.is_held(&number)
-}
-
-fn zid_fits(shared: &Shared, number: u32) -> bool
-    ensures { result ≡ fits_pool (pools_in shared.now) number A_zid }
-{
-    (ZID_MIN..=ZID_MAX).contains(&number) && !shared.zids.is_held(&number)
-}
-
 fn serial_fits(shared: &Shared, number: u32) -> bool
     ensures { result ≡ fits_pool (pools_in shared.now) number A_serial }
 {
@@ -149,8 +117,8 @@ fn number_fits(shared: &Shared, need: &Need, number: u32) -> bool
 {
     match need {
         Need::Nothing => false,
-        Need::Pid => pid_fits(shared, number),
-        Need::Zid => zid_fits(shared, number),
+        Need::Pid => shared.kernel.pid_free(number),
+        Need::Zid => shared.kernel.zid_free(number),
         Need::Record => serial_fits(shared, number),
         Need::NewZone(_) => has_place(shared) && serial_fits(shared, number),
     }

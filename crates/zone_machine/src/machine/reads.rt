@@ -1,6 +1,7 @@
 //! An event is read, once: what it says, whose it is, and what it is answered where it is no zone's.
 ghost use Rattle.std.specs.Prelude.{◌≡◌, IfOk, None, Some, Option};
-ghost use Rattle.zone_machine.specs.Code.Reads.{decide_read, global_read, number_read, subject_in, subject_read};
+ghost use Rattle.zone_machine.specs.Code.Reads.{decide_read, global_read, held_subject, idle_subject, number_read, subject_in, subject_read};
+ghost use Rattle.kernel_objects.specs.Shared.{pid_owner};
 ghost use Rattle.zone_machine.specs.Code.Decided.{head_of};
 ghost use Rattle.zone_machine.specs.State.Decisions.{says};
 ghost use Rattle.zone_machine.specs.Code.Lines.{as_line, as_word};
@@ -15,14 +16,17 @@ use crate::events::{Event, Subject};
 use crate::machine::shared::Shared;
 use crate::replies::Refusal;
 use crate::session::lines::{Command, Line, line_of};
+use kernel_objects::{Errno, KernelShared};
+use process_calls::Call;
 use std::alloc::{AllocError, Global};
 use zn_base::{NameFault, ZoneName};
 
-/// An event as it is read, once: what a session types, or a turn of a zone's daemon.
+/// An event as it is read, once: what a session types, a turn of a zone's daemon, or a call of a zone's process.
 #[derive(Clone, Copy)]
 pub(crate) enum Read<'e> {
     Line(u8, Line<'e>),
     Turn(&'e ZoneName),
+    Process(&'e ZoneName, u32, &'e Call),
 }
 
 /// An event is read.
@@ -36,10 +40,12 @@ pub(crate) fn read_event(event: &Event) -> Read<'_>
     match event {
         Event::Session { number, text } => Read::Line(*number, line_of(text.bytes())),
         Event::Turn { zone } => Read::Turn(zone),
+        Event::Process { zone, pid, call } => Read::Process(zone, *pid, call),
     }
 }
 
 // The zone that a word names, or the global zone.
+#[inline(never)]
 fn named_subject(alloc: Global, word: Option<&[u8]>) -> Result<Subject, AllocError>
     ensures { IfOk result (λ subject. subject ≡ named_subject (as_word word.entry)) }
 {
@@ -54,15 +60,40 @@ fn named_subject(alloc: Global, word: Option<&[u8]>) -> Result<Subject, AllocErr
     }
 }
 
-/// Whose an event is: the zone that its session waits in, else the zone that its line names.
+// The zone that has a process, or the global zone.
+#[inline(never)]
+fn holder(kernel: &KernelShared, alloc: Global, pid: u32) -> Result<Subject, AllocError>
+    ensures { IfOk result (λ subject. subject ≡ held_subject (pid_owner kernel.now pid)) }
+{
+    match kernel.owner(pid) {
+        Some(zone) => Ok(Subject::Zone(zone.copy(alloc)?)),
+        None => Ok(Subject::Global),
+    }
+}
+
+// Whose a line of an idle session is: of the zone that has the process that it sends a signal to, else of the zone that it
+// names.
+fn idle_subject(kernel: &KernelShared, alloc: Global, line: Line<'_>) -> Result<Subject, AllocError>
+    ensures { IfOk result (λ subject. subject ≡ idle_subject (as_line line.entry).zone kernel.now (as_line line.entry).command) }
+{
+    match line.command {
+        Command::Kill(_, pid) => holder(kernel, alloc, pid),
+        Command::Blank | Command::Make(_) | Command::Request(_) | Command::Unknown => named_subject(
+            alloc, line.zone,
+        ),
+    }
+}
+
+/// Whose an event is: the zone that its session waits in, else that of the process that its line sends a signal to, else
+/// the zone that its line names.
 pub(crate) fn subject(shared: &Shared, alloc: Global, read: Read<'_>) -> Result<Subject, AllocError>
     ensures { IfOk result (λ subject. subject ≡ subject_read shared.now read.entry) }
 {
     match read {
-        Read::Turn(zone) => Ok(Subject::Zone(zone.copy(alloc)?)),
+        Read::Turn(zone) | Read::Process(zone, _, _) => Ok(Subject::Zone(zone.copy(alloc)?)),
         Read::Line(number, line) => match shared.sessions.owner(&number) {
             Some(zone) => Ok(Subject::Zone(zone.copy(alloc)?)),
-            None => named_subject(alloc, line.zone),
+            None => idle_subject(&shared.kernel, alloc, line),
         },
     }
 }
@@ -88,6 +119,7 @@ fn global_line(alloc: Global, line: Line<'_>) -> Result<Option<Refusal>, AllocEr
     match line.command {
         Command::Blank => Ok(None),
         Command::Unknown => Ok(Some(Refusal::Usage)),
+        Command::Kill(_, _) => Ok(Some(Refusal::Errno(Errno::ESRCH))),
         Command::Make(_) | Command::Request(_) => Ok(Some(badly_named(alloc, line.zone)?)),
     }
 }
@@ -98,6 +130,6 @@ pub(crate) fn global_refusal(alloc: Global, read: Read<'_>) -> Result<Option<Ref
 {
     match read {
         Read::Line(_, line) => global_line(alloc, line),
-        Read::Turn(_) => Ok(None),
+        Read::Turn(_) | Read::Process(_, _, _) => Ok(None),
     }
 }

@@ -5,7 +5,7 @@ ghost use Rattle.zone_machine.specs.Code.Cases.{IsCaseOf, decision_of};
 ghost use Rattle.zone_machine.specs.Code.Rooms.{HasRoomFor};
 ghost use Rattle.zone_machine.specs.Code.Works.{objects_of, turn_objects};
 ghost use Rattle.zone_machine.specs.Code.Needs.{asked_by};
-ghost use Rattle.zone_machine.specs.Code.Rooms.{Alike, HasRoom, HasRoomIfSits, HasRoomToChange, HasRoomToCome};
+ghost use Rattle.zone_machine.specs.Code.Rooms.{Alike, HasRoom, HasRoomIfSits, HasRoomToChange, HasRoomToStore};
 
 use crate::cases::Case;
 use crate::daemon::cases::{JobCase, TurnCase};
@@ -32,25 +32,14 @@ pub(crate) fn room_on_desk(desk: &mut Desk, case: &Case) -> Result<(), AllocErro
     }
 }
 
-// Room for what comes with a grant.
-fn room_to_come(cell: &mut Cell, shared: &mut Shared, need: Need<'_>) -> Result<(), AllocError>
-    ensures alike { Alike cell.old shared.old cell.new shared.new }
-    ensures desk { cell.new.desk ≡ cell.old.desk }
-    ensures mounts { cell.new.mounts ≡ cell.old.mounts }
-    ensures waits { cell.new.waits ≡ cell.old.waits }
-    ensures sessions { shared.new.sessions ≡ shared.old.sessions }
-    ensures room { OnOk result (HasRoomToCome (asked_by need.entry) cell.new shared.new) }
+// Room for a record.
+fn room_to_store(shared: &mut Shared, need: Need<'_>) -> Result<(), AllocError>
+    ensures rows { shared.new.rows.entries ≡ shared.old.rows.entries }
+    ensures same { shared.new ≡ record shared.old { rows = shared.new.rows } }
+    ensures room { OnOk result (HasRoomToStore (asked_by need.entry) shared.new) }
 {
     match need {
-        Need::Nothing => Ok(()),
-        Need::Pid => {
-            cell.processes.reserve(1)?;
-            shared.pids.reserve()
-        }
-        Need::Zid => {
-            cell.ids.reserve(1)?;
-            shared.zids.reserve()
-        }
+        Need::Nothing | Need::Pid | Need::Zid => Ok(()),
         Need::Record | Need::NewZone(_) => shared.rows.reserve(1),
     }
 }
@@ -67,8 +56,8 @@ fn room_to_change(cell: &mut Cell, edit: &ObjectEdit) -> Result<(), AllocError>
     }
 }
 
-/// Room for what a turn does to the zone's objects.
-pub(crate) fn room_to_turn(cell: &mut Cell, case: &TurnCase) -> Result<(), AllocError>
+// Room for what a turn does to the zone's objects.
+fn room_to_turn(cell: &mut Cell, case: &TurnCase) -> Result<(), AllocError>
     ensures mounts { cell.new.mounts.items ≡ cell.old.mounts.items }
     ensures same { cell.new ≡ record cell.old { mounts = cell.new.mounts } }
     ensures room { OnOk result (HasRoomToChange (turn_objects case.now) cell.new) }
@@ -76,6 +65,19 @@ pub(crate) fn room_to_turn(cell: &mut Cell, case: &TurnCase) -> Result<(), Alloc
     match case {
         TurnCase::GoOn(JobCase::Pass(pass)) => room_to_change(cell, &pass.objects),
         TurnCase::GoOn(JobCase::Undo(objects)) => room_to_change(cell, objects),
+        _ => Ok(()),
+    }
+}
+
+/// Room for what a case does to the zone's objects.
+pub(crate) fn room_for_objects(cell: &mut Cell, case: &Case) -> Result<(), AllocError>
+    ensures mounts { cell.new.mounts.items ≡ cell.old.mounts.items }
+    ensures same { cell.new ≡ record cell.old { mounts = cell.new.mounts } }
+    ensures room { OnOk result (HasRoomToChange (objects_of case.now) cell.new) }
+{
+    match case {
+        Case::Turn(case) => room_to_turn(cell, case),
+        Case::Change(edit) => room_to_change(cell, edit),
         _ => Ok(()),
     }
 }
@@ -92,8 +94,7 @@ fn room_to_do(cell: &mut Cell, shared: &mut Shared, case: &Case) -> Result<(), A
             cell.waits.reserve(1)?;
             shared.sessions.reserve()
         }
-        Case::Turn(case) => room_to_turn(cell, case),
-        _ => Ok(()),
+        _ => room_for_objects(cell, case),
     }
 }
 
@@ -106,6 +107,6 @@ pub(crate) fn make_room(cell: &mut Cell, shared: &mut Shared, case: &Case) -> Re
     ensures room { OnOk result (HasRoom case.now cell.new shared.new) }
 {
     room_to_do(cell, shared, case)?;
-    room_to_come(cell, shared, need_of(case))?;
+    room_to_store(shared, need_of(case))?;
     room_on_desk(&mut cell.desk, case)
 }

@@ -6,6 +6,7 @@ ghost use Rattle.zone_machine.specs.Machine.{opening};
 
 use commit_journal::Record;
 use indexmap::IndexMap;
+use kernel_objects::KernelShared;
 use std::alloc::Global;
 use zn_base::ZoneName;
 use zone_pools::Owners;
@@ -13,16 +14,13 @@ use zone_pools::Owners;
 /// What more than one zone may ask: who holds which number, what is stored, and the last numbers given.
 #[derive(Drop)]
 pub struct Shared {
-    pub(crate) pids: Owners<u32>,
-    pub(crate) zids: Owners<u32>,
+    pub(crate) kernel: KernelShared,
     /// The zone that each session waits in. Those that aren't there are idle.
     pub(crate) sessions: Owners<u8>,
     /// The stored zones, in the order of their creation.
     pub(crate) rows: IndexMap<ZoneName, Record>,
     /// How many records were stored.
     pub(crate) serial: u32,
-    pub(crate) last_pid: u32,
-    pub(crate) last_zid: u32,
     /// Whether an event has come.
     pub(crate) started: bool,
 }
@@ -33,13 +31,10 @@ impl Shared {
         ensures { SharedOf result (common (opening [])) }
     {
         Self {
-            pids: Owners::new(alloc),
-            zids: Owners::new(alloc),
+            kernel: KernelShared::new(alloc),
             sessions: Owners::new(alloc),
             rows: IndexMap::new(alloc),
             serial: 0,
-            last_pid: 1,
-            last_zid: 0,
             started: false,
         }
     }

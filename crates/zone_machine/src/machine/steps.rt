@@ -17,18 +17,20 @@ ghost use Rattle.zone_machine.specs.State.Worlds.{view_of};
 ghost use Rattle.zone_machine.specs.declared.events.Subject.TheVariants.{Zone};
 ghost use Rattle.zone_pools.specs.Decisions.{asked_of};
 
+use crate::calls::decide_call;
 use crate::cases::Case;
 use crate::daemon::turn_cases::decide_turn;
 use crate::events::{Entry, Event, Subject};
 use crate::faults::StepFault;
 use crate::machine::cell::Cell;
+use crate::machine::comings::come;
 use crate::machine::effects::perform;
 use crate::machine::needs::need_of;
 use crate::machine::pools::{fits, grant_for};
 use crate::machine::reads::{Read, read_event};
 use crate::machine::rooms::make_room;
 use crate::machine::shared::Shared;
-use crate::replies::{Body, Head, Reply};
+use crate::replies::Reply;
 use crate::session::line_cases::decide_line;
 use crate::session::waits::awaited;
 use commit_journal::Record;
@@ -50,20 +52,21 @@ fn case_of(
     match read {
         Read::Line(number, line) => {
             let ticket = awaited(&cell.waits, number);
-            decide_line(alloc, zone, &cell.desk, row, ticket, line.command)
-        }
-        Read::Turn(_) => {
-            let case = decide_turn(
+            decide_line(
                 alloc,
                 zone,
+                &cell.kernel,
                 &cell.desk,
                 row,
-                &cell.processes,
-                &cell.mounts,
-                &cell.ids,
-            )?;
+                ticket,
+                line.command,
+            )
+        }
+        Read::Turn(_) => {
+            let case = decide_turn(alloc, zone, &cell.desk, row, &cell.kernel, &cell.mounts)?;
             Ok(Case::Turn(case))
         }
+        Read::Process(_, pid, call) => decide_call(alloc, zone, &cell.kernel, pid, call),
     }
 }
 
@@ -72,28 +75,31 @@ fn session_number(event: &Event) -> Option<u8>
 {
     match event {
         Event::Session { number, .. } => Some(*number),
-        Event::Turn { .. } => None,
+        Event::Turn { .. } | Event::Process { .. } => None,
     }
 }
 
-/// A case that was decided for an event is done under a grant that gives only what is free: the first line of the reply.
+/// A case that was decided for an event is done under a grant that gives only what is free: the reply. What comes to the
+/// kernel takes memory, so it comes once there is room for all else, and before anything is changed.
 pub(crate) fn perform_case(
+    alloc: Global,
     cell: &mut Cell,
     shared: &mut Shared,
     event: &Event,
     zone: &ZoneName,
     case: Case,
     grant: Grant,
-) -> Result<Head, AllocError>
+) -> Result<Reply, AllocError>
     requires case { IsCaseIn zone.now (row_in zone.now shared.old) cell.old (λ v. decide v event.now) case }
     requires free { IsFreeOf (act_of (decision_of cell.old.desk case) grant).came (pools_in shared.old) }
-    ensures step { IfOk result (λ head. IsCellStep zone.now cell.old shared.old event.now grant (entry_of (Zone zone.now) event.now grant head) cell.new shared.new) }
+    ensures step { IfOk result (λ reply. IsCellStep zone.now cell.old shared.old event.now grant (entry_of (Zone zone.now) event.now grant reply) cell.new shared.new) }
     ensures memory { OnErr result (Alike cell.old shared.old cell.new shared.new) }
 {
     make_room(cell, shared, &case)?;
-    let head = perform(cell, shared, session_number(event), case, grant);
+    come(alloc, cell, shared, zone, &case, grant)?;
+    let reply = perform(alloc, cell, shared, session_number(event), case, grant);
     shared.started = true;
-    Ok(head)
+    Ok(reply)
 }
 
 // The grant that the pools give a case, or the one that is stated, where it fits.
@@ -155,22 +161,7 @@ pub(crate) fn cell_grant(
     Ok(grant)
 }
 
-/// The entry of an event.
-pub(crate) fn entry_of(event: Event, subject: Subject, grant: Grant, head: Head) -> Entry
-    ensures { result ≡ entry_of subject event grant head }
-{
-    Entry {
-        event,
-        subject,
-        grant,
-        reply: Reply {
-            head,
-            body: Body::Nothing,
-        },
-    }
-}
-
-// An event of a zone is answered: its grant, and the first line of the reply.
+// An event of a zone is answered: its grant, and the reply.
 fn answer(
     alloc: Global,
     zone: &ZoneName,
@@ -178,15 +169,15 @@ fn answer(
     shared: &mut Shared,
     event: &Event,
     stated: Option<Grant>,
-) -> Result<(Grant, Head), StepFault>
+) -> Result<(Grant, Reply), StepFault>
     ensures ok { IfOk result (λ r. IsCellStepUnder zone.now stated cell.old shared.old event.now (entry_of (Zone zone.now) event.now r.0 r.1) cell.new shared.new) }
     ensures memory { IsErrOf result StepFault.Memory → Alike cell.old shared.old cell.new shared.new }
     ensures misfit { IsErrOf result StepFault.BadGrant → IsCellMisfitUnder zone.now stated cell.old shared.old event.now cell.new shared.new }
     ensures fault { OnErr result (IsErrOf result StepFault.BadGrant ⊎ IsErrOf result StepFault.Memory) }
 {
     let (case, grant) = granted_case(alloc, zone, cell, shared, read_event(event), stated)?;
-    let head = perform_case(cell, shared, event, zone, case, grant)?;
-    Ok((grant, head))
+    let reply = perform_case(alloc, cell, shared, event, zone, case, grant)?;
+    Ok((grant, reply))
 }
 
 // The same, as an entry.
@@ -205,8 +196,13 @@ fn cell_event(
     ensures fault { OnErr result (IsErrOf result StepFault.BadGrant ⊎ IsErrOf result StepFault.Memory) }
 {
     let subject = Subject::Zone(zone.copy(alloc)?);
-    let (grant, head) = answer(alloc, zone, cell, shared, &event, stated)?;
-    Ok(entry_of(event, subject, grant, head))
+    let (grant, reply) = answer(alloc, zone, cell, shared, &event, stated)?;
+    Ok(Entry {
+        event,
+        subject,
+        grant,
+        reply,
+    })
 }
 
 /// An event of a zone is answered on its cell and the shared part, under the grant that the pools give it. Where memory

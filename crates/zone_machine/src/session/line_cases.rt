@@ -1,4 +1,5 @@
 //! What the lines come to that sessions type.
+ghost use Rattle.kernel_objects.specs.Processes.{with_pid};
 ghost use Rattle.std.specs.Prelude.{◌≡◌, IfOk, List, MatchBool, MatchOption, None, Ok, Option, false, ℕ};
 ghost use Rattle.std.specs.Result.{result_ok};
 ghost use Rattle.std.specs.Option.{option_map};
@@ -13,6 +14,7 @@ ghost use Rattle.zone_machine.specs.Session.Typed.{idle_line, is_full, made_conf
 ghost use Rattle.zone_machine.specs.State.Worlds.{View};
 ghost use Rattle.zone_machine.specs.declared.daemon.desks.Desk as desk_types;
 
+use crate::calls::signal_case;
 use crate::cases::Case;
 use crate::daemon::RequestKind;
 use crate::daemon::desks::{Desk, REQUESTS_MAX, TICKET_MAX};
@@ -20,6 +22,7 @@ use crate::replies::{Head, Refusal};
 use crate::session::lines::Command;
 use commit_journal::Record;
 use config_terms::ConfigFault;
+use kernel_objects::KernelCell;
 use std::alloc::{AllocError, Global};
 use uuid::Uuid;
 use zn_base::{Text, TextFault, Value, ZoneName, ZoneState};
@@ -89,6 +92,7 @@ fn make_with(alloc: Global, zone: &ZoneName, config: Option<ZoneConfig>) -> Resu
 }
 
 // A zone is made with a word for its zonepath.
+#[inline(never)]
 fn make_case(
     alloc: Global,
     zone: &ZoneName,
@@ -139,11 +143,12 @@ fn put_case(
 fn idle_case(
     alloc: Global,
     zone: &ZoneName,
+    kernel: &KernelCell,
     desk: &Desk,
     row: Option<&Record>,
     command: Command<'_>,
 ) -> Result<Case, AllocError>
-    ensures decides { IfOk result (λ c. (v : View) → v.zone ≡ zone.now → v.world.stored ≡ option_map (λ r. r.now) row.entry → v.world.desk ≡ as_desk desk.now
+    ensures decides { IfOk result (λ c. (v : View) → v.zone ≡ zone.now → ((n : ℕ) → v.process n ≡ with_pid n kernel.now.processes) → v.world.stored ≡ option_map (λ r. r.now) row.entry → v.world.desk ≡ as_desk desk.now
         → idle_line v (as_command command.entry) ≡ decision_of desk.now c) }
     ensures of { IfOk result (IsCaseOf desk.now) }
     ensures named { IfOk result (IsNamedCase zone.now) }
@@ -152,27 +157,30 @@ fn idle_case(
         Command::Blank => Ok(Case::Says(Head::Ok)),
         Command::Make(word) => make_case(alloc, zone, row, word),
         Command::Request(kind) => put_case(alloc, zone, desk, row, kind),
+        Command::Kill(signal, pid) => Ok(signal_case(kernel, false, signal, pid)),
         Command::Unknown => Ok(refused(Refusal::Usage)),
     }
 }
 
 /// What a line comes to that a session types, which is idle or waits in the zone for a ticket.
+#[inline(never)]
 #[tactic(auto, unfolding(crate::specs::Session::Typed::typed))]
 pub(crate) fn decide_line(
     alloc: Global,
     zone: &ZoneName,
+    kernel: &KernelCell,
     desk: &Desk,
     row: Option<&Record>,
     awaited: Option<u32>,
     command: Command<'_>,
 ) -> Result<Case, AllocError>
-    ensures decides { IfOk result (λ c. (v : View) (named : Option (List ℕ)) → v.zone ≡ zone.now → v.world.stored ≡ option_map (λ r. r.now) row.entry → v.world.desk ≡ as_desk desk.now
+    ensures decides { IfOk result (λ c. (v : View) (named : Option (List ℕ)) → v.zone ≡ zone.now → ((n : ℕ) → v.process n ≡ with_pid n kernel.now.processes) → v.world.stored ≡ option_map (λ r. r.now) row.entry → v.world.desk ≡ as_desk desk.now
         → typed v (option_map Awaiting awaited) (record { zone = named; command = as_command command.entry }) ≡ decision_of desk.now c) }
     ensures of { IfOk result (IsCaseOf desk.now) }
     ensures named { IfOk result (IsNamedCase zone.now) }
 {
     match awaited {
         Some(ticket) => Ok(refused(Refusal::Waiting(ticket))),
-        None => idle_case(alloc, zone, desk, row, command),
+        None => idle_case(alloc, zone, kernel, desk, row, command),
     }
 }

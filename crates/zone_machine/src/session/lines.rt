@@ -1,12 +1,14 @@
 //! How a line of an idle session is read, by the words of zonecfg(8) and zoneadm(8).
-ghost use Rattle.std.specs.Prelude.{◌≡◌, None, Some, codes, nat_eq, not, position};
+ghost use Rattle.std.specs.Prelude.{◌∷◌, ◌≡◌, None, Some, codes, nat_eq, not, position};
 ghost use Rattle.std.specs.List.{ends_with, list_all, starts_with};
 ghost use Rattle.std.specs.Option.{option_map};
 ghost use Rattle.zone_pools.specs.Firsts.{first_of, is_nil};
-ghost use Rattle.zone_machine.specs.Session.Lines.{after_word, begins_token, command_of, is_space, is_word, is_word_byte, line_of, path_word, request_word, tool_command, word_after_flag, words, zone_command, zoneadm_command, zonecfg_command};
+ghost use Rattle.zone_machine.specs.Session.Lines.{after_word, begins_token, command_by, command_of, is_space, is_word, is_word_byte, kill_command, line_of, path_word, request_word, tool_command, word_after_flag, words, zone_command, zoneadm_command, zonecfg_command};
 ghost use Rattle.zone_machine.specs.Code.Lines.{BeginsWord, EndsWord, GivesRest, GivesWord, IsWordFirst, as_command, as_line, as_word};
 
 use crate::daemon::RequestKind;
+use kernel_objects::Signal;
+use process_calls::{pid_in, signal_in};
 
 /// What a line asks for.
 #[derive(Clone, Copy)]
@@ -16,6 +18,8 @@ pub(crate) enum Command<'t> {
     Make(&'t [u8]),
     /// The zone's daemon is asked.
     Request(RequestKind),
+    /// A signal is sent to the process of a number, whichever zone has it, by kill(1).
+    Kill(Signal, u32),
     Unknown,
 }
 
@@ -218,13 +222,40 @@ fn zone_command(text: &[u8]) -> Option<Command<'_>>
     tool_command(tool, text)
 }
 
+// What follows `kill`.
+fn kill_command(text: &[u8]) -> Option<Command<'_>>
+    ensures { option_map as_command result ≡ kill_command (words text.now) }
+{
+    let (word, text) = split_word(text)?;
+    let signal = signal_in(word)?;
+    let (word, text) = split_word(text)?;
+    let pid = pid_in(word)?;
+    if is_blank(text) {
+        Some(Command::Kill(signal, pid))
+    } else {
+        None
+    }
+}
+
+// By its first word.
+fn command_by<'t>(word: &[u8], rest: &'t [u8], text: &'t [u8]) -> Option<Command<'t>>
+    requires { words text.now ≡ word.now ∷ words rest.now }
+    ensures { option_map as_command result ≡ command_by word.now (words rest.now) }
+{
+    if word == b"kill".as_slice() {
+        kill_command(rest)
+    } else {
+        zone_command(text)
+    }
+}
+
 fn command_of(text: &[u8]) -> Command<'_>
     ensures { as_command result ≡ command_of (words text.now) }
 {
-    if is_blank(text) {
-        return Command::Blank;
+    match split_word(text) {
+        Some((word, rest)) => command_by(word, rest, text).unwrap_or(Command::Unknown),
+        None => Command::Blank,
     }
-    zone_command(text).unwrap_or(Command::Unknown)
 }
 
 /// What a line says.

@@ -33,6 +33,7 @@ fn free_at(sessions: &mut Owners<u8>, waits: &Waits, at: usize, ticket: u32)
 }
 
 /// Whoever waits for a ticket does nothing from now on, and is nobody's session.
+#[inline(never)]
 pub(crate) fn end_waits(waits: &mut Waits, sessions: &mut Owners<u8>, ticket: u32)
     ensures waits { (k : ℕ) → get nat_eq waits.new k ≡ unless_ended ticket (get nat_eq waits.old k) }
     ensures sessions { (k : ℕ) → owner nat_eq sessions.new k ≡ (if is_wait_for ticket (get nat_eq waits.old k) then None else owner nat_eq sessions.old k) }

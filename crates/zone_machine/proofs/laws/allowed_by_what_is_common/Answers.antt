@@ -8,4 +8,4 @@ pub returns-clause-allowed : goal.returns-clause-allowed
 returns-clause-allowed c = allowed-common
 
 pub returns-clause-fits : goal.returns-clause-fits
-returns-clause-fits c = fits-common
+returns-clause-fits c = λ z S T e g is once h w. fits-common z S T e is once h w g

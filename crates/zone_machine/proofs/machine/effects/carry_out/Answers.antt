@@ -1,25 +1,24 @@
 use Rattle.std.proofs.Common.{map}
-use Rattle.std.specs.Option.{option_map}
-use Rattle.zone_machine.proofs.Doing_laws.{does_then}
+use Rattle.zone_machine.proofs.Doing_laws.{does_then, kept_apart}
 use Rattle.zone_machine.specs.Code.Cases.{object_edits}
 use Rattle.zone_machine.specs.Code.Works.{arrival_of, sits}
 use Rattle.zone_machine.specs.Machine.Common.{came_common}
 use Rattle.zone_machine.specs.State.Decisions.{after_came_world, sweeps}
 use Rattle.zone_machine.specs.State.Edits.{Of_objects, edits_world}
 use Rattle.zone_machine.specs.State.Worlds.{World}
-use Rattle.zone_machine.specs.declared.objects.changes.Coming.{Coming}
+use Rattle.zone_machine.specs.Code.Cells.{kept}
 use Rattle.zone_machine.proofs.machine.effects.carry_out.Goals as goal
 
 pub returns-clause-does : goal.returns-clause-does
 returns-clause-does c = λ z named opens.
     let n = c.args.number in let work = c.args.work in let c0 = c.args.cell.now in let s0 = c.args.shared.now in
-    let came = option_map (λ (c : Coming). arrival_of c.it) work.came in
+    let came = arrival_of work.stored in
     let comes : World → World = after_came_world came in
     let objects : World → World = edits_world n (map Of_objects (object_edits work.objects)) in
     let waits : World → World = edits_world n (sits work.sits) in
     let ends : World → World = edits_world n (sweeps work.ended) in
     let g = came_common z came in
-    does_then z (λ w. waits (objects (comes w))) ends g c0 c.sit_down.new.cell c.end_ticket.new.cell s0 c.sit_down.new.shared c.end_ticket.new.shared
-    (does_then z (λ w. objects (comes w)) waits g c0 c.edit_objects.new.cell c.sit_down.new.cell s0 c.edit_objects.new.shared c.sit_down.new.shared
-    (does_then z comes objects g c0 c.take_in_some.new.cell c.edit_objects.new.cell s0 c.take_in_some.new.shared c.edit_objects.new.shared (c.take_in_some.ensures.does z named.came) (c.edit_objects.ensures.does z n))
-    (c.sit_down.ensures z named.sits (rw (c.edit_objects.ensures.sessions, c.take_in_some.ensures.sessions) opens))) (c.end_ticket.ensures z n)
+    does_then z (λ w. waits (objects (comes w))) ends g kept c0 c.sit_down.new.cell c.end_ticket.new.cell s0 c.sit_down.new.shared c.end_ticket.new.shared (kept_apart z)
+    (does_then z (λ w. objects (comes w)) waits g kept c0 c.edit_objects.new.cell c.sit_down.new.cell s0 c.edit_objects.new.shared c.sit_down.new.shared (kept_apart z)
+    (does_then z comes objects g kept c0 c0 c.edit_objects.new.cell s0 c.store_some.new.shared c.edit_objects.new.shared (kept_apart z) (c.store_some.ensures.does z named.stored) (c.edit_objects.ensures.does z n))
+    (c.sit_down.ensures z named.sits (rw (c.edit_objects.ensures.sessions, c.store_some.ensures.sessions) opens))) (c.end_ticket.ensures z n)

@@ -1,6 +1,5 @@
-use Rattle.zone_machine.proofs.Doing_laws.{does_end_ids}
+use Rattle.zone_machine.proofs.Kernel_doing.{does_give_up_id}
 use Rattle.zone_machine.proofs.machine.effects.end_ids.Goals as goal
 
 pub returns-clause-does : goal.returns-clause-does
-returns-clause-does c = λ z. does_end_ids z c.args.cell.now c.args.shared.now (record c.args.shared.now { zids = c.give_all_back.new.self }) c.clear.new.self c.clear.ensures.items
-    (λ n. rw (← c.deref.ensures.value) (c.give_all_back.ensures.given n))
+returns-clause-does c = λ z. does_give_up_id z c.args.cell.now c.args.shared.now c.give_up_id.new.self c.give_up_id.new.shared c.give_up_id.ensures.freed c.give_up_id.ensures.id

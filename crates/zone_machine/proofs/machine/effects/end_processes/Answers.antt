@@ -1,6 +1,16 @@
-use Rattle.zone_machine.proofs.Doing_laws.{does_end_processes}
+use Rattle.std.proofs.Common.{[], ap, map}
+use Rattle.std.specs.List.{list_any}
+use Rattle.kernel_objects.specs.Processes.{has_pid}
+use Rattle.zone_machine.proofs.Kernel_doing.{does_go, none_of}
+use Rattle.zone_machine.proofs.Lists_laws.{none_left}
+use Rattle.zone_machine.specs.Code.Cases.{object_edits}
+use Rattle.zone_machine.specs.Code.Cells.{cell_world, row_in}
+use Rattle.zone_machine.specs.State.Edits.{Of_objects, edits_world}
+use Rattle.zone_machine.specs.declared.objects.changes.ObjectEdit.TheVariants.{EndProcesses}
 use Rattle.zone_machine.proofs.machine.effects.end_processes.Goals as goal
 
 pub returns-clause-does : goal.returns-clause-does
-returns-clause-does c = λ z. does_end_processes z c.args.cell.now c.args.shared.now (record c.args.shared.now { pids = c.give_all_back.new.self }) c.clear.new.self c.clear.ensures.items
-    (λ n. rw (← c.deref.ensures.value) (c.give_all_back.ensures.given n))
+returns-clause-does c = λ z n.
+    let cell = c.args.cell.now in let s = c.args.shared.now in
+    does_go z cell s c.kill_all.new.self c.kill_all.new.shared (edits_world n (map Of_objects (object_edits EndProcesses))) (λ m. list_any (has_pid m) cell.kernel.processes) [] c.kill_all.ensures.freed c.kill_all.ensures.gone
+    (ap (λ ps. record (cell_world (row_in z s) cell) { processes = ps }) (none_left cell.kernel.processes)) (λ m e. e) (λ m. none_of (list_any (has_pid m) cell.kernel.processes))

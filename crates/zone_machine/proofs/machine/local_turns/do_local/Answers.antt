@@ -8,11 +8,11 @@ use Rattle.zone_machine.specs.Code.Desks.{as_desk}
 use Rattle.zone_machine.specs.declared.cases.Case.TheVariants.{Turn}
 use Rattle.zone_machine.proofs.machine.local_turns.do_local.Goals as goal
 
-pub returns-clause-head : goal.returns-clause-head
-returns-clause-head c =
+pub returns-clause-reply : goal.returns-clause-reply
+returns-clause-reply c =
     (c.settle-work.ensures.works None (cell_world None c.room_for.new.cell) refl).reply ∙ ap (λ d. (act_of d Nothing).effect.reply) c.room_for.ensures.seen
 
 pub returns-clause-done : goal.returns-clause-done
 returns-clause-done c = λ t is row.
-    after row c.args.cell.now c.room_for.new.cell c.edit_mounts.new.cell c.settle-work.new.desk c.settle-work.result.objects t (c.room_for.ensures.same row) c.edit_mounts.ensures.same c.edit_mounts.ensures.mounts
+    after row c.args.cell.now c.room_for.new.cell c.edit_own.new.cell c.settle-work.new.desk c.settle-work.result.objects t (c.room_for.ensures.same row) c.edit_own.ensures.same c.edit_own.ensures.processes c.edit_own.ensures.mounts c.edit_own.ensures.ids
     (settled (decision_of c.room_for.new.cell.desk (Turn c.args.case)) t (as_desk c.settle-work.new.desk) c.settle-work.result (cell_world row c.room_for.new.cell) (c.room_for.ensures.seen ∙ is) c.settle-work.ensures.sits (c.settle-work.ensures.works None (cell_world row c.room_for.new.cell) refl))

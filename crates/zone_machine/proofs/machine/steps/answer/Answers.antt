@@ -23,6 +23,6 @@ perform_case-requires-clause-free c =
 pub returns-clause-ok : goal.returns-clause-ok
 returns-clause-ok c =
     IsCellStepUnder-by c.args.zone.now c.args.cell.now c.args.shared.now c.args.event.now c.args.stated c.in_ok-case.grant
-    (entry_of (Zone c.args.zone.now) c.args.event.now c.in_ok-case.grant c.in_ok-head.head) c.perform_case.new.cell c.perform_case.new.shared
+    (entry_of (Zone c.args.zone.now) c.args.event.now c.in_ok-case.grant c.in_ok-reply.reply) c.perform_case.new.cell c.perform_case.new.shared
     (asked_of (decision_of c.args.cell.now.desk c.in_ok-case.case)) (ap asked_of (sym (c.read_event.ensures.decide _) ∙ c.in_ok-case.ensures.case.decided))
-    c.in_ok-case.ensures.takes refl c.in_ok-head.ensures.step
+    c.in_ok-case.ensures.takes refl c.in_ok-reply.ensures.step

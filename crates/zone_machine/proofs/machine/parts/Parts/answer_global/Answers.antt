@@ -1,6 +1,5 @@
-use Rattle.std.proofs.Common.{ap, ◌∙◌}
+use Rattle.std.proofs.Common.{◌∙◌}
 use Rattle.zone_machine.proofs.Stepping.{IsMisfitUnder-global, IsStep-global, IsTaken-global}
-use Rattle.zone_machine.specs.State.Decisions.{says}
 use Rattle.zone_machine.proofs.machine.parts.Parts.answer_global.Goals as goal
 
 pub returns-in_err-grant-clause-misfit : goal.returns-in_err-grant-clause-misfit
@@ -11,4 +10,4 @@ returns-clause-takes c = IsTaken-global c.args.self.now c.args.event.now c.requi
 
 pub returns-clause-step : goal.returns-clause-step
 returns-clause-step c =
-    IsStep-global c.args.self.now c.args.event.now c.requires.of c.in_ok-grant.grant c.answer_head.result (λ S. ap says c.answer_head.ensures ∙ (c.in_ok-refusal.ensures ∙ c.requires.global S))
+    IsStep-global c.args.self.now c.args.event.now c.requires.of c.in_ok-grant.grant c.answer_reply.result (λ S. c.answer_reply.ensures ∙ (c.in_ok-refusal.ensures ∙ c.requires.global S))

@@ -20,7 +20,7 @@ returns-clause-step c =
     let u : Parts = record { cells = with_value_at m.cells i d; shared = c.perform_case.new.shared } in
     let here : cell_at z m ≡ Some old = here_at m z i old h c.index_mut.ensures.value in
     if_ok c.perform_case.result _ _
-    (λ head. IsStep-cell m u z c.args.event.now old d (λ row. ap (world_or_empty row) here) (Keeps-at m u z i d h.unique h.index refl) c.args.grant (entry_of (Zone z) c.args.event.now c.args.grant head) c.requires.of)
+    (λ reply. IsStep-cell m u z c.args.event.now old d (λ row. ap (world_or_empty row) here) (Keeps-at m u z i d h.unique h.index refl) c.args.grant (entry_of (Zone z) c.args.event.now c.args.grant reply) c.requires.of)
     c.perform_case.ensures.step
 
 pub returns-clause-memory : goal.returns-clause-memory

@@ -13,4 +13,4 @@ returns-clause-step c =
     let u : Parts = record { cells = c.keep.new.cells; shared = c.perform_case.new.shared } in
     IsStep-cell m u z c.args.event.now c.args.cell.value c.perform_case.new.cell (same_none m z c.args.cell.value c.requires.none c.requires.nothing)
     (Keeps-roomy m u z c.in_ok-key.key c.perform_case.new.cell (λ y. get_by (bytes_eq y) c.room_for_cell.new.cells) c.in_ok-key.ensures.key (λ y. ap (lookup (bytes_eq y)) c.in_ok-key.ensures.same) c.keep.ensures)
-    c.args.grant (entry_of (Zone z) c.args.event.now c.args.grant c.in_ok-head.head) c.requires.of (rw c.into_inner-cell.ensures at c.in_ok-head.ensures.step)
+    c.args.grant (entry_of (Zone z) c.args.event.now c.args.grant c.in_ok-reply.reply) c.requires.of (rw c.into_inner-cell.ensures at c.in_ok-reply.ensures.step)

@@ -1,0 +1,146 @@
+//! What the calls of a zone's processes come to, and a signal from the global zone.
+ghost use Rattle.std.specs.Prelude.{◌∷◌, ◌≡◌, [], Err, IfErr, IfOk, Ok, Some, map, option_map, ℕ};
+ghost use Rattle.kernel_objects.specs.Kernel.{at_limit, fork_set};
+ghost use Rattle.kernel_objects.specs.Processes.{Process, row_of, with_pid};
+ghost use Rattle.priv_sets.specs.Sets.{print_of};
+ghost use Rattle.zn_base.specs.Names.{Name};
+ghost use Rattle.zone_pools.specs.Decisions.{Just};
+ghost use Rattle.zone_machine.specs.Calls.{called, calls, calls_if_there, changes, execs, forks, signals};
+ghost use Rattle.zone_machine.specs.Code.Cases.{IsCaseOf, IsNamedCase, decision_of};
+ghost use Rattle.zone_machine.specs.State.Decisions.{done_saying, tells};
+ghost use Rattle.zone_machine.specs.Code.Cells.{Shows};
+ghost use Rattle.zone_machine.specs.State.Worlds.{View};
+ghost use Rattle.zone_machine.specs.declared.daemon.desks.Desk as desk_types;
+
+use crate::cases::Case;
+use crate::objects::changes::ObjectEdit;
+use crate::replies::{Body, Head, Refusal};
+use kernel_objects::{Errno, KernelCell, Signal};
+use process_calls::Call;
+use std::alloc::{AllocError, Global};
+use zn_base::{Bytes, Listing, Text, ZoneName};
+
+fn refused_by(errno: Errno) -> Case
+    ensures { result ≡ Case.Says (Head.Refused (Refusal.Errno errno)) }
+{
+    Case::Says(Head::Refused(Refusal::Errno(errno)))
+}
+
+/// What a signal comes to, from inside the zone or from the global zone.
+pub(crate) fn signal_case(kernel: &KernelCell, inside: bool, signal: Signal, pid: u32) -> Case
+    ensures decides { (d : desk_types.Desk) → signals inside signal pid (with_pid pid kernel.now.processes) ≡ decision_of d result }
+    ensures of { (d : desk_types.Desk) → IsCaseOf d result }
+    ensures named { (z : Name) → IsNamedCase z result }
+{
+    match kernel.check_signal(inside, signal, pid) {
+        Ok(true) => Case::Change(ObjectEdit::EndProcess(pid)),
+        Ok(false) => Case::Says(Head::Ok),
+        Err(errno) => refused_by(errno),
+    }
+}
+
+// A process makes another.
+#[inline(never)]
+fn fork_case(alloc: Global, kernel: &KernelCell, pid: u32, name: &Text) -> Result<Case, AllocError>
+    ensures decides { IfOk result (λ c. (d : desk_types.Desk) (p : Process) → with_pid pid kernel.now.processes ≡ Some p
+        → forks p name.now (fork_set (Some p) (at_limit kernel.now)) ≡ decision_of d c) }
+    ensures of { IfOk result (λ c. (d : desk_types.Desk) → IsCaseOf d c) }
+    ensures named { IfOk result (λ c. (z : Name) → IsNamedCase z c) }
+{
+    match kernel.forking(pid, name.copy(alloc)?) {
+        Ok(running) => Ok(Case::Fork(Box::new(alloc, running)?)),
+        Err(errno) => Ok(refused_by(errno)),
+    }
+}
+
+// A process runs another program.
+#[inline(never)]
+fn exec_case(alloc: Global, kernel: &KernelCell, pid: u32, name: &Text) -> Result<Case, AllocError>
+    ensures decides { IfOk result (λ c. (d : desk_types.Desk) (p : Process) → with_pid pid kernel.now.processes ≡ Some p → execs pid p name.now ≡ decision_of d c) }
+    ensures of { IfOk result (λ c. (d : desk_types.Desk) → IsCaseOf d c) }
+    ensures named { IfOk result (λ c. (z : Name) → IsNamedCase z c) }
+{
+    match kernel.check_exec(pid) {
+        Ok(()) => Ok(Case::Change(ObjectEdit::Rename(pid, name.copy(alloc)?))),
+        Err(errno) => Ok(refused_by(errno)),
+    }
+}
+
+// The zone's processes are listed.
+#[inline(never)]
+fn ps_case(alloc: Global, kernel: &KernelCell) -> Result<Case, AllocError>
+    ensures { IfOk result (λ c. c ≡ Case.Tells (Body.Processes (map row_of kernel.now.processes))) }
+{
+    match kernel.list_procs(alloc) {
+        Ok(rows) => Ok(Case::Tells(Body::Processes(rows))),
+        Err(_) => Err(AllocError),
+    }
+}
+
+// One line is told.
+#[inline(never)]
+fn line_case(alloc: Global, line: Bytes) -> Result<Case, AllocError>
+    ensures { IfOk result (λ c. c ≡ Case.Tells (Body.Lines (line ∷ []))) }
+{
+    let mut lines = Listing::new(alloc);
+    lines.push(line)?;
+    Ok(Case::Tells(Body::Lines(lines)))
+}
+
+// The privileges of a process are told.
+#[inline(never)]
+fn privs_case(alloc: Global, kernel: &KernelCell, pid: u32) -> Result<Case, AllocError>
+    ensures tells { IfOk result (λ c. (p : Process) → with_pid pid kernel.now.processes ≡ Some p → c ≡ Case.Tells (Body.Lines (print_of p.privileges ∷ []))) }
+    ensures of { IfOk result (λ c. (d : desk_types.Desk) → IsCaseOf d c) }
+    ensures named { IfOk result (λ c. (z : Name) → IsNamedCase z c) }
+{
+    match kernel.privs(pid) {
+        Some(set) => line_case(alloc, Bytes::from_vec(set.print(alloc)?)),
+        None => Ok(Case::Says(Head::Ok)),
+    }
+}
+
+// A call of a process that the zone has.
+fn call_case(
+    alloc: Global,
+    zone: &ZoneName,
+    kernel: &KernelCell,
+    pid: u32,
+    call: &Call,
+) -> Result<Case, AllocError>
+    ensures decides { IfOk result (λ c. (d : desk_types.Desk) (v : View) (p : Process) → Shows v zone.now kernel.now → with_pid pid kernel.now.processes ≡ Some p → calls v pid p call.now ≡ decision_of d c) }
+    ensures of { IfOk result (λ c. (d : desk_types.Desk) → IsCaseOf d c) }
+    ensures named { IfOk result (λ c. (z : Name) → IsNamedCase z c) }
+{
+    match call {
+        Call::Fork(name) => fork_case(alloc, kernel, pid, name),
+        Call::Exec(name) => exec_case(alloc, kernel, pid, name),
+        Call::Exit => Ok(Case::Change(ObjectEdit::EndProcess(pid))),
+        Call::Kill(signal, target) => Ok(signal_case(kernel, true, *signal, *target)),
+        Call::Ps => ps_case(alloc, kernel),
+        Call::Privs => privs_case(alloc, kernel, pid),
+        Call::Drop(number) => Ok(Case::Change(ObjectEdit::GiveUp(pid, *number))),
+        Call::Zonename => line_case(alloc, Bytes::from_slice(alloc, zone.bytes())?),
+        Call::True | Call::False => Ok(Case::Says(Head::Ok)),
+    }
+}
+
+/// What a call comes to of the process of a number.
+#[inline(never)]
+#[tactic(auto, unfolding(crate::specs::Calls::called))]
+pub(crate) fn decide_call(
+    alloc: Global,
+    zone: &ZoneName,
+    kernel: &KernelCell,
+    pid: u32,
+    call: &Call,
+) -> Result<Case, AllocError>
+    ensures decides { IfOk result (λ c. (d : desk_types.Desk) (v : View) → Shows v zone.now kernel.now → called v pid call.now ≡ decision_of d c) }
+    ensures of { IfOk result (λ c. (d : desk_types.Desk) → IsCaseOf d c) }
+    ensures named { IfOk result (λ c. (z : Name) → IsNamedCase z c) }
+{
+    match kernel.check_there(pid) {
+        Ok(()) => call_case(alloc, zone, kernel, pid, call),
+        Err(_) => Ok(Case::Says(Head::Refused(Refusal::NoProcess))),
+    }
+}

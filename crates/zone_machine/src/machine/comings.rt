@@ -1,0 +1,165 @@
+//! What comes to the kernel with a grant: a process, or the zone's id. It takes its memory as it comes, so it is the first
+//! thing that an event does.
+ghost use Rattle.std.specs.Prelude.{◌≡◌, ℕ, Ok, OnErr, OnOk, Some, false};
+ghost use Rattle.kernel_objects.specs.Kernel.{new_id};
+ghost use Rattle.kernel_objects.specs.Processes.{process_of};
+ghost use Rattle.zone_pools.specs.Decisions.{number_in};
+ghost use Rattle.zone_pools.specs.declared.grant.Grant as grant_types;
+ghost use Rattle.zone_machine.specs.Arrivals.{New_id, New_process, arrived};
+ghost use Rattle.zone_machine.specs.Code.Cases.{IsCaseOf, IsTurnOf, comes_of, decision_of, job_turn, turn_decision_of};
+ghost use Rattle.zone_machine.specs.Code.Cells.{Does};
+ghost use Rattle.zone_machine.specs.Code.Comings.{newcome};
+ghost use Rattle.zone_machine.specs.Code.Needs.{pools_in};
+ghost use Rattle.zone_machine.specs.Code.Rooms.{Alike, IsFreeOf};
+ghost use Rattle.zone_machine.specs.Code.Works.{in_kernel};
+ghost use Rattle.zone_machine.specs.Daemon.Desks as desks;
+ghost use Rattle.zone_machine.specs.Machine.Common.{came_common};
+ghost use Rattle.zone_machine.specs.State.Decisions.{act_of, after_came_world, effects, turned};
+ghost use Rattle.zone_machine.specs.State.Edits.{comes_world};
+ghost use Rattle.zone_machine.specs.declared.daemon.desks.Desk as desk_types;
+ghost use Rattle.zone_machine.specs.declared.daemon.desks.Job as job_types;
+
+use crate::cases::Case;
+use crate::daemon::cases::{JobCase, TurnCase};
+use crate::machine::cell::Cell;
+use crate::machine::shared::Shared;
+use crate::objects::changes::Came;
+use kernel_objects::Running;
+use std::alloc::{AllocError, Global};
+use zn_base::ZoneName;
+use zone_pools::{Grant, Pool, number_in};
+
+/// What comes to the kernel, but for its number.
+#[derive(Clone, Copy)]
+pub(crate) enum Newcomer<'c> {
+    Nothing,
+    Process(&'c Running),
+    Id,
+}
+
+fn came_newcomer(it: &Came) -> Newcomer<'_>
+    ensures { (n : ℕ) → in_kernel (Some (arrived (comes_of it.now) n)) ≡ newcome result (Ok n) }
+{
+    match it {
+        Came::Process(running) => Newcomer::Process(running),
+        Came::Id => Newcomer::Id,
+        Came::Record(_, _) => Newcomer::Nothing,
+    }
+}
+
+fn job_newcomer(case: &JobCase) -> Newcomer<'_>
+    ensures { (d : desks.Desk) (j : job_types.Job) (g : grant_types.Grant) → in_kernel (act_of (effects turned (job_turn d j case.now)) g).came ≡ newcome result (number_in g) }
+{
+    match case {
+        JobCase::Ask(it, _) => came_newcomer(it),
+        JobCase::Finish(_) | JobCase::Pass(_) | JobCase::Undo(_) => Newcomer::Nothing,
+    }
+}
+
+fn turn_newcomer(case: &TurnCase) -> Newcomer<'_>
+    ensures { (d : desk_types.Desk) (g : grant_types.Grant) → IsTurnOf d case.now → in_kernel (act_of (effects turned (turn_decision_of d case.now)) g).came ≡ newcome result (number_in g) }
+{
+    match case {
+        TurnCase::GoOn(case) => job_newcomer(case),
+        TurnCase::Idle | TurnCase::Begin(_, _) | TurnCase::Refuse(_, _) => Newcomer::Nothing,
+    }
+}
+
+fn case_newcomer(case: &Case) -> Newcomer<'_>
+    ensures { (d : desk_types.Desk) (g : grant_types.Grant) → IsCaseOf d case.now → in_kernel (act_of (decision_of d case.now) g).came ≡ newcome result (number_in g) }
+{
+    match case {
+        Case::Fork(running) => Newcomer::Process(running),
+        Case::Turn(case) => turn_newcomer(case),
+        Case::Says(_) | Case::Tells(_) | Case::Change(_) | Case::Make(_, _) | Case::Put(_, _) =>
+            Newcomer::Nothing,
+    }
+}
+
+// A process begins.
+#[inline(never)]
+fn begin(
+    alloc: Global,
+    cell: &mut Cell,
+    shared: &mut Shared,
+    zone: &ZoneName,
+    pid: u32,
+    running: &Running,
+) -> Result<(), AllocError>
+    requires { (pools_in shared.old).pid_used pid ≡ false }
+    ensures does { OnOk result (Does zone.now (comes_world (New_process (process_of (pid, running.now)))) (came_common zone.now (Some (New_process (process_of (pid, running.now))))) cell.old shared.old cell.new shared.new) }
+    ensures alike { OnErr result (Alike cell.old shared.old cell.new shared.new) }
+    ensures cell { cell.new ≡ record cell.old { kernel = cell.new.kernel } }
+    ensures shared { shared.new ≡ record shared.old { kernel = shared.new.kernel } }
+{
+    cell.kernel
+        .begin(alloc, &mut shared.kernel, zone, pid, running)
+}
+
+// The zone gets an id, in place of the one that it had, if any.
+#[inline(never)]
+fn give_id(
+    alloc: Global,
+    cell: &mut Cell,
+    shared: &mut Shared,
+    zone: &ZoneName,
+    zid: u32,
+) -> Result<(), AllocError>
+    requires { (pools_in shared.old).zid_used zid ≡ false }
+    ensures does { OnOk result (Does zone.now (comes_world (New_id (new_id zid))) (came_common zone.now (Some (New_id (new_id zid)))) cell.old shared.old cell.new shared.new) }
+    ensures alike { OnErr result (Alike cell.old shared.old cell.new shared.new) }
+    ensures cell { cell.new ≡ record cell.old { kernel = cell.new.kernel } }
+    ensures shared { shared.new ≡ record shared.old { kernel = shared.new.kernel } }
+{
+    match cell.kernel.activate(alloc, &mut shared.kernel, zone, zid) {
+        Ok(()) => Ok(()),
+        Err(_) => Err(AllocError),
+    }
+}
+
+fn let_in(
+    alloc: Global,
+    cell: &mut Cell,
+    shared: &mut Shared,
+    zone: &ZoneName,
+    newcomer: Newcomer<'_>,
+    number: Result<u32, Pool>,
+) -> Result<(), AllocError>
+    requires { IsFreeOf (newcome newcomer number) (pools_in shared.old) }
+    ensures does { OnOk result (Does zone.now (after_came_world (newcome newcomer.entry number)) (came_common zone.now (newcome newcomer.entry number)) cell.old shared.old cell.new shared.new) }
+    ensures alike { OnErr result (Alike cell.old shared.old cell.new shared.new) }
+    ensures cell { cell.new ≡ record cell.old { kernel = cell.new.kernel } }
+    ensures shared { shared.new ≡ record shared.old { kernel = shared.new.kernel } }
+{
+    match (newcomer, number) {
+        (Newcomer::Process(running), Ok(pid)) => begin(alloc, cell, shared, zone, pid, running),
+        (Newcomer::Id, Ok(zid)) => give_id(alloc, cell, shared, zone, zid),
+        _ => Ok(()),
+    }
+}
+
+/// What a case brings to the kernel is there, under a grant that fits. Where memory runs out, nothing is changed.
+pub(crate) fn come(
+    alloc: Global,
+    cell: &mut Cell,
+    shared: &mut Shared,
+    zone: &ZoneName,
+    case: &Case,
+    grant: Grant,
+) -> Result<(), AllocError>
+    requires of { IsCaseOf cell.old.desk case.now }
+    requires free { IsFreeOf (act_of (decision_of cell.old.desk case.now) grant).came (pools_in shared.old) }
+    ensures does { OnOk result (Does zone.now (after_came_world (in_kernel (act_of (decision_of cell.old.desk case.now) grant).came)) (came_common zone.now (in_kernel (act_of (decision_of cell.old.desk case.now) grant).came)) cell.old shared.old cell.new shared.new) }
+    ensures alike { OnErr result (Alike cell.old shared.old cell.new shared.new) }
+    ensures cell { cell.new ≡ record cell.old { kernel = cell.new.kernel } }
+    ensures shared { shared.new ≡ record shared.old { kernel = shared.new.kernel } }
+{
+    let_in(
+        alloc,
+        cell,
+        shared,
+        zone,
+        case_newcomer(case),
+        number_in(grant),
+    )
+}
