@@ -1,35 +1,51 @@
--- What an event of a zone leaves of what is stored of it, of its mounts and of its desk.
-use Rattle.std.proofs.Common.{◌≡◌, ℕ, List, Bool, Option, Some, None, true, false, refl, subst, sym}
+-- What an event of a zone leaves of the zone's world.
+use Rattle.std.specs.Prelude.{Result, Ok as Right, Err}
+use Rattle.kernel_objects.specs.Kernel.{at_limit, fork_set, forked}
+use Rattle.kernel_objects.specs.Processes.{Process, at_pid, below, dropping, ends, may_exec, renamed, with_pid, without_pid}
+use Rattle.kernel_objects.specs.declared.faults.Errno.{Errno}
+use Rattle.kernel_objects.specs.declared.objects.Signal.{Signal}
+use Rattle.process_calls.specs.declared.call.Call.{Call}
+use Rattle.process_calls.specs.declared.call.Call.TheVariants as call
+use Rattle.zone_machine.specs.Calls.{called, calls, calls_if_there, ending, execs, forks, signals}
+use Rattle.std.proofs.Common.{◌≡◌, ◌+◌, ℕ, List, Bool, Option, Some, None, true, false, refl, subst, sym}
 use Rattle.zn_base.specs.Names.{Name}
 use Rattle.std.specs.Result.{result_ok}
 use Rattle.zone_config.specs.declared.terms.Contents.{Contents}
 use Rattle.zone_pools.specs.declared.grant.Grant.{Grant}
-use Rattle.zone_machine.proofs.Turned_laws.{Has, In, decide-turn, has-turned, in-act, stored_after, turn_act, turned_act}
-use Rattle.zone_machine.specs.Objects.{mounts_after}
+use Rattle.zone_machine.proofs.Turned_laws.{In, decide-turn, has-turned, in-act, stored_after, turn_act, turned_act}
+use Rattle.zone_pools.specs.Owned_lists.{Change, Put, edited}
+use Rattle.zone_machine.specs.Objects.{keeping_pid, kernel_of, mounts_after}
 use Rattle.zone_machine.specs.Arrivals.{Arrival}
-use Rattle.zone_machine.specs.State.Decisions.{Act, Effect, act_of, acts_world, after_came_world}
+use Rattle.zone_machine.specs.State.Decisions.{Act, Effect, act_of, acts_world, after_came_world, done_saying}
 use Rattle.zone_machine.specs.Daemon.Desks.{Desk}
-use Rattle.zone_machine.specs.State.Edits.{edits_world}
-use Rattle.zone_machine.specs.Session.Lines.{Blank, Command, Line, Make, Request, Unknown, line_of}
+use Rattle.zone_machine.specs.State.Edits.{at_session, edits_world}
+use Rattle.zone_machine.specs.Session.Lines.{Blank, Command, Kill, Line, Make, Request, Unknown, line_of}
 use Rattle.zone_machine.specs.Machine.{decide, session_number}
 use Rattle.zone_machine.specs.State.{Awaiting, Doing}
 use Rattle.zone_machine.specs.Session.Typed.{idle_line, is_full, made_config, make, make_with, new_record, put_request, typed, with_request}
-use Rattle.zone_machine.specs.State.Worlds.{World, view_of}
+use Rattle.zone_machine.specs.State.Worlds.{World, objects_of, view_of}
 use Rattle.zone_machine.specs.declared.daemon.RequestKind.{RequestKind}
 use Rattle.zone_machine.specs.declared.events.Event.{Event}
-use Rattle.zone_machine.specs.declared.events.Event.TheVariants.{Session, Turn}
+use Rattle.zone_machine.specs.declared.events.Event.TheVariants.{Process as Call_of, Session, Turn}
 use Rattle.zone_machine.specs.declared.objects.Mount.{Mount}
+use Rattle.zone_machine.specs.declared.replies.Head.TheVariants.{Ok}
 use Rattle.commit_journal.specs.declared.records.Record.{Record}
 
--- a line leaves all as it was, or the zone is made, or a request is put on its desk
-module _ (P : Option Record → List Mount → Desk → Type 0) (z : Name) (w : World) (same : P w.stored w.mounts w.desk)
-    (made : (config : Contents) (k : ℕ) → w.stored ≡ None → P (Some (new_record z config k)) w.mounts w.desk)
-    (asked : (kind : RequestKind) → P w.stored w.mounts (with_request w.desk kind)) where
-  abbrev Leaves : World → Type 0
-  Leaves v = P v.stored v.mounts v.desk
+-- what a call of a zone's process makes of the zone's processes, or a signal from the global zone
+pub data Called (ps : List Process) : List Process → Type 0 where
+  Forks : (parent n : ℕ) (p : Process) (name : List ℕ) → with_pid parent ps ≡ Some p → Called ps (edited (Put (below n) (forked p name n)) ps)
+  Goes : (pid : ℕ) → Called ps (without_pid pid ps)
+  Renames : (pid : ℕ) (name : List ℕ) → Called ps (edited (Change (keeping_pid (at_pid pid (renamed name)))) ps)
+  Drops : (pid number : ℕ) → Called ps (edited (Change (keeping_pid (at_pid pid (dropping number)))) ps)
 
+-- a line leaves all as it was, or the zone is made, or a request is put on its desk; a call or a signal leaves all as it
+-- was, or other processes
+module _ (P : World → Type 0) (z : Name) (w : World) (same : P w)
+    (made : (config : Contents) (k : ℕ) → w.stored ≡ None → P (record w { stored = Some (new_record z config k) }))
+    (asked : (kind : RequestKind) (sessions : ℕ → Option Doing) → P (record w { desk = with_request w.desk kind; sessions = sessions }))
+    (others : (ps : List Process) → Called w.processes ps → P (record w { processes = ps })) where
   abbrev After : Option ℕ → Option Arrival → Effect → Type 0
-  After n c e = Leaves (edits_world n e.edits (after_came_world c w))
+  After n c e = P (edits_world n e.edits (after_came_world c w))
 
   of_config : (n : Option ℕ) (config : Option Contents) → w.stored ≡ None → In (After n) (make_with z config)
   of_config n None none = same
@@ -45,7 +61,15 @@ module _ (P : Option Record → List Mount → Desk → Type 0) (z : Name) (w : 
     where
       at_test : (b : Bool) → is_full w.desk ≡ b → After n None (put_request w.desk kind (Some row))
       at_test true e = simp e same
-      at_test false e = simp e (asked kind)
+      at_test false e = simp e (asked kind (λ k. at_session n k (Some (Awaiting (w.desk.last + 1))) (w.sessions k)))
+
+  of_signal : (n : Option ℕ) (inside : Bool) (signal : Signal) (pid : ℕ) (p : Option Process) → In (After n) (signals inside signal pid p)
+  of_signal n inside signal pid None = same
+  of_signal n inside signal pid (Some p) = at_test (ends inside signal p)
+    where
+      at_test : (b : Bool) → After n None (done_saying (ending b pid) Ok)
+      at_test true = others _ (Goes pid)
+      at_test false = same
 
   of_line : (n : Option ℕ) (command : Command) → In (After n) (idle_line (view_of z w) command)
   unfolding view_of
@@ -53,21 +77,46 @@ module _ (P : Option Record → List Mount → Desk → Type 0) (z : Name) (w : 
   of_line n Unknown = same
   of_line n (Make word) = of_make n word w.stored refl
   of_line n (Request kind) = of_request n kind w.stored
+  of_line n (Kill signal pid) = of_signal n false signal pid (with_pid pid w.processes)
 
   of_typed : (n : Option ℕ) (d : Option Doing) (line : Line) → In (After n) (typed (view_of z w) d line)
   unfolding typed view_of
   of_typed n None line = of_line n line.command
   of_typed n (Some (Awaiting t)) line = same
 
-  has-leaves : (row : Option Record) (ms : List Mount) (d : Desk) (v : World) → Has row ms d v → P row ms d → Leaves v
-  has-leaves row ms d v has h = rw (has.stored, has.mounts, has.desk) h
+  -- calls
+  of_fork : (pid : ℕ) (p : Process) (name : List ℕ) (set : Result (List ℕ) Errno) → with_pid pid w.processes ≡ Some p → In (After None) (forks p name set)
+  of_fork pid p name (Err e) is = same
+  of_fork pid p name (Right set) is = (λ pool. same, λ n. others _ (Forks pid n p name is))
 
-  -- so does an event under a grant, where it holds of what a turn leaves then
-  pub of_event : (g : Grant) → (let a = turn_act w g in P (stored_after a.came w.stored) (mounts_after a.effect.objects w.mounts) a.effect.desk)
-      → (e : Event) → Leaves (acts_world (session_number e) (act_of (decide (view_of z w) e) g) w)
-  unfolding decide view_of
+  of_exec : (pid : ℕ) (p : Process) (name : List ℕ) → In (After None) (execs pid p name)
+  of_exec pid p name = at_test (may_exec p) refl
+    where
+      at_test : (b : Bool) → may_exec p ≡ b → In (After None) (execs pid p name)
+      at_test true e = simp e (others _ (Renames pid name))
+      at_test false e = simp e same
+
+  of_calls : (pid : ℕ) (p : Process) (c : Call) → with_pid pid w.processes ≡ Some p → In (After None) (calls (view_of z w) pid p c)
+  unfolding view_of
+  of_calls pid p (call.Fork name) is = of_fork pid p name (fork_set (Some p) (at_limit (kernel_of (objects_of w)))) is
+  of_calls pid p (call.Exec name) is = of_exec pid p name
+  of_calls pid p call.Exit is = others _ (Goes pid)
+  of_calls pid p (call.Kill signal target) is = of_signal None true signal target (with_pid target w.processes)
+  of_calls pid p (call.Drop number) is = others _ (Drops pid number)
+  of_calls pid p _ is = same
+
+  of_called : (pid : ℕ) (p : Option Process) (c : Call) → with_pid pid w.processes ≡ p → In (After None) (calls_if_there (view_of z w) pid p c)
+  of_called pid None c is = same
+  of_called pid (Some p) c is = of_calls pid p c is
+
+  -- so P holds after an event under a grant, where it holds of what a turn leaves then
+  pub of_event : (g : Grant) → P (acts_world None (turned_act (turn_act w g)) w) → (e : Event) → P (acts_world (session_number e) (act_of (decide (view_of z w) e) g) w)
+  unfolding decide view_of called
   of_event g h (Session n text) = in-act (After (Some n)) (typed (view_of z w) (w.sessions n) (line_of text)) g (of_typed (Some n) (w.sessions n) (line_of text))
-  of_event g h (Turn y) =
-      let a = turn_act w g in
-      subst (λ (b : Act). Leaves (acts_world None b w)) (sym (decide-turn z y w g))
-      (has-leaves (stored_after a.came w.stored) (mounts_after a.effect.objects w.mounts) a.effect.desk (acts_world None (turned_act a) w) (has-turned None a w) h)
+  of_event g h (Call_of y pid c) = in-act (After None) (called (view_of z w) pid c) g (of_called pid (with_pid pid w.processes) c refl)
+  of_event g h (Turn y) = subst (λ (b : Act). P (acts_world None b w)) (sym (decide-turn z y w g)) h
+
+-- what holds of what a turn leaves stored, of the mounts and of the desk holds of these in the world that it leaves
+pub of_turned : (P : Option Record → List Mount → Desk → Type 0) (w : World) (g : Grant) → (let a = turn_act w g in P (stored_after a.came w.stored) (mounts_after a.effect.objects w.mounts) a.effect.desk)
+    → (let v = acts_world None (turned_act (turn_act w g)) w in P v.stored v.mounts v.desk)
+of_turned P w g h = let has = has-turned None (turn_act w g) w in rw (has.stored, has.mounts, has.desk) h

@@ -1,10 +1,11 @@
--- Numbers of a flat list that differ, and differ still when items go and when one with a new number comes.
-use Rattle.std.proofs.Common.{◌≡◌, ◌∷◌, ◌++◌, ◌&&◌, [], ℕ, List, Bool, true, false, map, sym}
+-- Numbers of a flat list that differ, and differ still when items go, when one with a new number comes, and when items
+-- change that keep their numbers.
+use Rattle.std.proofs.Common.{◌≡◌, ◌∷◌, ◌++◌, ◌&&◌, [], ℕ, List, Bool, true, false, map, refl, subst, sym}
 use Rattle.std.specs.Prelude.{bytes_eq, filter, nat_eq, not, if◌then◌else◌}
 use Rattle.std.specs.List.{AllByRecursion, IsDistinct, list_any}
 use Rattle.std.proofs.lemmas.Bool.{eqb-false, eqb-true, false_from_ne_true, or_parts}
 use Rattle.zn_base.specs.Names.{Name}
-use Rattle.zone_pools.specs.Owned_lists.{put_tagged, tag}
+use Rattle.zone_pools.specs.Owned_lists.{Change, edit_list, put_tagged, tag}
 use Rattle.zone_pools.specs.declared.owned.Owned.{Owned}
 use Rattle.zone_views.specs.Numbers.{AllDiffer}
 
@@ -47,7 +48,19 @@ module _ {A : Type 0} (f : A → ℕ) where
   new-differs n [] h = tt
   new-differs n (o ∷ os) h = let parts = new-tail n o os h in (other_way (f o.it) n parts.0, new-differs n os parts.1)
 
+  pub differs-new : (n : ℕ) (os : List (Owned A)) → AllByRecursion (λ m. nat_eq n m ≡ false) (numbers os) → IsNew n os
+  differs-new n [] d = refl
+  differs-new n (o ∷ os) d = simp (other_way n (f o.it) d.0) (differs-new n os d.1)
+
   -- items go
+  pub new-filter : (n : ℕ) (keep : Owned A → Bool) (os : List (Owned A)) → IsNew n os → IsNew n (filter keep os)
+  new-filter n keep [] h = refl
+  new-filter n keep (o ∷ os) h = let parts = new-tail n o os h in at_head (keep o) parts.0 (new-filter n keep os parts.1)
+    where
+      at_head : (b : Bool) → nat_eq (f o.it) n ≡ false → IsNew n (filter keep os) → IsNew n (if b then o ∷ filter keep os else filter keep os)
+      at_head true other ih = simp other ih
+      at_head false other ih = ih
+
   pub differ-filter : (keep : Owned A → Bool) (os : List (Owned A)) → AllDiffer (numbers os) → AllDiffer (numbers (filter keep os))
   unfolding IsDistinct
   differ-filter keep [] d = tt
@@ -73,3 +86,15 @@ module _ {A : Type 0} (f : A → ℕ) where
   differ-come z a (o ∷ os) new d =
       let parts = new-tail (f a) o os new in
       (all-come (λ m. nat_eq (f o.it) m ≡ false) z a os parts.0 d.0, differ-come z a os parts.1 d.1)
+
+  -- each item of a zone becomes another with its number
+  kept-numbers : (z : Name) (g : A → A) → ((a : A) → f (g a) ≡ f a) → (os : List (Owned A)) → numbers (edit_list z (Change g) os) ≡ numbers os
+  kept-numbers z g keeps [] = refl
+  kept-numbers z g keeps (o ∷ os) = λ i. at_head (bytes_eq z o.zone) i ∷ kept-numbers z g keeps os i
+    where
+      at_head : (b : Bool) → f (if b then record o { it = g o.it } else o).it ≡ f o.it
+      at_head true = keeps o.it
+      at_head false = refl
+
+  pub differ-change : (z : Name) (g : A → A) → ((a : A) → f (g a) ≡ f a) → (os : List (Owned A)) → AllDiffer (numbers os) → AllDiffer (numbers (edit_list z (Change g) os))
+  differ-change z g keeps os d = subst AllDiffer (sym (kept-numbers z g keeps os)) d

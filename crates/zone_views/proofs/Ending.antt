@@ -1,7 +1,7 @@
 -- Every turn of a daemon leaves it fewer. What each zone keeps for that: it has no mount but its root, which stands only
 -- while the zone is active or the request under way knows to undo it.
 use Rattle.std.proofs.Common.{◌≡◌, ◌+◌, ◌*◌, ◌<◌, ◌∷◌, [], ◌&&◌, ℕ, List, Bool, true, false, not, Option, Some, None, arith, ap, refl, length, subst, suc, sym, ◌∙◌}
-use Rattle.std.specs.Prelude.{◌≢◌, bytes_eq, codes, max, unwrap_or, if◌then◌else◌}
+use Rattle.std.specs.Prelude.{◌≢◌, codes, max, unwrap_or}
 use Rattle.std.proofs.Math.Nat.{le-max_left, le-max_right}
 use Rattle.std.proofs.lemmas.Bool.{and_from, and_parts, false≢true}
 use Rattle.zone_pools.proofs.Owned_laws.{same_self}
@@ -10,13 +10,12 @@ use Rattle.zn_base.specs.Names.{Name}
 use Rattle.zone_pools.specs.declared.grant.Grant.{Grant}
 use Rattle.zn_base.specs.declared.state.ZoneState.{ZoneState}
 use Rattle.zn_base.specs.declared.state.ZoneState.TheVariants.{Configured, Installed, Ready, Running}
-use Rattle.zone_machine.proofs.Own_worlds.{world-one}
 use Rattle.zone_machine.proofs.Turned_laws.{In, has-turned, in-act, turn-reply, turn-world, turn_act}
 use Rattle.zone_machine.specs.Objects.{mounts_after}
 use Rattle.zone_machine.specs.State.Decisions.{act_of, acts_world, says}
 use Rattle.zone_machine.specs.Daemon.Desks.{Desk, Job}
-use Rattle.zone_machine.specs.Machine.Histories.{after, after_entry, world_by}
-use Rattle.zone_machine.specs.Machine.{decide, one, opening, session_number, subject}
+use Rattle.zone_machine.specs.Machine.Histories.{after}
+use Rattle.zone_machine.specs.Machine.{decide, one, opening, session_number}
 use Rattle.zone_machine.specs.Objects.{Objects, is_at}
 use Rattle.zone_machine.specs.Daemon.Plans.{may_begin, plan, undo_after}
 use Rattle.zone_machine.specs.State.{State}
@@ -33,13 +32,12 @@ use Rattle.zone_machine.specs.declared.daemon.TurnReply.TheVariants.{Idle}
 use Rattle.zone_machine.specs.declared.events.Entry.{Entry}
 use Rattle.zone_machine.specs.declared.events.Event.{Event}
 use Rattle.zone_machine.specs.declared.events.Event.TheVariants.{Turn}
-use Rattle.zone_machine.specs.declared.events.Subject.{Subject}
-use Rattle.zone_machine.specs.declared.events.Subject.TheVariants.{Zone, Global, Whole}
 use Rattle.zone_machine.specs.declared.objects.Mount.{Mount}
 use Rattle.commit_journal.specs.declared.records.Commit.{Commit}
 use Rattle.commit_journal.specs.declared.records.Record.{Record}
 use Rattle.zone_machine.specs.declared.replies.Head.TheVariants.{Turned as Told}
-use Rattle.zone_views.proofs.Deciding.{of_event}
+use Rattle.zone_views.proofs.Deciding.{of_event, of_turned}
+use Rattle.zone_views.proofs.Keeping.{kept-after}
 
 -- no mount but the root
 abbrev root_alone : List Mount → Bool
@@ -50,7 +48,7 @@ root_alone (m ∷ n ∷ more) = false
 abbrev is_mounted : List Mount → Bool
 is_mounted ms = not (is_nil ms)
 
-abbrev is_up : Option ZoneState → Bool
+abbrev pub is_up : Option ZoneState → Bool
 is_up None = false
 is_up (Some Installed) = false
 is_up (Some _) = true
@@ -264,28 +262,13 @@ turn-lowers w g h = in-act (λ c (t : Turned). Lowers (turns_left w) (mounts_aft
 -- an event of a zone
 grounded-event : (z : Name) (w : World) (e : Event) (g : Grant) → grounded w.mounts w.desk ≡ true
     → let v = acts_world (session_number e) (act_of (decide (view_of z w) e) g) w in grounded v.mounts v.desk ≡ true
-grounded-event z w e g h = of_event (λ row ms d. grounded ms d ≡ true) z w h (λ path k none. h) (λ kind. h) g (turn-lowers w g h).grounded e
+grounded-event z w e g h =
+    of_event (λ v. grounded v.mounts v.desk ≡ true) z w h (λ config k none. h) (λ kind sessions. h) (λ ps called. h) g
+    (of_turned (λ row ms d. grounded ms d ≡ true) w g (turn-lowers w g h).grounded) e
 
--- every zone's world is grounded
-abbrev pub AreGrounded : State → Type 0
-AreGrounded S = (z : Name) → let w = world z S in grounded w.mounts w.desk ≡ true
-
-grounded-by : (z : Name) (s : Subject) (w : World) (e : Event) (g : Grant) → grounded w.mounts w.desk ≡ true → let v = world_by s z w e g in grounded v.mounts v.desk ≡ true
-grounded-by z Global w e g h = h
-grounded-by z Whole w e g h = h
-grounded-by z (Zone y) w e g h = at_test (bytes_eq z y)
-  where
-    at_test : (b : Bool) → let v : World = if b then acts_world (session_number e) (act_of (decide (view_of z w) e) g) w else w in grounded v.mounts v.desk ≡ true
-    at_test true = grounded-event z w e g h
-    at_test false = h
-
-grounded-after : (S : State) (h : List Entry) → AreGrounded S → AreGrounded (after S h)
-grounded-after S [] is = is
-grounded-after S (e ∷ h) is = grounded-after (after_entry S e) h
-    (λ z. subst (λ w. grounded w.mounts w.desk ≡ true) (sym (world-one z S e.event e.grant)) (grounded-by z (subject S e.event) (world z S) e.event e.grant (is z)))
-
-pub grounded-history : (commits : List Commit) (h : List Entry) → AreGrounded (after (opening commits) h)
-grounded-history commits h = grounded-after (opening commits) h (λ z. refl)
+-- so every zone's world is grounded
+pub grounded-history : (commits : List Commit) (h : List Entry) (z : Name) → let w = world z (after (opening commits) h) in grounded w.mounts w.desk ≡ true
+grounded-history commits h = kept-after (λ w. grounded w.mounts w.desk ≡ true) grounded-event (opening commits) h (λ z. refl)
 
 -- a turn of a zone that isn't idle leaves the zone fewer turns
 pub fewer-left : (z : Name) (S : State) (g : Grant) → let w = world z S in grounded w.mounts w.desk ≡ true → (one S (Turn z) g).reply ≢ says (Told Idle) → turns_left (world z (one S (Turn z) g).state) < turns_left w

@@ -25,7 +25,15 @@ use Rattle.zone_machine.specs.declared.daemon.Outcome.TheVariants.{WrongState}
 use Rattle.zone_machine.specs.declared.daemon.TurnReply.TheVariants.{Finished, Idle}
 use Rattle.zone_machine.specs.declared.events.Entry.{Entry}
 use Rattle.zone_machine.specs.declared.events.Event.{Event}
-use Rattle.zone_machine.specs.declared.events.Event.TheVariants.{Session, Turn}
+use Rattle.zone_machine.specs.declared.events.Event.TheVariants.{Process as Call_of, Session, Turn}
+use Rattle.zone_machine.specs.declared.events.Subject.TheVariants.{Global, Zone}
+use Rattle.zone_machine.specs.Calls.{called}
+use Rattle.process_calls.specs.declared.call.Call.TheVariants.{Drop, Fork}
+use Rattle.priv_sets.specs.Sets.{all_of, default_set, has, only as the_one, set_of, union, without}
+use Rattle.priv_sets.specs.Table.{is_of, privileges}
+use Rattle.priv_sets.specs.declared.table.TheConstants.{PROC_EXEC}
+use Rattle.kernel_objects.specs.Processes.{may_exec, may_fork}
+use Rattle.zn_base.specs.Decimals.{decimal_of}
 use Rattle.commit_journal.specs.declared.records.Commit.{Commit}
 use Rattle.zone_machine.specs.declared.replies.Head.{Head}
 use Rattle.zone_machine.specs.declared.replies.Head.TheVariants.{Ok, Ticket, Turned}
@@ -96,6 +104,23 @@ process_numbers = refl
 zone_numbers : zids booted ≡ 1 ∷ 2 ∷ []
 unfolding line_of typed turn view decide subject one first_free allowed edit comes with_property setting_named obeys setting export_text
 zone_numbers = refl
+
+-- a signal that a session sends is of the zone that has the process
+signal_subjects : map (λ text. subject booted (Session 3 text)) (codes "kill 9 2" ∷ codes "kill 9 3" ∷ codes "kill 9 4" ∷ []) ≡ Zone (codes "a") ∷ Zone (codes "b") ∷ Global ∷ []
+unfolding line_of typed turn view decide subject one first_free allowed edit comes with_property setting_named obeys setting export_text decimal_of
+signal_subjects = refl
+
+-- the first process of a gives up a privilege, forks, and another's signal ends that of b
+abbrev called_on : State
+called_on = after booted (history booted (Call_of (codes "a") 2 (Drop PROC_EXEC) ∷ Call_of (codes "a") 2 (Fork (codes "sh")) ∷ Session 3 (codes "kill 9 3") ∷ []))
+
+processes_left : pids called_on ≡ 2 ∷ 4 ∷ []
+unfolding line_of typed turn view decide subject one first_free allowed edit comes with_property setting_named obeys setting export_text called decimal_of default_set union without the_one all_of set_of has is_of privileges
+processes_left = refl
+
+may_fork_not_exec : map (λ o. may_fork o.it && not (may_exec o.it)) called_on.processes ≡ true ∷ true ∷ []
+unfolding line_of typed turn view decide subject one first_free allowed edit comes with_property setting_named obeys setting export_text called decimal_of default_set union without the_one all_of set_of has is_of privileges
+may_fork_not_exec = refl
 
 -- grants that don't fit may give one number twice, and after a process number of 0 the pools give 1, which doesn't fit
 abbrev readied : ℕ → List ℕ → List (Event × Grant)

@@ -2,9 +2,11 @@ mod Examples
 pub mod Purge
 pub mod Runs
 pub mod Deciding
+pub mod Keeping
 pub mod Steady
 pub mod Under_way
 pub mod Ending
+pub mod Limits
 pub mod Differing
 pub mod Granting
 pub mod Numbered

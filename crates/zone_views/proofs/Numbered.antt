@@ -1,12 +1,15 @@
 -- In every state of a history with grants that fit, the process numbers differ, and so do the zone numbers.
-use Rattle.std.proofs.Common.{◌≡◌, ◌∷◌, ◌≤◌, ◌&&◌, [], ℕ, List, true, Option, arith, refl, subst, sym}
-use Rattle.std.specs.Prelude.{bytes_eq, nat_le, not}
-use Rattle.std.specs.List.{IsDistinct, list_all}
-use Rattle.std.proofs.lemmas.Bool.{and_from, and_parts, false≢true, leb-true, not-true}
+use Rattle.std.proofs.Common.{map, ◌≡◌, ◌∙◌, ◌∷◌, ◌≤◌, ◌&&◌, [], ℕ, List, Bool, true, false, Option, arith, refl, subst, sym}
+use Rattle.std.specs.Prelude.{bytes_eq, nat_eq, nat_le, not, if◌then◌else◌}
+use Rattle.std.specs.List.{IsDistinct, list_all, list_any}
+use Rattle.std.proofs.lemmas.Bool.{and_from, and_parts, eqb-true, false≢true, leb-true, not-true}
 use Rattle.zone_pools.proofs.Same_laws.{grant-Decides}
 use Rattle.zn_base.specs.Names.{Name}
 use Rattle.zone_pools.specs.declared.grant.Grant.{Grant}
 use Rattle.zone_pools.specs.declared.grant.Grant.TheVariants.{Nothing, Number, Yes, Denied}
+use Rattle.zone_pools.proofs.Owned_laws.{same_true}
+use Rattle.zone_machine.proofs.Common_laws.{any_mine, has_it}
+use Rattle.zone_machine.specs.Machine.Common.{HoldOnce, common}
 use Rattle.zone_machine.proofs.Of_turns.{is_asked_for}
 use Rattle.zone_machine.specs.Arrivals.{A_process, A_record, An_id, Comes, arrived}
 use Rattle.zone_machine.specs.State.Decisions.{Decision, act_of, acts, after_came}
@@ -15,7 +18,11 @@ use Rattle.zone_pools.specs.Decisions.{Ask, Just, asked_of}
 use Rattle.zone_machine.specs.State.Edits.{Edit, Of_objects, comes, edit, edits}
 use Rattle.zone_machine.specs.Machine.Histories.{after, after_entry, is_allowed, is_history, is_legal, is_told}
 use Rattle.zone_machine.specs.Machine.{decide, one, one_of, opening, session_number, subject}
-use Rattle.zone_machine.specs.Objects.{Ids_go, Processes_go, below}
+use Rattle.kernel_objects.specs.Processes.{Process, adopted, below, has_pid, heir}
+use Rattle.zone_pools.specs.Owned_lists.{Go, edit_list, mine}
+use Rattle.kernel_objects.specs.declared.objects.Id.{Id}
+use Rattle.zone_pools.specs.declared.owned.Owned.{Owned}
+use Rattle.zone_machine.specs.Objects.{Ids_change, Ids_go, Process_goes, Processes_change, Processes_go, all_of, keeping_pid, keeping_zid}
 use Rattle.zone_machine.specs.Machine.Pools.{allowed, allowed_of, fits, fits_of, pools_of}
 use Rattle.zone_pools.specs.Pools.{fits_asked, fits_pool}
 use Rattle.zone_machine.specs.State.{State}
@@ -25,7 +32,7 @@ use Rattle.zone_machine.specs.declared.events.Event.{Event}
 use Rattle.zone_machine.specs.declared.events.Subject.{Subject}
 use Rattle.zone_machine.specs.declared.events.Subject.TheVariants.{Zone, Global, Whole}
 use Rattle.commit_journal.specs.declared.records.Commit.{Commit}
-use Rattle.zone_views.proofs.Differing.{differ-come, differ-filter, differ-put}
+use Rattle.zone_views.proofs.Differing.{differs-new, differ-change, differ-come, differ-filter, differ-put, new-filter}
 use Rattle.zone_machine.proofs.Asking.{asks-decide, asks_rightly}
 use Rattle.zone_views.proofs.Granting.{decision-fits}
 use Rattle.zone_views.specs.Numbers.{AllDiffer, pids, zids}
@@ -35,10 +42,23 @@ pub record AreNumbered (S : State) : Type 0 where
   pub zids : AllDiffer (zids S)
   pub last : 1 ≤ S.last_pid
 
--- what goes leaves it so
+-- what goes leaves it so, and so does what keeps its number
+adopted-pid : (gone to : ℕ) (p : Process) → (adopted gone to p).pid ≡ p.pid
+adopted-pid gone to p = at_test (nat_eq p.parent gone)
+  where
+    at_test : (b : Bool) → (if b then record p { parent = to } else p).pid ≡ p.pid
+    at_test true = refl
+    at_test false = refl
+
 numbered-edit : (z : Name) (n : Option ℕ) (e : Edit) (S : State) → AreNumbered S → AreNumbered (edit z n e S)
 unfolding edit
 numbered-edit z n (Of_objects (Processes_go p)) S h = record { pids = differ-filter (λ p. p.pid) (λ o. not (bytes_eq z o.zone && p o.it)) S.processes h.pids; zids = h.zids; last = h.last }
+numbered-edit z n (Of_objects (Process_goes pid)) S h =
+    let left = edit_list z (Go (has_pid pid)) S.processes in
+    let left_differ = differ-filter (λ p. p.pid) (λ o. not (bytes_eq z o.zone && has_pid pid o.it)) S.processes h.pids in
+    record { pids = differ-change (λ p. p.pid) z (adopted pid (heir (mine z left))) (adopted-pid pid (heir (mine z left))) left left_differ; zids = h.zids; last = h.last }
+numbered-edit z n (Of_objects (Processes_change f)) S h = record { pids = differ-change (λ p. p.pid) z (keeping_pid f) (λ p. refl) S.processes h.pids; zids = h.zids; last = h.last }
+numbered-edit z n (Of_objects (Ids_change f)) S h = record { pids = h.pids; zids = differ-change (λ i. i.zid) z (keeping_zid f) (λ i. refl) S.ids h.zids; last = h.last }
 numbered-edit z n (Of_objects (Ids_go p)) S h = record { pids = h.pids; zids = differ-filter (λ i. i.zid) (λ o. not (bytes_eq z o.zone && p o.it)) S.ids h.zids; last = h.last }
 numbered-edit z n _ S h = record { pids = h.pids; zids = h.zids; last = h.last }
 
@@ -54,8 +74,10 @@ numbered-comes z (A_process p) (A_pid ∷ []) n S a f h =
     let least = leb-true 2 n (and_parts (nat_le 2 n) (nat_le n 29999) range.0).0 in
     record { pids = differ-put (λ p. p.pid) z (below n) (record p { pid = n }) S.processes (not-true ((pools_of S).pid_used n) range.1) h.pids; zids = h.zids; last = omega (arith, least) }
 numbered-comes z (An_id i) (A_zid ∷ []) n S a f h =
+    let keep = λ (o : Owned Id). not (bytes_eq z o.zone && all_of o.it) in
     let range = (and_parts (nat_le 1 n && nat_le n 9999) (not ((pools_of S).zid_used n)) (and_parts _ true f).0) in
-    record { pids = h.pids; zids = differ-come (λ i. i.zid) z (record i { zid = n }) S.ids (not-true ((pools_of S).zid_used n) range.1) h.zids; last = h.last }
+    let new = new-filter (λ i. i.zid) n keep S.ids (not-true ((pools_of S).zid_used n) range.1) in
+    record { pids = h.pids; zids = differ-come (λ i. i.zid) z (record i { zid = n }) (edit_list z (Go all_of) S.ids) new (differ-filter (λ i. i.zid) keep S.ids h.zids); last = h.last }
 numbered-comes z (A_record row) asked n S a f h = record { pids = h.pids; zids = h.zids; last = h.last }
 numbered-comes z c asked n S a f h = absurd (false≢true a)
 
@@ -116,3 +138,33 @@ legal-after S (e ∷ h) is n =
 
 pub legal-fits : (commits : List Commit) (h : List Entry) → is_legal (opening commits) h ≡ true → is_history fits (opening commits) h ≡ true
 legal-fits commits h is = legal-after (opening commits) h is (numbered-opening commits)
+
+-- so one zone at most has a number of a process
+held-once : (n : ℕ) (os : List (Owned Process)) → AllDiffer (map (λ o. o.it.pid) os) → (y z : Name) → has_it n y os ≡ true → has_it n z os ≡ true → y ≡ z
+unfolding IsDistinct
+held-once n [] d y z h k = absurd (false≢true h)
+held-once n (o ∷ os) d y z h k = at_head (held-once n os d.1 y z) (has_pid n o.it) refl
+  where
+    of_first : has_pid n o.it ≡ true → (x : Name) → has_it n x (o ∷ os) ≡ true → x ≡ o.zone
+    of_first e x has = at_zone (bytes_eq x o.zone) refl
+      where
+        none : list_any (λ o. has_pid n o.it) os ≡ false
+        none = subst (λ m. list_any (λ o. has_pid m o.it) os ≡ false) (eqb-true o.it.pid n e) (differs-new (λ p. p.pid) o.it.pid os d.0)
+
+        at_zone : (b : Bool) → bytes_eq x o.zone ≡ b → x ≡ o.zone
+        at_zone true t = same_true x o.zone t
+        at_zone false t = absurd (false≢true (sym none ∙ any_mine (has_pid n) x os (simp t at has)))
+
+    of_rest : has_pid n o.it ≡ false → (x : Name) → has_it n x (o ∷ os) ≡ true → has_it n x os ≡ true
+    of_rest e x has = at_zone (bytes_eq x o.zone) refl
+      where
+        at_zone : (b : Bool) → bytes_eq x o.zone ≡ b → has_it n x os ≡ true
+        at_zone true t = simp (t, e) at has
+        at_zone false t = simp t at has
+
+    at_head : (has_it n y os ≡ true → has_it n z os ≡ true → y ≡ z) → (b : Bool) → has_pid n o.it ≡ b → y ≡ z
+    at_head ih true e = of_first e y h ∙ sym (of_first e z k)
+    at_head ih false e = ih (of_rest e y h) (of_rest e z k)
+
+pub held-once-history : (commits : List Commit) (h : List Entry) → is_history fits (opening commits) h ≡ true → HoldOnce (common (after (opening commits) h)).pids
+held-once-history commits h is = λ y z n. held-once n (after (opening commits) h).processes (numbered-history commits h is).pids y z

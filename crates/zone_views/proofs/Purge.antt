@@ -1,73 +1,97 @@
 -- Histories, as one zone sees them. Nothing here opens a case of the machine.
 use Rattle.std.proofs.Common.{◌≡◌, ◌∷◌, [], ◌&&◌, ℕ, List, Bool, true, false, Option, Some, None, map, ap, refl, subst, sym, ◌∙◌}
-use Rattle.std.specs.Prelude.{bytes_eq, nat_eq, filter, if◌then◌else◌}
-use Rattle.std.specs.List.{list_all}
+use Rattle.std.specs.Prelude.{◌≢◌, bytes_eq, filter, if◌then◌else◌}
+use Rattle.std.specs.List.{list_all, list_any}
 use Rattle.std.proofs.lemmas.Bool.{and_parts, false≢true}
-use Rattle.zone_pools.proofs.Owned_laws.{same_self, same_true}
+use Rattle.kernel_objects.specs.Processes.{Process, has_pid}
+use Rattle.zone_pools.proofs.Holding.{not_same}
+use Rattle.zone_pools.proofs.Owned_laws.{other_tag, same_self, same_true}
+use Rattle.zone_pools.specs.Firsts.{first_of}
+use Rattle.zone_pools.specs.Owned_lists.{mine}
+use Rattle.zone_pools.specs.declared.owned.Owned.{Owned}
 use Rattle.zn_base.specs.Names.{Name}
 use Rattle.zone_pools.specs.declared.grant.Grant.{Grant}
-use Rattle.zone_machine.proofs.Acts_laws.{IsOwn, IsOwn-of, IsOwn-swept}
+use Rattle.zone_machine.proofs.Acts_laws.{IsOwn}
+use Rattle.zone_machine.proofs.Common_laws.{has_it, holder-one}
 use Rattle.zone_machine.proofs.Own_worlds.{leaves, reply-whole, reply-world, world-one, world_by-other}
 use Rattle.zone_machine.proofs.Same_laws.{reply-Decides, subject-Decides}
-use Rattle.zone_machine.specs.Arrivals.{Arrival, New_process}
-use Rattle.zone_machine.specs.State.Decisions.{Act, act_of, acts, after_came}
-use Rattle.zone_machine.specs.State.Edits.{Edit, Here, Of_objects, Sweep, at_session, comes, edit, edits, session_of}
 use Rattle.zone_machine.specs.Daemon.Desks.{empty_desk}
 use Rattle.zone_machine.specs.Machine.Histories.{after, after_entry, any_grant, asked, concerns, entry_at, is_history, is_of, is_told, only, replay, replies, run, world_by, world_one}
-use Rattle.zone_machine.specs.Session.Lines.{line_of}
-use Rattle.zone_machine.specs.Machine.{decide, one, one_of, opening, session_number, session_subject, subject}
-use Rattle.zone_machine.specs.Objects.{Processes_go}
+use Rattle.zone_machine.specs.Session.Lines.{Command, Kill, Line, line_of}
+use Rattle.zone_machine.specs.Machine.{holder, line_subject, one, opening, session_subject, subject}
 use Rattle.zone_machine.specs.Machine.Same.{same_reply, same_subject}
 use Rattle.zone_machine.specs.State.{At, Idle, Session as Session_mode, State, stored}
-use Rattle.zone_machine.specs.State.Worlds.{World, doing, view, world}
+use Rattle.zone_machine.specs.State.Worlds.{World, doing, world}
 use Rattle.zone_machine.specs.declared.events.Entry.{Entry}
 use Rattle.zone_machine.specs.declared.events.Event.{Event}
-use Rattle.zone_machine.specs.declared.events.Event.TheVariants.{Session, Turn}
+use Rattle.zone_machine.specs.declared.events.Event.TheVariants.{Process as Call_of, Session, Turn}
 use Rattle.zone_machine.specs.declared.events.Subject.{Subject}
 use Rattle.zone_machine.specs.declared.events.Subject.TheVariants.{Zone, Global, Whole}
 use Rattle.commit_journal.specs.declared.records.Commit.{Commit}
 use Rattle.commit_journal.specs.declared.records.Record.{Record}
 
--- a state that entries of z and of the whole system alone have reached: each session is idle or z's
-pub record IsPurged (z : Name) (S : State) : Type 0 where
-  pub sessions : (n : ℕ) → IsOwn z (S.sessions n)
+-- a state that entries of z and of the whole system alone have reached: no other zone has a session or a process. The
+-- processes count because a signal's zone is looked for among all of them
+pub record IsBare (w : World) : Type 0 where
+  pub sessions : (n : ℕ) → w.sessions n ≡ None
+  pub processes : w.processes ≡ []
 
-IsPurged-edit : (y z : Name) (n : Option ℕ) (e : Edit) (S : State) → y ≡ z → IsPurged z S → IsPurged z (edit y n e S)
-unfolding edit
-IsPurged-edit y z n (Here d) S same is = record { sessions = λ k. at_number n k }
-  where
-    at_test : (k : ℕ) (b : Bool) → IsOwn z (if b then session_of y d else S.sessions k)
-    at_test k true = subst (λ x. IsOwn z (session_of x d)) (sym same) (IsOwn-of z d)
-    at_test k false = is.sessions k
+abbrev pub IsPurged : Name → State → Type 0
+IsPurged z S = (y : Name) → y ≢ z → IsBare (world y S)
 
-    at_number : (m : Option ℕ) (k : ℕ) → IsOwn z (at_session m k (session_of y d) (S.sessions k))
-    at_number None k = is.sessions k
-    at_number (Some m) k = at_test k (nat_eq m k)
-IsPurged-edit y z n (Sweep f) S same is = record { sessions = λ k. IsOwn-swept y z f (S.sessions k) (is.sessions k) }
-IsPurged-edit y z n (Of_objects (Processes_go p)) S same is = record { sessions = is.sessions }
-IsPurged-edit y z n _ S same is = record { sessions = is.sessions }
-
-IsPurged-edits : (y z : Name) (n : Option ℕ) (es : List Edit) (S : State) → y ≡ z → IsPurged z S → IsPurged z (edits y n es S)
-IsPurged-edits y z n [] S same is = is
-IsPurged-edits y z n (e ∷ es) S same is = IsPurged-edits y z n es (edit y n e S) same (IsPurged-edit y z n e S same is)
-
-IsPurged-came : (y z : Name) (c : Option Arrival) (S : State) → IsPurged z S → IsPurged z (after_came y c S)
-unfolding comes
-IsPurged-came y z None S is = is
-IsPurged-came y z (Some (New_process p)) S is = record { sessions = is.sessions }
-IsPurged-came y z (Some _) S is = record { sessions = is.sessions }
+pub IsPurged-opening : (z : Name) (commits : List Commit) → IsPurged z (opening commits)
+IsPurged-opening z commits y other = record { sessions = λ n. refl; processes = refl }
 
 IsPurged-one : (z : Name) (S : State) (e : Event) (g : Grant) → concerns z (subject S e) ≡ true → IsPurged z S → IsPurged z (one S e g).state
-unfolding one
-IsPurged-one z S e g h is = at_subject (subject S e) h
+IsPurged-one z S e g h is y other = subst IsBare (sym (world-one y S e g)) (at_subject (subject S e) h)
   where
-    at_subject : (s : Subject) → concerns z s ≡ true → IsPurged z (one_of s S e g).state
-    at_subject (Zone y) h =
-        let a : Act = act_of (decide (view y S) e) g in
-        let acted : IsPurged z (acts y (session_number e) a S) = IsPurged-edits y z (session_number e) a.effect.edits (after_came y a.came S) (sym (same_true z y h)) (IsPurged-came y z a.came S is) in
-        record { sessions = acted.sessions }
+    at_subject : (s : Subject) → concerns z s ≡ true → IsBare (world_by s y (world y S) e g)
+    at_subject (Zone x) h = rw (other_tag z y x (λ e. other (sym e)) h) (is y other)
     at_subject Global h = absurd (false≢true h)
-    at_subject Whole h = record { sessions = is.sessions }
+    at_subject Whole h = is y other
+
+-- a zone that can't be another is z
+zone_is : (y z : Name) → (y ≢ z → ⊥) → y ≡ z
+zone_is y z h = at_test (bytes_eq z y) refl
+  where
+    at_test : (b : Bool) → bytes_eq z y ≡ b → y ≡ z
+    at_test true e = sym (same_true z y e)
+    at_test false e = absurd (h (not_same z y e))
+
+-- each session is idle or z's
+pub own_session : (z : Name) (S : State) (n : ℕ) → IsPurged z S → IsOwn z (S.sessions n)
+own_session z S n is = at_session (S.sessions n) (λ y other. (is y other).sessions n)
+  where
+    at_session : (s : Session_mode) → ((y : Name) → y ≢ z → doing y s ≡ None) → IsOwn z s
+    at_session Idle away = tt
+    at_session (At y d) away = zone_is y z (λ other. let shown = away y other in let some : Some d ≡ None = simp (same_self y) at shown in cc)
+
+-- a signal goes to the zone that has the process
+module _ (z : Name) (pid : ℕ) where
+  abbrev holder_in : List (Owned Process) → Subject
+  holder_in os = holder (first_of (filter (λ o. has_pid pid o.it) os))
+
+  concerned-has : (os : List (Owned Process)) → concerns z (holder_in os) ≡ true → has_it pid z os ≡ true
+  concerned-has [] h = absurd (false≢true h)
+  concerned-has (o ∷ os) h = at_tests (concerned-has os) (bytes_eq z o.zone) (has_pid pid o.it) refl refl
+    where
+      at_tests : (concerns z (holder_in os) ≡ true → has_it pid z os ≡ true) → (b q : Bool) → bytes_eq z o.zone ≡ b → has_pid pid o.it ≡ q → has_it pid z (o ∷ os) ≡ true
+      at_tests ih true true e f = simp (e, f)
+      at_tests ih true false e f = simp (e, f, ih (simp f at h))
+      at_tests ih false true e f = let t : bytes_eq z o.zone ≡ true = simp f at h in absurd (false≢true (sym e ∙ t))
+      at_tests ih false false e f = simp (e, ih (simp f at h))
+
+  only_own : (S : State) → IsPurged z S → (y : Name) → has_it pid y S.processes ≡ true → y ≡ z
+  only_own S is y has = zone_is y z (λ other. false≢true (sym (ap (list_any (has_pid pid)) (is y other).processes) ∙ has))
+
+  same_holder : (S T : State) → mine z S.processes ≡ mine z T.processes → IsPurged z T → concerns z (holder_in S.processes) ≡ true → holder_in T.processes ≡ holder_in S.processes
+  same_holder S T same is h =
+      let has : has_it pid z T.processes ≡ true = ap (list_any (has_pid pid)) (sym same) ∙ concerned-has S.processes h in
+      holder-one pid T.processes z has (only_own T is) ∙ sym (at_holder _ h)
+    where
+      at_holder : (o : Option (Owned Process)) → concerns z (holder o) ≡ true → holder o ≡ Zone z
+      at_holder (Some o) h = ap Zone (sym (same_true z o.zone h))
+      at_holder None h = absurd (false≢true h)
 
 -- two states agree on z, and the second was reached by entries that concern z
 pub record Agree (z : Name) (S T : State) : Type 0 where
@@ -82,13 +106,21 @@ away_is_idle z (At y x) own away = let e : bytes_eq z y ≡ true = subst (λ w. 
 -- they give each event that concerns z the same subject
 pub subjects : (z : Name) (S T : State) (e : Event) → Agree z S T → concerns z (subject S e) ≡ true → subject T e ≡ subject S e
 unfolding subject
-subjects z S T (Session n text) a h = at_sessions (S.sessions n) (T.sessions n) (ap (λ w. w.sessions n) a.world) (a.purged.sessions n) h
+subjects z S T (Session n text) a h = at_sessions (S.sessions n) (T.sessions n) (ap (λ w. w.sessions n) a.world) (own_session z T n a.purged) h
   where
-    at_sessions : (s t : Session_mode) → doing z s ≡ doing z t → IsOwn z t → concerns z (session_subject (line_of text) s) ≡ true → session_subject (line_of text) t ≡ session_subject (line_of text) s
-    at_sessions Idle Idle d own h = refl
+    line : Line
+    line = line_of text
+
+    at_command : (c : Command) → concerns z (line_subject line.zone S.processes c) ≡ true → line_subject line.zone T.processes c ≡ line_subject line.zone S.processes c
+    at_command (Kill signal pid) h = same_holder z pid S T (ap (λ w. w.processes) a.world) a.purged h
+    at_command _ h = refl
+
+    at_sessions : (s t : Session_mode) → doing z s ≡ doing z t → IsOwn z t → concerns z (session_subject line S.processes s) ≡ true → session_subject line T.processes t ≡ session_subject line S.processes s
+    at_sessions Idle Idle d own h = at_command line.command h
     at_sessions Idle (At y x) d own h = let e : bytes_eq z y ≡ true = subst (λ w. bytes_eq z w ≡ true) (sym own) (same_self z) in let none : None ≡ Some x = simp e at d in cc
     at_sessions (At y x) Idle d own h = let none : Some x ≡ None = simp h at d in cc
     at_sessions (At y x) (At y' x') d own h = ap Zone (own ∙ same_true z y h)
+subjects z S T (Call_of y pid c) a h = refl
 subjects z S T (Turn y) a h = refl
 
 -- a step of both
@@ -146,7 +178,7 @@ purge z (e ∷ es) S T a = at_test (λ S T a. purge z es S T a) _ refl
 pub opening-agree : (z : Name) (commits others : List Commit) → stored z commits ≡ stored z others → Agree z (opening commits) (opening others)
 opening-agree z commits others h = record {
   world = let f : Option Record → World = λ row. record { processes = []; mounts = []; ids = []; stored = row; desk = empty_desk; sessions = λ n. None } in ap f h;
-  purged = record { sessions = λ n. tt };
+  purged = IsPurged-opening z others;
 }
 
 -- a history is the run of its own events

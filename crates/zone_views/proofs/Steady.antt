@@ -13,10 +13,10 @@ use Rattle.zn_base.specs.declared.state.ZoneState.{ZoneState}
 use Rattle.zn_base.specs.declared.state.ZoneState.TheVariants.{Configured, Installed, Ready, Running, ShuttingDown, Down}
 use Rattle.zone_pools.proofs.Owned_laws.{same_true}
 use Rattle.zone_machine.proofs.Own_worlds.{world-one}
-use Rattle.zone_machine.proofs.Turned_laws.{In, in-act, stored_after}
+use Rattle.zone_machine.proofs.Turned_laws.{In, in-act, stored_after, turn_act}
 use Rattle.zone_machine.specs.State.Decisions.{act_of, acts_world}
 use Rattle.zone_machine.specs.Daemon.Desks.{Desk, Job, empty_desk, state_of}
-use Rattle.zone_machine.specs.Machine.Histories.{after, after_entry, world_by}
+use Rattle.zone_machine.specs.Machine.Histories.{after, world_by}
 use Rattle.zone_machine.specs.Machine.{decide, one, opening, session_number, subject}
 use Rattle.zone_machine.specs.Objects.{Objects, last_dir}
 use Rattle.zone_machine.specs.Daemon.Plans.{may_begin, plan}
@@ -37,7 +37,8 @@ use Rattle.zone_machine.specs.declared.events.Subject.{Subject}
 use Rattle.zone_machine.specs.declared.events.Subject.TheVariants.{Zone, Global, Whole}
 use Rattle.commit_journal.specs.declared.records.Commit.{Commit}
 use Rattle.commit_journal.specs.declared.records.Record.{Record}
-use Rattle.zone_views.proofs.Deciding.{of_event}
+use Rattle.zone_views.proofs.Deciding.{of_event, of_turned}
+use Rattle.zone_views.proofs.Keeping.{kept-after}
 use Rattle.zone_views.specs.Storable.{are_storable, is_storable}
 
 abbrev is_active_state : ZoneState → Bool
@@ -188,8 +189,14 @@ keeps-asked (Some row) d kind h = record { steady = h; moves = inl refl }
 keeps-event : (z : Name) (w : World) (e : Event) (g : Grant) → steady w.stored w.desk ≡ true
     → let v = acts_world (session_number e) (act_of (decide (view_of z w) e) g) w in Keeps w.stored w.desk v.stored v.desk
 keeps-event z w e g h =
-    of_event (λ row ms d. Keeps w.stored w.desk row d) z w (record { steady = h; moves = inl refl }) (λ config k none. keeps-made w.stored w.desk z config k none h) (λ kind. keeps-asked w.stored w.desk kind h) g
-    (in-act (λ c (t : Turned). Keeps w.stored w.desk (stored_after c w.stored) t.desk) (turn (objects_of w) w.stored w.desk) g (keeps_turn (objects_of w) w.stored w.desk h)) e
+    of_event (λ v. Keeps w.stored w.desk v.stored v.desk) z w stays (λ config k none. keeps-made w.stored w.desk z config k none h) (λ kind sessions. keeps-asked w.stored w.desk kind h) (λ ps called. stays) g
+    (of_turned (λ row ms d. Keeps w.stored w.desk row d) w g turned) e
+  where
+    stays : Keeps w.stored w.desk w.stored w.desk
+    stays = record { steady = h; moves = inl refl }
+
+    turned : let a = turn_act w g in Keeps w.stored w.desk (stored_after a.came w.stored) a.effect.desk
+    turned = in-act (λ c (t : Turned). Keeps w.stored w.desk (stored_after c w.stored) t.desk) (turn (objects_of w) w.stored w.desk) g (keeps_turn (objects_of w) w.stored w.desk h)
 
 -- every zone's world is steady
 abbrev pub IsSteady : State → Type 0
@@ -238,9 +245,5 @@ steady-opening commits all z = at_row (stored z commits) (storable-more z [] com
     at_row None h = refl
     at_row (Some row) h = and_from _ _ h refl
 
-steady-after : (S : State) (h : List Entry) → IsSteady S → IsSteady (after S h)
-steady-after S [] is = is
-steady-after S (e ∷ h) is = steady-after (after_entry S e) h (λ z. (goes-one z S e.event e.grant is).steady)
-
 pub steady-history : (commits : List Commit) (h : List Entry) → are_storable commits ≡ true → IsSteady (after (opening commits) h)
-steady-history commits h all = steady-after (opening commits) h (steady-opening commits all)
+steady-history commits h all = kept-after (λ w. steady w.stored w.desk ≡ true) (λ z w e g h. (keeps-event z w e g h).steady) (opening commits) h (steady-opening commits all)

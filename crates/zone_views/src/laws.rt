@@ -5,14 +5,16 @@ ghost use Rattle.zn_base.specs.Moves.{may_move};
 ghost use Rattle.zn_base.specs.Names.{Name};
 ghost use Rattle.zone_pools.specs.declared.grant.Grant.{Grant};
 ghost use Rattle.zone_machine.specs.State.Decisions.{says};
-ghost use Rattle.zone_machine.specs.Machine.Common.{common};
+ghost use Rattle.zone_machine.specs.Machine.Common.{HoldOnce, common};
 ghost use Rattle.zone_machine.specs.Machine.Local.{is_local, job_has_record};
 ghost use Rattle.zone_machine.specs.Machine.Histories.{after, any_grant, asked, concerns, history, is_history, is_legal, only, replay, replies, run};
 ghost use Rattle.zone_machine.specs.Machine.{need, one, opening, subject};
 ghost use Rattle.zone_machine.specs.Machine.Pools.{allowed, fits};
 ghost use Rattle.zone_machine.specs.State.{Idle, State, stored, zone_state};
 ghost use Rattle.zone_machine.specs.Machine.Turns_left.{turns_left};
-ghost use Rattle.zone_machine.specs.State.Worlds.{world};
+ghost use Rattle.zone_machine.specs.State.Worlds.{objects_of, world};
+ghost use Rattle.zone_machine.specs.Objects.{kernel_of};
+ghost use Rattle.kernel_objects.specs.Kernel.{within_limit};
 ghost use Rattle.zone_machine.specs.declared.daemon.TurnReply.TheVariants.{Idle as Idle_turn};
 ghost use Rattle.zone_machine.specs.declared.events.Entry.{Entry};
 ghost use Rattle.zone_machine.specs.declared.events.Event.{Event};
@@ -79,6 +81,12 @@ pub fn numbers_are_held_once()
         → is_history fits (opening commits) h ≡ true → AllDiffer (zids (after (opening commits) h)) }
 {}
 
+/// After any history whose grants fit, one zone at most has a process of a number. The laws of `zone_machine` ask this
+/// that say whose an event is, and what it is allowed, by what zones share.
+pub fn zones_share_no_process_number()
+    ensures { (commits : List Commit) (h : List Entry) → is_history fits (opening commits) h ≡ true → HoldOnce (common (after (opening commits) h)).pids }
+{}
+
 /// Removing the entries of all other zones, grants kept, changes no reply of a zone, whatever else is
 /// stored.
 pub fn purging_keeps_replies()
@@ -115,6 +123,13 @@ pub fn turns_come_to_an_end()
     ensures { (z : Name) (commits : List Commit) (h : List Entry) (g : Grant)
         → let S = after (opening commits) h in let a = one S (Turn z) g in
         a.reply ≢ says (Turned Idle_turn) → turns_left (world z a.state) < turns_left (world z S) }
+{}
+
+/// After any history, whatever was granted, each process's privileges lie within its zone's limit set, as
+/// privileges(7) and zones(7) say.
+pub fn sets_lie_within_limits()
+    ensures { (z : Name) (commits : List Commit) (h : List Entry)
+        → within_limit (kernel_of (objects_of (world z (after (opening commits) h)))) ≡ true }
 {}
 
 /// After any history that begins with storable records, a request under way is of a stored zone.

@@ -1,14 +1,15 @@
 //! What a zone learns of the others: the laws of the zone machine's definitions. Removing all other zones'
 //! entries, grants kept, changes no reply of a zone; from records that a store may hold, zones move only along
-//! the transition table; the turns of a daemon come to an end; and where the grants fit, those that the pools
-//! give fit too, and each process and zone number is held once. Each law is the contract of a function that does
-//! nothing.
+//! the transition table; the turns of a daemon come to an end; each process's privileges lie within its zone's
+//! limit set; and where the grants fit, those that the pools give fit too, and each process and zone number is
+//! held once. Each law is the contract of a function that does nothing.
 #![tactic(auto)]
 
 mod laws;
 
 pub use laws::{
-    allowed_grants_fit, numbers_are_held_once, others_change_nothing, own_world_decides,
-    purging_keeps_replies, runs_are_histories, states_move_along_the_table, subjects_agree,
-    turns_come_to_an_end, worlds_are_replayed,
+    allowed_grants_fit, local_turns_leave_what_is_common, numbers_are_held_once,
+    others_change_nothing, own_world_decides, purging_keeps_replies, requests_are_of_stored_zones,
+    runs_are_histories, sets_lie_within_limits, states_move_along_the_table, subjects_agree,
+    turns_come_to_an_end, worlds_are_replayed, zones_share_no_process_number,
 };

@@ -1,0 +1,29 @@
+-- What each zone's world keeps under the zone's own events holds after any history.
+use Rattle.std.proofs.Common.{◌∷◌, [], List, Bool, true, false, subst, sym}
+use Rattle.std.specs.Prelude.{bytes_eq, if◌then◌else◌}
+use Rattle.zn_base.specs.Names.{Name}
+use Rattle.zone_pools.specs.declared.grant.Grant.{Grant}
+use Rattle.zone_machine.proofs.Own_worlds.{world-one}
+use Rattle.zone_machine.specs.Machine.Histories.{after, after_entry, world_by}
+use Rattle.zone_machine.specs.Machine.{decide, session_number, subject}
+use Rattle.zone_machine.specs.State.Decisions.{act_of, acts_world}
+use Rattle.zone_machine.specs.State.Worlds.{World, view_of, world}
+use Rattle.zone_machine.specs.State.{State}
+use Rattle.zone_machine.specs.declared.events.Entry.{Entry}
+use Rattle.zone_machine.specs.declared.events.Event.{Event}
+use Rattle.zone_machine.specs.declared.events.Subject.{Subject}
+use Rattle.zone_machine.specs.declared.events.Subject.TheVariants.{Zone, Global, Whole}
+
+module _ (P : World → Type 0) (keeps : (z : Name) (w : World) (e : Event) (g : Grant) → P w → P (acts_world (session_number e) (act_of (decide (view_of z w) e) g) w)) where
+  kept-by : (z : Name) (s : Subject) (w : World) (e : Event) (g : Grant) → P w → P (world_by s z w e g)
+  kept-by z Global w e g h = h
+  kept-by z Whole w e g h = h
+  kept-by z (Zone y) w e g h = at_test (bytes_eq z y)
+    where
+      at_test : (b : Bool) → P (if b then acts_world (session_number e) (act_of (decide (view_of z w) e) g) w else w)
+      at_test true = keeps z w e g h
+      at_test false = h
+
+  pub kept-after : (S : State) (h : List Entry) → ((z : Name) → P (world z S)) → (z : Name) → P (world z (after S h))
+  kept-after S [] is z = is z
+  kept-after S (e ∷ h) is z = kept-after (after_entry S e) h (λ y. subst P (sym (world-one y S e.event e.grant)) (kept-by y (subject S e.event) (world y S) e.event e.grant (is y))) z
