@@ -1,5 +1,5 @@
 -- A line that is printed is read as its event.
-use Rattle.std.proofs.Common.{◌≡◌, ◌+◌, ◌≤◌, ℕ, Bool, true, false, zero, suc, not, ◌&&◌, nat_eq, nat_lt, List, [], ◌∷◌, ◌++◌, length, Option, Some, None, Ok, IsTrue, refl, ap, arith, append-nil}
+use Rattle.std.proofs.Common.{◌≡◌, ◌+◌, ◌≤◌, ℕ, Bool, true, false, zero, suc, not, ◌&&◌, nat_eq, nat_lt, List, [], ◌∷◌, ◌++◌, length, Option, Some, None, Ok, IsTrue, refl, ap, ◌∙◌, arith, append-nil}
 use Rattle.std.specs.Prelude.{◌==◌, position, is_ok, unwrap_or}
 use Rattle.std.specs.Fmt.{decimal, digits}
 use Rattle.std.specs.List.{position_or_len}
@@ -7,12 +7,16 @@ use Rattle.std.proofs.lemmas.Bool.{and_parts}
 use Rattle.std.proofs.lemmas.Bool.Decides.{nat_tests}
 use Rattle.zn_base.specs.Cuts.{cut_after, cut_to, lacks}
 use Rattle.zn_base.specs.Decimals.{decimal_of}
-use Rattle.zn_base.specs.Names.{is_name}
+use Rattle.zn_base.specs.Names.{is_name, name_of}
 use Rattle.zn_base.specs.Text.{is_text, is_text_byte, text_unless}
 use Rattle.zn_base.proofs.First_byte.{after_first, before_first}
 use Rattle.zn_base.proofs.Read_back.{name_lacks, name_of_name}
-use Rattle.zone_machine.specs.declared.events.Event.TheVariants.{Session, Turn}
-use Rattle.trace_text.specs.Lines.{Said, after_word, event_by, event_of, first_word, line_text, session_of, turn_of, typed_text, types, types_unless}
+use Rattle.process_calls.specs.declared.call.Call.{Call}
+use Rattle.process_calls.specs.Calls.{call_text, greatest_pid, is_call, pid_in}
+use Rattle.process_calls.proofs.Again.{call_again}
+use Rattle.process_calls.proofs.Numbers.{pid_again, pid_lacks}
+use Rattle.zone_machine.specs.declared.events.Event.TheVariants.{Process, Session, Turn}
+use Rattle.trace_text.specs.Lines.{Said, after_word, pid_by, event_by, event_of, first_word, line_text, pid_at, process_by, process_of, session_of, turn_of, typed_text, types, types_unless}
 
 -- bytes without a byte are cut nowhere
 none_reached : (c : ℕ) (xs : List ℕ) → lacks c xs ≡ true → position_or_len (λ b. b == c) xs ≡ length xs
@@ -98,3 +102,29 @@ turn_words zone is =
 
 pub turn_again : (zone : List ℕ) → IsTrue (is_name zone) → event_of (line_text (Turn zone)) ≡ Ok (Some (Turn zone))
 turn_again zone is = by_tag 68 zone (Ok (Some (Turn zone))) refl (turn_words zone is)
+
+-- by a process's first word, and what follows its space
+pid_of_word : (zone : List ℕ) (place : ℕ) (words word rest : List ℕ) → first_word words ≡ word → after_word words ≡ Some rest → pid_at zone place words ≡ pid_by (pid_in word) zone place (place + length word) (Some rest)
+pid_of_word zone place words word rest first after = rw (first, after) refl
+
+process_of_word : (words word rest : List ℕ) → first_word words ≡ word → after_word words ≡ Some rest → process_of words ≡ process_by (name_of word) (2 + length word) (Some rest)
+process_of_word words word rest first after = rw (first, after) refl
+
+pid_words : (zone : List ℕ) (pid place : ℕ) (call : Call) → pid ≤ greatest_pid → IsTrue (is_call call) → pid_at zone place (decimal pid ++ 32 ∷ call_text call) ≡ Ok (Some (Process zone pid call))
+pid_words zone pid place call few right =
+    let words = decimal pid ++ 32 ∷ call_text call in
+    let alone = pid_lacks pid few in
+    pid_of_word zone place words (decimal pid) (call_text call) (before_first 32 words (decimal pid) (call_text call) alone refl) (after_first 32 words (decimal pid) (call_text call) alone refl)
+    ∙ (rw (pid_again pid few, call_again call right) refl)
+
+process_words : (zone : List ℕ) (pid : ℕ) (call : Call) → IsTrue (is_name zone) → pid ≤ greatest_pid → IsTrue (is_call call) → process_of (zone ++ 32 ∷ (decimal pid ++ 32 ∷ call_text call)) ≡ Ok (Some (Process zone pid call))
+process_words zone pid call is few right =
+    let rest = decimal pid ++ 32 ∷ call_text call in
+    let words = zone ++ 32 ∷ rest in
+    let alone = name_lacks 32 refl zone is in
+    process_of_word words zone rest (before_first 32 words zone rest alone refl) (after_first 32 words zone rest alone refl)
+    ∙ (rw (name_of_name zone is).0 (pid_words zone pid (2 + length zone + 1) call few right))
+
+pub process_again : (zone : List ℕ) (pid : ℕ) (call : Call) → IsTrue (is_name zone) → pid ≤ greatest_pid → IsTrue (is_call call) → event_of (line_text (Process zone pid call)) ≡ Ok (Some (Process zone pid call))
+process_again zone pid call is few right =
+    by_tag 80 (zone ++ 32 ∷ (decimal pid ++ 32 ∷ call_text call)) (Ok (Some (Process zone pid call))) refl (process_words zone pid call is few right)
