@@ -1,6 +1,7 @@
 //! The codes that can be printed, made from the fault types, and their paragraphs in docs/CODES.md.
 use crate::runs::run;
 use config_verify::Flaw;
+use kernel_objects::Errno;
 use std::alloc::{AllocError, Global};
 use std::rt::Files;
 use std::{fs, io, str};
@@ -174,6 +175,31 @@ fn reply_runs() -> &'static [Run] {
         Refusal::Waiting(_) => [("trace", ASKED_TWICE, "91 Waiting")],
         Refusal::DeskFull => [("trace", ASKED_NINE_TIMES, "92 DeskFull")],
         Refusal::Usage => [("trace", "S 1 zlogin a\n", "93 Usage")],
+        Refusal::NoProcess => [("trace", "P a 2 true\n", "98 NoProcess")],
+        Refusal::Errno(_) => [],
+    )
+}
+
+const FORKED_WITHOUT_PRIVILEGE: &str = "S 1 zonecfg -z a create -b; set zonepath=/a; set brand=ipkg
+S 1 zoneadm -z a install
+D a\nD a\nD a\nD a\nD a\nD a\nD a\nD a\nD a\nD a
+S 1 zoneadm -z a boot
+D a\nD a\nD a\nD a\nD a\nD a\nD a\nD a\nD a\nD a\nD a\nD a\nD a
+P a 2 drop proc_fork
+P a 2 fork x\n";
+
+// No zone's configuration limits its processes, so no trace prints `EAGAIN`. The last five are of calls that no process
+// makes.
+fn errno_runs() -> &'static [Run] {
+    runs_of!(Errno:
+        Errno::ESRCH => [("trace", "S 1 kill 9 2\n", "ESRCH")],
+        Errno::EPERM => [("trace", FORKED_WITHOUT_PRIVILEGE, "EPERM")],
+        Errno::EAGAIN => [],
+        Errno::EINVAL => [],
+        Errno::ENOENT => [],
+        Errno::EROFS => [],
+        Errno::EBUSY => [],
+        Errno::ENAMETOOLONG => [],
     )
 }
 
@@ -181,7 +207,7 @@ const HALTED_TOO_EARLY: &str = "S 1 zonecfg -z a create -b; set zonepath=/a; set
 S 1 zoneadm -z a halt
 D a\n";
 
-// In no trace a pool of numbers comes to its end, so none prints what a step was denied.
+// `82 Denied` is printed by a line too; a step that is denied wants a trace that uses up the numbers of processes.
 fn outcome_runs() -> &'static [Run] {
     runs_of!(Outcome:
         Outcome::Done => [],
@@ -259,6 +285,7 @@ pub fn check(rt: &(impl Files + Print + AllocGlobal)) -> io::Result<()> {
         line_runs(),
         name_runs(),
         reply_runs(),
+        errno_runs(),
         outcome_runs(),
     ];
     for runs in all {

@@ -56,6 +56,13 @@ const EXAMPLES: &[Example] = &[
         out: Some("examples/two.replies"),
         err: Some("examples/two.message"),
     },
+    Example {
+        command: "trace",
+        input: "examples/processes.trace",
+        status: 1,
+        out: Some("examples/processes.replies"),
+        err: Some("examples/processes.message"),
+    },
 ];
 
 fn text_of(rt: &(impl Files + AllocGlobal), file: Option<&str>) -> io::Result<Vec<u8>> {

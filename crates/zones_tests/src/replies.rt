@@ -1,9 +1,10 @@
-//! The replies of one zone's way through install, boot and halt, refusals and failures.
+//! The replies of one zone's way through install, boot and halt, refusals, failures and bodies.
+use kernel_objects::{Errno, ProcRow};
 use std::alloc::Global;
 use std::process::Abort;
 use std::test::Fail;
 use trace_text::{LineFault, print_reply};
-use zn_base::{AbsPath, NameFault, ZoneName, ZoneState};
+use zn_base::{AbsPath, Bytes, Listing, NameFault, Text, ZoneName, ZoneState};
 use zone_machine::{
     Body, Change, ChangeKind, Head, Outcome, Refusal, Reply, RequestKind, Step, Subject, TurnReply,
 };
@@ -68,18 +69,25 @@ fn head(told: Told) -> Head {
 
 type Row = (Told, &'static str);
 
+fn has_text(
+    alloc: Global,
+    subject: &Subject,
+    head: Head,
+    body: Body,
+    wanted: &str,
+) -> Result<bool, LineFault> {
+    let reply = Reply { head, body };
+    let text = print_reply(alloc, subject, &reply)?;
+    Ok(text.as_slice() == wanted.as_bytes())
+}
+
 fn is_printed(
     alloc: Global,
     subject: &Subject,
     head: Head,
     wanted: &str,
 ) -> Result<bool, LineFault> {
-    let reply = Reply {
-        head,
-        body: Body::Nothing,
-    };
-    let text = print_reply(alloc, subject, &reply)?;
-    Ok(text.as_slice() == wanted.as_bytes())
+    has_text(alloc, subject, head, Body::Nothing, wanted)
 }
 
 fn are_printed(
@@ -216,6 +224,22 @@ const REFUSALS: &[Row] = &[
     ),
     (Told::Refused(Refusal::DeskFull), "global err 92 DeskFull\n"),
     (Told::Refused(Refusal::Usage), "global err 93 Usage\n"),
+    (
+        Told::Refused(Refusal::NoProcess),
+        "global err 98 NoProcess\n",
+    ),
+    (
+        Told::Refused(Refusal::Errno(Errno::ESRCH)),
+        "global err ESRCH\n",
+    ),
+    (
+        Told::Refused(Refusal::Errno(Errno::EPERM)),
+        "global err EPERM\n",
+    ),
+    (
+        Told::Refused(Refusal::Errno(Errno::EAGAIN)),
+        "global err EAGAIN\n",
+    ),
 ];
 
 const FAILURES: &[Row] = &[
@@ -269,4 +293,50 @@ fn refusals(rt: HostRuntime) -> Result<(), Fail> {
 #[test]
 fn failures_and_steps_back(rt: HostRuntime) -> Result<(), Fail> {
     are_printed(&rt, rt.alloc(), &Subject::Whole, FAILURES)
+}
+
+fn row(alloc: Global, pid: u32, parent: u32, name: &[u8]) -> Result<ProcRow, Fail> {
+    let name = Text::read(alloc, name)?;
+    Ok(ProcRow { pid, parent, name })
+}
+
+fn is_body(alloc: Global, body: Body, wanted: &str) -> Result<bool, Fail> {
+    let zone = Subject::Zone(ZoneName::read(alloc, b"a")?);
+    Ok(has_text(alloc, &zone, Head::Ok, body, wanted)?)
+}
+
+#[test]
+fn a_child_has_a_line(rt: HostRuntime) -> Result<(), Fail> {
+    assert!(rt; is_body(rt.alloc(), Body::Child(29999), "a ok\n| child 29999\n")?);
+    Ok(())
+}
+
+#[test]
+fn each_process_has_a_line(rt: HostRuntime) -> Result<(), Fail> {
+    let mut rows = Listing::new(rt.alloc());
+    rows.push(row(rt.alloc(), 2, 0, b"init")?)?;
+    rows.push(row(rt.alloc(), 17, 2, b"sh")?)?;
+    assert!(rt;
+        is_body(
+            rt.alloc(),
+            Body::Processes(rows),
+            "a ok\n| 2 0 init\n| 17 2 sh\n"
+        )?
+    );
+    Ok(())
+}
+
+#[test]
+fn each_text_has_a_line(rt: HostRuntime) -> Result<(), Fail> {
+    let mut texts = Listing::new(rt.alloc());
+    texts.push(Bytes::from_slice(rt.alloc(), b"proc_exec,proc_fork")?)?;
+    texts.push(Bytes::from_slice(rt.alloc(), b"")?)?;
+    assert!(rt;
+        is_body(
+            rt.alloc(),
+            Body::Lines(texts),
+            "a ok\n| proc_exec,proc_fork\n| \n"
+        )?
+    );
+    Ok(())
 }
