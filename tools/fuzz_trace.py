@@ -1,7 +1,7 @@
 #!/usr/bin/env python3
 """Compares `zones trace` with the plain model in trace_model.py over random traces.
 
-    tools/fuzz_trace.py [--count N] [--seed S] [--program FILE] [--no-processes]
+    tools/fuzz_trace.py [--count N] [--seed S] [--program FILE]
     tools/fuzz_trace.py --self-test
     tools/fuzz_trace.py --model-only [--count N] [--seed S]
 
@@ -9,7 +9,6 @@ Traces are made along the grammar (trace_maker.py, process_maker.py), with the m
 something, and then some are cut, joined or have bytes changed. The first input that differs is made as short as
 dropping lines and bytes makes it, and kept in fuzz-trace.input. It is no part of the gate.
 
-`--no-processes` makes traces without calls of processes, for a program that has no `P` lines and no `kill`.
 `--self-test` compares the model with replies that are known, and needs no program. Nor does `--model-only`, which
 shows what the traces would be answered.
 """
@@ -25,7 +24,6 @@ import trace_model as model
 import trace_rows
 from arguments import arguments
 from process_maker import ProcessMaker
-from trace_maker import Maker
 
 
 def kind_of(said):
@@ -79,13 +77,13 @@ def self_test():
 
 
 def main():
-    args = arguments(__doc__, "no-processes", "self-test", "model-only")
+    args = arguments(__doc__, "self-test", "model-only")
     if args.self_test:
         return self_test()
-    maker = (Maker if args.no_processes else ProcessMaker)(random.Random(args.seed))
+    maker = ProcessMaker(random.Random(args.seed))
 
     def wanted(data):
-        return model.run(data, maker.has_processes)
+        return model.run(data)
 
     statuses, faults, kinds = collections.Counter(), collections.Counter(), collections.Counter()
     traces = []

@@ -54,7 +54,6 @@ KILLS = [
 class ProcessMaker(Maker):
     """Makes traces with processes' calls, most of which succeed."""
 
-    has_processes = True
     heads = HEADS + [
         "P ", "P web ", "P web 2 ", "P web 2 fork ", "P web 2 kill 9 ", "P web 2 x", "S 1 kill 9 ", "S 1 kill ",
     ]

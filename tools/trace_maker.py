@@ -58,7 +58,6 @@ HEADS = [
 class Maker:
     """Makes traces without processes' calls. It runs each line by the model, to know what has a point next."""
 
-    has_processes = False
     heads = HEADS
 
     def __init__(self, rng):
@@ -66,7 +65,7 @@ class Maker:
         self.begin(["web"], 1)
 
     def begin(self, names, sessions):
-        self.host = model.Host(self.has_processes)
+        self.host = model.Host()
         self.lines = []
         self.names = names
         self.sessions = self.rng.sample(range(1, 65), sessions)
@@ -74,7 +73,7 @@ class Maker:
     def line(self, text):
         self.lines.append(text)
         try:
-            event = model.event_of(text.encode("latin-1"), self.has_processes)
+            event = model.event_of(text.encode("latin-1"))
         except model.Outside:
             return
         if event is not None:

@@ -152,13 +152,13 @@ def call_of(words):
     return [word.decode() for word in [call] + rest]
 
 
-def event_of(line, has_processes=True):
+def event_of(line):
     """("S", number, text), ("D", name), ("P", name, pid, words of the call), or None for a line that is no event."""
     if line.strip(b" ") == b"" or line[:1] == b"#":
         return None
     if line[:1] == b"@":
         raise Outside("103 GrantForm")
-    if line.split(b" ", 1)[0] not in ([b"S", b"D", b"P"] if has_processes else [b"S", b"D"]):
+    if line.split(b" ", 1)[0] not in (b"S", b"D", b"P"):
         raise Outside("101 BadTag")
     words = Words(line)
     tag = words.next(lambda word: True)
@@ -246,8 +246,7 @@ class Process:
 class Host:
     """The zones of one system, their processes, its sessions, and the last numbers given."""
 
-    def __init__(self, has_processes=True):
-        self.has_processes = has_processes
+    def __init__(self):
         self.paths, self.states = {}, {}
         self.desks, self.tickets = {}, {}
         self.zids, self.limits = {}, {}
@@ -264,10 +263,6 @@ class Host:
         head = lines[0]
         return subject, lines, head.startswith(("err ", "failed ")) or " err " in head
 
-    def typed(self, text):
-        what, name, rest = typed(text)
-        return ("unknown" if what == "kill" and not self.has_processes else what), name, rest
-
     def subject(self, event):
         """The zone that an event belongs to, or `global`."""
         if event[0] != "S":
@@ -275,7 +270,7 @@ class Host:
         _, number, text = event
         if number in self.tickets:
             return self.tickets[number][0]
-        what, name, rest = self.typed(text)
+        what, name, rest = typed(text)
         if what == "kill" and rest[1] in self.processes:
             return self.processes[rest[1]].zone
         return b"global" if name is None or name_fault(name) else name
@@ -289,7 +284,7 @@ class Host:
         _, number, text = event
         if number in self.tickets:
             raise Refused("91 Waiting %d" % self.tickets[number][1])
-        return [self.line(number, *self.typed(text))]
+        return [self.line(number, *typed(text))]
 
     def line(self, number, what, name, rest):
         """Obeys the line of a session that waits for no ticket."""
@@ -447,15 +442,15 @@ class Host:
 
 # The whole run.
 
-def run(data, has_processes=True):
+def run(data):
     """The status and both texts of `zones trace` over an input."""
-    host = Host(has_processes)
+    host = Host()
     out, first = [], None
     for number, line in enumerate(export_model.lines_of(data), 1):
         if number > MOST_LINES or len(line) > MOST_BYTES:
             return 8, b"".join(out), b"limit at line %d\n" % number
         try:
-            event = event_of(line, has_processes)
+            event = event_of(line)
         except Outside as fault:
             return 3, b"".join(out), ("line %d: %s\n" % (number, fault)).encode()
         if event is None:
