@@ -12,8 +12,6 @@ mod limits;
 #[cfg(test)]
 mod machine;
 #[cfg(test)]
-mod processes;
-#[cfg(test)]
 mod replies;
 #[cfg(test)]
 mod runs;
