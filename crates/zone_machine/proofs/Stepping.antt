@@ -3,7 +3,7 @@ use Rattle.std.proofs.Common.{◌≡◌, ◌<◌, ℕ, List, Bool, Option, Some,
 use Rattle.indexmap.proofs.CallerLemmas.{updates-with_value_at}
 use Rattle.indexmap.specs.IndexMap.{IsUnique, get_by, index_of_by, keys, with_value_at, values}
 use Rattle.std.specs.Cmp.Lexicographic.{nat_list_eq_equiv}
-use Rattle.std.specs.Prelude.{bytes_eq, is_some, nat_eq, slice_get, if◌then◌else◌}
+use Rattle.std.specs.Prelude.{IfErr, IsErrOf, bytes_eq, is_some, nat_eq, slice_get, if◌then◌else◌}
 use Rattle.std.specs.List.{list_any}
 use Rattle.std.specs.Option.{option_map}
 use Rattle.std.proofs.lemmas.List.Quantifiers.{position-Some}
@@ -34,7 +34,9 @@ use Rattle.zone_machine.specs.Machine.Pools.{allowed, allowed_of, fits, fits_of,
 use Rattle.zone_machine.specs.State.{State, stored}
 use Rattle.zone_machine.specs.Code.Rooms.{Alike}
 use Rattle.zone_machine.specs.Code.Cell_steps.{CellAnswers, IsCellStep, IsCellMisfitUnder, IsCellStepUnder}
-use Rattle.zone_machine.specs.Code.Steps.{IsStep, IsZoneState, Answers, IsGrantFor, IsUnfit, IsMisfitUnder, IsTaken, Takes, AsItWas}
+use Rattle.zone_machine.specs.Code.Steps.{IsStep, IsZoneState, Answers, IsGrantFor, IsUnfit, IsMisfitUnder, IsTaken, Leaves, Takes, AsItWas}
+use Rattle.zone_machine.specs.declared.faults.StepFault.{StepFault}
+use Rattle.zone_machine.specs.declared.faults.StepFault.TheVariants.{BadGrant, Memory}
 use Rattle.zone_machine.specs.State.Worlds.{World, view, view_of, world}
 use Rattle.zone_machine.specs.declared.daemon.desks.Desk.{Desk}
 use Rattle.zone_machine.specs.declared.machine.cell.Cell.{Cell}
@@ -271,6 +273,12 @@ module _ (m : Parts) (z : Name) (e : Event) (c : Cell) (decides : View → Decis
 
   pub unfit : (stated : Option Grant) → IsUnfit (pools_in m.shared) (asked_of (decides (view_of z (cell_world (row_in z m.shared) c)))) stated → IsMisfitUnder stated m e m
   unfit stated h = IsMisfitUnder-cell m z e c (asked_of (decides (view_of z (cell_world (row_in z m.shared) c)))) is same (ap asked_of (sym (reads _))) stated h
+
+-- an event ends before anything is changed
+pub left_so : {A : Type 0} (r : Result A StepFault) (stated : Option Grant) (m : Parts) (e : Event) → (IsErrOf r BadGrant → IsMisfitUnder stated m e m) → IfErr r (λ fault. Leaves fault stated m e m)
+left_so (Right x) stated m e h = tt
+left_so (Err Memory) stated m e h = λ S. (λ stands. stands, λ stands. stands)
+left_so (Err BadGrant) stated m e h = h refl
 
 -- what comes with it is free
 pub case_freed : (P : Pools) (z : Name) (d : Desk) (case : Case) (stated : Option Grant) (g : Grant) → IsGrantFor z P (asked_of (decision_of d case)) stated g → IsFreeOf (act_of (decision_of d case) g).came P

@@ -18,7 +18,7 @@ mod replies;
 mod session;
 
 pub use daemon::{Change, ChangeKind, Outcome, RequestKind, Step, TurnReply};
-pub use events::{Entry, Event, SESSION_MAX, Subject};
+pub use events::{Answer, Entry, Event, SESSION_MAX, Subject, Whose};
 pub use faults::StepFault;
 pub use laws::{
     allowed_by_what_is_common, busy_turns_are_not_idle, changes_what_is_common,

@@ -3,6 +3,7 @@ ghost use Rattle.std.specs.Prelude.{[], IfOk, IsErrOf, IsOkUnless, OnErr};
 ghost use Rattle.zone_machine.specs.Machine.{opening};
 ghost use Rattle.zone_machine.specs.Code.Steps.{IsAllowed, IsAllowedStep, IsFittingStep, IsMisfit, IsRefusedIfUnfit, IsStarted, IsSubject, IsZoneState, AsItWas};
 ghost use Rattle.zone_machine.specs.Code.Cells.{Stands};
+ghost use Rattle.zone_machine.specs.Code.Decided.{entry_by};
 
 pub(crate) mod cell;
 pub(crate) mod comings;
@@ -18,7 +19,7 @@ pub(crate) mod shared;
 pub(crate) mod steps;
 pub(crate) mod work;
 
-use crate::events::{Entry, Event, Subject};
+use crate::events::{Answer, Entry, Event, Subject};
 use crate::faults::StepFault;
 use crate::machine::parts::Parts;
 use crate::machine::reads::{read_event, subject};
@@ -84,6 +85,15 @@ impl Machine {
         ensures memory { OnErr result (AsItWas self.old self.new) }
     {
         self.parts.step(alloc, event, None)
+    }
+
+    /// The same of an event that is only lent: of the entry no more is made than the event doesn't say itself.
+    pub fn answer(&mut self, alloc: Global, event: &Event) -> Result<Answer, StepFault>
+        ensures ok { IfOk result (λ answer. IsAllowedStep self.old event.now (entry_by event.now answer) self.new) }
+        ensures err { IsOkUnless result StepFault.Memory }
+        ensures memory { OnErr result (AsItWas self.old self.new) }
+    {
+        self.parts.answer(alloc, event)
     }
 
     /// An event is answered under a stated grant, where it fits, as when a recorded trace is run again. Where

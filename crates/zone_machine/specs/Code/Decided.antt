@@ -8,9 +8,14 @@ use Rattle.zone_machine.specs.State.Decisions.{Decision}
 use Rattle.zone_machine.specs.State.Worlds.{View, view_of}
 use Rattle.zone_machine.specs.declared.cases.Case.{Case}
 use Rattle.zone_machine.specs.declared.machine.cell.Cell.{Cell}
+use Rattle.zone_machine.specs.declared.events.Answer.{Answer}
 use Rattle.zone_machine.specs.declared.events.Entry.{Entry}
 use Rattle.zone_machine.specs.declared.events.Event.{Event}
+use Rattle.zone_machine.specs.declared.events.Event.TheVariants.{Process, Session, Turn}
 use Rattle.zone_machine.specs.declared.events.Subject.{Subject}
+use Rattle.zone_machine.specs.declared.events.Subject.TheVariants.{Global, Zone}
+use Rattle.zone_machine.specs.declared.events.Whose.{Whose}
+use Rattle.zone_machine.specs.declared.events.Whose.TheVariants.{Found, Own}
 use Rattle.zone_machine.specs.declared.machine.parts.Parts.{Parts}
 use Rattle.commit_journal.specs.declared.records.Record.{Record}
 use Rattle.zone_machine.specs.declared.replies.Head.{Head}
@@ -39,3 +44,18 @@ head_of (Some r) = Refused r
 -- the entry of an event, by what it is granted and the reply
 abbrev pub entry_of : Subject → Event → Grant → Reply → Entry
 entry_of s e g reply = record { event = e; subject = s; grant = g; reply = reply }
+
+-- the zone that an event itself has; a session's line has none
+abbrev pub own_subject : Event → Subject
+own_subject (Session n text) = Global
+own_subject (Turn z) = Zone z
+own_subject (Process z pid c) = Zone z
+
+-- whose an event was that was answered
+abbrev pub subject_by : Event → Whose → Subject
+subject_by e Own = own_subject e
+subject_by e (Found s) = s
+
+-- the entry that an event and its answer are
+abbrev pub entry_by : Event → Answer → Entry
+entry_by e a = entry_of (subject_by e a.whose) e a.grant a.reply

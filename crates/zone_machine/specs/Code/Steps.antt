@@ -79,6 +79,11 @@ IsMisfitUnder (Some g) t e u = IsMisfit t e g u
 abbrev pub AsItWas : Parts → Parts → Type 0
 AsItWas t u = (S : State) → (Stands S t → Stands S u) × (Stands S u → Stands S t)
 
+-- what an event leaves that is not answered: memory ran out, or the stated grant doesn't fit
+abbrev pub Leaves : StepFault → Option Grant → Parts → Event → Parts → Type 0
+Leaves Memory stated t e u = AsItWas t u
+Leaves BadGrant stated t e u = IsMisfitUnder stated t e u
+
 -- the grant that a case takes: what the pools say, or the stated one, which fits what it asks
 abbrev pub IsGrantFor : Name → Pools → List Asked → Option Grant → Grant → Type 0
 IsGrantFor z P asked None g = g ≡ said_by_all P z asked Nothing

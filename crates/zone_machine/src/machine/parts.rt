@@ -1,6 +1,6 @@
 //! The parts of the machine: a cell for each zone that has something, and what zones share. An event is decided before
 //! anything is changed.
-ghost use Rattle.std.specs.Prelude.{◌≡◌, ◌⊎◌, ◌<◌, [], IfOk, IsErrOf, IsOkUnless, Err, None, OnErr, OnOk, Option, Some, bytes_eq};
+ghost use Rattle.std.specs.Prelude.{◌≡◌, ◌<◌, [], IfErr, IfOk, IsOkUnless, Err, None, OnErr, OnOk, Option, Some, bytes_eq};
 ghost use Rattle.indexmap.specs.IndexMap.{get_by, spare};
 ghost use Rattle.zn_base.specs.Names.{Name};
 ghost use Rattle.zone_pools.specs.Pools.{Pools};
@@ -8,9 +8,9 @@ ghost use Rattle.zone_machine.specs.Code.Cases.{decision_of};
 ghost use Rattle.zone_machine.specs.Code.Cells.{Keeps, Stands, cell_at, cell_world, empty_world, row_in, world_or_empty};
 ghost use Rattle.zone_machine.specs.Code.Needs.{pools_in};
 ghost use Rattle.zone_machine.specs.Code.Reads.{decide_read, global_read, subject_in};
-ghost use Rattle.zone_machine.specs.Code.Decided.{IsCaseIn, IsCellAt, entry_of, head_of};
+ghost use Rattle.zone_machine.specs.Code.Decided.{IsCaseIn, IsCellAt, entry_by, entry_of, head_of, own_subject};
 ghost use Rattle.zone_machine.specs.Code.Rooms.{IsFreeOf};
-ghost use Rattle.zone_machine.specs.Code.Steps.{AsItWas, IsAllowed, IsGrantFor, IsMisfitUnder, IsStep, IsStepUnder, IsTaken, IsUnfit};
+ghost use Rattle.zone_machine.specs.Code.Steps.{AsItWas, IsAllowed, IsGrantFor, IsStep, IsStepUnder, IsTaken, IsUnfit, Leaves};
 ghost use Rattle.zone_machine.specs.Daemon.Desks.{state_of};
 ghost use Rattle.zone_machine.specs.Machine.{decide, global_reply, opening};
 ghost use Rattle.zone_machine.specs.State.{State};
@@ -22,7 +22,7 @@ ghost use Rattle.zone_machine.specs.declared.machine.cell.Cell as cell_types;
 ghost use Rattle.commit_journal.specs.declared.records.Record as record_types;
 
 use crate::cases::Case;
-use crate::events::{Entry, Event, Subject};
+use crate::events::{Answer, Entry, Event, Subject, Whose};
 use crate::faults::StepFault;
 use crate::machine::cell::Cell;
 use crate::machine::reads::{Read, global_refusal, read_event, subject};
@@ -177,11 +177,8 @@ impl Parts {
         requires of { subject_in self.old.shared event.now ≡ Zone zone.now }
         requires decides { (v : View) → decide_read v read ≡ decide v event.now }
         requires at { IsCellAt self.old at zone.now }
-        ensures takes { IfOk result (λ r. IsTaken self.old stated event.now r.0) }
-        ensures step { IfOk result (λ r. IsStep self.old event.now r.0 (entry_of (Zone zone.now) event.now r.0 r.1) self.new) }
-        ensures memory { IsErrOf result StepFault.Memory → AsItWas self.old self.new }
-        ensures misfit { IsErrOf result StepFault.BadGrant → IsMisfitUnder stated self.old event.now self.new }
-        ensures fault { OnErr result (IsErrOf result StepFault.BadGrant ⊎ IsErrOf result StepFault.Memory) }
+        ensures ok { IfOk result (λ r. IsStepUnder stated self.old event.now (entry_of (Zone zone.now) event.now r.0 r.1) self.new) }
+        ensures fault { IfErr result (λ fault. Leaves fault stated self.old event.now self.new) }
     {
         let (case, grant) = granted_case(alloc, zone, &self.cells[at], &self.shared, read, stated)?;
         let reply = self.do_at(alloc, event, zone, at, case, grant)?;
@@ -226,11 +223,8 @@ impl Parts {
         requires of { subject_in self.old.shared event.now ≡ Zone zone.now }
         requires decides { (v : View) → decide_read v read ≡ decide v event.now }
         requires none { cell_at zone.now self.old ≡ None }
-        ensures takes { IfOk result (λ r. IsTaken self.old stated event.now r.0) }
-        ensures step { IfOk result (λ r. IsStep self.old event.now r.0 (entry_of (Zone zone.now) event.now r.0 r.1) self.new) }
-        ensures memory { IsErrOf result StepFault.Memory → AsItWas self.old self.new }
-        ensures misfit { IsErrOf result StepFault.BadGrant → IsMisfitUnder stated self.old event.now self.new }
-        ensures fault { OnErr result (IsErrOf result StepFault.BadGrant ⊎ IsErrOf result StepFault.Memory) }
+        ensures ok { IfOk result (λ r. IsStepUnder stated self.old event.now (entry_of (Zone zone.now) event.now r.0 r.1) self.new) }
+        ensures fault { IfErr result (λ fault. Leaves fault stated self.old event.now self.new) }
     {
         let cell = Box::new(alloc, Cell::new(alloc))?;
         let (case, grant) = granted_case(alloc, zone, &cell, &self.shared, read, stated)?;
@@ -249,11 +243,8 @@ impl Parts {
     ) -> Result<(Grant, Reply), StepFault>
         requires of { subject_in self.old.shared event.now ≡ Zone zone.now }
         requires decides { (v : View) → decide_read v read ≡ decide v event.now }
-        ensures takes { IfOk result (λ r. IsTaken self.old stated event.now r.0) }
-        ensures step { IfOk result (λ r. IsStep self.old event.now r.0 (entry_of (Zone zone.now) event.now r.0 r.1) self.new) }
-        ensures memory { IsErrOf result StepFault.Memory → AsItWas self.old self.new }
-        ensures misfit { IsErrOf result StepFault.BadGrant → IsMisfitUnder stated self.old event.now self.new }
-        ensures fault { OnErr result (IsErrOf result StepFault.BadGrant ⊎ IsErrOf result StepFault.Memory) }
+        ensures ok { IfOk result (λ r. IsStepUnder stated self.old event.now (entry_of (Zone zone.now) event.now r.0 r.1) self.new) }
+        ensures fault { IfErr result (λ fault. Leaves fault stated self.old event.now self.new) }
     {
         match self.cells.get_index_of(zone) {
             Some(at) => self.answer_at(alloc, event, read, zone, at, stated),
@@ -272,11 +263,8 @@ impl Parts {
     ) -> Result<(Grant, Reply), StepFault>
         requires of { subject_in self.old.shared event.now ≡ subject_variants.Global }
         requires global { (S : State) → global_read read ≡ global_reply S event.now }
-        ensures takes { IfOk result (λ r. IsTaken self.old stated event.now r.0) }
-        ensures step { IfOk result (λ r. IsStep self.old event.now r.0 (entry_of subject_variants.Global event.now r.0 r.1) self.new) }
-        ensures memory { IsErrOf result StepFault.Memory → AsItWas self.old self.new }
-        ensures misfit { IsErrOf result StepFault.BadGrant → IsMisfitUnder stated self.old event.now self.new }
-        ensures fault { OnErr result (IsErrOf result StepFault.BadGrant ⊎ IsErrOf result StepFault.Memory) }
+        ensures ok { IfOk result (λ r. IsStepUnder stated self.old event.now (entry_of subject_variants.Global event.now r.0 r.1) self.new) }
+        ensures fault { IfErr result (λ fault. Leaves fault stated self.old event.now self.new) }
     {
         let refusal = global_refusal(alloc, read)?;
         let grant = nothing_of(stated)?;
@@ -284,8 +272,8 @@ impl Parts {
         Ok((grant, answer_reply(refusal)))
     }
 
-    // An event is answered: its grant, and the reply.
-    fn answer(
+    // An event is answered of which it was found whose it is.
+    fn answer_of(
         &mut self,
         alloc: Global,
         event: &Event,
@@ -296,16 +284,65 @@ impl Parts {
         requires of { subject_in self.old.shared event.now ≡ subject.now }
         requires decides { (v : View) → decide_read v read ≡ decide v event.now }
         requires global { (S : State) → global_read read ≡ global_reply S event.now }
-        ensures takes { IfOk result (λ r. IsTaken self.old stated event.now r.0) }
-        ensures step { IfOk result (λ r. IsStep self.old event.now r.0 (entry_of subject.now event.now r.0 r.1) self.new) }
-        ensures memory { IsErrOf result StepFault.Memory → AsItWas self.old self.new }
-        ensures misfit { IsErrOf result StepFault.BadGrant → IsMisfitUnder stated self.old event.now self.new }
-        ensures fault { OnErr result (IsErrOf result StepFault.BadGrant ⊎ IsErrOf result StepFault.Memory) }
+        ensures ok { IfOk result (λ r. IsStepUnder stated self.old event.now (entry_of subject.now event.now r.0 r.1) self.new) }
+        ensures fault { IfErr result (λ fault. Leaves fault stated self.old event.now self.new) }
     {
         match subject {
             Subject::Zone(zone) => self.answer_zone(alloc, event, read, zone, stated),
             Subject::Global => self.answer_global(alloc, event, read, stated),
             Subject::Whole => unreachable!(),
+        }
+    }
+
+    // What a session types is answered.
+    fn answer_line(&mut self, alloc: Global, event: &Event) -> Result<Answer, StepFault>
+        ensures ok { IfOk result (λ answer. IsStepUnder None self.old event.now (entry_by event.now answer) self.new) }
+        ensures fault { IfErr result (λ fault. Leaves fault None self.old event.now self.new) }
+    {
+        let read = read_event(event);
+        let subject = subject(&self.shared, alloc, read)?;
+        let (grant, reply) = self.answer_of(alloc, event, read, &subject, None)?;
+        Ok(Answer {
+            whose: Whose::Found(subject),
+            grant,
+            reply,
+        })
+    }
+
+    // An event is answered that has its zone itself.
+    fn answer_own(
+        &mut self,
+        alloc: Global,
+        event: &Event,
+        read: Read<'_>,
+        zone: &ZoneName,
+    ) -> Result<Answer, StepFault>
+        requires of { own_subject event.now ≡ Zone zone.now }
+        requires decides { (v : View) → decide_read v read ≡ decide v event.now }
+        ensures ok { IfOk result (λ answer. IsStepUnder None self.old event.now (entry_by event.now answer) self.new) }
+        ensures fault { IfErr result (λ fault. Leaves fault None self.old event.now self.new) }
+    {
+        let (grant, reply) = self.answer_zone(alloc, event, read, zone, None)?;
+        Ok(Answer {
+            whose: Whose::Own,
+            grant,
+            reply,
+        })
+    }
+
+    /// An event that is lent is answered, under the grant that the pools give it.
+    pub(crate) fn answer(&mut self, alloc: Global, event: &Event) -> Result<Answer, StepFault>
+        ensures ok { IfOk result (λ answer. IsStepUnder None self.old event.now (entry_by event.now answer) self.new) }
+        ensures fault { IfErr result (λ fault. Leaves fault None self.old event.now self.new) }
+    {
+        match event {
+            Event::Session { .. } => self.answer_line(alloc, event),
+            Event::Turn { zone } | Event::Process { zone, .. } => self.answer_own(
+                alloc,
+                event,
+                read_event(event),
+                zone,
+            ),
         }
     }
 
@@ -317,13 +354,11 @@ impl Parts {
         stated: Option<Grant>,
     ) -> Result<Entry, StepFault>
         ensures ok { IfOk result (λ entry. IsStepUnder stated self.old event entry self.new) }
-        ensures memory { IsErrOf result StepFault.Memory → AsItWas self.old self.new }
-        ensures misfit { IsErrOf result StepFault.BadGrant → IsMisfitUnder stated self.old event self.new }
-        ensures fault { OnErr result (IsErrOf result StepFault.BadGrant ⊎ IsErrOf result StepFault.Memory) }
+        ensures fault { IfErr result (λ fault. Leaves fault stated self.old event self.new) }
     {
         let read = read_event(&event);
         let subject = subject(&self.shared, alloc, read)?;
-        let (grant, reply) = self.answer(alloc, &event, read, &subject, stated)?;
+        let (grant, reply) = self.answer_of(alloc, &event, read, &subject, stated)?;
         Ok(Entry {
             event,
             subject,

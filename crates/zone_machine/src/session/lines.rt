@@ -260,6 +260,7 @@ fn command_of(text: &[u8]) -> Command<'_>
 
 /// What a line says.
 #[tactic(auto, unfolding(crate::specs::Session::Lines::line_of))]
+#[inline(never)]
 pub(crate) fn line_of(text: &[u8]) -> Line<'_>
     ensures { as_line result ≡ line_of text.now }
 {

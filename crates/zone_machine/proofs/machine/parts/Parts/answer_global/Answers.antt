@@ -1,13 +1,13 @@
 use Rattle.std.proofs.Common.{◌∙◌}
-use Rattle.zone_machine.proofs.Stepping.{IsMisfitUnder-global, IsStep-global, IsTaken-global}
+use Rattle.zone_machine.proofs.Stepping.{IsMisfitUnder-global, IsStep-global, IsTaken-global, left_so}
 use Rattle.zone_machine.proofs.machine.parts.Parts.answer_global.Goals as goal
 
-pub returns-in_err-grant-clause-misfit : goal.returns-in_err-grant-clause-misfit
-returns-in_err-grant-clause-misfit c = λ bad. IsMisfitUnder-global c.args.self.now c.args.event.now c.requires.of c.args.stated c.in_err-grant.ensures.misfit.1
+pub returns-in_err-grant-clause-fault : goal.returns-in_err-grant-clause-fault
+returns-in_err-grant-clause-fault c =
+    left_so c.from_residual-in_err-grant.result c.args.stated c.args.self.now c.args.event.now (λ bad. IsMisfitUnder-global c.args.self.now c.args.event.now c.requires.of c.args.stated c.in_err-grant.ensures.misfit.1)
 
-pub returns-clause-takes : goal.returns-clause-takes
-returns-clause-takes c = IsTaken-global c.args.self.now c.args.event.now c.requires.of c.args.stated c.in_ok-grant.grant c.in_ok-grant.ensures.takes
-
-pub returns-clause-step : goal.returns-clause-step
-returns-clause-step c =
-    IsStep-global c.args.self.now c.args.event.now c.requires.of c.in_ok-grant.grant c.answer_reply.result (λ S. c.answer_reply.ensures ∙ (c.in_ok-refusal.ensures ∙ c.requires.global S))
+pub returns-clause-ok : goal.returns-clause-ok
+returns-clause-ok c = λ S h. record {
+  takes = IsTaken-global c.args.self.now c.args.event.now c.requires.of c.args.stated c.in_ok-grant.grant c.in_ok-grant.ensures.takes S h;
+  answers = IsStep-global c.args.self.now c.args.event.now c.requires.of c.in_ok-grant.grant c.answer_reply.result (λ S. c.answer_reply.ensures ∙ (c.in_ok-refusal.ensures ∙ c.requires.global S)) S h;
+}
