@@ -13,7 +13,7 @@ use crate::fault::RunFault;
 use crate::lines::{Ahead, Got, LINES_MAX, next_line};
 use crate::outcome::Complaint;
 use std::alloc::{AllocError, Global};
-use trace_text::{LineFault, push_reply, read_line};
+use trace_text::{LineFault, push_answer, read_line};
 use zn_io::{Sink, Source, write_all};
 use zone_machine::{Event, Head, Machine, Outcome, StepFault, TurnReply};
 
@@ -51,22 +51,22 @@ fn ended(refused: Option<u64>) -> Option<Complaint>
 fn answer(
     alloc: Global,
     machine: &mut Machine,
-    event: Event,
+    event: &Event,
     text: &mut Vec<u8>,
     waiting: &mut Vec<u8>,
 ) -> Result<bool, AllocError>
-    ensures answered { IfOk result (λ refusal. (held : Option (List ℕ)) → IsAnswered (λ S. Stands S machine.old) (λ S. Stands S machine.new) event refusal (after_known held waiting.old.items) (after_known held waiting.new.items)) }
+    ensures answered { IfOk result (λ refusal. (held : Option (List ℕ)) → IsAnswered (λ S. Stands S machine.old) (λ S. Stands S machine.new) event.now refusal (after_known held waiting.old.items) (after_known held waiting.new.items)) }
     ensures same { OnErr result (waiting.new.items ≡ waiting.old.items) }
 {
-    let entry = match machine.step(alloc, event) {
-        Ok(entry) => entry,
+    let answer = match machine.answer(alloc, event) {
+        Ok(answer) => answer,
         Err(StepFault::Memory) => return Err(AllocError),
         Err(StepFault::BadGrant) => unreachable!(),
     };
     text.clear();
-    push_reply(text, &entry.subject, &entry.reply)?;
+    push_answer(text, event, &answer)?;
     waiting.extend_from_slice(text)?;
-    Ok(is_refusal(&entry.reply.head))
+    Ok(is_refusal(&answer.reply.head))
 }
 
 // Why a line ends a trace.
@@ -92,7 +92,7 @@ fn take_line(
 {
     match read_line(alloc, line) {
         Ok(None) => Ok(refused),
-        Ok(Some(event)) => match answer(alloc, machine, event, text, waiting) {
+        Ok(Some(event)) => match answer(alloc, machine, &event, text, waiting) {
             Ok(true) => Ok(refused.or(Some(number))),
             Ok(false) => Ok(refused),
             Err(AllocError) => Err(Stop::Memory),
