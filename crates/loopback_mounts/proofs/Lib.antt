@@ -1,0 +1,7 @@
+pub mod Orders
+pub mod Parts
+pub mod Kept
+pub mod Over
+pub mod Rests
+pub mod Alone
+mod Examples

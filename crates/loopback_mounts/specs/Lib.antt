@@ -1,0 +1,4 @@
+pub mod Paths
+pub mod Mounts
+pub mod Search
+pub mod Places
