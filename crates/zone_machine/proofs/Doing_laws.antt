@@ -16,9 +16,10 @@ use Rattle.commit_journal.proofs.Zones.{placed_is}
 use Rattle.commit_journal.specs.Zones.{rows_of}
 use Rattle.zone_machine.proofs.Acts_laws.{same_other}
 use Rattle.zone_machine.proofs.Waits_laws.{some_wait}
-use Rattle.zone_machine.specs.Code.Cells.{Agree, Does, cell_world, common_in, ids_of, kept, row_in}
+use Rattle.zone_machine.specs.Code.Cells.{Agree, Does, cell_world, common_in, kept, row_in}
+use Rattle.zoneadmd_steps.specs.Objects.{ids_of, has_zid}
 use Rattle.zone_machine.specs.Code.Waits.{is_wait_for, unless_ended}
-use Rattle.zone_machine.specs.Code.Works.{work_world}
+use Rattle.zone_machine.specs.Code.Works.{work_world, Works, rest_of, sits, work_act}
 use Rattle.zone_machine.specs.Machine.Common.{Common, came_common, holding, holds_pid, holds_zid}
 use Rattle.zone_machine.specs.State.Edits.{Edit, Of_objects, Set_desk, at_session, comes_world, edit_world, edits_world, swept_doing}
 use Rattle.zone_machine.specs.State as state
@@ -28,20 +29,19 @@ use Rattle.kernel_objects.specs.Processes.{has_pid}
 use Rattle.kernel_objects.specs.Shared.{pid_owner, zid_owner}
 use Rattle.commit_journal.specs.declared.records.Record.{Record}
 use Rattle.zone_machine.specs.declared.machine.shared.Shared.{Shared}
-use Rattle.zone_machine.specs.declared.objects.changes.ObjectEdit.TheVariants.{EndIds, EndProcesses}
-use Rattle.zone_machine.specs.declared.objects.changes.ObjectEdit.TheVariants as object
-use Rattle.zone_machine.specs.Arrivals.{Arrival, New_id, New_process, New_record}
-use Rattle.zone_machine.specs.Objects.{has_zid}
+use Rattle.zoneadmd_steps.specs.declared.objects.changes.ObjectEdit.TheVariants.{EndIds, EndProcesses}
+use Rattle.zoneadmd_steps.specs.declared.objects.changes.ObjectEdit.TheVariants as object
+use Rattle.zoneadmd_steps.specs.Arrivals.{Arrival, New_id, New_process, New_record, in_kernel, in_store}
 use Rattle.zone_machine.specs.State.Decisions.{Act, acts_world, after_came_world, sweeps, ticket_ended}
 use Rattle.zone_machine.specs.Code.Rooms.{IsOpenTo}
 use Rattle.zone_machine.specs.declared.machine.work.Sitting.{Sitting}
 use Rattle.zone_machine.specs.declared.machine.work.Work.{Work}
-use Rattle.zone_machine.specs.declared.objects.changes.ObjectEdit.{ObjectEdit}
-use Rattle.zone_machine.specs.declared.daemon.desks.Desk.{Desk}
-use Rattle.zone_machine.specs.Daemon.Desks as desks
-use Rattle.zone_machine.specs.Code.Desks.{as_desk}
-use Rattle.zone_machine.specs.Code.Cases.{object_edits}
-use Rattle.zone_machine.specs.Code.Works.{Works, arrival_of, in_kernel, in_store, rest_of, sits, work_act}
+use Rattle.zoneadmd_steps.specs.declared.objects.changes.ObjectEdit.{ObjectEdit}
+use Rattle.zoneadmd_steps.specs.declared.desks.Desk.{Desk}
+use Rattle.zoneadmd_steps.specs.Desks as desks
+use Rattle.zoneadmd_steps.specs.Code.Desks.{as_desk}
+use Rattle.zoneadmd_steps.specs.Code.Cases.{object_edits}
+use Rattle.zoneadmd_steps.specs.Code.Works.{arrival_of}
 
 -- the columns that stay
 module _ (z : Name) (c : Cell) (s : Shared) (agree : Agree z c s) where

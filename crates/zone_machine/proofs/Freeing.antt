@@ -14,32 +14,32 @@ use Rattle.zone_pools.specs.declared.grant.Pool.{Pool}
 use Rattle.zone_pools.specs.declared.grant.Pool.TheVariants.{Paths, Pids, Store, Zids, Zones}
 use Rattle.zone_pools.specs.declared.limits.TheConstants.{PID_MAX, PID_MIN, ZID_MAX, ZID_MIN}
 use Rattle.zone_machine.proofs.Asking.{asks_rightly}
-use Rattle.zone_machine.proofs.Of_turns.{is_asked_for}
-use Rattle.zone_machine.specs.Arrivals.{A_process, A_record, An_id, Arrival, Comes, arrived, New_process, New_id, New_record}
+use Rattle.zoneadmd_steps.proofs.Of_turns.{is_asked_for}
+use Rattle.zoneadmd_steps.specs.Arrivals.{A_process, A_record, An_id, Arrival, Comes, arrived, New_process, New_id, New_record, in_kernel, in_store}
 use Rattle.zone_machine.specs.State.Decisions.{Decision, act_of, effects, turned}
-use Rattle.zone_machine.specs.Code.Works.{in_kernel, in_store}
 use Rattle.zone_machine.specs.Code.Rooms.{HasRoomOf, HasRoomToChange, HasRoomToStore, IsFreeOf, HasRoomToStore}
 use Rattle.zone_machine.specs.Code.Steps.{IsGrantFor}
 use Rattle.zone_machine.specs.declared.machine.cell.Cell.{Cell}
 use Rattle.zone_machine.specs.declared.machine.shared.Shared.{Shared}
-use Rattle.zone_machine.specs.Code.Cases.{asked_for, decision_of, comes_of, job_turn, object_edits, on_job, shown_under, turn_decision_of, undo_with}
-use Rattle.zone_machine.specs.Daemon.Desks as desks
-use Rattle.zone_machine.specs.Code.Desks.{as_desk, as_job}
-use Rattle.zone_machine.specs.Objects.{Object_edit}
-use Rattle.zone_machine.specs.Daemon.Turns.{Turn_decision, asking}
+use Rattle.zoneadmd_steps.specs.Code.Cases.{asked_for, comes_of, job_turn, object_edits, on_job, shown_under, turn_decision_of, undo_with}
+use Rattle.zone_machine.specs.Code.Cases.{decision_of}
+use Rattle.zoneadmd_steps.specs.Desks as desks
+use Rattle.zoneadmd_steps.specs.Code.Desks.{as_desk, as_job}
+use Rattle.zoneadmd_steps.specs.Objects.{Object_edit}
+use Rattle.zoneadmd_steps.specs.Turns.{Turn_decision, asking}
 use Rattle.zone_machine.specs.declared.cases.Case.{Case}
 use Rattle.zone_machine.specs.declared.cases.Case.TheVariants as cases
-use Rattle.zone_machine.specs.declared.daemon.cases.JobCase.{JobCase}
-use Rattle.zone_machine.specs.declared.daemon.cases.JobCase.TheVariants as jobs
-use Rattle.zone_machine.specs.declared.daemon.cases.TurnCase.{TurnCase}
-use Rattle.zone_machine.specs.declared.daemon.cases.TurnCase.TheVariants as turns
-use Rattle.zone_machine.specs.declared.daemon.Step.{Step}
-use Rattle.zone_machine.specs.declared.daemon.desks.Desk.{Desk}
-use Rattle.zone_machine.specs.declared.daemon.desks.Job.{Job}
-use Rattle.zone_machine.specs.declared.objects.changes.Came.{Came}
-use Rattle.zone_machine.specs.declared.objects.changes.Came.TheVariants as came_type
-use Rattle.zone_machine.specs.declared.objects.changes.ObjectEdit.{ObjectEdit}
-use Rattle.zone_machine.specs.declared.objects.changes.ObjectEdit.TheVariants as object
+use Rattle.zoneadmd_steps.specs.declared.cases.JobCase.{JobCase}
+use Rattle.zoneadmd_steps.specs.declared.cases.JobCase.TheVariants as jobs
+use Rattle.zoneadmd_steps.specs.declared.cases.TurnCase.{TurnCase}
+use Rattle.zoneadmd_steps.specs.declared.cases.TurnCase.TheVariants as turns
+use Rattle.zoneadmd_steps.specs.declared.requests.Step.{Step}
+use Rattle.zoneadmd_steps.specs.declared.desks.Desk.{Desk}
+use Rattle.zoneadmd_steps.specs.declared.desks.Job.{Job}
+use Rattle.zoneadmd_steps.specs.declared.objects.changes.Came.{Came}
+use Rattle.zoneadmd_steps.specs.declared.objects.changes.Came.TheVariants as came_type
+use Rattle.zoneadmd_steps.specs.declared.objects.changes.ObjectEdit.{ObjectEdit}
+use Rattle.zoneadmd_steps.specs.declared.objects.changes.ObjectEdit.TheVariants as object
 
 -- a number that is found isn't used
 unused_found : (used : ℕ → Bool) (from count n : ℕ) → first_free used from count ≡ Some n → used n ≡ false

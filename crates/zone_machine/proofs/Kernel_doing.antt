@@ -10,10 +10,11 @@ use Rattle.zone_pools.proofs.Holding.{column, come_column, gone_column}
 use Rattle.zone_pools.proofs.Owned_laws.{same_self, same_true}
 use Rattle.zone_pools.specs.Owned_lists.{Put, edited, Change}
 use Rattle.zone_pools.specs.Owners as owners
-use Rattle.zone_pools.specs.Owners.{held_by, is_owner, owner}
+use Rattle.zone_pools.specs.Owners.{held_by, is_owner}
 use Rattle.zone_machine.proofs.Acts_laws.{same_other}
 use Rattle.zone_machine.proofs.Lists_laws.{any-put, none_left}
-use Rattle.zone_machine.specs.Code.Cells.{Agree, Does, cell_world, common_in, ids_of, kept, row_in}
+use Rattle.zone_machine.specs.Code.Cells.{Agree, Does, cell_world, common_in, kept, row_in}
+use Rattle.zoneadmd_steps.specs.Objects.{ids_of, has_zid, keeping_pid, keeping_zid}
 use Rattle.zone_machine.specs.Machine.Common.{Common, came_common, holding}
 use Rattle.zone_machine.specs.State.Edits.{Of_objects, comes_world, edits_world}
 use Rattle.zone_machine.specs.State.Worlds.{World}
@@ -24,10 +25,9 @@ use Rattle.kernel_objects.specs.Processes.{Process, at_pid, below, dropping, has
 use Rattle.kernel_objects.specs.Shared.{FreesPids, FreesZids, Shared as Kernel_shared, TakesPid, TakesZid, pid_owner, zid_owner}
 use Rattle.kernel_objects.specs.declared.objects.Id.{Id}
 use Rattle.zone_machine.specs.declared.machine.shared.Shared.{Shared}
-use Rattle.zone_machine.specs.declared.objects.changes.ObjectEdit.TheVariants.{EndIds, EndProcess, GiveUp, Rename}
-use Rattle.zone_machine.specs.Arrivals.{New_id, New_process}
-use Rattle.zone_machine.specs.Objects.{has_zid, keeping_pid, keeping_zid}
-use Rattle.zone_machine.specs.Code.Cases.{object_edits}
+use Rattle.zoneadmd_steps.specs.declared.objects.changes.ObjectEdit.TheVariants.{EndIds, EndProcess, GiveUp, Rename}
+use Rattle.zoneadmd_steps.specs.Arrivals.{New_id, New_process}
+use Rattle.zoneadmd_steps.specs.Code.Cases.{object_edits}
 use Rattle.kernel_objects.proofs.Kept.{at_pid_keeps, holds-change, holds-without}
 use Rattle.zone_machine.proofs.Doing_laws.{common_by, holds_wait, same_pids, same_sessions, same_zids}
 

@@ -4,7 +4,6 @@ pub mod Same_laws
 pub mod Acts_laws
 pub mod Own_worlds
 pub mod Turned_laws
-pub mod Of_turns
 pub mod Asking
 pub mod Freeing
 pub mod Common_laws
@@ -12,8 +11,6 @@ pub mod Local_laws
 pub mod Local_doing
 pub mod Words
 pub mod Made
-pub mod Results
-pub mod Last
 pub mod Pools_laws
 pub mod Lists_laws
 pub mod Waits_laws

@@ -8,32 +8,34 @@ use Rattle.zone_pools.specs.Decisions as decisions
 use Rattle.zone_pools.specs.Decisions.{Ask, Just}
 use Rattle.zone_pools.specs.declared.grant.Grant.TheVariants.{Nothing}
 use Rattle.zone_machine.proofs.Local_laws.{Local, is-local, local-one, not-local, stays, subject-turn, world-after}
-use Rattle.zone_machine.proofs.Turned_laws.{has-turned, turned_act}
-use Rattle.zone_machine.specs.Arrivals.{Arrival}
-use Rattle.zone_machine.specs.Code.Cases.{object_edits}
-use Rattle.zone_machine.specs.Code.Works.{Works, arrival_of, rest_of, sits}
-use Rattle.zone_machine.specs.Code.Cells.{CellOf, cell_world, ids_of}
+use Rattle.zone_machine.specs.Code.Works.{turned_act, Works, rest_of, sits}
+use Rattle.zone_machine.proofs.Turned_laws.{has-turned}
+use Rattle.zoneadmd_steps.specs.Arrivals.{Arrival}
+use Rattle.zoneadmd_steps.specs.Code.Cases.{object_edits}
+use Rattle.zoneadmd_steps.specs.Code.Works.{arrival_of}
+use Rattle.zone_machine.specs.Code.Cells.{CellOf, cell_world}
+use Rattle.zoneadmd_steps.specs.Objects.{ids_of, Object_edit, Objects, Processes_go, ids_after, mounts_after}
 use Rattle.zone_machine.specs.State.Decisions.{Decision, act_of, acts_world, after_came_world, effects, says, sweeps, turned}
-use Rattle.zone_machine.specs.Daemon.Desks as desks
-use Rattle.zone_machine.specs.Code.Desks.{as_desk, as_job}
+use Rattle.zoneadmd_steps.specs.Desks as desks
+use Rattle.zoneadmd_steps.specs.Code.Desks.{as_desk, as_job}
 use Rattle.zone_machine.specs.State.Edits.{Of_objects, Set_desk, edit_world, edits_world}
-use Rattle.zone_machine.specs.Machine.Local.{is_local, is_local_turn, job_has_record}
+use Rattle.zone_machine.specs.Machine.Local.{is_local, job_has_record}
+use Rattle.zoneadmd_steps.specs.Local.{is_local_turn}
 use Rattle.zone_machine.specs.Code.Local_turns.{After, IsDone, IsLocalTurn, IsNext, IsNotLocal}
 use Rattle.zone_machine.specs.Machine.{Answered, one, subject}
-use Rattle.zone_machine.specs.Objects.{Object_edit, Objects, Processes_go, ids_after, mounts_after}
-use Rattle.zone_machine.specs.Daemon.Turns.{Turn_decision, Turned, turn}
+use Rattle.zoneadmd_steps.specs.Turns.{Turn_decision, Turned, turn}
 use Rattle.zone_machine.specs.State.Worlds.{World, objects_of, world}
 use Rattle.zone_machine.specs.declared.machine.cell.Cell.{Cell}
-use Rattle.zone_machine.specs.declared.daemon.TurnReply.TheVariants.{Idle}
-use Rattle.zone_machine.specs.declared.daemon.desks.Desk.{Desk}
+use Rattle.zoneadmd_steps.specs.declared.requests.TurnReply.TheVariants.{Idle}
+use Rattle.zoneadmd_steps.specs.declared.desks.Desk.{Desk}
 use Rattle.zone_machine.specs.declared.events.Entry.{Entry}
 use Rattle.zone_machine.specs.declared.events.Event.TheVariants.{Turn}
 use Rattle.zone_machine.specs.declared.events.Subject.TheVariants.{Zone}
 use Rattle.commit_journal.specs.declared.records.Record.{Record}
 use Rattle.zone_machine.specs.declared.replies.Head.TheVariants.{Turned as Told}
 use Rattle.zone_machine.specs.declared.replies.Reply.{Reply}
-use Rattle.zone_machine.specs.declared.objects.changes.ObjectEdit.{ObjectEdit}
-use Rattle.zone_machine.specs.declared.machine.work.Stored.{Stored}
+use Rattle.zoneadmd_steps.specs.declared.objects.changes.ObjectEdit.{ObjectEdit}
+use Rattle.zoneadmd_steps.specs.declared.settling.Stored.{Stored}
 use Rattle.zone_machine.specs.declared.machine.work.Work.{Work}
 
 -- the ids after a turn, where none came

@@ -17,37 +17,39 @@ use Rattle.zone_pools.specs.declared.grant.Grant.{Grant}
 use Rattle.zone_pools.specs.declared.grant.Grant.TheVariants.{Nothing}
 use Rattle.zone_machine.proofs.Acts_laws.{own-acts}
 use Rattle.zone_machine.proofs.Same_laws.{reply-Decides, subject-Decides}
-use Rattle.zone_machine.proofs.Of_turns.{of_turn}
-use Rattle.zone_machine.proofs.Turned_laws.{In, in-act, one-turn, turn-reply, turn_act, turned_act}
-use Rattle.zone_machine.specs.Arrivals.{Arrival, arrived}
+use Rattle.zoneadmd_steps.proofs.Of_turns.{of_turn}
+use Rattle.zone_machine.specs.Code.Works.{turned_act}
+use Rattle.zone_machine.proofs.Turned_laws.{In, in-act, one-turn, turn-reply, turn_act}
+use Rattle.zoneadmd_steps.specs.Arrivals.{Arrival, arrived}
 use Rattle.zone_machine.specs.Machine.Common.{Common, common}
-use Rattle.zone_machine.specs.Machine.Local.{is_busy, is_idle, is_local, is_local_reply, is_local_turn, is_of_own, is_turn_of, tells_local}
+use Rattle.zone_machine.specs.Machine.Local.{is_busy, is_local, is_turn_of, tells_local}
+use Rattle.zoneadmd_steps.specs.Local.{is_idle, is_local_reply, is_local_turn, is_of_own}
 use Rattle.zone_machine.specs.State.Decisions.{effects, says, sweeps, turned}
-use Rattle.zone_machine.specs.Daemon.Desks.{Desk, Job, state_now}
+use Rattle.zoneadmd_steps.specs.Desks.{Desk, Job, state_now}
 use Rattle.zone_machine.specs.State.Edits.{Of_objects, Set_desk, edit, edit_world, edits, edits_world}
 use Rattle.zone_machine.specs.Machine.Histories.{is_allowed, is_told}
 use Rattle.zone_machine.specs.Machine.{Answered, decide, done_by, one, started, subject}
-use Rattle.zone_machine.specs.Objects.{Ids_change, Object_edit, Objects, Of_mounts, has_zid, ids_after, keeping_zid, last_dir, mounts_after}
-use Rattle.zone_machine.specs.Daemon.Plans.{may_begin}
+use Rattle.zoneadmd_steps.specs.Objects.{Ids_change, Object_edit, Objects, Of_mounts, has_zid, ids_after, keeping_zid, last_dir, mounts_after}
+use Rattle.zoneadmd_steps.specs.Plans.{may_begin}
 use Rattle.zone_machine.specs.Machine.Pools.{allowed, pools_of}
 use Rattle.zone_machine.specs.Machine.Same.{same_reply, same_subject}
 use Rattle.zone_machine.specs.State.{State}
-use Rattle.zone_machine.specs.Daemon.Turns.{Turn_decision, Turned, begin, goes_on, next_request, step, turn, turn_at, undo, unmount}
+use Rattle.zoneadmd_steps.specs.Turns.{Turn_decision, Turned, begin, goes_on, next_request, step, turn, turn_at, undo, unmount}
 use Rattle.zone_machine.specs.State.Worlds.{World, objects_of, view, world}
 use Rattle.zn_base.specs.declared.state.ZoneState.{ZoneState}
-use Rattle.zone_machine.specs.declared.daemon.Outcome.{Outcome}
-use Rattle.zone_machine.specs.declared.daemon.RequestKind.{RequestKind}
-use Rattle.zone_machine.specs.declared.daemon.Step.{Step}
-use Rattle.zone_machine.specs.declared.daemon.Step.TheVariants.{Hook, Record as Record_step, Copy, Zid, Limits, Devices, Root, Init, Unmount}
-use Rattle.zone_machine.specs.declared.daemon.TurnReply.{TurnReply}
-use Rattle.zone_machine.specs.declared.daemon.TurnReply.TheVariants.{Idle}
+use Rattle.zoneadmd_steps.specs.declared.requests.Outcome.{Outcome}
+use Rattle.zoneadmd_steps.specs.declared.requests.RequestKind.{RequestKind}
+use Rattle.zoneadmd_steps.specs.declared.requests.Step.{Step}
+use Rattle.zoneadmd_steps.specs.declared.requests.Step.TheVariants.{Hook, Record as Record_step, Copy, Zid, Limits, Devices, Root, Init, Unmount}
+use Rattle.zoneadmd_steps.specs.declared.requests.TurnReply.{TurnReply}
+use Rattle.zoneadmd_steps.specs.declared.requests.TurnReply.TheVariants.{Idle}
 use Rattle.zone_config.specs.declared.terms.Contents.{Contents}
 use Rattle.commit_journal.specs.declared.records.Record.{Record}
 use Rattle.zone_machine.specs.declared.events.Entry.{Entry}
 use Rattle.zone_machine.specs.declared.events.Event.{Event}
 use Rattle.zone_machine.specs.declared.events.Event.TheVariants.{Process as Call_of, Session, Turn}
 use Rattle.zone_machine.specs.declared.events.Subject.TheVariants.{Zone}
-use Rattle.zone_machine.specs.declared.objects.Mount.{Mount}
+use Rattle.zoneadmd_steps.specs.declared.objects.Mount.{Mount}
 use Rattle.zone_machine.specs.declared.replies.Head.TheVariants.{Turned as Told}
 
 -- of the zone's objects a turn changes these alone, it ends no ticket, and it isn't idle

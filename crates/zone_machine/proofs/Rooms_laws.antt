@@ -1,26 +1,24 @@
 -- Room is taken, and a cell and the shared part are as they were.
-use Rattle.std.proofs.Common.{◌≡◌, ◌∷◌, [], List, refl, ◌∙◌}
-use Rattle.zone_machine.specs.Code.Cells.{cell_world}
-use Rattle.zone_machine.specs.Code.Desks.{as_desk}
+use Rattle.std.proofs.Common.{◌≡◌, ◌∷◌, [], List, refl, ◌∙◌, ap, subst, sym}
+use Rattle.zone_machine.specs.Code.Cells.{cell_world, common_in}
+use Rattle.zoneadmd_steps.specs.Code.Desks.{as_desk}
 use Rattle.zone_machine.specs.Code.Cases.{decision_of}
 use Rattle.zone_machine.specs.Code.Rooms.{Alike, HasRoom, HasRoomIfSits, HasRoomToChange, HasRoomToStore}
 use Rattle.zone_machine.specs.Code.Works.{objects_of}
 use Rattle.zone_machine.specs.declared.cases.Case.{Case}
 use Rattle.zone_machine.specs.declared.cases.Case.TheVariants as cases
-use Rattle.zone_machine.specs.declared.objects.changes.ObjectEdit.{ObjectEdit}
-use Rattle.zone_machine.specs.declared.objects.changes.ObjectEdit.TheVariants as edit
+use Rattle.zoneadmd_steps.specs.declared.objects.changes.ObjectEdit.{ObjectEdit}
+use Rattle.zoneadmd_steps.specs.declared.objects.changes.ObjectEdit.TheVariants as edit
 use Rattle.zone_pools.specs.Asked.{A_pid, A_zid, Asked}
 use Rattle.zone_pools.specs.Decisions.{asked_of}
 use Rattle.zone_machine.specs.declared.machine.cell.Cell.{Cell}
-use Rattle.zone_machine.specs.declared.daemon.desks.Desk.{Desk}
+use Rattle.zoneadmd_steps.specs.declared.desks.Desk.{Desk}
 use Rattle.zone_machine.specs.declared.machine.shared.Shared.{Shared}
-use Rattle.std.proofs.Common.{ap, subst, sym}
 use Rattle.kernel_objects.specs.Kernel as Kernels
 use Rattle.std.specs.Prelude.{is_some, length}
 use Rattle.commit_journal.specs.Zones.{rows_of}
 use Rattle.kernel_objects.specs.Shared.{Alike as Kernel_alike, Shared as Kernel}
 use Rattle.zone_pools.specs.Owners.{is_owner}
-use Rattle.zone_machine.specs.Code.Cells.{common_in}
 use Rattle.zone_machine.specs.Code.Needs.{pools_in}
 use Rattle.zone_machine.specs.Machine.Pools.{path_taken}
 

@@ -1,5 +1,5 @@
 -- What a cell and the shared part stand for, and what they stand for after an event of the cell's zone.
-use Rattle.zone_machine.proofs.Kernel_cases.{first_id}
+use Rattle.zoneadmd_steps.proofs.First_process.{first_id}
 use Rattle.zone_pools.specs.declared.owned.Owned.{Owned}
 use Rattle.zone_pools.specs.Firsts.{first_of}
 use Rattle.kernel_objects.specs.Shared.{Shared as Kernel, pid_owner, zid_owner}
@@ -39,7 +39,7 @@ use Rattle.zone_machine.specs.declared.events.Subject.TheVariants.{Zone}
 use Rattle.commit_journal.specs.declared.records.Record.{Record}
 use Rattle.zone_machine.specs.declared.replies.Reply.{Reply}
 use Rattle.zone_machine.specs.declared.machine.shared.Shared.{Shared}
-use Rattle.zone_machine.specs.Objects.{has_zid}
+use Rattle.zoneadmd_steps.specs.Objects.{has_zid}
 use Rattle.zone_machine.specs.Code.Cases.{decision_of}
 use Rattle.zone_machine.specs.Code.Rooms.{Alike, IsOpenTo}
 use Rattle.zone_machine.specs.declared.cases.Case.{Case}

@@ -32,13 +32,13 @@ use Rattle.zone_machine.specs.Session.Lines.{Blank, Command, Kill, Line, Make, R
 use Rattle.zone_machine.specs.Machine.{decide, global_reply, named_subject, one, one_of, subject, subject_of_name}
 use Rattle.zone_machine.specs.Machine.Pools.{allowed, allowed_of, fits, fits_of, path_taken, pools_of}
 use Rattle.zone_machine.specs.State.{State, stored}
-use Rattle.zone_machine.specs.Code.Rooms.{Alike}
+use Rattle.zone_machine.specs.Code.Rooms.{Alike, IsFreeOf}
 use Rattle.zone_machine.specs.Code.Cell_steps.{CellAnswers, IsCellStep, IsCellMisfitUnder, IsCellStepUnder}
 use Rattle.zone_machine.specs.Code.Steps.{IsStep, IsZoneState, Answers, IsGrantFor, IsUnfit, IsMisfitUnder, IsTaken, Leaves, Takes, AsItWas}
 use Rattle.zone_machine.specs.declared.faults.StepFault.{StepFault}
 use Rattle.zone_machine.specs.declared.faults.StepFault.TheVariants.{BadGrant, Memory}
-use Rattle.zone_machine.specs.State.Worlds.{World, view, view_of, world}
-use Rattle.zone_machine.specs.declared.daemon.desks.Desk.{Desk}
+use Rattle.zone_machine.specs.State.Worlds.{World, view, view_of, world, View}
+use Rattle.zoneadmd_steps.specs.declared.desks.Desk.{Desk}
 use Rattle.zone_machine.specs.declared.machine.cell.Cell.{Cell}
 use Rattle.zone_machine.specs.declared.events.Entry.{Entry}
 use Rattle.zone_machine.specs.declared.events.Event.{Event}
@@ -51,15 +51,12 @@ use Rattle.zone_machine.specs.declared.replies.Reply.{Reply}
 use Rattle.zone_machine.specs.declared.machine.shared.Shared.{Shared}
 use Rattle.kernel_objects.specs.Processes.{has_pid}
 use Rattle.kernel_objects.specs.Shared.{Shared as Kernel, pid_owner, zid_owner}
-use Rattle.zone_machine.specs.Objects.{has_zid}
-use Rattle.zone_machine.specs.Daemon.Desks.{state_of}
-use Rattle.zone_machine.specs.State.Decisions.{Decision}
-use Rattle.zone_machine.specs.State.Worlds.{View}
+use Rattle.zoneadmd_steps.specs.Objects.{has_zid}
+use Rattle.zoneadmd_steps.specs.Desks.{state_of}
+use Rattle.zone_machine.specs.State.Decisions.{Decision, act_of}
 use Rattle.zone_machine.proofs.Freeing.{asks_case, freed}
 use Rattle.zone_machine.specs.Code.Cases.{decision_of}
 use Rattle.zone_machine.specs.Code.Decided.{IsCaseIn, IsCellAt}
-use Rattle.zone_machine.specs.State.Decisions.{act_of}
-use Rattle.zone_machine.specs.Code.Rooms.{IsFreeOf}
 use Rattle.zone_machine.specs.declared.cases.Case.{Case}
 
 -- what the pools know

@@ -1,5 +1,5 @@
 -- What a turn of a zone's daemon replies and leaves of the zone's world, whatever is granted.
-use Rattle.std.proofs.Common.{◌≡◌, ◌∷◌, ◌++◌, [], ℕ, List, Option, Some, None, ap, map, refl, ◌∙◌}
+use Rattle.std.proofs.Common.{◌≡◌, ◌∷◌, ◌++◌, [], ℕ, List, Option, Some, None, ap, map, refl, sym, ◌∙◌}
 use Rattle.zn_base.specs.Names.{Name}
 use Rattle.zone_pools.specs.Decisions as decisions
 use Rattle.zone_pools.specs.Decisions.{Ask, Just}
@@ -9,17 +9,21 @@ use Rattle.zone_pools.specs.declared.grant.Pool.{Pool}
 use Rattle.zone_pools.specs.declared.grant.Pool.TheVariants.{Store}
 use Rattle.zone_machine.proofs.Acts_laws.{own-acts}
 use Rattle.zone_machine.proofs.Own_worlds.{view-world}
-use Rattle.zone_machine.specs.Arrivals.{Arrival, Comes, New_process, New_record, arrived}
+use Rattle.zoneadmd_steps.specs.Arrivals.{Arrival, Comes, New_process, New_record, arrived}
+use Rattle.zone_machine.specs.Code.Works.{Works, rest_of, turned_act, work_act}
+use Rattle.zone_machine.specs.declared.machine.work.Work.{Work}
+use Rattle.zoneadmd_steps.specs.Code.Works.{rest_of_turn, turn_work}
+use Rattle.zoneadmd_steps.specs.declared.settling.TurnWork.{TurnWork}
 use Rattle.zone_machine.specs.State.Decisions.{Act, act_of, acts_world, after_came_world, effects, says, sweeps, turned}
-use Rattle.zone_machine.specs.Daemon.Desks.{Desk}
+use Rattle.zoneadmd_steps.specs.Desks.{Desk}
 use Rattle.zone_machine.specs.State.Edits.{Of_objects, Set_desk, comes_world, edit_world, edits_world}
 use Rattle.zone_machine.specs.Machine.{Answered, decide, done_by, one, subject}
-use Rattle.zone_machine.specs.Objects.{Object_edit, Processes_go, mounts_after}
+use Rattle.zoneadmd_steps.specs.Objects.{Object_edit, Processes_go, mounts_after}
 use Rattle.zone_machine.specs.State.{State}
-use Rattle.zone_machine.specs.Daemon.Turns.{Turned, turn}
+use Rattle.zoneadmd_steps.specs.Turns.{Turned, turn}
 use Rattle.zone_machine.specs.State.Worlds.{World, objects_of, view_of, world}
 use Rattle.zone_machine.specs.declared.events.Event.TheVariants.{Turn}
-use Rattle.zone_machine.specs.declared.objects.Mount.{Mount}
+use Rattle.zoneadmd_steps.specs.declared.objects.Mount.{Mount}
 use Rattle.commit_journal.specs.declared.records.Record.{Record}
 use Rattle.zone_machine.specs.declared.replies.Head.TheVariants.{Turned as Told}
 
@@ -34,10 +38,6 @@ in-act P (Ask c asked denied given) (Number n) h = h.1 n
 in-act P (Ask c asked denied given) Yes h = h.1 0
 in-act P (Ask c asked denied given) (Denied pool) h = h.0 pool
 in-act P (Ask c asked denied given) Nothing h = h.0 Store
-
--- a turn's act is what the turn decides, as the machine does it
-abbrev pub turned_act : decisions.Act Arrival Turned → Act
-turned_act a = record { came = a.came; effect = turned a.effect }
 
 pub act-turned : (d : decisions.Decision Comes Turned) (g : Grant) → decisions.act_of arrived (effects turned d) g ≡ turned_act (decisions.act_of arrived d g)
 act-turned (Just t) g = refl
@@ -88,3 +88,10 @@ has-turned n a w = at_came a.came
     at_came : (c : Option Arrival) → Has (stored_after c w.stored) (mounts_after a.effect.objects w.mounts) a.effect.desk (acts_world n (turned_act (record a { came = c })) w)
     at_came (Some (New_process p)) = has-edits n a.effect.objects a.effect.desk a.effect.ended (comes_world (New_process p) w)
     at_came c = has-edits n a.effect.objects a.effect.desk a.effect.ended (after_came_world c w)
+
+-- the work of a turn does what the machine makes of the turn
+pub settled_turn : (d : decisions.Decision Comes Turned) (g : Grant) (w : TurnWork) (desk : Desk) → rest_of_turn (decisions.act_of arrived d g) ≡ turn_work w desk → rest_of (act_of (effects turned d) g) ≡ turned_act (turn_work w desk)
+settled_turn d g w desk h = ap rest_of (act-turned d g) ∙ ap turned_act h
+
+pub works_same : (n : Option ℕ) (a : Act) (v : World) (d : Desk) (w : Work) → a ≡ work_act w d → Works n a v d w
+works_same n a v d w h = record { came = sym (ap (λ (a : Act). a.came) h); reply = sym (ap (λ (a : Act). a.effect.reply) h); world = sym (ap (λ (a : Act). acts_world n a v) h) }

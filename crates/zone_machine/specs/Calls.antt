@@ -10,8 +10,8 @@ use Rattle.process_calls.specs.declared.call.Call.{Call}
 use Rattle.process_calls.specs.declared.call.Call.TheVariants as call
 use Rattle.zone_pools.specs.Asked.{A_pid}
 use Rattle.zone_pools.specs.Decisions.{Ask, Just}
-use Rattle.zone_machine.specs.Arrivals.{A_process}
-use Rattle.zone_machine.specs.Objects.{Object_edit, Process_goes, Processes_change, kernel_of}
+use Rattle.zoneadmd_steps.specs.Arrivals.{A_process}
+use Rattle.zoneadmd_steps.specs.Objects.{Object_edit, Process_goes, Processes_change, kernel_of}
 use Rattle.zone_machine.specs.State.Decisions.{Decision, done_saying, refused, tells}
 use Rattle.zone_machine.specs.State.Edits.{Edit, Of_objects}
 use Rattle.zone_machine.specs.State.Worlds.{View, objects_of}

@@ -1,6 +1,5 @@
 -- What the code's values stand for, and what its steps do to them.
 pub mod Lines
-pub mod Desks
 pub mod Waits
 pub mod Cells
 pub mod Reads

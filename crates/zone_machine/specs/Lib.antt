@@ -1,8 +1,3 @@
--- objects: what the kernel holds for a zone, and what comes with a grant
-pub mod Objects
-pub mod Arrivals
--- the daemon: a zone's desk, the plans of requests, and what one turn does
-pub mod Daemon
 -- the state of all zones, one zone's world in it, what an event may change, and what it decides
 pub mod State
 -- processes: what their calls do

@@ -1,24 +1,23 @@
 //! What the calls of a zone's processes come to, and a signal from the global zone.
-ghost use Rattle.std.specs.Prelude.{◌∷◌, ◌≡◌, [], Err, IfErr, IfOk, Ok, Some, map, option_map, ℕ};
+ghost use Rattle.std.specs.Prelude.{◌∷◌, ◌≡◌, [], Err, IfOk, Ok, Some, map};
 ghost use Rattle.kernel_objects.specs.Kernel.{at_limit, fork_set};
 ghost use Rattle.kernel_objects.specs.Processes.{Process, row_of, with_pid};
 ghost use Rattle.priv_sets.specs.Sets.{print_of};
 ghost use Rattle.zn_base.specs.Names.{Name};
-ghost use Rattle.zone_pools.specs.Decisions.{Just};
-ghost use Rattle.zone_machine.specs.Calls.{called, calls, calls_if_there, changes, execs, forks, signals};
+ghost use Rattle.zone_machine.specs.Calls.{called, calls, execs, forks, signals};
 ghost use Rattle.zone_machine.specs.Code.Cases.{IsCaseOf, IsNamedCase, decision_of};
-ghost use Rattle.zone_machine.specs.State.Decisions.{done_saying, tells};
+ghost use Rattle.zone_machine.specs.State.Decisions.{tells};
 ghost use Rattle.zone_machine.specs.Code.Cells.{Shows};
 ghost use Rattle.zone_machine.specs.State.Worlds.{View};
-ghost use Rattle.zone_machine.specs.declared.daemon.desks.Desk as desk_types;
+ghost use Rattle.zoneadmd_steps.specs.declared.desks.Desk as desk_types;
 
 use crate::cases::Case;
-use crate::objects::changes::ObjectEdit;
 use crate::replies::{Body, Head, Refusal};
 use kernel_objects::{Errno, KernelCell, Signal};
 use process_calls::Call;
 use std::alloc::{AllocError, Global};
 use zn_base::{Bytes, Listing, Text, ZoneName};
+use zoneadmd_steps::ObjectEdit;
 
 fn refused_by(errno: Errno) -> Case
     ensures { result ≡ Case.Says (Head.Refused (Refusal.Errno errno)) }

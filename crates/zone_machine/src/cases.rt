@@ -1,11 +1,9 @@
 //! What an event of a zone comes to. A case is decided before anything is changed, and holds all that its event needs.
-use crate::daemon::RequestKind;
-use crate::daemon::cases::TurnCase;
-use crate::objects::changes::ObjectEdit;
 use crate::replies::{Body, Head};
 use commit_journal::Record;
 use kernel_objects::Running;
 use zn_base::ZoneName;
+use zoneadmd_steps::{ObjectEdit, RequestKind, TurnCase};
 
 /// What an event of a zone comes to.
 #[derive(Drop)]

@@ -7,17 +7,14 @@
 
 mod calls;
 mod cases;
-mod daemon;
 mod events;
 mod faults;
 mod laws;
 mod machine;
 mod maps;
-mod objects;
 mod replies;
 mod session;
 
-pub use daemon::{Change, ChangeKind, Outcome, RequestKind, Step, TurnReply};
 pub use events::{Answer, Entry, Event, SESSION_MAX, Subject, Whose};
 pub use faults::StepFault;
 pub use laws::{
@@ -29,5 +26,4 @@ pub use machine::cell::Cell;
 pub use machine::local_turns::local_turn;
 pub use machine::shared::Shared;
 pub use machine::steps::{cell_step, cell_step_given};
-pub use objects::Mount;
 pub use replies::{Body, Head, Refusal, Reply};

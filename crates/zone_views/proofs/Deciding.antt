@@ -12,22 +12,23 @@ use Rattle.zn_base.specs.Names.{Name}
 use Rattle.std.specs.Result.{result_ok}
 use Rattle.zone_config.specs.declared.terms.Contents.{Contents}
 use Rattle.zone_pools.specs.declared.grant.Grant.{Grant}
-use Rattle.zone_machine.proofs.Turned_laws.{In, decide-turn, has-turned, in-act, stored_after, turn_act, turned_act}
+use Rattle.zone_machine.specs.Code.Works.{turned_act}
+use Rattle.zone_machine.proofs.Turned_laws.{In, decide-turn, has-turned, in-act, stored_after, turn_act}
 use Rattle.zone_pools.specs.Owned_lists.{Change, Put, edited}
-use Rattle.zone_machine.specs.Objects.{keeping_pid, kernel_of, mounts_after}
-use Rattle.zone_machine.specs.Arrivals.{Arrival}
+use Rattle.zoneadmd_steps.specs.Objects.{keeping_pid, kernel_of, mounts_after}
+use Rattle.zoneadmd_steps.specs.Arrivals.{Arrival}
 use Rattle.zone_machine.specs.State.Decisions.{Act, Effect, act_of, acts_world, after_came_world, done_saying}
-use Rattle.zone_machine.specs.Daemon.Desks.{Desk}
+use Rattle.zoneadmd_steps.specs.Desks.{Desk, is_full, with_request}
 use Rattle.zone_machine.specs.State.Edits.{at_session, edits_world}
 use Rattle.zone_machine.specs.Session.Lines.{Blank, Command, Kill, Line, Make, Request, Unknown, line_of}
 use Rattle.zone_machine.specs.Machine.{decide, session_number}
 use Rattle.zone_machine.specs.State.{Awaiting, Doing}
-use Rattle.zone_machine.specs.Session.Typed.{idle_line, is_full, made_config, make, make_with, new_record, put_request, typed, with_request}
+use Rattle.zone_machine.specs.Session.Typed.{idle_line, made_config, make, make_with, new_record, put_request, typed}
 use Rattle.zone_machine.specs.State.Worlds.{World, objects_of, view_of}
-use Rattle.zone_machine.specs.declared.daemon.RequestKind.{RequestKind}
+use Rattle.zoneadmd_steps.specs.declared.requests.RequestKind.{RequestKind}
 use Rattle.zone_machine.specs.declared.events.Event.{Event}
 use Rattle.zone_machine.specs.declared.events.Event.TheVariants.{Process as Call_of, Session, Turn}
-use Rattle.zone_machine.specs.declared.objects.Mount.{Mount}
+use Rattle.zoneadmd_steps.specs.declared.objects.Mount.{Mount}
 use Rattle.zone_machine.specs.declared.replies.Head.TheVariants.{Ok}
 use Rattle.commit_journal.specs.declared.records.Record.{Record}
 

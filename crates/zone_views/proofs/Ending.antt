@@ -11,28 +11,28 @@ use Rattle.zone_pools.specs.declared.grant.Grant.{Grant}
 use Rattle.zn_base.specs.declared.state.ZoneState.{ZoneState}
 use Rattle.zn_base.specs.declared.state.ZoneState.TheVariants.{Configured, Installed, Ready, Running}
 use Rattle.zone_machine.proofs.Turned_laws.{In, has-turned, in-act, turn-reply, turn-world, turn_act}
-use Rattle.zone_machine.specs.Objects.{mounts_after}
+use Rattle.zoneadmd_steps.specs.Objects.{mounts_after, Objects, is_at}
 use Rattle.zone_machine.specs.State.Decisions.{act_of, acts_world, says}
-use Rattle.zone_machine.specs.Daemon.Desks.{Desk, Job}
+use Rattle.zoneadmd_steps.specs.Desks.{Desk, Job}
 use Rattle.zone_machine.specs.Machine.Histories.{after}
 use Rattle.zone_machine.specs.Machine.{decide, one, opening, session_number}
-use Rattle.zone_machine.specs.Objects.{Objects, is_at}
-use Rattle.zone_machine.specs.Daemon.Plans.{may_begin, plan, undo_after}
+use Rattle.zoneadmd_steps.specs.Plans.{may_begin, plan, undo_after}
 use Rattle.zone_machine.specs.State.{State}
-use Rattle.zone_machine.specs.Daemon.Turns.{Turn_decision, Turned, active_after, goes_on, next_request, root_mount, step, turn, turn_at, undo}
-use Rattle.zone_machine.specs.Machine.Turns_left.{trail, turns_left, turns_under_way, turns_until, turns_with}
+use Rattle.zoneadmd_steps.specs.Turns.{Turn_decision, Turned, active_after, goes_on, next_request, root_mount, step, turn, turn_at, undo}
+use Rattle.zoneadmd_steps.specs.Turns_left.{trail, turns_under_way, turns_until, turns_with}
+use Rattle.zone_machine.specs.Machine.Turns_left.{turns_left}
 use Rattle.zone_machine.specs.State.Worlds.{World, objects_of, view_of, world}
-use Rattle.zone_machine.specs.declared.daemon.Outcome.{Outcome}
-use Rattle.zone_machine.specs.declared.daemon.RequestKind.{RequestKind}
-use Rattle.zone_machine.specs.declared.daemon.RequestKind.TheVariants.{Install, Boot, Halt}
-use Rattle.zone_machine.specs.declared.daemon.Step.{Step}
-use Rattle.zone_machine.specs.declared.daemon.Step.TheVariants.{Record as Record_step, Zid, Limits, Devices, Root, State as State_step, Init, Unmount}
-use Rattle.zone_machine.specs.declared.daemon.TurnReply.{TurnReply}
-use Rattle.zone_machine.specs.declared.daemon.TurnReply.TheVariants.{Idle}
+use Rattle.zoneadmd_steps.specs.declared.requests.Outcome.{Outcome}
+use Rattle.zoneadmd_steps.specs.declared.requests.RequestKind.{RequestKind}
+use Rattle.zoneadmd_steps.specs.declared.requests.RequestKind.TheVariants.{Install, Boot, Halt}
+use Rattle.zoneadmd_steps.specs.declared.requests.Step.{Step}
+use Rattle.zoneadmd_steps.specs.declared.requests.Step.TheVariants.{Record as Record_step, Zid, Limits, Devices, Root, State as State_step, Init, Unmount}
+use Rattle.zoneadmd_steps.specs.declared.requests.TurnReply.{TurnReply}
+use Rattle.zoneadmd_steps.specs.declared.requests.TurnReply.TheVariants.{Idle}
 use Rattle.zone_machine.specs.declared.events.Entry.{Entry}
 use Rattle.zone_machine.specs.declared.events.Event.{Event}
 use Rattle.zone_machine.specs.declared.events.Event.TheVariants.{Turn}
-use Rattle.zone_machine.specs.declared.objects.Mount.{Mount}
+use Rattle.zoneadmd_steps.specs.declared.objects.Mount.{Mount}
 use Rattle.commit_journal.specs.declared.records.Commit.{Commit}
 use Rattle.commit_journal.specs.declared.records.Record.{Record}
 use Rattle.zone_machine.specs.declared.replies.Head.TheVariants.{Turned as Told}

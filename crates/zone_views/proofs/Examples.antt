@@ -18,11 +18,11 @@ use Rattle.zone_machine.specs.Machine.Pools.{allowed, fits}
 use Rattle.zone_pools.specs.Pools.{first_free}
 use Rattle.zone_machine.specs.Machine.Same.{same_reply, same_subject}
 use Rattle.zone_machine.specs.State.{State, zone_state}
-use Rattle.zone_machine.specs.Daemon.Turns.{turn}
+use Rattle.zoneadmd_steps.specs.Turns.{turn}
 use Rattle.zone_machine.specs.Session.Typed.{typed}
 use Rattle.zone_machine.specs.State.Worlds.{view}
-use Rattle.zone_machine.specs.declared.daemon.Outcome.TheVariants.{WrongState}
-use Rattle.zone_machine.specs.declared.daemon.TurnReply.TheVariants.{Finished, Idle}
+use Rattle.zoneadmd_steps.specs.declared.requests.Outcome.TheVariants.{WrongState}
+use Rattle.zoneadmd_steps.specs.declared.requests.TurnReply.TheVariants.{Finished, Idle}
 use Rattle.zone_machine.specs.declared.events.Entry.{Entry}
 use Rattle.zone_machine.specs.declared.events.Event.{Event}
 use Rattle.zone_machine.specs.declared.events.Event.TheVariants.{Process as Call_of, Session, Turn}

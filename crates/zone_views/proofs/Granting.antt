@@ -5,8 +5,8 @@ use Rattle.zn_base.specs.Names.{Name}
 use Rattle.zone_pools.specs.declared.grant.Grant.TheVariants.{Nothing}
 use Rattle.zone_pools.proofs.Pools_laws.{pid-fits, serial-fits, zid-fits, zone-fits}
 use Rattle.zone_machine.proofs.Asking.{asks_rightly}
-use Rattle.zone_machine.proofs.Of_turns.{is_asked_for}
-use Rattle.zone_machine.specs.Arrivals.{A_process, A_record, An_id, Comes}
+use Rattle.zoneadmd_steps.proofs.Of_turns.{is_asked_for}
+use Rattle.zoneadmd_steps.specs.Arrivals.{A_process, A_record, An_id, Comes}
 use Rattle.zone_pools.specs.Asked.{A_path, A_pid, A_serial, A_zid, A_zone, Asked}
 use Rattle.zone_pools.specs.Decisions.{Ask, Decision, Just, asked_of}
 use Rattle.zone_pools.specs.Pools.{Pools, fits_asked, said_by_all}

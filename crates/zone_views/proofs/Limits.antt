@@ -13,21 +13,22 @@ use Rattle.kernel_objects.proofs.Kept.{at_pid_keeps, within-dropped, within-ente
 use Rattle.kernel_objects.specs.declared.objects.Id.{Id}
 use Rattle.kernel_objects.specs.Kernel.{within_limit}
 use Rattle.kernel_objects.specs.Processes.{Process, at_pid, dropping, renamed, with_pid, without_pid}
-use Rattle.zone_machine.proofs.Turned_laws.{In, in-act, turned_act}
-use Rattle.zone_machine.specs.Arrivals.{Arrival}
-use Rattle.zone_machine.specs.Daemon.Desks.{Desk, Job}
-use Rattle.zone_machine.specs.Daemon.Plans.{may_begin, plan}
-use Rattle.zone_machine.specs.Daemon.Turns.{Turned, active_after, goes_on, next_request, step, turn, turn_at, undo, unmount}
+use Rattle.zone_machine.specs.Code.Works.{turned_act}
+use Rattle.zone_machine.proofs.Turned_laws.{In, in-act}
+use Rattle.zoneadmd_steps.specs.Arrivals.{Arrival}
+use Rattle.zoneadmd_steps.specs.Desks.{Desk, Job}
+use Rattle.zoneadmd_steps.specs.Plans.{may_begin, plan}
+use Rattle.zoneadmd_steps.specs.Turns.{Turned, active_after, goes_on, next_request, step, turn, turn_at, undo, unmount}
 use Rattle.zone_machine.specs.Machine.Histories.{after}
 use Rattle.zone_machine.specs.Machine.{decide, opening, session_number}
-use Rattle.zone_machine.specs.Objects.{all_of, keeping_pid, kernel_of, last_dir}
+use Rattle.zoneadmd_steps.specs.Objects.{all_of, keeping_pid, kernel_of, last_dir}
 use Rattle.zone_machine.specs.State.Decisions.{act_of, acts_world}
 use Rattle.zone_machine.specs.State.Worlds.{World, objects_of, view_of, world}
-use Rattle.zone_machine.specs.declared.daemon.Outcome.{Outcome}
-use Rattle.zone_machine.specs.declared.daemon.RequestKind.{RequestKind}
-use Rattle.zone_machine.specs.declared.daemon.RequestKind.TheVariants.{Install, Boot, Halt}
-use Rattle.zone_machine.specs.declared.daemon.Step.{Step}
-use Rattle.zone_machine.specs.declared.daemon.Step.TheVariants.{Record as Record_step, Zid, Limits, Devices, Root, State as State_step, Init, Kill, Unmount, Clear, ZidBack}
+use Rattle.zoneadmd_steps.specs.declared.requests.Outcome.{Outcome}
+use Rattle.zoneadmd_steps.specs.declared.requests.RequestKind.{RequestKind}
+use Rattle.zoneadmd_steps.specs.declared.requests.RequestKind.TheVariants.{Install, Boot, Halt}
+use Rattle.zoneadmd_steps.specs.declared.requests.Step.{Step}
+use Rattle.zoneadmd_steps.specs.declared.requests.Step.TheVariants.{Record as Record_step, Zid, Limits, Devices, Root, State as State_step, Init, Kill, Unmount, Clear, ZidBack}
 use Rattle.zone_machine.specs.declared.events.Entry.{Entry}
 use Rattle.zone_machine.specs.declared.events.Event.{Event}
 use Rattle.commit_journal.specs.declared.records.Commit.{Commit}

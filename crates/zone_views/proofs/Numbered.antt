@@ -10,8 +10,8 @@ use Rattle.zone_pools.specs.declared.grant.Grant.TheVariants.{Nothing, Number, Y
 use Rattle.zone_pools.proofs.Owned_laws.{same_true}
 use Rattle.zone_machine.proofs.Common_laws.{any_mine, has_it}
 use Rattle.zone_machine.specs.Machine.Common.{HoldOnce, common}
-use Rattle.zone_machine.proofs.Of_turns.{is_asked_for}
-use Rattle.zone_machine.specs.Arrivals.{A_process, A_record, An_id, Comes, arrived}
+use Rattle.zoneadmd_steps.proofs.Of_turns.{is_asked_for}
+use Rattle.zoneadmd_steps.specs.Arrivals.{A_process, A_record, An_id, Comes, arrived}
 use Rattle.zone_machine.specs.State.Decisions.{Decision, act_of, acts, after_came}
 use Rattle.zone_pools.specs.Asked.{A_pid, A_zid, Asked}
 use Rattle.zone_pools.specs.Decisions.{Ask, Just, asked_of}
@@ -22,7 +22,7 @@ use Rattle.kernel_objects.specs.Processes.{Process, adopted, below, has_pid, hei
 use Rattle.zone_pools.specs.Owned_lists.{Go, edit_list, mine}
 use Rattle.kernel_objects.specs.declared.objects.Id.{Id}
 use Rattle.zone_pools.specs.declared.owned.Owned.{Owned}
-use Rattle.zone_machine.specs.Objects.{Ids_change, Ids_go, Process_goes, Processes_change, Processes_go, all_of, keeping_pid, keeping_zid}
+use Rattle.zoneadmd_steps.specs.Objects.{Ids_change, Ids_go, Process_goes, Processes_change, Processes_go, all_of, keeping_pid, keeping_zid}
 use Rattle.zone_machine.specs.Machine.Pools.{allowed, allowed_of, fits, fits_of, pools_of}
 use Rattle.zone_pools.specs.Pools.{fits_asked, fits_pool}
 use Rattle.zone_machine.specs.State.{State}

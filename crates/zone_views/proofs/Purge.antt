@@ -15,7 +15,7 @@ use Rattle.zone_machine.proofs.Acts_laws.{IsOwn}
 use Rattle.zone_machine.proofs.Common_laws.{has_it, holder-one}
 use Rattle.zone_machine.proofs.Own_worlds.{leaves, reply-whole, reply-world, world-one, world_by-other}
 use Rattle.zone_machine.proofs.Same_laws.{reply-Decides, subject-Decides}
-use Rattle.zone_machine.specs.Daemon.Desks.{empty_desk}
+use Rattle.zoneadmd_steps.specs.Desks.{empty_desk}
 use Rattle.zone_machine.specs.Machine.Histories.{after, after_entry, any_grant, asked, concerns, entry_at, is_history, is_of, is_told, only, replay, replies, run, world_by, world_one}
 use Rattle.zone_machine.specs.Session.Lines.{Command, Kill, Line, line_of}
 use Rattle.zone_machine.specs.Machine.{holder, line_subject, one, opening, session_subject, subject}

@@ -15,22 +15,22 @@ use Rattle.zone_pools.proofs.Owned_laws.{same_true}
 use Rattle.zone_machine.proofs.Own_worlds.{world-one}
 use Rattle.zone_machine.proofs.Turned_laws.{In, in-act, stored_after, turn_act}
 use Rattle.zone_machine.specs.State.Decisions.{act_of, acts_world}
-use Rattle.zone_machine.specs.Daemon.Desks.{Desk, Job, empty_desk, state_of}
+use Rattle.zoneadmd_steps.specs.Desks.{Desk, Job, empty_desk, state_of, with_request}
 use Rattle.zone_machine.specs.Machine.Histories.{after, world_by}
 use Rattle.zone_machine.specs.Machine.{decide, one, opening, session_number, subject}
-use Rattle.zone_machine.specs.Objects.{Objects, last_dir}
-use Rattle.zone_machine.specs.Daemon.Plans.{may_begin, plan}
+use Rattle.zoneadmd_steps.specs.Objects.{Objects, last_dir}
+use Rattle.zoneadmd_steps.specs.Plans.{may_begin, plan}
 use Rattle.zone_machine.proofs.Acts_laws.{stored-append}
 use Rattle.zone_config.specs.declared.terms.Contents.{Contents}
 use Rattle.zone_machine.specs.State.{State, stored}
-use Rattle.zone_machine.specs.Daemon.Turns.{Turn_decision, Turned, active_after, goes_on, next_request, step, turn, turn_at, undo, unmount}
-use Rattle.zone_machine.specs.Session.Typed.{new_record, with_request}
+use Rattle.zoneadmd_steps.specs.Turns.{Turn_decision, Turned, active_after, goes_on, next_request, step, turn, turn_at, undo, unmount}
+use Rattle.zone_machine.specs.Session.Typed.{new_record}
 use Rattle.zone_machine.specs.State.Worlds.{World, objects_of, view_of, world}
-use Rattle.zone_machine.specs.declared.daemon.Outcome.{Outcome}
-use Rattle.zone_machine.specs.declared.daemon.RequestKind.{RequestKind}
-use Rattle.zone_machine.specs.declared.daemon.RequestKind.TheVariants.{Install, Boot, Halt}
-use Rattle.zone_machine.specs.declared.daemon.Step.{Step}
-use Rattle.zone_machine.specs.declared.daemon.Step.TheVariants.{Record as Record_step, Zid, State as State_step, Init, Unmount}
+use Rattle.zoneadmd_steps.specs.declared.requests.Outcome.{Outcome}
+use Rattle.zoneadmd_steps.specs.declared.requests.RequestKind.{RequestKind}
+use Rattle.zoneadmd_steps.specs.declared.requests.RequestKind.TheVariants.{Install, Boot, Halt}
+use Rattle.zoneadmd_steps.specs.declared.requests.Step.{Step}
+use Rattle.zoneadmd_steps.specs.declared.requests.Step.TheVariants.{Record as Record_step, Zid, State as State_step, Init, Unmount}
 use Rattle.zone_machine.specs.declared.events.Entry.{Entry}
 use Rattle.zone_machine.specs.declared.events.Event.{Event}
 use Rattle.zone_machine.specs.declared.events.Subject.{Subject}

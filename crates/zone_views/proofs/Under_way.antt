@@ -8,7 +8,7 @@ use Rattle.zone_pools.specs.declared.grant.Grant.{Grant}
 use Rattle.commit_journal.specs.declared.records.Commit.{Commit}
 use Rattle.commit_journal.specs.declared.records.Record.{Record}
 use Rattle.zone_machine.proofs.Local_laws.{local-common, none-under-way, not-local}
-use Rattle.zone_machine.specs.Daemon.Desks.{Desk, Job}
+use Rattle.zoneadmd_steps.specs.Desks.{Desk, Job}
 use Rattle.zone_machine.specs.Machine.Common.{common}
 use Rattle.zone_machine.specs.Machine.Histories.{after, after_entry}
 use Rattle.zone_machine.specs.Machine.Local.{is_local, job_has_record}

@@ -8,7 +8,8 @@ use std::{fs, io, str};
 use trace_text::LineFault;
 use zn_base::NameFault;
 use zone_config::ConfigFault;
-use zone_machine::{Outcome, Refusal};
+use zone_machine::Refusal;
+use zoneadmd_steps::Outcome;
 use zonecfg_lex::LexFault;
 use zonecfg_scopes::EditFault;
 

@@ -11,10 +11,10 @@ use Rattle.zone_machine.specs.Machine.{opening}
 use Rattle.zone_machine.specs.Machine.Pools.{allowed}
 use Rattle.zone_pools.specs.Pools.{or_else}
 use Rattle.zone_machine.specs.State.{State}
-use Rattle.zone_machine.specs.declared.daemon.Outcome.{Outcome}
-use Rattle.zone_machine.specs.declared.daemon.Outcome.TheVariants.{Done}
-use Rattle.zone_machine.specs.declared.daemon.TurnReply.{TurnReply}
-use Rattle.zone_machine.specs.declared.daemon.TurnReply.TheVariants.{Failed, Finished}
+use Rattle.zoneadmd_steps.specs.declared.requests.Outcome.{Outcome}
+use Rattle.zoneadmd_steps.specs.declared.requests.Outcome.TheVariants.{Done}
+use Rattle.zoneadmd_steps.specs.declared.requests.TurnReply.{TurnReply}
+use Rattle.zoneadmd_steps.specs.declared.requests.TurnReply.TheVariants.{Failed, Finished}
 use Rattle.zone_machine.specs.declared.events.Entry.{Entry}
 use Rattle.zone_machine.specs.declared.events.Event.{Event}
 use Rattle.zone_machine.specs.declared.replies.Head.{Head}

@@ -15,7 +15,8 @@ use crate::outcome::Complaint;
 use std::alloc::{AllocError, Global};
 use trace_text::{LineFault, push_answer, read_line};
 use zn_io::{Sink, Source, write_all};
-use zone_machine::{Event, Head, Machine, Outcome, StepFault, TurnReply};
+use zone_machine::{Event, Head, Machine, StepFault};
+use zoneadmd_steps::{Outcome, TurnReply};
 
 // How many bytes of replies may wait before they are written.
 const WAITING_MAX: usize = 16384;

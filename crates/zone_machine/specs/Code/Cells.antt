@@ -1,13 +1,13 @@
 -- The machine's cells and its shared part, as the definitions have them.
 use Rattle.indexmap.specs.IndexMap.{get, get_by}
-use Rattle.std.specs.Prelude.{◌≡◌, ℕ, List, [], ◌∷◌, Option, Some, None, bytes_eq, nat_eq, is_some, if◌then◌else◌}
+use Rattle.std.specs.Prelude.{◌≡◌, ℕ, [], Option, Some, None, bytes_eq, nat_eq, is_some, if◌then◌else◌}
 use Rattle.std.specs.Option.{option_map}
 use Rattle.std.specs.List.{list_any}
 use Rattle.zn_base.specs.Names.{Name}
 use Rattle.zone_pools.specs.Owners.{held_by, is_owner, owner}
 use Rattle.commit_journal.specs.Zones.{rows_of}
 use Rattle.zone_machine.specs.Machine.Common.{Common, common, holding}
-use Rattle.zone_machine.specs.Code.Desks.{as_desk}
+use Rattle.zoneadmd_steps.specs.Code.Desks.{as_desk}
 use Rattle.zone_machine.specs.State.{Awaiting, State, stored}
 use Rattle.zone_machine.specs.State.Worlds.{View, World, objects_of, world}
 use Rattle.zone_machine.specs.declared.machine.cell.Cell.{Cell}
@@ -17,14 +17,8 @@ use Rattle.zone_machine.specs.declared.machine.shared.Shared.{Shared}
 use Rattle.kernel_objects.specs.Kernel.{Kernel}
 use Rattle.kernel_objects.specs.Processes.{has_pid, with_pid}
 use Rattle.kernel_objects.specs.Shared.{pid_owner, zid_owner}
-use Rattle.kernel_objects.specs.declared.objects.Id.{Id}
-use Rattle.zone_machine.specs.Objects.{has_zid, kernel_of}
-use Rattle.zone_machine.specs.Daemon.Desks.{empty_desk}
-
--- the ids of a zone, which has one at most
-abbrev pub ids_of : Option Id → List Id
-ids_of None = []
-ids_of (Some i) = i ∷ []
+use Rattle.zoneadmd_steps.specs.Objects.{has_zid, kernel_of, ids_of}
+use Rattle.zoneadmd_steps.specs.Desks.{empty_desk}
 
 -- the world that a cell has, with what is stored of its zone
 abbrev pub cell_world : Option Record → Cell → World

@@ -3,7 +3,7 @@ use Rattle.std.specs.Prelude.{ℕ, Option, Some, None, Result, Ok}
 use Rattle.kernel_objects.specs.Kernel.{new_id}
 use Rattle.kernel_objects.specs.Processes.{process_of}
 use Rattle.zone_pools.specs.declared.grant.Pool.{Pool}
-use Rattle.zone_machine.specs.Arrivals.{Arrival, New_id, New_process}
+use Rattle.zoneadmd_steps.specs.Arrivals.{Arrival, New_id, New_process}
 use Rattle.zone_machine.specs.declared.machine.comings.Newcomer.{Newcomer}
 use Rattle.zone_machine.specs.declared.machine.comings.Newcomer.TheVariants.{Id, Process}
 

@@ -2,13 +2,13 @@
 use Rattle.std.specs.Prelude.{◌≡◌, Option, Some, true, false}
 use Rattle.zn_base.specs.Names.{Name}
 use Rattle.zone_pools.specs.declared.grant.Grant.TheVariants.{Nothing}
-use Rattle.zone_machine.specs.Code.Cells.{CellOf, cell_world, ids_of}
+use Rattle.zone_machine.specs.Code.Cells.{CellOf, cell_world}
+use Rattle.zoneadmd_steps.specs.Objects.{ids_of, ids_after, mounts_after}
 use Rattle.zone_machine.specs.Machine.Histories.{entry_at}
 use Rattle.zone_machine.specs.Machine.Local.{is_local, job_has_record}
 use Rattle.zone_machine.specs.Machine.{one}
-use Rattle.zone_machine.specs.Objects.{ids_after, mounts_after}
 use Rattle.zone_machine.specs.State.{State}
-use Rattle.zone_machine.specs.Daemon.Turns.{Turn_decision, Turned, turn}
+use Rattle.zoneadmd_steps.specs.Turns.{Turn_decision, Turned, turn}
 use Rattle.zone_machine.specs.State.Worlds.{objects_of, world}
 use Rattle.zone_machine.specs.declared.machine.cell.Cell.{Cell}
 use Rattle.zone_machine.specs.declared.events.Entry.{Entry}

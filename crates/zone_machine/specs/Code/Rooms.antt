@@ -1,13 +1,14 @@
 -- Room that is taken before anything is changed, and that nothing is changed by taking it.
-use Rattle.std.specs.Prelude.{◌≡◌, ◌⊎◌, ◌<◌, List, [], ◌∷◌, Option, Some, None, false, true, vec_capacity, vec_len, IfSome}
+use Rattle.std.specs.Prelude.{◌≡◌, ◌⊎◌, ◌<◌, List, [], ◌∷◌, Option, Some, None, false, true, vec_capacity, vec_len}
 use Rattle.indexmap.specs.IndexMap.{spare}
 use Rattle.zn_base.specs.Names.{Name}
 use Rattle.zone_pools.specs.Asked.{A_pid, A_zid, Asked}
 use Rattle.zone_pools.specs.Decisions.{asked_of}
 use Rattle.zone_pools.specs.Owners.{owner}
 use Rattle.zone_pools.specs.Pools.{Pools, has_room}
-use Rattle.zone_machine.specs.Arrivals.{Arrival, New_id, New_process, New_record}
+use Rattle.zoneadmd_steps.specs.Arrivals.{Arrival, New_id, New_process, New_record}
 use Rattle.zone_machine.specs.Code.Cases.{decision_of}
+use Rattle.zoneadmd_steps.specs.Code.Rooms.{HasRequestRoom, HasTurnRoom}
 use Rattle.zone_machine.specs.Code.Works.{objects_of}
 use Rattle.zone_machine.specs.Code.Cells.{cell_world, common_in}
 use Rattle.zone_machine.specs.Code.Needs.{pools_in}
@@ -16,15 +17,10 @@ use Rattle.zone_machine.specs.declared.cases.Case.TheVariants as cases
 use Rattle.zone_machine.specs.declared.machine.cell.Cell.{Cell}
 use Rattle.commit_journal.specs.declared.records.Record.{Record}
 use Rattle.zone_machine.specs.declared.machine.shared.Shared.{Shared}
-use Rattle.zone_machine.specs.declared.objects.changes.ObjectEdit.{ObjectEdit}
-use Rattle.zone_machine.specs.declared.objects.changes.ObjectEdit.TheVariants.{Mount}
+use Rattle.zoneadmd_steps.specs.declared.objects.changes.ObjectEdit.{ObjectEdit}
+use Rattle.zoneadmd_steps.specs.declared.objects.changes.ObjectEdit.TheVariants.{Mount}
 use Rattle.zone_machine.specs.declared.cases.Case.TheVariants.{Put, Turn}
-use Rattle.zone_machine.specs.declared.daemon.cases.JobCase.{JobCase}
-use Rattle.zone_machine.specs.declared.daemon.cases.JobCase.TheVariants.{Pass, Ask}
-use Rattle.zone_machine.specs.declared.daemon.cases.TurnCase.{TurnCase}
-use Rattle.zone_machine.specs.declared.daemon.cases.TurnCase.TheVariants.{GoOn}
-use Rattle.zone_machine.specs.declared.daemon.desks.Desk.{Desk}
-use Rattle.zone_machine.specs.declared.daemon.desks.Job.{Job}
+use Rattle.zoneadmd_steps.specs.declared.desks.Desk.{Desk}
 
 -- a cell and a shared part are as they were, but for room
 pub record Alike (c : Cell) (s : Shared) (d : Cell) (t : Shared) : Type 0 where
@@ -33,23 +29,10 @@ pub record Alike (c : Cell) (s : Shared) (d : Cell) (t : Shared) : Type 0 where
   pub common : common_in t ≡ common_in s
   pub pools : pools_in t ≡ pools_in s
 
--- room for a step that a failure undoes
-abbrev pub HasUndoRoom : Job → Type 0
-HasUndoRoom j = vec_len j.undo < vec_capacity j.undo
-
-abbrev pub HasJobRoom : Job → JobCase → Type 0
-HasJobRoom j (Pass p) = HasUndoRoom j
-HasJobRoom j (Ask c next) = HasUndoRoom j
-HasJobRoom j _ = Unit {0}
-
-abbrev pub HasTurnRoom : Option Job → TurnCase → Type 0
-HasTurnRoom o (GoOn c) = IfSome o (λ j. HasJobRoom j c)
-HasTurnRoom o _ = Unit {0}
-
 -- room for what the case puts on the desk
 abbrev pub HasRoomFor : Desk → Case → Type 0
-HasRoomFor d (Put kind owner) = vec_len d.waiting < vec_capacity d.waiting
-HasRoomFor d (Turn c) = HasTurnRoom d.job c
+HasRoomFor d (Put kind owner) = HasRequestRoom d
+HasRoomFor d (Turn c) = HasTurnRoom d c
 HasRoomFor d _ = Unit {0}
 
 -- room for a record, by the pools that are asked for it. What comes to the kernel takes its room as it comes

@@ -3,10 +3,10 @@ use Rattle.std.specs.Prelude.{◌≡◌, ℕ, ◌+◌, Option, Some, None, Bool,
 use Rattle.std.specs.List.{list_any}
 use Rattle.zn_base.specs.Names.{Name}
 use Rattle.zone_pools.specs.Owners as owners
-use Rattle.zone_machine.specs.Arrivals.{Arrival, New_id, New_process, New_record}
+use Rattle.zoneadmd_steps.specs.Arrivals.{Arrival, New_id, New_process, New_record}
 use Rattle.zone_machine.specs.State.Decisions.{Act, acts_world}
 use Rattle.kernel_objects.specs.Processes.{has_pid}
-use Rattle.zone_machine.specs.Objects.{has_zid}
+use Rattle.zoneadmd_steps.specs.Objects.{has_zid}
 use Rattle.commit_journal.specs.Stored.{Rows, stored, with_stored}
 use Rattle.zone_machine.specs.State.{State}
 use Rattle.zone_machine.specs.State.Worlds.{World, world}

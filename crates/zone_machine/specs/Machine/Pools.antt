@@ -10,7 +10,7 @@ use Rattle.zone_machine.specs.Machine.{decide, subject}
 use Rattle.commit_journal.specs.Stored.{Rows, stored}
 use Rattle.zone_machine.specs.State.{State}
 use Rattle.kernel_objects.specs.Processes.{has_pid}
-use Rattle.zone_machine.specs.Objects.{has_zid}
+use Rattle.zoneadmd_steps.specs.Objects.{has_zid}
 use Rattle.zone_machine.specs.State.Worlds.{view}
 use Rattle.zone_machine.specs.declared.events.Event.{Event}
 use Rattle.zone_machine.specs.declared.events.Subject.{Subject}

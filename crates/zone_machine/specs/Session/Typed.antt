@@ -1,5 +1,5 @@
 -- What a line does that a session types.
-use Rattle.std.specs.Prelude.{ℕ, List, [], ◌∷◌, ◌++◌, ◌+◌, length, Bool, false, ◌||◌, ◌==◌, nat_le, Option, Some, None, Result, Ok as Right, Err, codes, if◌then◌else◌}
+use Rattle.std.specs.Prelude.{ℕ, List, [], ◌∷◌, ◌+◌, false, Option, Some, None, Result, Ok as Right, Err, codes, if◌then◌else◌}
 use Rattle.std.specs.Result.{result_ok}
 use Rattle.zn_base.specs.Names.{Name, name_of}
 use Rattle.zn_base.specs.declared.values.Value.TheVariants.{Simple}
@@ -7,16 +7,15 @@ use Rattle.zn_base.specs.declared.state.ZoneState.TheVariants.{Configured}
 use Rattle.zone_machine.specs.State.Decisions.{Decision, Effect, done_saying, refused, says}
 use Rattle.zone_pools.specs.Asked.{A_path, A_serial, A_zone}
 use Rattle.zone_pools.specs.Decisions.{Ask, Just}
-use Rattle.zone_machine.specs.Arrivals.{A_record}
-use Rattle.zone_machine.specs.Daemon.Desks.{Desk}
+use Rattle.zoneadmd_steps.specs.Arrivals.{A_record}
+use Rattle.zoneadmd_steps.specs.Desks.{Desk, is_full, with_request}
 use Rattle.zone_machine.specs.State.Edits.{Here, Set_desk}
 use Rattle.zone_machine.specs.Calls.{signals}
 use Rattle.kernel_objects.specs.declared.faults.Errno.TheVariants.{ESRCH}
 use Rattle.zone_machine.specs.Session.Lines.{Blank, Command, Kill, Line, Make, Request, Unknown}
 use Rattle.zone_machine.specs.State.{Awaiting, Doing}
 use Rattle.zone_machine.specs.State.Worlds.{View}
-use Rattle.zone_machine.specs.declared.daemon.RequestKind.{RequestKind}
-use Rattle.zone_machine.specs.declared.daemon.desks.TheConstants.{REQUESTS_MAX, TICKET_MAX}
+use Rattle.zoneadmd_steps.specs.declared.requests.RequestKind.{RequestKind}
 use Rattle.config_terms.specs.Fields.{path_text}
 use Rattle.config_terms.specs.declared.fault.ConfigFault.{ConfigFault}
 use Rattle.zone_config.specs.Edits.{with_property}
@@ -53,12 +52,6 @@ make z (Some row) word = Just (refused NeedForce)
 make z None word = make_with z (result_ok (made_config word))
 
 -- a request is put on the zone's desk, and the session waits for its ticket
-abbrev pub is_full : Desk → Bool
-is_full d = nat_le REQUESTS_MAX (length d.waiting) || d.last == TICKET_MAX
-
-abbrev pub with_request : Desk → RequestKind → Desk
-with_request d kind = record d { last = d.last + 1; waiting = d.waiting ++ (d.last + 1, kind) ∷ [] }
-
 abbrev pub put_request : Desk → RequestKind → Option Record → Effect
 put_request d kind None = refused NoZone
 put_request d kind (Some row) =

@@ -4,10 +4,10 @@ use Rattle.zn_base.specs.Names.{Name}
 use Rattle.zone_pools.specs.Decisions as decisions
 use Rattle.zone_pools.specs.Decisions.{Ask, Just}
 use Rattle.zone_pools.specs.declared.grant.Grant.{Grant}
-use Rattle.zone_machine.specs.Arrivals.{Arrival, Comes, arrived}
+use Rattle.zoneadmd_steps.specs.Arrivals.{Arrival, Comes, arrived}
 use Rattle.zone_machine.specs.State.Edits.{Edit, Of_objects, Set_desk, Sweep, comes, comes_world, edits, edits_world}
 use Rattle.zone_machine.specs.State.{Awaiting, Doing, State}
-use Rattle.zone_machine.specs.Daemon.Turns as turns
+use Rattle.zoneadmd_steps.specs.Turns as turns
 use Rattle.zone_machine.specs.State.Worlds.{World}
 use Rattle.zone_machine.specs.declared.replies.Body.{Body}
 use Rattle.zone_machine.specs.declared.replies.Body.TheVariants.{Nothing as No_body}

@@ -4,9 +4,9 @@ use Rattle.zn_base.specs.Names.{Name}
 use Rattle.kernel_objects.specs.Processes.{Process, adopted, below, has_pid, heir, without_pid}
 use Rattle.zone_pools.specs.Owned_lists.{Change, Come, Go, Put, edit_list, edited, mine}
 use Rattle.zone_pools.specs.declared.owned.Owned.{Owned}
-use Rattle.zone_machine.specs.Arrivals.{Arrival, New_id, New_process, New_record}
-use Rattle.zone_machine.specs.Daemon.Desks.{Desk}
-use Rattle.zone_machine.specs.Objects.{Ids_change, Ids_go, Object_edit, Of_mounts, Process_goes, Processes_change, Processes_go, all_of, keeping_pid, keeping_zid}
+use Rattle.zoneadmd_steps.specs.Arrivals.{Arrival, New_id, New_process, New_record}
+use Rattle.zoneadmd_steps.specs.Desks.{Desk}
+use Rattle.zoneadmd_steps.specs.Objects.{Ids_change, Ids_go, Object_edit, Of_mounts, Process_goes, Processes_change, Processes_go, all_of, keeping_pid, keeping_zid}
 use Rattle.zone_machine.specs.State.{At, Doing, Idle, Session, State}
 use Rattle.zone_machine.specs.State.Worlds.{World}
 

@@ -4,13 +4,12 @@ use Rattle.zn_base.specs.Names.{Name}
 use Rattle.zone_pools.specs.Owned_lists.{mine}
 use Rattle.zone_pools.specs.Firsts.{first_of}
 use Rattle.zone_pools.specs.declared.owned.Owned.{Owned}
-use Rattle.zone_machine.specs.Daemon.Desks.{Desk}
-use Rattle.kernel_objects.specs.Processes.{has_pid, with_pid}
-use Rattle.zone_machine.specs.Objects.{Objects}
+use Rattle.zoneadmd_steps.specs.Desks.{Desk}
+use Rattle.kernel_objects.specs.Processes.{has_pid, with_pid, Process}
+use Rattle.zoneadmd_steps.specs.Objects.{Objects}
 use Rattle.zone_machine.specs.State.{At, Doing, Idle, Session, State, stored}
 use Rattle.kernel_objects.specs.declared.objects.Id.{Id}
-use Rattle.zone_machine.specs.declared.objects.Mount.{Mount}
-use Rattle.kernel_objects.specs.Processes.{Process}
+use Rattle.zoneadmd_steps.specs.declared.objects.Mount.{Mount}
 use Rattle.commit_journal.specs.declared.records.Record.{Record}
 
 -- what a session does in z; nothing where it is away

@@ -3,12 +3,11 @@ ghost use Rattle.std.specs.Prelude.{◌≡◌, Option, true};
 ghost use Rattle.zone_machine.specs.Code.Cells.{cell_world, empty_world};
 ghost use Rattle.commit_journal.specs.declared.records.Record as record_types;
 
-use crate::daemon::desks::Desk;
-use crate::objects::Mount;
 use crate::session::waits::Waits;
 use indexmap::IndexMap;
 use kernel_objects::KernelCell;
 use std::alloc::Global;
+use zoneadmd_steps::{Desk, Mount};
 
 /// Everything that one zone has, but for its name and what is stored of it.
 pub struct Cell {

@@ -5,29 +5,28 @@ ghost use Rattle.kernel_objects.specs.Kernel.{new_id};
 ghost use Rattle.kernel_objects.specs.Processes.{process_of};
 ghost use Rattle.zone_pools.specs.Decisions.{number_in};
 ghost use Rattle.zone_pools.specs.declared.grant.Grant as grant_types;
-ghost use Rattle.zone_machine.specs.Arrivals.{New_id, New_process, arrived};
-ghost use Rattle.zone_machine.specs.Code.Cases.{IsCaseOf, IsTurnOf, comes_of, decision_of, job_turn, turn_decision_of};
+ghost use Rattle.zoneadmd_steps.specs.Arrivals.{New_id, New_process, arrived, in_kernel};
+ghost use Rattle.zone_machine.specs.Code.Cases.{IsCaseOf, decision_of};
+ghost use Rattle.zoneadmd_steps.specs.Code.Cases.{IsTurnOf, comes_of, job_turn, turn_decision_of};
 ghost use Rattle.zone_machine.specs.Code.Cells.{Does};
 ghost use Rattle.zone_machine.specs.Code.Comings.{newcome};
 ghost use Rattle.zone_machine.specs.Code.Needs.{pools_in};
 ghost use Rattle.zone_machine.specs.Code.Rooms.{Alike, IsFreeOf};
-ghost use Rattle.zone_machine.specs.Code.Works.{in_kernel};
-ghost use Rattle.zone_machine.specs.Daemon.Desks as desks;
+ghost use Rattle.zoneadmd_steps.specs.Desks as desks;
 ghost use Rattle.zone_machine.specs.Machine.Common.{came_common};
 ghost use Rattle.zone_machine.specs.State.Decisions.{act_of, after_came_world, effects, turned};
 ghost use Rattle.zone_machine.specs.State.Edits.{comes_world};
-ghost use Rattle.zone_machine.specs.declared.daemon.desks.Desk as desk_types;
-ghost use Rattle.zone_machine.specs.declared.daemon.desks.Job as job_types;
+ghost use Rattle.zoneadmd_steps.specs.declared.desks.Desk as desk_types;
+ghost use Rattle.zoneadmd_steps.specs.declared.desks.Job as job_types;
 
 use crate::cases::Case;
-use crate::daemon::cases::{JobCase, TurnCase};
 use crate::machine::cell::Cell;
 use crate::machine::shared::Shared;
-use crate::objects::changes::Came;
 use kernel_objects::Running;
 use std::alloc::{AllocError, Global};
 use zn_base::ZoneName;
 use zone_pools::{Grant, Pool, number_in};
+use zoneadmd_steps::{Came, JobCase, TurnCase};
 
 /// What comes to the kernel, but for its number.
 #[derive(Clone, Copy)]

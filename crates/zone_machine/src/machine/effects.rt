@@ -1,22 +1,22 @@
 //! What an event does, on its zone's cell and on the shared part. All room for it has been taken, so nothing here takes
 //! memory or fails.
-ghost use Rattle.std.specs.Prelude.{◌≡◌, ◌<◌, ℕ, IfSome, None, Option, Some, false, true, vec_capacity, vec_len, if◌then◌else◌, map, nat_eq};
-ghost use Rattle.std.specs.Option.{option_map};
+ghost use Rattle.std.specs.Prelude.{◌≡◌, ◌<◌, ℕ, IfSome, None, Option, Some, true, map, nat_eq};
 ghost use Rattle.indexmap.specs.IndexMap.{spare};
 ghost use Rattle.zn_base.specs.Names.{Name};
 ghost use Rattle.zone_pools.specs.Owners.{owner};
 ghost use Rattle.zone_pools.specs.Pools.{has_room};
-ghost use Rattle.zone_machine.specs.Code.Cases.{IsCaseOf, IsNamedCase, decision_of, object_edits};
-ghost use Rattle.zone_machine.specs.Code.Works.{IsNamedWork, arrival_of, in_store, rest_of, sits};
+ghost use Rattle.zone_machine.specs.Code.Cases.{IsCaseOf, IsNamedCase, decision_of};
+ghost use Rattle.zoneadmd_steps.specs.Code.Cases.{object_edits};
+ghost use Rattle.zone_machine.specs.Code.Works.{IsNamedWork, rest_of, sits, work_world};
+ghost use Rattle.zoneadmd_steps.specs.Code.Works.{arrival_of};
+ghost use Rattle.zoneadmd_steps.specs.Arrivals.{in_store, New_record};
 ghost use Rattle.kernel_objects.specs.Kernel.{with_id};
-ghost use Rattle.zone_machine.specs.Daemon.Turns.{default_limits};
+ghost use Rattle.zoneadmd_steps.specs.Turns.{default_limits};
 ghost use Rattle.zone_machine.specs.declared.machine.shared.Shared as shared_types;
 ghost use Rattle.zone_machine.specs.Code.Cells.{Does, kept};
 ghost use Rattle.zone_machine.specs.Code.Needs.{pools_in};
-ghost use Rattle.zone_machine.specs.Code.Works.{work_world};
 ghost use Rattle.zone_machine.specs.Machine.Common.{came_common};
-ghost use Rattle.zone_machine.specs.State.Decisions.{act_of, acts_world, after_came_world, says, sweeps};
-ghost use Rattle.zone_machine.specs.Arrivals.{New_id, New_process, New_record};
+ghost use Rattle.zone_machine.specs.State.Decisions.{act_of, acts_world, after_came_world, sweeps};
 ghost use Rattle.zone_machine.specs.State.Edits.{Of_objects, comes_world, edits_world};
 ghost use Rattle.zone_machine.specs.Code.Rooms.{HasRoom, HasRoomOf, HasRoomToChange, HasRoomToSit, IsFreeOf, IsOpenTo};
 
@@ -24,10 +24,8 @@ use crate::cases::Case;
 use crate::machine::cell::Cell;
 use crate::machine::settling::settle;
 use crate::machine::shared::Shared;
-use crate::machine::work::{Sitting, Stored, Work};
+use crate::machine::work::{Sitting, Work};
 use crate::maps::put;
-use crate::objects::changes::ObjectEdit;
-use crate::objects::lists::unmount;
 use crate::replies::Reply;
 use crate::session::waits::{end_waits, wait};
 use kernel_objects::KernelCell;
@@ -35,6 +33,7 @@ use priv_sets::PrivSet;
 use std::alloc::Global;
 use zn_base::Text;
 use zone_pools::Grant;
+use zoneadmd_steps::{ObjectEdit, Stored, unmount};
 
 // What is stored of the zone from now on.
 #[inline(never)]

@@ -1,110 +1,35 @@
 //! Turns of a zone's daemon that touch nothing which other zones may ask, on the zone's cell alone.
-ghost use Rattle.std.specs.Prelude.{◌≡◌, IfOk, IfSome, List, None, OnErr, OnOk, Some, drop, false, is_some, true};
+ghost use Rattle.std.specs.Prelude.{◌≡◌, IfOk, IfSome, None, false, OnErr, OnOk, Some, true, is_some};
 ghost use Rattle.std.specs.List.{list_all};
 ghost use Rattle.zone_pools.specs.Decisions.{Just};
-ghost use Rattle.zone_machine.specs.Code.Cases.{IsCaseOf, IsJobCase, IsTurnOf, decision_of, job_turn, object_edits, turn_decision_of};
-ghost use Rattle.zone_machine.specs.Code.Rooms.{HasRoomFor};
-ghost use Rattle.zone_machine.specs.Code.Works.{job_objects, objects_of, turn_objects};
-ghost use Rattle.zone_machine.specs.Code.Cells.{cell_world, ids_of};
+ghost use Rattle.zone_machine.specs.Code.Cases.{IsCaseOf, decision_of};
+ghost use Rattle.zoneadmd_steps.specs.Code.Cases.{IsTurnOf, object_edits, turn_decision_of, turn_objects};
+ghost use Rattle.zone_machine.specs.Code.Rooms.{HasRoomFor, HasRoomToChange};
+ghost use Rattle.zone_machine.specs.Code.Works.{objects_of};
+ghost use Rattle.zoneadmd_steps.specs.Objects.{ids_of, ids_after, mounts_after};
 ghost use Rattle.zone_machine.specs.State.Decisions.{act_of, effects, turned};
-ghost use Rattle.zone_machine.specs.Daemon.Desks as desks;
-ghost use Rattle.zone_machine.specs.Code.Desks.{as_desk, as_job};
-ghost use Rattle.zone_machine.specs.Machine.Local.{is_local_turn, is_of_own};
-ghost use Rattle.zone_machine.specs.Code.Local_turns.{After, IsAsItWas, IsLocalTurn, IsNext, IsNotLocal};
-ghost use Rattle.zone_machine.specs.Objects.{ids_after, mounts_after};
-ghost use Rattle.zone_machine.specs.Code.Rooms.{HasRoomToChange};
-ghost use Rattle.zone_machine.specs.Daemon.Turns.{Turned, goes_on, step, turn, undo};
+ghost use Rattle.zoneadmd_steps.specs.Local.{is_of_own, is_local_turn};
+ghost use Rattle.zone_machine.specs.Code.Local_turns.{After, IsAsItWas, IsLocalTurn, IsNotLocal, IsNext};
+ghost use Rattle.zoneadmd_steps.specs.Turns.{Turned, turn};
 ghost use Rattle.zone_machine.specs.State.Worlds as worlds;
-ghost use Rattle.kernel_objects.specs.declared.objects.Id as ids;
-ghost use Rattle.kernel_objects.specs.Processes as processes;
+ghost use Rattle.zone_machine.specs.Code.Cells.{cell_world};
+ghost use Rattle.zoneadmd_steps.specs.Code.Desks.{as_desk};
 ghost use Rattle.commit_journal.specs.declared.records.Record as records;
 
 use crate::cases::Case;
-use crate::daemon::cases::{JobCase, TurnCase};
-use crate::daemon::desks::Job;
-use crate::daemon::plan_cases::{last_dir, limits_set, mount_root, passed, step_at, unmounted};
-use crate::daemon::turn_cases::undoing;
-use crate::daemon::{Outcome, Step};
 use crate::events::{Entry, Event, Subject};
 use crate::machine::cell::Cell;
 use crate::machine::effects::set_limits;
 use crate::machine::rooms::{room_for_objects, room_on_desk};
 use crate::machine::settling::settle;
-use crate::objects::Mount;
-use crate::objects::changes::ObjectEdit;
-use crate::objects::lists::unmount;
 use crate::replies::Reply;
 use std::alloc::{AllocError, Global};
 use zn_base::ZoneName;
 use zone_pools::Grant;
-
-// What the plan of a request comes to from a place on, where that is local.
-fn local_step(
-    alloc: Global,
-    job: &Job,
-    at: usize,
-    mounts: &[Mount],
-) -> Result<Option<JobCase>, AllocError>
-    ensures some { IfOk result (λ o. IfSome o (λ c. (ps : List processes.Process) (is : List ids.Id) (d : desks.Desk) (row : records.Record)
-        → step (record { processes = ps; mounts = mounts.now; ids = is }) d (as_job job.now) row (drop at job.now.steps.items) ≡ job_turn d job.now c)) }
-    ensures local { IfOk result (λ o. IfSome o (λ c. (d : desks.Desk) → is_local_turn (job_turn d job.now c) ≡ true)) }
-    ensures own { IfOk result (λ o. IfSome o (λ c. list_all is_of_own (object_edits (job_objects c)) ≡ true)) }
-    ensures of { IfOk result (λ o. IfSome o (IsJobCase job.now)) }
-    ensures none { IfOk result (λ o. o ≡ None → (ps : List processes.Process) (is : List ids.Id) (d : desks.Desk) (row : records.Record)
-        → is_local_turn (step (record { processes = ps; mounts = mounts.now; ids = is }) d (as_job job.now) row (drop at job.now.steps.items)) ≡ false) }
-{
-    if at >= job.steps.len() {
-        return Ok(None);
-    }
-    let next = at + 1;
-    match step_at(job, at) {
-        Step::Hook(change) => Ok(Some(passed(next, Step::Hook(*change)))),
-        Step::Copy(part) => Ok(Some(passed(next, Step::Copy(*part)))),
-        Step::Limits => Ok(Some(limits_set(next))),
-        Step::Root => Ok(Some(mount_root(alloc, next, &job.config)?)),
-        Step::Unmount(_) => match last_dir(mounts) {
-            Some(dir) => Ok(Some(unmounted(alloc, at, dir)?)),
-            None => local_step(alloc, job, next, mounts),
-        },
-        _ => Ok(None),
-    }
-}
-
-// One step back, where that is local.
-fn local_undo(alloc: Global, job: &Job) -> Result<Option<JobCase>, AllocError>
-    ensures some { IfOk result (λ o. IfSome o (λ c. (d : desks.Desk) (e : Outcome) → Just (undo d (as_job job.now) e (as_job job.now).undo) ≡ job_turn d job.now c)) }
-    ensures local { IfOk result (λ o. IfSome o (λ c. (d : desks.Desk) → is_local_turn (job_turn d job.now c) ≡ true)) }
-    ensures own { IfOk result (λ o. IfSome o (λ c. list_all is_of_own (object_edits (job_objects c)) ≡ true)) }
-    ensures of { IfOk result (λ o. IfSome o (IsJobCase job.now)) }
-    ensures none { IfOk result (λ o. o ≡ None → (d : desks.Desk) (e : Outcome) → is_local_turn (Just (undo d (as_job job.now) e (as_job job.now).undo)) ≡ false) }
-{
-    match job.undo.split_last() {
-        Some((shown @ (Step::Limits | Step::Devices(_) | Step::Root), _)) => Ok(Some(JobCase::Undo(
-            undoing(alloc, shown)?,
-        ))),
-        _ => Ok(None),
-    }
-}
-
-// What a request under way comes to, where that is local.
-fn local_job(alloc: Global, job: &Job, mounts: &[Mount]) -> Result<Option<JobCase>, AllocError>
-    ensures some { IfOk result (λ o. IfSome o (λ c. (ps : List processes.Process) (is : List ids.Id) (d : desks.Desk) (row : records.Record)
-        → goes_on (record { processes = ps; mounts = mounts.now; ids = is }) d (as_job job.now) row (as_job job.now).ending ≡ job_turn d job.now c)) }
-    ensures local { IfOk result (λ o. IfSome o (λ c. (d : desks.Desk) → is_local_turn (job_turn d job.now c) ≡ true)) }
-    ensures own { IfOk result (λ o. IfSome o (λ c. list_all is_of_own (object_edits (job_objects c)) ≡ true)) }
-    ensures of { IfOk result (λ o. IfSome o (IsJobCase job.now)) }
-    ensures none { IfOk result (λ o. o ≡ None → (ps : List processes.Process) (is : List ids.Id) (d : desks.Desk) (row : records.Record)
-        → is_local_turn (goes_on (record { processes = ps; mounts = mounts.now; ids = is }) d (as_job job.now) row (as_job job.now).ending) ≡ false) }
-{
-    match job.ending {
-        None => local_step(alloc, job, job.at, mounts),
-        Some(_) => local_undo(alloc, job),
-    }
-}
+use zoneadmd_steps::{ObjectEdit, TurnCase, local_case, unmount};
 
 // What the next turn comes to, where that is local.
-#[tactic(auto, unfolding(crate::specs::Daemon::Turns::turn))]
-fn local_case(alloc: Global, cell: &Cell) -> Result<Option<TurnCase>, AllocError>
+fn next_local(alloc: Global, cell: &Cell) -> Result<Option<TurnCase>, AllocError>
     ensures some { IfOk result (λ o. IfSome o (λ c. IsNext cell.now (turn_decision_of cell.now.desk c))) }
     ensures local { IfOk result (λ o. IfSome o (λ c. is_local_turn (turn_decision_of cell.now.desk c) ≡ true)) }
     ensures of { IfOk result (λ o. IfSome o (IsTurnOf cell.now.desk)) }
@@ -112,13 +37,7 @@ fn local_case(alloc: Global, cell: &Cell) -> Result<Option<TurnCase>, AllocError
     ensures job { IfOk result (λ o. IfSome o (λ c. is_some cell.now.desk.job ≡ true)) }
     ensures none { IfOk result (λ o. o ≡ None → (row : records.Record) → is_local_turn (turn (worlds.objects_of (cell_world (Some row) cell.now)) (Some row) (as_desk cell.now.desk)) ≡ false) }
 {
-    let Some(job) = &cell.desk.job else {
-        return Ok(None);
-    };
-    match local_job(alloc, job, &cell.mounts)? {
-        Some(case) => Ok(Some(TurnCase::GoOn(case))),
-        None => Ok(None),
-    }
+    local_case(alloc, &cell.desk, &cell.mounts)
 }
 
 // What becomes of the zone's mounts and limits.
@@ -186,7 +105,7 @@ pub fn local_turn(
     ensures same { IfOk result (λ o. o ≡ None → IsAsItWas cell.old cell.new) }
     ensures memory { OnErr result (IsAsItWas cell.old cell.new) }
 {
-    let Some(case) = local_case(alloc, cell)? else {
+    let Some(case) = next_local(alloc, cell)? else {
         return Ok(None);
     };
     let event = Event::Turn {

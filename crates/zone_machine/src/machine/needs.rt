@@ -1,16 +1,16 @@
 //! What a case asks of the pools.
 ghost use Rattle.std.specs.Prelude.{◌∷◌, ◌≡◌, []};
 ghost use Rattle.zone_pools.specs.Decisions.{asked_of};
-ghost use Rattle.zone_machine.specs.Code.Cases.{IsCaseOf, IsTurnOf, asked_for, decision_of, job_turn, turn_decision_of};
-ghost use Rattle.zone_machine.specs.Daemon.Desks as desks;
+ghost use Rattle.zone_machine.specs.Code.Cases.{IsCaseOf, decision_of};
+ghost use Rattle.zoneadmd_steps.specs.Code.Cases.{IsTurnOf, asked_for, job_turn, turn_decision_of};
+ghost use Rattle.zoneadmd_steps.specs.Desks as desks;
 ghost use Rattle.zone_machine.specs.Code.Needs.{asked_by};
-ghost use Rattle.zone_machine.specs.declared.daemon.desks.Desk as desk_types;
-ghost use Rattle.zone_machine.specs.declared.daemon.desks.Job as job_types;
+ghost use Rattle.zoneadmd_steps.specs.declared.desks.Desk as desk_types;
+ghost use Rattle.zoneadmd_steps.specs.declared.desks.Job as job_types;
 
 use crate::cases::Case;
-use crate::daemon::cases::{JobCase, TurnCase};
-use crate::objects::changes::Came;
 use zone_config::Property;
+use zoneadmd_steps::{Came, JobCase, TurnCase};
 
 /// What an event asks.
 #[derive(Clone, Copy)]

@@ -11,7 +11,7 @@ ghost use Rattle.zone_machine.specs.Code.Reads.{decide_read, global_read, subjec
 ghost use Rattle.zone_machine.specs.Code.Decided.{IsCaseIn, IsCellAt, entry_by, entry_of, head_of, own_subject};
 ghost use Rattle.zone_machine.specs.Code.Rooms.{IsFreeOf};
 ghost use Rattle.zone_machine.specs.Code.Steps.{AsItWas, IsAllowed, IsGrantFor, IsStep, IsStepUnder, IsTaken, IsUnfit, Leaves};
-ghost use Rattle.zone_machine.specs.Daemon.Desks.{state_of};
+ghost use Rattle.zoneadmd_steps.specs.Desks.{state_of};
 ghost use Rattle.zone_machine.specs.Machine.{decide, global_reply, opening};
 ghost use Rattle.zone_machine.specs.State.{State};
 ghost use Rattle.zone_machine.specs.State.Decisions.{act_of, says};
@@ -331,16 +331,18 @@ impl Parts {
     }
 
     /// An event that is lent is answered, under the grant that the pools give it.
+    #[tactic(auto, unfolding(crate::specs::Machine::decide))]
     pub(crate) fn answer(&mut self, alloc: Global, event: &Event) -> Result<Answer, StepFault>
         ensures ok { IfOk result (λ answer. IsStepUnder None self.old event.now (entry_by event.now answer) self.new) }
         ensures fault { IfErr result (λ fault. Leaves fault None self.old event.now self.new) }
     {
         match event {
             Event::Session { .. } => self.answer_line(alloc, event),
-            Event::Turn { zone } | Event::Process { zone, .. } => self.answer_own(
+            Event::Turn { zone } => self.answer_own(alloc, event, Read::Turn(zone), zone),
+            Event::Process { zone, pid, call } => self.answer_own(
                 alloc,
                 event,
-                read_event(event),
+                Read::Process(zone, *pid, call),
                 zone,
             ),
         }
@@ -371,7 +373,7 @@ impl Parts {
         ensures { result ≡ (world_or_empty (row_in zone.now self.now.shared) (cell_at zone.now self.now)).desk.active }
     {
         match self.cells.get(zone) {
-            Some(cell) => cell.desk.active,
+            Some(cell) => cell.desk.active(),
             None => None,
         }
     }

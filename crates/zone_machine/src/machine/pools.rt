@@ -1,12 +1,11 @@
 //! What the pools give that all zones share, and which grants may be stated.
-ghost use Rattle.std.specs.Prelude.{◌≡◌, ◌&&◌, ◌∷◌, [], ◌+◌, bytes_eq, not, slice_get, if◌then◌else◌};
+ghost use Rattle.std.specs.Prelude.{◌≡◌, ◌&&◌, ◌∷◌, [], ◌+◌, slice_get, if◌then◌else◌};
 ghost use Rattle.std.specs.List.{list_any};
-ghost use Rattle.zone_pools.specs.Asked.{A_path, A_pid, A_serial, A_zid, A_zone};
+ghost use Rattle.zone_pools.specs.Asked.{A_path, A_serial, A_zone};
 ghost use Rattle.commit_journal.specs.Zones.{rows_of};
-ghost use Rattle.zone_machine.specs.Code.Needs.{pools_in, takes_path};
-ghost use Rattle.zone_machine.specs.Code.Needs.{asked_by};
+ghost use Rattle.zone_machine.specs.Code.Needs.{pools_in, takes_path, asked_by};
 ghost use Rattle.zone_machine.specs.Machine.Pools.{is_path, path_taken};
-ghost use Rattle.zone_pools.specs.Pools.{fits_asked, fits_pool, has_place, has_room, is_pool, next_free, numbered, said_by_all};
+ghost use Rattle.zone_pools.specs.Pools.{fits_asked, fits_pool, has_place, has_room, is_pool, said_by_all};
 
 use crate::machine::needs::Need;
 use crate::machine::shared::Shared;

@@ -1,20 +1,18 @@
 //! Room for what a case puts into its cell and into the shared part, taken before anything is changed.
 ghost use Rattle.std.specs.Prelude.{◌≡◌, OnOk};
-ghost use Rattle.zone_machine.specs.Code.Desks.{as_desk};
+ghost use Rattle.zoneadmd_steps.specs.Code.Desks.{as_desk};
 ghost use Rattle.zone_machine.specs.Code.Cases.{IsCaseOf, decision_of};
-ghost use Rattle.zone_machine.specs.Code.Rooms.{HasRoomFor};
-ghost use Rattle.zone_machine.specs.Code.Works.{objects_of, turn_objects};
+ghost use Rattle.zone_machine.specs.Code.Rooms.{HasRoomFor, Alike, HasRoom, HasRoomIfSits, HasRoomToChange, HasRoomToStore};
+ghost use Rattle.zone_machine.specs.Code.Works.{objects_of};
+ghost use Rattle.zoneadmd_steps.specs.Code.Cases.{turn_objects};
 ghost use Rattle.zone_machine.specs.Code.Needs.{asked_by};
-ghost use Rattle.zone_machine.specs.Code.Rooms.{Alike, HasRoom, HasRoomIfSits, HasRoomToChange, HasRoomToStore};
 
 use crate::cases::Case;
-use crate::daemon::cases::{JobCase, TurnCase};
-use crate::daemon::desks::Desk;
 use crate::machine::cell::Cell;
 use crate::machine::needs::{Need, need_of};
 use crate::machine::shared::Shared;
-use crate::objects::changes::ObjectEdit;
 use std::alloc::AllocError;
+use zoneadmd_steps::{Desk, JobCase, ObjectEdit, TurnCase};
 
 /// Room for what the case puts on the desk: a request that waits, or a step that a failure undoes.
 pub(crate) fn room_on_desk(desk: &mut Desk, case: &Case) -> Result<(), AllocError>
@@ -23,12 +21,12 @@ pub(crate) fn room_on_desk(desk: &mut Desk, case: &Case) -> Result<(), AllocErro
     ensures of { IsCaseOf desk.old case.now → IsCaseOf desk.new case.now }
     ensures room { OnOk result (HasRoomFor desk.new case.now) }
 {
-    match (case, &mut desk.job) {
-        (Case::Put(_, _), _) => desk.waiting.reserve(1),
-        (Case::Turn(TurnCase::GoOn(JobCase::Pass(_) | JobCase::Ask(_, _))), Some(job)) => {
-            job.undo.reserve(1)
-        }
-        _ => Ok(()),
+    match case {
+        Case::Put(_, _) => desk.reserve(),
+        Case::Turn(case) => desk.reserve_turn(case),
+        Case::Says(_) | Case::Tells(_) | Case::Change(_) | Case::Fork(_) | Case::Make(_, _) => Ok(
+            (),
+        ),
     }
 }
 

@@ -19,7 +19,6 @@ ghost use Rattle.zone_pools.specs.Decisions.{asked_of};
 
 use crate::calls::decide_call;
 use crate::cases::Case;
-use crate::daemon::turn_cases::decide_turn;
 use crate::events::{Entry, Event, Subject};
 use crate::faults::StepFault;
 use crate::machine::cell::Cell;
@@ -37,6 +36,7 @@ use commit_journal::Record;
 use std::alloc::{AllocError, Global};
 use zn_base::ZoneName;
 use zone_pools::Grant;
+use zoneadmd_steps::decide_turn;
 
 // The case of an event of a zone, by its cell and what is stored of it.
 #[tactic(auto, unfolding(crate::specs::State::Worlds::view_of))]

@@ -7,17 +7,16 @@ ghost use Rattle.zn_base.specs.Text.{is_text};
 ghost use Rattle.zone_config.specs.Edits.{with_property};
 ghost use Rattle.zone_pools.specs.Decisions.{Just};
 ghost use Rattle.zone_machine.specs.Code.Cases.{IsCaseOf, IsNamedCase, decision_of};
-ghost use Rattle.zone_machine.specs.Code.Desks.{as_desk};
+ghost use Rattle.zoneadmd_steps.specs.Code.Desks.{as_desk};
 ghost use Rattle.zone_machine.specs.Code.Lines.{as_command};
 ghost use Rattle.zone_machine.specs.State.{Awaiting};
-ghost use Rattle.zone_machine.specs.Session.Typed.{idle_line, is_full, made_config, make, make_with, put_request, typed};
+ghost use Rattle.zone_machine.specs.Session.Typed.{idle_line, made_config, make, make_with, put_request, typed};
+ghost use Rattle.zoneadmd_steps.specs.Desks.{is_full};
 ghost use Rattle.zone_machine.specs.State.Worlds.{View};
-ghost use Rattle.zone_machine.specs.declared.daemon.desks.Desk as desk_types;
+ghost use Rattle.zoneadmd_steps.specs.declared.desks.Desk as desk_types;
 
 use crate::calls::signal_case;
 use crate::cases::Case;
-use crate::daemon::RequestKind;
-use crate::daemon::desks::{Desk, REQUESTS_MAX, TICKET_MAX};
 use crate::replies::{Head, Refusal};
 use crate::session::lines::Command;
 use commit_journal::Record;
@@ -27,6 +26,7 @@ use std::alloc::{AllocError, Global};
 use uuid::Uuid;
 use zn_base::{Text, TextFault, Value, ZoneName, ZoneState};
 use zone_config::{ZoneConfig, blank};
+use zoneadmd_steps::{Desk, RequestKind};
 
 fn refused(refusal: Refusal) -> Case
     ensures { result ≡ Case.Says (Head.Refused refusal) }
@@ -112,12 +112,6 @@ fn make_case(
     }
 }
 
-fn is_full(desk: &Desk) -> bool
-    ensures { result ≡ is_full (as_desk desk.now) }
-{
-    desk.waiting.len() >= REQUESTS_MAX || desk.last == TICKET_MAX
-}
-
 // A request is put on the desk of a zone that is stored.
 fn put_case(
     alloc: Global,
@@ -133,7 +127,7 @@ fn put_case(
     if row.is_none() {
         return Ok(refused(Refusal::NoZone));
     }
-    if is_full(desk) {
+    if desk.is_full() {
         return Ok(refused(Refusal::DeskFull));
     }
     Ok(Case::Put(kind, zone.copy(alloc)?))

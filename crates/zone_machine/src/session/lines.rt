@@ -6,9 +6,9 @@ ghost use Rattle.zone_pools.specs.Firsts.{first_of, is_nil};
 ghost use Rattle.zone_machine.specs.Session.Lines.{after_word, begins_token, command_by, command_of, is_space, is_word, is_word_byte, kill_command, line_of, path_word, request_word, tool_command, word_after_flag, words, zone_command, zoneadm_command, zonecfg_command};
 ghost use Rattle.zone_machine.specs.Code.Lines.{BeginsWord, EndsWord, GivesRest, GivesWord, IsWordFirst, as_command, as_line, as_word};
 
-use crate::daemon::RequestKind;
 use kernel_objects::Signal;
 use process_calls::{pid_in, signal_in};
+use zoneadmd_steps::RequestKind;
 
 /// What a line asks for.
 #[derive(Clone, Copy)]

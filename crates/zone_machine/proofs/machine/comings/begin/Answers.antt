@@ -1,6 +1,6 @@
 use Rattle.kernel_objects.specs.Processes.{process_of}
 use Rattle.zone_machine.proofs.Kernel_doing.{does_begin, none_owner}
-use Rattle.zone_machine.proofs.Results.{on_err_both, on_ok_both}
+use Rattle.zoneadmd_steps.proofs.Results.{on_err_both, on_ok_both}
 use Rattle.zone_machine.proofs.Rooms_laws.{alike_kernels}
 use Rattle.zone_machine.proofs.machine.comings.begin.Goals as goal
 

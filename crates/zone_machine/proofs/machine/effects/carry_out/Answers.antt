@@ -1,7 +1,8 @@
 use Rattle.std.proofs.Common.{map}
 use Rattle.zone_machine.proofs.Doing_laws.{does_then, kept_apart}
-use Rattle.zone_machine.specs.Code.Cases.{object_edits}
-use Rattle.zone_machine.specs.Code.Works.{arrival_of, sits}
+use Rattle.zoneadmd_steps.specs.Code.Cases.{object_edits}
+use Rattle.zoneadmd_steps.specs.Code.Works.{arrival_of}
+use Rattle.zone_machine.specs.Code.Works.{sits}
 use Rattle.zone_machine.specs.Machine.Common.{came_common}
 use Rattle.zone_machine.specs.State.Decisions.{after_came_world, sweeps}
 use Rattle.zone_machine.specs.State.Edits.{Of_objects, edits_world}

@@ -1,10 +1,9 @@
-use Rattle.std.proofs.Common.{map}
-use Rattle.zone_machine.specs.Code.Cases.{object_edits}
+use Rattle.std.proofs.Common.{map, refl}
+use Rattle.zoneadmd_steps.specs.Code.Cases.{object_edits}
 use Rattle.zone_machine.specs.State.Edits.{Of_objects, edits_world}
-use Rattle.zone_machine.specs.declared.objects.changes.ObjectEdit.TheVariants.{ClearLimits, SetLimits}
-use Rattle.std.proofs.Common.{refl}
+use Rattle.zoneadmd_steps.specs.declared.objects.changes.ObjectEdit.TheVariants.{ClearLimits, SetLimits}
 use Rattle.kernel_objects.specs.Kernel.{cleared}
-use Rattle.zone_machine.specs.Daemon.Turns.{default_limits}
+use Rattle.zoneadmd_steps.specs.Turns.{default_limits}
 use Rattle.zone_machine.proofs.Kernel_doing.{does_limits}
 use Rattle.zone_machine.proofs.machine.effects.edit_objects.Goals as goal
 

@@ -3,10 +3,10 @@ use Rattle.std.specs.List.{list_any}
 use Rattle.kernel_objects.specs.Processes.{has_pid}
 use Rattle.zone_machine.proofs.Kernel_doing.{does_go, none_of}
 use Rattle.zone_machine.proofs.Lists_laws.{none_left}
-use Rattle.zone_machine.specs.Code.Cases.{object_edits}
+use Rattle.zoneadmd_steps.specs.Code.Cases.{object_edits}
 use Rattle.zone_machine.specs.Code.Cells.{cell_world, row_in}
 use Rattle.zone_machine.specs.State.Edits.{Of_objects, edits_world}
-use Rattle.zone_machine.specs.declared.objects.changes.ObjectEdit.TheVariants.{EndProcesses}
+use Rattle.zoneadmd_steps.specs.declared.objects.changes.ObjectEdit.TheVariants.{EndProcesses}
 use Rattle.zone_machine.proofs.machine.effects.end_processes.Goals as goal
 
 pub returns-clause-does : goal.returns-clause-does

@@ -4,7 +4,7 @@ use Rattle.zone_machine.proofs.Local_doing.{after, settled}
 use Rattle.zone_machine.specs.Code.Cases.{decision_of}
 use Rattle.zone_machine.specs.Code.Cells.{cell_world}
 use Rattle.zone_machine.specs.State.Decisions.{act_of}
-use Rattle.zone_machine.specs.Code.Desks.{as_desk}
+use Rattle.zoneadmd_steps.specs.Code.Desks.{as_desk}
 use Rattle.zone_machine.specs.declared.cases.Case.TheVariants.{Turn}
 use Rattle.zone_machine.proofs.machine.local_turns.do_local.Goals as goal
 

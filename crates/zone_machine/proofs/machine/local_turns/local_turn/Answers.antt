@@ -1,5 +1,5 @@
 use Rattle.zone_machine.proofs.Local_doing.{answered-same, done-local, none-local}
-use Rattle.zone_machine.specs.Code.Cases.{turn_decision_of}
+use Rattle.zoneadmd_steps.specs.Code.Cases.{turn_decision_of}
 use Rattle.zone_machine.proofs.machine.local_turns.local_turn.Goals as goal
 
 pub returns-clause-some : goal.returns-clause-some

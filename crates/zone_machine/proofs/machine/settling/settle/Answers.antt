@@ -1,4 +1,7 @@
-use Rattle.zone_machine.specs.Code.Desks.{as_desk}
+use Rattle.zoneadmd_steps.specs.Code.Desks.{as_desk}
+use Rattle.std.proofs.Common.{sym, ◌∙◌}
+use Rattle.zone_machine.proofs.Turned_laws.{settled_turn, works_same}
+use Rattle.zoneadmd_steps.specs.Code.Cases.{turn_decision_of}
 use Rattle.zone_machine.proofs.machine.settling.settle.Goals as goal
 
 pub returns-in-Make-clause-works : goal.returns-in-Make-clause-works
@@ -6,3 +9,8 @@ returns-in-Make-clause-works c = λ n v desk. rw c.in-Make.is (c.make.ensures.wo
 
 pub returns-in-Fork-clause-works : goal.returns-in-Fork-clause-works
 returns-in-Fork-clause-works c = λ n v desk. rw c.in-Fork.is (c.fork.ensures.works n v c.args.desk.now (as_desk c.args.desk.now) desk)
+
+pub returns-in-Turn-clause-works : goal.returns-in-Turn-clause-works
+returns-in-Turn-clause-works c = λ n v is. rw c.in-Turn.is
+    (works_same n _ v (as_desk c.settle_turn.new.desk) c.of_turn.result
+    (settled_turn (turn_decision_of c.args.desk.now c.in-Turn.case) c.args.grant c.settle_turn.result (as_desk c.settle_turn.new.desk) c.settle_turn.ensures.act ∙ sym (c.of_turn.ensures.act (as_desk c.settle_turn.new.desk))))

@@ -1,5 +1,5 @@
 use Rattle.zone_pools.specs.Pools.{has_room}
-use Rattle.zone_machine.proofs.Results.{on_err_always}
+use Rattle.zoneadmd_steps.proofs.Results.{on_err_always}
 use Rattle.std.proofs.Common.{◌≡◌, ◌∙◌, ap, subst, sym}
 use Rattle.std.specs.Prelude.{IfSome, nat_eq}
 use Rattle.zone_pools.specs.Owners.{owner}
@@ -11,7 +11,8 @@ use Rattle.zone_machine.specs.Code.Cases.{IsCaseOf, decision_of}
 use Rattle.zone_machine.specs.Code.Cells.{Does}
 use Rattle.zone_machine.specs.Code.Needs.{pools_in}
 use Rattle.zone_machine.specs.Code.Rooms.{IsFreeOf, IsOpenTo}
-use Rattle.zone_machine.specs.Code.Works.{in_store, rest_of}
+use Rattle.zoneadmd_steps.specs.Arrivals.{in_store}
+use Rattle.zone_machine.specs.Code.Works.{rest_of}
 use Rattle.zone_machine.specs.Machine.Common.{came_common}
 use Rattle.zone_machine.specs.Machine.{session_number}
 use Rattle.zone_machine.specs.State.Decisions.{act_of, acts_world}

@@ -1,6 +1,6 @@
 use Rattle.std.proofs.Common.{◌≡◌, Some, ap, refl}
 use Rattle.indexmap.specs.IndexMap.{with_value_at}
-use Rattle.zone_machine.proofs.Results.{if_ok, on_err}
+use Rattle.zoneadmd_steps.proofs.Results.{if_ok, on_err}
 use Rattle.zone_machine.proofs.Stepping.{AsItWas-cell, IsStep-cell, Keeps-at, here_at}
 use Rattle.zone_machine.specs.Code.Cells.{cell_at, world_or_empty}
 use Rattle.zone_machine.specs.Code.Decided.{entry_of}

@@ -1,5 +1,5 @@
 use Rattle.std.proofs.Common.{None, ap, sym}
-use Rattle.zone_machine.proofs.Results.{if_ok}
+use Rattle.zoneadmd_steps.proofs.Results.{if_ok}
 use Rattle.zone_machine.proofs.Stepping.{same_none, taken_read}
 use Rattle.zone_machine.specs.Code.Cells.{world_or_empty}
 use Rattle.zone_machine.specs.Code.Reads.{decide_read}

@@ -1,4 +1,0 @@
-use Rattle.zone_machine.proofs.machine.local_turns.+local_step.Goals as goal
-
-pub returns-in_ok-mount_root-in-Root-clause-of : goal.returns-in_ok-mount_root-in-Root-clause-of
-returns-in_ok-mount_root-in-Root-clause-of n c = c.in_ok-mount_root-in-Root.ensures.of c.args.job.now

@@ -1,4 +1,0 @@
--- A zone's daemon: its desk, the plans of requests, and what one turn does.
-pub mod Desks
-pub mod Plans
-pub mod Turns

@@ -1,0 +1,5 @@
+-- What the code's values stand for, and what it does to them.
+pub mod Desks
+pub mod Cases
+pub mod Rooms
+pub mod Works

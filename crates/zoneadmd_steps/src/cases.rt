@@ -1,0 +1,40 @@
+//! What a turn of a zone's daemon comes to. A case is decided before anything is changed, and holds all that its turn
+//! needs. What is large and rare in it is boxed, so that it is handed on at little cost.
+use crate::desks::Job;
+use crate::objects::changes::{Came, ObjectEdit};
+use crate::requests::{Outcome, RequestKind, Step};
+use zn_base::ZoneState;
+
+/// A step that is done: the place of the next one, what becomes of the objects, and the step as it is told.
+#[derive(Drop)]
+pub struct Pass {
+    pub next: usize,
+    pub objects: ObjectEdit,
+    pub shown: Step,
+}
+
+/// What a turn of the request under way comes to.
+#[derive(Drop)]
+pub enum JobCase {
+    /// The request ends.
+    Finish(Outcome),
+    /// A step is done.
+    Pass(Pass),
+    /// A step asks a pool for what comes; then the plan goes on at this place.
+    Ask(Came, usize),
+    /// The latest step that is to be undone is undone.
+    Undo(ObjectEdit),
+}
+
+/// What a turn of a zone's daemon comes to.
+#[derive(Drop)]
+pub enum TurnCase {
+    /// No request waits or is under way.
+    Idle,
+    /// The first request that waits begins.
+    Begin(Box<Job>, RequestKind),
+    /// The first request that waits, of this ticket, may not begin in this state.
+    Refuse(u32, ZoneState),
+    /// The request under way goes on.
+    GoOn(JobCase),
+}
