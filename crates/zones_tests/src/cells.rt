@@ -1,90 +1,168 @@
 //! Each call on a zone's cell and on what zones share once, where memory is there.
-use std::alloc::Global;
+use std::alloc::{AllocError, Global};
+use std::process::Abort;
 use std::test::Fail;
 use zn_base::{Text, TextFault, ZoneName};
 use zone_machine::{
-    Cell, Event, Head, RequestKind, Shared, Step, TurnReply, cell_step, cell_step_given, local_turn,
+    Cell, Entry, Event, Head, Shared, StepFault, cell_step, cell_step_given, local_turn,
 };
 use zone_pools::Grant;
+use zoneadmd_steps::{RequestKind, Step, TurnReply};
+
+// What is done to the zone, or looked at.
+#[derive(Clone, Copy)]
+enum Deed {
+    Make,
+    Install,
+    Turn,
+    TurnAlone,
+    // Whether the cell has nothing.
+    Look,
+}
+
+// What it came to.
+#[derive(Clone, Copy, PartialEq, Eq)]
+enum Came {
+    Done(Grant),
+    Ticket(u32),
+    BeganInstall(u32),
+    Hook,
+    NotLocal,
+    IsEmpty(bool),
+    Else,
+}
+
+// What is done goes through helpers without contracts, so that no test's proof follows what the cell holds.
+fn told(entry: &Entry) -> Came {
+    match &entry.reply.head {
+        Head::Ok => Came::Done(entry.grant),
+        Head::Ticket(ticket) => Came::Ticket(*ticket),
+        Head::Turned(TurnReply::Began(ticket, RequestKind::Install)) => Came::BeganInstall(*ticket),
+        Head::Turned(TurnReply::Stepped(Step::Hook(_))) => Came::Hook,
+        _ => Came::Else,
+    }
+}
+
+fn answered(answer: Result<Entry, StepFault>) -> Result<Came, StepFault> {
+    let entry = answer?;
+    Ok(told(&entry))
+}
+
+const MAKING: &[u8] = b"zonecfg -z a create -b; set zonepath=/zones/a; set brand=ipkg";
+
+const INSTALLING: &[u8] = b"zoneadm -z a install";
 
 fn typed(alloc: Global, line: &[u8]) -> Result<Event, TextFault> {
     let text = Text::read(alloc, line)?;
     Ok(Event::Session { number: 1, text })
 }
 
-// What is done goes through helpers without contracts, so that no test's proof follows what the cell holds.
-fn is_made(
-    alloc: Global,
-    zone: &ZoneName,
-    cell: &mut Cell,
-    shared: &mut Shared,
-) -> Result<bool, Fail> {
-    let line = b"zonecfg -z a create -b; set zonepath=/zones/a; set brand=ipkg";
-    let entry = cell_step(alloc, zone, cell, shared, typed(alloc, line)?)?;
-    Ok(entry.grant == Grant::Number(1) && matches!(entry.reply.head, Head::Ok))
+// The zone `a` with its cell, and what zones share once.
+struct Zone {
+    name: ZoneName,
+    cell: Cell,
+    shared: Shared,
 }
 
-fn is_asked_for(
-    alloc: Global,
-    zone: &ZoneName,
-    cell: &mut Cell,
-    shared: &mut Shared,
-) -> Result<bool, Fail> {
-    let event = typed(alloc, b"zoneadm -z a install")?;
-    let entry = cell_step_given(alloc, zone, cell, shared, event, Grant::Nothing)?;
-    Ok(matches!(entry.reply.head, Head::Ticket(1)))
+impl Drop for Zone {
+    fn drop(self) {
+        let Zone {
+            name: _name,
+            cell: _cell,
+            shared: _shared,
+        } = self;
+    }
 }
 
-fn is_begun(
-    alloc: Global,
-    zone: &ZoneName,
-    cell: &mut Cell,
-    shared: &mut Shared,
-) -> Result<bool, Fail> {
-    let event = Event::Turn {
-        zone: zone.copy(alloc)?,
-    };
-    let entry = cell_step(alloc, zone, cell, shared, event)?;
-    Ok(matches!(
-        entry.reply.head,
-        Head::Turned(TurnReply::Began(1, RequestKind::Install))
-    ))
+impl Zone {
+    fn new(alloc: Global) -> Result<Box<Zone>, Fail> {
+        let name = ZoneName::read(alloc, b"a")?;
+        let zone = Zone {
+            name,
+            cell: Cell::new(alloc),
+            shared: Shared::new(alloc),
+        };
+        Ok(Box::new(alloc, zone)?)
+    }
+
+    fn step(&mut self, alloc: Global, event: Event) -> Result<Came, StepFault> {
+        answered(cell_step(alloc, &self.name, &mut self.cell, &mut self.shared, event))
+    }
+
+    fn step_given(&mut self, alloc: Global, event: Event, grant: Grant) -> Result<Came, StepFault> {
+        answered(cell_step_given(
+            alloc,
+            &self.name,
+            &mut self.cell,
+            &mut self.shared,
+            event,
+            grant,
+        ))
+    }
+
+    // The next turn, where it is local.
+    fn turn_alone(&mut self, alloc: Global) -> Result<Came, AllocError> {
+        Ok(match local_turn(alloc, &self.name, &mut self.cell)? {
+            Some(entry) => told(&entry),
+            None => Came::NotLocal,
+        })
+    }
+
+    fn turn(&self, alloc: Global) -> Result<Event, AllocError> {
+        Ok(Event::Turn {
+            zone: self.name.copy(alloc)?,
+        })
+    }
+
+    fn does(&mut self, alloc: Global, deed: Deed) -> Result<Came, Fail> {
+        Ok(match deed {
+            Deed::Make => self.step(alloc, typed(alloc, MAKING)?)?,
+            Deed::Install => self.step_given(alloc, typed(alloc, INSTALLING)?, Grant::Nothing)?,
+            Deed::Turn => {
+                let event = self.turn(alloc)?;
+                self.step(alloc, event)?
+            }
+            Deed::TurnAlone => self.turn_alone(alloc)?,
+            Deed::Look => Came::IsEmpty(self.cell.is_empty()),
+        })
+    }
 }
 
-// Whether the next turn is local, and steps through a hook.
-fn is_hooked(alloc: Global, zone: &ZoneName, cell: &mut Cell) -> Result<bool, Fail> {
-    let Some(entry) = local_turn(alloc, zone, cell)? else {
-        return Ok(false);
-    };
-    Ok(matches!(
-        entry.reply.head,
-        Head::Turned(TurnReply::Stepped(Step::Hook(_)))
-    ))
+type Row = (Deed, Came);
+
+// The zone is borrowed, so that no exit drops what it owns.
+fn do_all<R: Abort + AllocGlobal>(rt: &R, zone: &mut Zone, rows: &[Row]) -> Result<(), Fail> {
+    for (at, (deed, wanted)) in rows.iter().enumerate() {
+        assert!(rt; zone.does(rt.alloc(), *deed)? == *wanted, "{at}");
+    }
+    Ok(())
 }
+
+const EVENTS: &[Row] = &[
+    (Deed::Make, Came::Done(Grant::Number(1))),
+    (Deed::Look, Came::IsEmpty(true)),
+    (Deed::Install, Came::Ticket(1)),
+    (Deed::Look, Came::IsEmpty(false)),
+];
 
 #[test]
 fn an_event_of_a_zone_needs_its_cell_alone(rt: HostRuntime) -> Result<(), Fail> {
-    let zone = ZoneName::read(rt.alloc(), b"a")?;
-    let mut cell = Cell::new(rt.alloc());
-    let mut shared = Shared::new(rt.alloc());
-    assert!(rt; is_made(rt.alloc(), &zone, &mut cell, &mut shared)?);
-    assert!(rt; cell.is_empty());
-    assert!(rt; is_asked_for(rt.alloc(), &zone, &mut cell, &mut shared)?);
-    assert!(rt; !cell.is_empty());
-    Ok(())
+    let mut zone = Zone::new(rt.alloc())?;
+    do_all(&rt, &mut zone, EVENTS)
 }
+
+// A request begins with what is stored, and a new state is stored: neither is local.
+const TURNS: &[Row] = &[
+    (Deed::Make, Came::Done(Grant::Number(1))),
+    (Deed::Install, Came::Ticket(1)),
+    (Deed::TurnAlone, Came::NotLocal),
+    (Deed::Turn, Came::BeganInstall(1)),
+    (Deed::TurnAlone, Came::Hook),
+    (Deed::TurnAlone, Came::NotLocal),
+];
 
 #[test]
 fn a_local_turn_needs_nothing_shared(rt: HostRuntime) -> Result<(), Fail> {
-    let zone = ZoneName::read(rt.alloc(), b"a")?;
-    let mut cell = Cell::new(rt.alloc());
-    let mut shared = Shared::new(rt.alloc());
-    assert!(rt; is_made(rt.alloc(), &zone, &mut cell, &mut shared)?);
-    assert!(rt; is_asked_for(rt.alloc(), &zone, &mut cell, &mut shared)?);
-    // A request begins with what is stored, and a new state is stored: neither is local.
-    assert!(rt; !is_hooked(rt.alloc(), &zone, &mut cell)?);
-    assert!(rt; is_begun(rt.alloc(), &zone, &mut cell, &mut shared)?);
-    assert!(rt; is_hooked(rt.alloc(), &zone, &mut cell)?);
-    assert!(rt; !is_hooked(rt.alloc(), &zone, &mut cell)?);
-    Ok(())
+    let mut zone = Zone::new(rt.alloc())?;
+    do_all(&rt, &mut zone, TURNS)
 }

@@ -12,6 +12,8 @@ mod limits;
 #[cfg(test)]
 mod machine;
 #[cfg(test)]
+mod processes;
+#[cfg(test)]
 mod replies;
 #[cfg(test)]
 mod runs;

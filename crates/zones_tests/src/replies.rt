@@ -5,10 +5,9 @@ use std::process::Abort;
 use std::test::Fail;
 use trace_text::{LineFault, print_reply};
 use zn_base::{AbsPath, Bytes, Listing, NameFault, Text, ZoneName, ZoneState};
-use zone_machine::{
-    Body, Change, ChangeKind, Head, Outcome, Refusal, Reply, RequestKind, Step, Subject, TurnReply,
-};
+use zone_machine::{Body, Head, Refusal, Reply, Subject};
 use zone_pools::Pool;
+use zoneadmd_steps::{Change, ChangeKind, Outcome, RequestKind, Step, TurnReply};
 
 // The head of a reply, but for a mount that goes.
 #[derive(Clone, Copy)]
