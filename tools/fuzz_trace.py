@@ -1,46 +1,34 @@
 #!/usr/bin/env python3
 """Compares `zones trace` with the plain model in trace_model.py over random traces.
 
-    tools/fuzz_trace.py [--count N] [--seed S] [--program FILE]
+    tools/fuzz_trace.py [--count N] [--seed S] [--program FILE] [--objects]
     tools/fuzz_trace.py --self-test
-    tools/fuzz_trace.py --model-only [--count N] [--seed S]
+    tools/fuzz_trace.py --model-only [--count N] [--seed S] [--objects]
 
-Traces are made along the grammar (trace_maker.py, process_maker.py), with the model at hand so that most events do
-something, and then some are cut, joined or have bytes changed. The first input that differs is made as short as
-dropping lines and bytes makes it, and kept in fuzz-trace.input. It is no part of the gate.
+Traces are made along the grammar (trace_maker.py, process_maker.py, object_maker.py), with the model at hand so that
+most events do something, and then some are cut, joined or have bytes changed. The first input that differs is made as
+short as dropping lines and bytes makes it, and kept in fuzz-trace.input. It is no part of the gate.
+
+`--objects` makes lines of mounts, of holds on them and of declared items, which the program doesn't read yet. Without it
+none are made, and those that come about by a change are wrong ones: 101, 102 at the call's first word, 93.
 
 `--self-test` compares the model with replies that are known, and needs no program. Nor does `--model-only`, which
-shows what the traces would be answered.
+shows what the traces would be answered, and ends at a reply that has no form (reply_forms.py).
 """
 
 import collections
 import pathlib
 import random
-import re
 import subprocess
 import sys
 
+import object_rows
 import trace_model as model
 import trace_rows
 from arguments import arguments
+from object_maker import ObjectMaker
 from process_maker import ProcessMaker
-
-
-def kind_of(said):
-    """What is said, without the numbers that differ from trace to trace; codes stay."""
-    return re.sub(r"(?<!err )\b\d+\b", "N", said)
-
-
-def kind_of_line(line):
-    """The same of a line of the replies, without the zone and what a process is called or shows."""
-    subject, said = line.split(" ", 1)
-    if subject != "|":
-        return kind_of(said)
-    if re.match(r"\d+ \d+ ", said):
-        return "| N N NAME"
-    if said.startswith("child "):
-        return "| child N"
-    return "| PRIVILEGES" if said == "" or "," in said else "| WORD"
+from reply_forms import kind_of, kind_of_line, misformed
 
 
 def answer_of(program, data):
@@ -71,44 +59,66 @@ def shortest(data, differs):
 
 
 def self_test():
-    fault = trace_rows.fault()
+    fault = trace_rows.fault() or object_rows.fault()
     print("the model answers as it is known to" if fault is None else "the model differs: %s" % fault)
     return 0 if fault is None else 1
 
 
-def main():
-    args = arguments(__doc__, "self-test", "model-only")
-    if args.self_test:
-        return self_test()
-    maker = ProcessMaker(random.Random(args.seed))
+class Counts:
+    """How often each status, each line outside the grammar and each kind of reply came."""
 
-    def wanted(data):
-        return model.run(data)
+    def __init__(self):
+        self.statuses, self.faults, self.kinds = collections.Counter(), collections.Counter(), collections.Counter()
 
-    statuses, faults, kinds = collections.Counter(), collections.Counter(), collections.Counter()
-    traces = []
+    def add(self, status, out, err):
+        self.statuses[status] += 1
+        if status == 3:
+            self.faults[kind_of("err " + err.decode().strip().split(": ")[1])] += 1
+        self.kinds.update(kind_of_line(line) for line in out.decode().splitlines())
+
+    def show(self, what):
+        print("%s; by status %s" % (what, dict(sorted(self.statuses.items()))))
+        for title, counted in [("lines outside the grammar", self.faults), ("replies", self.kinds)]:
+            print("%s:" % title)
+            for kind, count in sorted(counted.items()):
+                print("%10d %s" % (count, kind))
+
+
+def difference(number, data, wanted, got):
+    """Keeps the input that differs, as short as it gets, and tells of it."""
+    data = shortest(data, lambda less: got(less) != wanted(less))
+    pathlib.Path("fuzz-trace.input").write_bytes(data)
+    return "input %d differs, in short (kept in fuzz-trace.input): %r\nmodel:   %r\nprogram: %r" % (
+        number, data, wanted(data), got(data))
+
+
+def compared(maker, args, wanted, got):
+    """What is wrong with the first trace of a run that isn't as it should be, or None, and what was counted."""
+    traces, counts = [], Counts()
     for number in range(args.count):
         data = maker.next(traces)
         if 0 < len(data) < 20000:
             traces = (traces + [data])[-200:]
         want = wanted(data)
-        got = want if args.model_only else answer_of(args.program, data)
-        if got != want:
-            data = shortest(data, lambda less: answer_of(args.program, less) != wanted(less))
-            pathlib.Path("fuzz-trace.input").write_bytes(data)
-            print("input %d differs, in short (kept in fuzz-trace.input): %r\nmodel:   %r\nprogram: %r" % (
-                number, data, wanted(data), answer_of(args.program, data)))
-            return 1
-        statuses[got[0]] += 1
-        if got[0] == 3:
-            faults[kind_of("err " + got[2].decode().strip().split(": ")[1])] += 1
-        kinds.update(kind_of_line(line) for line in got[1].decode().splitlines())
-    print("%d traces %s; by status %s" % (
-        args.count, "made" if args.model_only else "agree", dict(sorted(statuses.items()))))
-    for title, counted in [("lines outside the grammar", faults), ("replies", kinds)]:
-        print("%s:" % title)
-        for kind, count in sorted(counted.items()):
-            print("%10d %s" % (count, kind))
+        if misformed(want[1]) is not None:
+            return "input %d is answered by a line without a form: %r" % (number, misformed(want[1])), counts
+        if got is not None and got(data) != want:
+            return difference(number, data, wanted, got), counts
+        counts.add(*want)
+    return None, counts
+
+
+def main():
+    args = arguments(__doc__, "self-test", "model-only", "objects")
+    if args.self_test:
+        return self_test()
+    maker = (ObjectMaker if args.objects else ProcessMaker)(random.Random(args.seed), args.objects)
+    got = None if args.model_only else (lambda data: answer_of(args.program, data))
+    fault, counts = compared(maker, args, lambda data: model.run(data, args.objects), got)
+    if fault is not None:
+        print(fault)
+        return 1
+    counts.show("%d traces %s" % (args.count, "made" if args.model_only else "agree"))
     return 0
 
 

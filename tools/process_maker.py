@@ -1,6 +1,6 @@
 """Random traces for tools/fuzz_trace.py in which zones run and their processes make calls."""
 
-import trace_model as model
+import trace_lines
 from trace_maker import HEADS, NAMES, NO_NAMES, Maker
 from zone_lines import TURNS, done, installed, running
 
@@ -21,7 +21,7 @@ NO_PIDS = [
     "+2", "-2", "2x", "0x2", "2.0", "2,3", "\xb2", "init",
 ]
 EDGES = ["4294967295", "4294967296", "4294967298", "0", "02"]
-PRIVILEGES = list(model.PRIVILEGES)
+PRIVILEGES = list(trace_lines.PRIVILEGES)
 NO_PRIVILEGES = [
     "basic", "zone", "all", "default", "none", "proc", "proc_fork,proc_exec", "PROC_FORK", "!proc_fork", "proc_forks",
     "proc-fork", "{zone}", "sys_tim", "sys_time\r", "0", "21",
@@ -98,11 +98,16 @@ class ProcessMaker(Maker):
             return self.rng.choice(["proc_fork", "proc_exec"])
         return self.one_of(PRIVILEGES, NO_PRIVILEGES)
 
+    def unbuilt(self):
+        """The words of a call that isn't read."""
+        objects = [] if self.objects else [call.decode() for call in trace_lines.OBJECT_CALLS]
+        return (self.rng.choice(UNBUILT_FORMS) % self.rng.choice(trace_lines.UNBUILT + objects)).split(" ")
+
     def call(self, zone):
         """The words of a call."""
         rng = self.rng
         if rng.random() < self.slips / 4:
-            return (rng.choice(UNBUILT_FORMS) % rng.choice(model.UNBUILT)).split(" ")
+            return self.unbuilt()
         call = rng.choices(list(CALLS), CALLS.values())[0]
         if call in ("fork", "exec"):
             return [call, self.one_of(PROCESS_NAMES, NO_PROCESS_NAMES)]
@@ -279,7 +284,7 @@ class ProcessMaker(Maker):
             words = rng.choice([
                 ["fork", rng.choice(NO_PROCESS_NAMES)], ["exec", rng.choice(NO_PROCESS_NAMES)],
                 ["kill", rng.choice(NO_SIGNALS), pid], ["kill", "9", self.odd_pid()], ["kill", "0", self.odd_pid()],
-                ["drop", rng.choice(NO_PRIVILEGES)], (rng.choice(UNBUILT_FORMS) % rng.choice(model.UNBUILT)).split(" "),
+                ["drop", rng.choice(NO_PRIVILEGES)], self.unbuilt(),
             ])
             self.line(" ".join(["P", zone, rng.choice([pid, pid, pid, self.odd_pid()])] + words))
         if rng.random() < 0.5:

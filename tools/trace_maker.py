@@ -1,5 +1,6 @@
 """Random traces for tools/fuzz_trace.py: made along the grammar, and some of them cut, joined or with bytes changed."""
 
+import trace_lines
 import trace_model as model
 
 FORM = "zonecfg -z %s create -b; set zonepath=%s; set brand=ipkg"
@@ -56,16 +57,17 @@ HEADS = [
 
 
 class Maker:
-    """Makes traces without processes' calls. It runs each line by the model, to know what has a point next."""
+    """Makes traces without processes' calls. It runs each line by the model, to know what has a point next. `objects`
+    says whether the program knows the lines of mounts, of holds on them and of declared items."""
 
     heads = HEADS
 
-    def __init__(self, rng):
-        self.rng = rng
+    def __init__(self, rng, objects=True):
+        self.rng, self.objects = rng, objects
         self.begin(["web"], 1)
 
     def begin(self, names, sessions):
-        self.host = model.Host()
+        self.host = model.Host(self.objects)
         self.lines = []
         self.names = names
         self.sessions = self.rng.sample(range(1, 65), sessions)
@@ -73,8 +75,8 @@ class Maker:
     def line(self, text):
         self.lines.append(text)
         try:
-            event = model.event_of(text.encode("latin-1"))
-        except model.Outside:
+            event = self.host.read(text.encode("latin-1"))
+        except trace_lines.Outside:
             return
         if event is not None:
             self.host.answer(event)

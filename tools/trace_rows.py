@@ -108,9 +108,9 @@ def bounded(most, lines):
     """What a running zone's processes are answered where there may be `most` of them."""
     host = model.Host()
     for line in running("web"):
-        host.answer(model.event_of(line.encode()))
+        host.answer(host.read(line.encode()))
     host.limits[b"web"].most = most
-    return [said for line in lines for said in host.answer(model.event_of(line.encode()))[1]]
+    return [said for line in lines for said in host.answer(host.read(line.encode()))[1]]
 
 
 def fault():

@@ -1,0 +1,88 @@
+"""The forms that replies of `zones trace` have, and the kinds that tools/fuzz_trace.py counts them by.
+
+misformed(text) gives the first line of an output that has no form, or None; kind_of_line(line) names a line's form
+without what differs from trace to trace.
+"""
+
+import re
+
+NUMBER = r"(0|[1-9][0-9]*)"
+ZONE = r"[A-Za-z0-9][A-Za-z0-9_.-]{0,62}"
+PATH = r"/[!-~]*"
+ITEM = r"(link [\w./-]{1,63}|address [0-9.]{7,15}|dataset [\w./-]{1,63})"
+STATE = "(configured|incomplete|installed|ready|running|shutting_down|down)"
+POOL = "(pids|zids|zones|paths|store|links|addresses|datasets)"
+CODE = "|".join([
+    "1 Empty", "2 TooLong", "3 BadByte N", "4 Reserved", "23 BadValue", "24 Duplicate", "27 TooMany N", "34 NeedForce",
+    "71 TooManyMounts", "81 WrongState " + STATE, "82 Denied " + POOL, "90 NoZone", "91 Waiting N", "92 DeskFull",
+    "93 Usage", "96 HoldState", "98 NoProcess", "99 NoMount",
+])
+ERRNO = "ESRCH|EPERM|EAGAIN|EINVAL|ENOENT|EROFS|EBUSY|ENAMETOOLONG"
+STEP = "|".join([
+    "hook (before|after) (install|ready|boot|halt)", "record (incomplete|installed)", "copy [1-4]", "zid N", "limits",
+    "devices N", "root", "mount PATH", "ITEM", "state " + STATE, "init N", "kill N", "unmount PATH", "release ITEM",
+    "clear", "zidback N",
+])
+HEAD = "|".join([
+    "ok", "ticket N", "err (%s|%s)" % (CODE, ERRNO), "idle", "began N (install|boot|halt)", "step (%s)" % STEP,
+    "failed N: (%s)" % CODE, "undone (%s)" % STEP, "stuck unmount", "finished N (ok|err (%s))" % CODE,
+])
+MADE = [("N", NUMBER), ("PATH", PATH), ("ITEM", ITEM)]
+
+# What a line of a body is, the narrower forms first.
+BODIES = [
+    ("| child N", r"child N"),
+    ("| DIR TYPE ro or rw", r"PATH [A-Za-z0-9]{1,15} r[ow]"),
+    ("| N N NAME", r"N N [A-Za-z0-9_.-]{1,16}"),
+    ("| ITEM", r"ITEM"),
+    ("| PRIVILEGES", r"|[a-z_]+(,[a-z_]+)+"),
+    ("| PLACE", r"PATH"),
+    ("| <TYPE:PLACE>", r"<[A-Za-z0-9]{1,15}:[!-~]+>[!-~]*"),
+    ("| WORD", r"[!-~]+"),
+]
+
+
+def whole(form):
+    """A form whose words in capitals stand for what is made."""
+    for name, pattern in MADE:
+        form = re.sub(r"\b%s\b" % name, lambda _: pattern, form)
+    return re.compile("(?:%s)\\Z" % form)
+
+
+HEAD_LINE = whole(r"(?P<subject>\*|%s) (?P<head>%s)" % (ZONE, HEAD))
+BODY_LINES = [(kind, whole(form)) for kind, form in BODIES]
+
+
+def body_kind(said):
+    """The first form that a line of a body has, or None."""
+    return next((kind for kind, form in BODY_LINES if form.match(said)), None)
+
+
+def misformed(text):
+    """The first line of an output that has no form, that isn't ended, or that is a body without `ok` above it."""
+    lines = text.decode("latin-1").split("\n")
+    if lines.pop():
+        return "a last line without its newline"
+    has_body = False
+    for line in lines:
+        if line.startswith("| "):
+            if not has_body or body_kind(line[2:]) is None:
+                return line
+            continue
+        if not HEAD_LINE.match(line):
+            return line
+        has_body = line.endswith(" ok") and line.count(" ") == 1
+    return None
+
+
+def kind_of(said):
+    """What is said, without the numbers, directories and items that differ from trace to trace; codes stay."""
+    said = re.sub(r"(?<!err )\b\d+\b", "N", said)
+    said = re.sub(r"\b(mount|unmount) /.*", r"\1 DIR", said)
+    return re.sub(r"\b(link|address|dataset) .*", r"\1 ITEM", said)
+
+
+def kind_of_line(line):
+    """The same of a line of the replies, without its subject and what a body shows."""
+    subject, said = line.split(" ", 1)
+    return body_kind(said) or line if subject == "|" else kind_of(said)

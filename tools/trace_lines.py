@@ -1,0 +1,235 @@
+"""The lines of a trace, as the model in trace_model.py reads them: events, calls of processes, and what sessions type.
+
+event_of(line, started, objects) reads one line, typed(text, objects) what a session types. `objects` says whether
+the lines of mounts, of holds on them and of declared items are read; a program that doesn't know them refuses such a
+line at its first word.
+"""
+
+import re
+
+import export_model
+
+LAST_NUMBER = 4294967295
+SESSIONS = {b"%d" % number: number for number in range(1, 65)}
+
+# The privileges in their order, each with its class: D default, R required, O optional, P prohibited.
+PRIVILEGES = dict(named.split(":") for named in """
+    contract_event:D contract_identity:D contract_observer:D cpc_cpu:O dtrace_kernel:P dtrace_proc:O dtrace_user:O
+    file_chown:D file_chown_self:D file_dac_execute:D file_dac_read:D file_dac_search:D file_dac_write:D
+    file_link_any:D file_owner:D file_setid:D ipc_dac_read:D ipc_dac_write:D ipc_owner:D net_icmpaccess:D
+    net_privaddr:D net_rawaccess:O proc_audit:D proc_chroot:D proc_clock_highres:O proc_exec:R proc_fork:R proc_info:D
+    proc_lock_memory:O proc_owner:D proc_session:D proc_setid:D proc_taskid:D proc_zone:P sys_acct:D sys_admin:D
+    sys_config:P sys_devices:P sys_mount:R sys_time:O
+""".split())
+
+
+class Outside(Exception):
+    """A line outside the grammar, as the program prints it after `line N: `."""
+
+
+class Refused(Exception):
+    """A refusal, as the program prints it after `err `."""
+
+
+# Words.
+
+def name_fault(name):
+    """The first fault of a zone's name, or None."""
+    if not name:
+        return "1 Empty"
+    if len(name) > 63:
+        return "2 TooLong"
+    for place in range(len(name)):
+        letter = name[place:place + 1]
+        if not letter.isalnum() and (place == 0 or letter not in (b"_", b"-", b".")):
+            return "3 BadByte %d" % place
+    if name == b"global" or name[:4] == b"SUNW":
+        return "4 Reserved"
+    return None
+
+
+def bad_word(place):
+    raise Outside("102 BadWord %d" % place)
+
+
+class Words:
+    """The words of a line, read one after the other, each after one space."""
+
+    def __init__(self, line):
+        self.line, self.place = line, 0
+
+    def next(self, is_right):
+        """The next word, which has to be there and to be a right one."""
+        if self.place > len(self.line):
+            bad_word(len(self.line))
+        word = self.line[self.place:].split(b" ", 1)[0]
+        if not is_right(word):
+            bad_word(self.place)
+        self.place += len(word) + 1
+        return word
+
+    def more(self):
+        """Whether a word follows, be it an empty one."""
+        return self.place <= len(self.line)
+
+    def text(self):
+        """All that is left, which has to be printable."""
+        for place in range(self.place, len(self.line)):
+            if not 32 <= self.line[place] <= 126:
+                bad_word(place)
+        return self.line[self.place:]
+
+    def end(self):
+        if self.more():
+            bad_word(self.place)
+
+
+def form(pattern):
+    """Whether a word is wholly of a form."""
+    return lambda word: re.fullmatch(pattern, word) is not None
+
+
+is_process_name = form(rb"[A-Za-z0-9_.-]{1,16}")
+is_mount_type = form(rb"[A-Za-z0-9]{1,15}")
+is_word = form(rb"[!-~]+")
+is_item_name = form(rb"[A-Za-z0-9_./-]{1,63}")
+is_address = form(rb"(%s)(\.(%s)){3}" % ((rb"25[0-5]|2[0-4][0-9]|1[0-9]{2}|[1-9]?[0-9]",) * 2))
+
+
+def is_zone_name(word):
+    return name_fault(word) is None
+
+
+def is_number(word):
+    return re.fullmatch(rb"0|[1-9][0-9]{0,9}", word) is not None and int(word) <= LAST_NUMBER
+
+
+def is_signal(word):
+    return word in (b"0", b"9", b"15")
+
+
+def is_privilege(word):
+    return word.decode("latin-1") in PRIVILEGES
+
+
+def is_path(word):
+    return export_model.is_path(word.decode("latin-1"))
+
+
+# Calls of processes, each with what its other words have to be; `mount` has a reader of its own. The unbuilt ones are
+# wrong words until they move into one of these tables.
+CALLS = {
+    b"fork": [is_process_name],
+    b"exec": [is_process_name],
+    b"exit": [],
+    b"kill": [is_signal, is_number],
+    b"ps": [],
+    b"privs": [],
+    b"drop": [is_privilege],
+    b"zonename": [],
+    b"true": [],
+    b"false": [],
+}
+OBJECT_CALLS = {
+    b"mount": None,
+    b"umount": [is_path],
+    b"read": [is_path],
+    b"write": [is_path],
+    b"mounts": [],
+    b"links": [],
+    b"datasets": [],
+    b"devices": [],
+}
+UNBUILT = ["bootargs", "cons"]
+ITEMS = {b"link": is_item_name, b"address": is_address, b"dataset": is_item_name, b"device": is_path}
+
+
+def mount_of(words):
+    """TYPE SPECIAL DIR, and perhaps `ro`. SPECIAL is a word, so a byte that it may not have makes it a wrong one."""
+    fstype = words.next(is_mount_type)
+    special = words.next(is_path if fstype == b"lofs" else is_word)
+    rest = [fstype, special, words.next(is_path)]
+    return rest + [words.next(lambda word: word == b"ro")] if words.more() else rest
+
+
+def call_of(words, objects):
+    """The words of the call that a line goes on with."""
+    calls = {**CALLS, **OBJECT_CALLS} if objects else CALLS
+    call = words.next(lambda word: word in calls)
+    rest = mount_of(words) if call == b"mount" else [words.next(is_right) for is_right in calls[call]]
+    words.end()
+    return [word.decode() for word in [call] + rest]
+
+
+def declaration_of(words, started):
+    """What is declared. A wrong word is told before the line's being too late."""
+    kind = words.next(lambda word: word in ITEMS)
+    item = words.next(ITEMS[kind])
+    words.end()
+    if started:
+        raise Outside("104 SysAfterStart")
+    return ("Y", kind.decode(), item.decode())
+
+
+def event_of(line, started=False, objects=True):
+    """("S", number, text), ("D", name), ("P", name, pid, words of the call), ("Y", kind, item), or None for a line that
+    is no event. `started` is whether an event other than a declaration came before."""
+    if line.strip(b" ") == b"" or line[:1] == b"#":
+        return None
+    if line[:1] == b"@":
+        raise Outside("103 GrantForm")
+    if line.split(b" ", 1)[0] not in ((b"S", b"D", b"P", b"Y") if objects else (b"S", b"D", b"P")):
+        raise Outside("101 BadTag")
+    words = Words(line)
+    tag = words.next(lambda word: True)
+    if tag == b"Y":
+        return declaration_of(words, started)
+    if tag == b"S":
+        number = words.next(lambda word: word in SESSIONS)
+        return ("S", SESSIONS[number], words.text())
+    name = words.next(is_zone_name)
+    if tag == b"D":
+        words.end()
+        return ("D", name)
+    pid = words.next(is_number)
+    return ("P", name, int(pid), call_of(words, objects))
+
+
+# What a session types.
+
+def is_one_word(text):
+    """Whether a text is one word of a line of zonecfg(8)."""
+    try:
+        return [token[0] for token in export_model.tokens(text)] == ["word"]
+    except export_model.Refused:
+        return False
+
+
+def made_path(words):
+    """The path of the zone that these words make, or None where they are no such line."""
+    if len(words) != 9 or words[6][:9] != b"zonepath=" or words[6][-1:] != b";":
+        return None
+    path = words[6][9:-1]
+    right = [b"zonecfg", b"-z", words[2], b"create", b"-b;", b"set", words[6], b"set", b"brand=ipkg"]
+    return path.decode() if words == right and is_one_word(path) else None
+
+
+def typed(text, objects=True):
+    """What a session's line asks for: (what, name, rest), where name may be None. The rest is the path of a zone that
+    is made, signal and number of `kill`, or the directory of a hold."""
+    words = text.split()
+    if not words:
+        return ("nothing", None, None)
+    name = None
+    if b"-z" in words[:-1]:
+        name = words[words.index(b"-z") + 1]
+    if len(words) == 4 and words[:2] == [b"zoneadm", b"-z"] and words[3] in (b"install", b"boot", b"halt"):
+        return (words[3].decode(), name, None)
+    if made_path(words) is not None:
+        return ("create", name, made_path(words))
+    if len(words) == 3 and words[0] == b"kill" and is_signal(words[1]) and is_number(words[2]):
+        return ("kill", name, (words[1].decode(), int(words[2])))
+    holds = (b"fhold", b"frelease") if objects else ()
+    if len(words) == 4 and words[0] in holds and words[1] == b"-z" and is_path(words[3]):
+        return (words[0].decode(), name, words[3].decode())
+    return ("unknown", name, None)
