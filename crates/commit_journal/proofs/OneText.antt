@@ -1,7 +1,6 @@
 -- No two commits have one body.
-use Rattle.std.proofs.Common.{◌≡◌, ◌<◌, ◌+◌, ◌/◌, ◌%◌, ◌^◌, ℕ, zero, suc, List, [], ◌++◌, Bool, Option, Some, None, IsTrue, true, false, if◌then◌else◌, refl, ap, sym, ◌∙◌, arith, append_assoc, codes}
+use Rattle.std.proofs.Common.{◌≡◌, ◌<◌, ◌+◌, ◌/◌, ◌%◌, ◌^◌, ℕ, zero, suc, List, [], ◌++◌, Bool, Option, Some, None, IsTrue, true, false, if◌then◌else◌, refl, ap, sym, ◌∙◌, arith, append_assoc, codes, true≢false}
 use Rattle.std.specs.Prelude.{bytes_eq, IfSome}
-use Rattle.std.proofs.Common.{true≢false}
 use Rattle.std.proofs.lemmas.List.{append-nil}
 use Rattle.uuid_text.specs.Text.{uuid_text}
 use Rattle.uuid_text.proofs.Texts.{uuid_of_text}

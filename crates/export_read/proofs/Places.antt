@@ -5,7 +5,7 @@ use Rattle.std.specs.List.{flat_map, list_all}
 use Rattle.std.proofs.lemmas.Bool.{and_parts}
 use Rattle.std.proofs.lemmas.Bool.Decides.{nat_tests}
 use Rattle.std.proofs.lemmas.List.Folds.{list_all-append}
-use Rattle.config_terms.specs.Allowed.{has_key, is_allowed, is_taken, is_taken_by}
+use Rattle.config_terms.specs.Allowed.{has_key, is_allowed, is_taken, is_taken_by, are_distinct_in, are_told_apart}
 use Rattle.config_terms.specs.Fields.{attr_shown, fs_shown, key_field, kinds, net_shown, rctl_shown}
 use Rattle.config_terms.specs.declared.fields.Field.{Field}
 use Rattle.config_terms.specs.declared.fields.Field.TheVariants.{DeviceMatch, RctlName, AttrName, DatasetName}
@@ -25,7 +25,6 @@ use Rattle.export_read.specs.declared.command.Command.{Command}
 use Rattle.export_read.specs.declared.command.Command.TheVariants.{Create}
 use Rattle.zone_config.specs.Export.{export_text}
 use Rattle.zone_config.specs.Property.{properties}
-use Rattle.config_terms.specs.Allowed.{are_distinct_in, are_told_apart}
 use Rattle.zone_config.specs.Sound.{IsSound, count}
 use Rattle.zone_config.specs.declared.terms.Contents.{Contents}
 use Rattle.export_read.specs.Drafts.{closed}

@@ -1,6 +1,5 @@
-use Rattle.std.proofs.Common.{IsTrue, sym, subst}
+use Rattle.std.proofs.Common.{IsTrue, sym, subst, arith}
 use Rattle.std.proofs.lemmas.Grind.{common_steps}
-use Rattle.std.proofs.Common.{arith}
 use Rattle.std.proofs.lemmas.List.Elements.{All-more}
 use Rattle.zn_base.specs.States.{is_stored}
 use Rattle.index_file.specs.Index.{IsIndexRow}
