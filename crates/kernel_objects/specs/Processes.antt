@@ -1,7 +1,7 @@
 -- The processes of one zone, in order of their numbers, and what becomes of them.
 use Rattle.std.specs.Prelude.{ℕ, List, Option, Some, None, Bool, true, false, not, ◌&&◌, filter, min, length, nat_eq, nat_lt, Result, Ok, Err, ◌^◌, ◌-◌, if◌then◌else◌}
 use Rattle.priv_sets.specs.Sets.{has, only, without}
-use Rattle.priv_sets.specs.declared.table.TheConstants.{PROC_EXEC, PROC_FORK}
+use Rattle.priv_sets.specs.declared.table.TheConstants.{PROC_EXEC, PROC_FORK, SYS_MOUNT}
 use Rattle.zone_pools.specs.Firsts.{first_of}
 use Rattle.zone_pools.specs.Owned_lists.{Change, Go, edited}
 use Rattle.kernel_objects.specs.declared.faults.Errno.{Errno}
@@ -68,6 +68,9 @@ may_exec p = has p.privileges PROC_EXEC
 abbrev pub may_fork : Process → Bool
 may_fork p = has p.privileges PROC_FORK
 
+abbrev pub may_mount : Process → Bool
+may_mount p = has p.privileges SYS_MOUNT
+
 -- changes of one process
 abbrev pub at_pid : ℕ → (Process → Process) → Process → Process
 at_pid pid f p = if nat_eq p.pid pid then f p else p
@@ -86,6 +89,10 @@ if_there (Some p) = Ok tt
 abbrev pub if_may_exec : Option Process → Result (Unit {0}) Errno
 if_may_exec None = Err ESRCH
 if_may_exec (Some p) = if may_exec p then Ok tt else Err EPERM
+
+abbrev pub if_may_mount : Option Process → Result (Unit {0}) Errno
+if_may_mount None = Err ESRCH
+if_may_mount (Some p) = if may_mount p then Ok tt else Err EPERM
 
 -- whether a signal ends a process: a zone's first process ignores what comes from its own zone
 abbrev pub is_deadly : Signal → Bool

@@ -9,14 +9,14 @@ ghost use Rattle.zn_base.specs.Answers.{AnswersUnless};
 ghost use Rattle.zone_pools.specs.Owned_lists.{Change, edited};
 ghost use Rattle.kernel_objects.specs.declared.faults.KernelFault.TheVariants.{Memory};
 ghost use Rattle.kernel_objects.specs.Kernel.{enter_answer, entered, fork_answer, fork_set, forked, at_limit, with_process, with_processes};
-ghost use Rattle.kernel_objects.specs.Processes.{at_pid, count_of, dropping, ends, ends_some, has_pid, if_may_exec, if_there, process_of, renamed, row_of, signalled, with_pid, without_pid};
+ghost use Rattle.kernel_objects.specs.Processes.{at_pid, count_of, dropping, ends, ends_some, has_pid, if_may_exec, if_may_mount, if_there, process_of, renamed, row_of, signalled, with_pid, without_pid};
 ghost use Rattle.kernel_objects.specs.Shared.{Alike, FreesPids, TakesPid, pid_owner};
 
 use crate::cell::KernelCell;
 use crate::faults::{Errno, KernelFault};
 use crate::objects::{ProcRow, Running, Signal};
 use crate::shared::KernelShared;
-use priv_sets::{PROC_EXEC, PROC_FORK, PrivSet};
+use priv_sets::{PROC_EXEC, PROC_FORK, PrivSet, SYS_MOUNT};
 use std::alloc::{AllocError, Global};
 use zn_base::{Listing, Text, ZoneName};
 
@@ -156,6 +156,18 @@ impl KernelCell {
         match self.processes.find(pid) {
             None => Err(Errno::ESRCH),
             Some(running) if !running.privileges.has(PROC_EXEC) => Err(Errno::EPERM),
+            Some(_) => Ok(()),
+        }
+    }
+
+    /// Whether a process may mount and unmount, by mount(2): ESRCH where the zone has no such process, EPERM where it lacks
+    /// sys_mount.
+    pub fn check_mounter(&self, pid: u32) -> Result<(), Errno>
+        ensures { result ≡ if_may_mount (with_pid pid self.now.processes) }
+    {
+        match self.processes.find(pid) {
+            None => Err(Errno::ESRCH),
+            Some(running) if !running.privileges.has(SYS_MOUNT) => Err(Errno::EPERM),
             Some(_) => Ok(()),
         }
     }

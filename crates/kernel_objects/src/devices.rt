@@ -9,7 +9,7 @@ use crate::cell::KernelCell;
 use crate::faults::KernelFault;
 use crate::shared::KernelShared;
 use std::alloc::{AllocError, Global};
-use zn_base::{AbsPath, Text, glob, try_clone_all};
+use zn_base::{AbsPath, Listing, Text, glob, try_clone_all};
 
 // Whether one of some patterns fits a device.
 fn fits_some(patterns: &[Text], device: &AbsPath) -> bool
@@ -84,10 +84,10 @@ impl KernelCell {
     }
 
     /// The zone's devices, in order of declaration.
-    pub fn list_devices(&self, alloc: Global) -> Result<Vec<AbsPath>, KernelFault>
-        ensures devices { IfOk result (λ devices. devices.items ≡ self.now.devices) }
+    pub fn list_devices(&self, alloc: Global) -> Result<Listing<AbsPath>, KernelFault>
+        ensures devices { IfOk result (λ devices. devices ≡ self.now.devices) }
         ensures memory { IfErr result (λ e. e ≡ Memory) }
     {
-        Ok(try_clone_all(alloc, &self.devices)?.into_vec())
+        Ok(try_clone_all(alloc, &self.devices)?)
     }
 }

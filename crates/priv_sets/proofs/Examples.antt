@@ -3,7 +3,7 @@ use Rattle.std.proofs.Common.{◌≡◌, ℕ, List, [], ◌∷◌, None, Some, O
 use Rattle.priv_sets.specs.declared.limit.PrivFault.{PrivFault}
 use Rattle.priv_sets.specs.declared.limit.PrivFault.TheVariants.{PrivWord, PrivRequired, PrivProhibited}
 use Rattle.priv_sets.specs.declared.table.Class.TheVariants.{Required}
-use Rattle.priv_sets.specs.declared.table.TheConstants.{PROC_EXEC, PROC_FORK}
+use Rattle.priv_sets.specs.declared.table.TheConstants.{PROC_EXEC, PROC_FORK, SYS_MOUNT}
 use Rattle.priv_sets.specs.Table.{is_of, name_of, number_of, privileges}
 use Rattle.priv_sets.specs.Sets.{all_of, both, default_set, everything, has, only, print_of, set_of, union, without}
 use Rattle.priv_sets.specs.Limit.{judged, limit_of, named, rule_of, set_of_words, words_from}
@@ -12,7 +12,7 @@ numbers : number_of (codes "proc_fork") ≡ Some 26
 unfolding number_of privileges
 numbers = refl
 
-calls : map name_of (PROC_EXEC ∷ PROC_FORK ∷ []) ≡ codes "proc_exec" ∷ codes "proc_fork" ∷ []
+calls : map name_of (PROC_EXEC ∷ PROC_FORK ∷ SYS_MOUNT ∷ []) ≡ codes "proc_exec" ∷ codes "proc_fork" ∷ codes "sys_mount" ∷ []
 unfolding name_of privileges
 calls = refl
 

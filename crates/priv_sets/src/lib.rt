@@ -8,4 +8,4 @@ mod table;
 
 pub use limit::{PrivFault, limit_of};
 pub use set::PrivSet;
-pub use table::{PROC_EXEC, PROC_FORK, name_of, number_of};
+pub use table::{PROC_EXEC, PROC_FORK, SYS_MOUNT, name_of, number_of};

@@ -12,6 +12,9 @@ pub const PROC_EXEC: u8 = 25;
 /// The number of `proc_fork`, without which a process makes no other.
 pub const PROC_FORK: u8 = 26;
 
+/// The number of `sys_mount`, without which a process mounts and unmounts nothing.
+pub const SYS_MOUNT: u8 = 38;
+
 /// What a zone may and must have.
 #[derive(Clone, Copy, PartialEq, Eq)]
 pub(crate) enum Class {
