@@ -1,19 +1,22 @@
 -- What each edit of a list of mounts keeps: byte order, paths as directories, and how many there may be.
-use Rattle.std.proofs.Common.{◌≡◌, ◌∷◌, ◌++◌, [], ℕ, ◌<◌, ◌≤◌, List, Bool, true, false, Option, Some, None, not, filter, length, map, set, subst, get_or, nat_le, refl, ap, sym, arith, ◌∙◌, ◌&&◌, ◌-◌}
+use Rattle.std.proofs.Common.{◌≡◌, ◌∷◌, ◌++◌, [], ℕ, ◌<◌, ◌≤◌, List, Bool, true, false, Option, Some, None, not, filter, length, map, set, subst, get_or, nat_le, nat_lt, Result, Err, Ok, refl, ap, sym, arith, ◌∙◌, ◌&&◌, ◌-◌}
 use Rattle.std.specs.Prelude.{is_some, option_to_list, slice_get}
 use Rattle.std.specs.List.{insert, list_all, remove}
-use Rattle.std.proofs.lemmas.Bool.{and_from, and_parts, cond-true, false≢true, le-leb, leb-true, lt-ltb, le-ltb}
+use Rattle.std.proofs.lemmas.Bool.{and_from, and_parts, cond-true, false≢true, le-leb, leb-true, ltb-true}
 use Rattle.std.proofs.lemmas.List.{append-nil, get_or_default, length-map}
 use Rattle.std.proofs.lemmas.Option.{slice_get_read}
 use Rattle.std.proofs.lemmas.List.Edits.{length-insert}
+use Rattle.kernel_objects.specs.declared.faults.Errno.TheVariants.{EBUSY}
 use Rattle.zn_base.specs.Path.{is_path}
 use Rattle.zone_pools.specs.Owned_lists.{put}
-use Rattle.loopback_mounts.specs.Mounts.{at_dir, before, has_path, in_order, is_at, last_of, mount_at, mounted_if_free, precedes, well_kept, with_hold, without_last}
+use Rattle.loopback_mounts.specs.Mounts.{at_dir, before, has_path, in_order, is_at, last_of, mount_answer, mount_at, mounted, precedes, well_kept, with_hold, without_last}
 use Rattle.loopback_mounts.specs.Search.{IsGapFor, IsPlaceOf}
+use Rattle.loopback_mounts.specs.declared.faults.MountFault.{MountFault}
+use Rattle.loopback_mounts.specs.declared.faults.MountFault.TheVariants.{Refused, TooManyMounts}
 use Rattle.loopback_mounts.specs.declared.mount.Mount.{Mount}
 use Rattle.loopback_mounts.specs.declared.mount.MountEntry.{MountEntry}
 use native.Mathlib.Numerals.{unary_clauses}
-use Rattle.loopback_mounts.proofs.Orders.{absent, after_else, all_from, before_apart, none_changed, all_kept, all_left, became, bytes_itself, chained, found_by, gone, none_by, placed}
+use Rattle.loopback_mounts.proofs.Orders.{absent, after_else, all_from, before_apart, none_changed, all_kept, all_left, became, bytes_itself, chained, found_by, gone, placed}
 
 pub record Kept (ms : List MountEntry) : Type 0 where
   pub order : in_order ms ≡ true
@@ -96,21 +99,29 @@ one_more e ms i h p l gap =
       few = omega arith;
     })
 
--- what comes where there is room for it, and what doesn't
-pub comes : (mount : Mount) (e : MountEntry) (ms : List MountEntry) (i : ℕ) → e ≡ record { mount = mount; held = false } → length ms < 128 → IsGapFor mount.dir ms i → insert ms i e ≡ mounted_if_free mount ms
-comes mount e ms i is l gap =
-    rw (none_by mount.dir ms i gap, lt-ltb (length ms) 128 l) (sym (placed mount.dir e ms i gap.inside gap.lower gap.higher) ∙ ap (λ (x : MountEntry). put (before mount.dir) x ms) is)
+-- what comes to its place
+pub comes : (mount : Mount) (e : MountEntry) (ms : List MountEntry) (i : ℕ) → e ≡ record { mount = mount; held = false } → IsGapFor mount.dir ms i → insert ms i e ≡ mounted mount ms
+comes mount e ms i is gap =
+    sym (placed mount.dir e ms i gap.inside gap.lower gap.higher) ∙ ap (λ (x : MountEntry). put (before mount.dir) x ms) is
 
-pub full : (mount : Mount) (ms : List MountEntry) → 128 ≤ length ms → ms ≡ mounted_if_free mount ms
-full mount ms l = at_there (is_some (mount_at mount.dir ms)) refl
+-- where something may come there is room, and nothing is there
+refused : (e : MountFault) → ◌≡◌ {A = Result (Unit {0}) MountFault} (Err e) (Ok tt) → ⊥
+refused e h = cc
+
+pub few_where_free : (dir : List ℕ) (ms : List MountEntry) → mount_answer dir ms ≡ Ok tt → length ms < 128
+few_where_free dir ms h = at_there (is_some (mount_at dir ms)) refl
   where
-    at_there : (b : Bool) → is_some (mount_at mount.dir ms) ≡ b → ms ≡ mounted_if_free mount ms
-    at_there true e = rw e refl
-    at_there false e = rw (e, le-ltb (length ms) 128 l) refl
+    at_room : (b : Bool) → nat_lt (length ms) 128 ≡ b → is_some (mount_at dir ms) ≡ false → length ms < 128
+    at_room true r e = ltb-true (length ms) 128 r
+    at_room false r e = absurd (refused TooManyMounts (rw (e, r) at h))
 
-pub there : (mount : Mount) (ms : List MountEntry) (i : ℕ) → IsPlaceOf mount.dir ms i → i < length ms → ms ≡ mounted_if_free mount ms
-there mount [] i p l = absurd (omega arith)
-there mount (m ∷ ms) i p l = rw (found_by mount.dir (m ∷ ms) i (get_or (m ∷ ms) i m) p (get_or_default (m ∷ ms) i m (get_or (m ∷ ms) i m) l)) refl
+    at_there : (b : Bool) → is_some (mount_at dir ms) ≡ b → length ms < 128
+    at_there true e = absurd (refused (Refused EBUSY) (rw e at h))
+    at_there false e = at_room (nat_lt (length ms) 128) refl e
+
+pub not_there : (dir : List ℕ) (ms : List MountEntry) (i : ℕ) → mount_answer dir ms ≡ Ok tt → IsPlaceOf dir ms i → i < length ms → ⊥
+not_there dir [] i h p l = omega arith
+not_there dir (m ∷ ms) i h p l = refused (Refused EBUSY) (rw (found_by dir (m ∷ ms) i (get_or (m ∷ ms) i m) p (get_or_default (m ∷ ms) i m (get_or (m ∷ ms) i m) l)) at h)
 
 -- one goes
 pub goes : (dir : List ℕ) (ms : List MountEntry) (i : ℕ) (m : MountEntry) → IsPlaceOf dir ms i → m ≡ get_or ms i m → remove ms i ≡ filter (λ n. not (is_at dir n)) ms

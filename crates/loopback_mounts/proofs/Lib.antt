@@ -4,4 +4,5 @@ pub mod Kept
 pub mod Over
 pub mod Rests
 pub mod Alone
+pub mod Items
 mod Examples

@@ -1,5 +1,5 @@
 -- The mounts of one zone, in byte order of their directories, with the holds on them.
-use Rattle.std.specs.Prelude.{ℕ, List, [], ◌∷◌, Option, Some, None, Bool, true, false, not, ◌&&◌, ◌||◌, bytes_eq, filter, is_ok, is_some, length, map, nat_le, nat_lt, Result, Ok, Err, if◌then◌else◌}
+use Rattle.std.specs.Prelude.{ℕ, List, [], ◌∷◌, Option, Some, None, Bool, true, false, not, ◌&&◌, ◌||◌, bytes_eq, filter, is_some, length, map, nat_le, nat_lt, Result, Ok, Err, if◌then◌else◌}
 use Rattle.std.specs.Cmp.Lexicographic.{slice_cmp}
 use Rattle.std.specs.List.{list_all, list_any}
 use Rattle.std.specs.Ordering.{is_lt, nat_cmp}
@@ -57,9 +57,6 @@ mount_answer dir ms =
 
 abbrev pub mounted : Mount → List MountEntry → List MountEntry
 mounted mount ms = edited (Put (before mount.dir) (record { mount = mount; held = false })) ms
-
-abbrev pub mounted_if_free : Mount → List MountEntry → List MountEntry
-mounted_if_free mount ms = if is_ok (mount_answer mount.dir ms) then mounted mount ms else ms
 
 -- umount(2): a mount goes unless another lies below it or it is held
 abbrev pub has_below : List ℕ → List MountEntry → Bool

@@ -1,7 +1,8 @@
 -- The place of a path: among all mounts whose components are the first of the path's, the one with most, and the rest of
 -- the path.
-use Rattle.std.specs.Prelude.{◌≡◌, ◌≤◌, ℕ, List, [], ◌∷◌, ◌++◌, Option, Some, None, Bool, true, not, ◌&&◌, ◌||◌, bytes_eq, codes, filter, length, nat_lt, Contains, All, Result, Ok, Err, if◌then◌else◌}
+use Rattle.std.specs.Prelude.{◌≡◌, ◌≤◌, ℕ, List, [], ◌∷◌, ◌++◌, Option, Some, None, Bool, true, false, not, ◌&&◌, ◌||◌, bytes_eq, codes, filter, length, nat_lt, Contains, All, Result, Ok, Err, if◌then◌else◌}
 use Rattle.kernel_objects.specs.declared.faults.Errno.TheVariants.{ENAMETOOLONG, ENOENT, EROFS}
+use Rattle.zn_base.specs.Path.{is_path}
 use Rattle.zone_pools.specs.Firsts.{is_nil}
 use Rattle.loopback_mounts.specs.Paths.{covers, depth, rest_below}
 use Rattle.loopback_mounts.specs.declared.faults.MountFault.{MountFault}
@@ -63,6 +64,22 @@ place_text p =
 -- a place has a bounded length
 abbrev pub place_answer : Found → Result (List ℕ) MountFault
 place_answer p = if nat_lt PLACE_MAX (length (place_text p)) then Err (Refused ENAMETOOLONG) else Ok (place_text p)
+
+-- the place of a path as text
+abbrev pub placed : Result Found MountFault → Result (List ℕ) MountFault
+placed (Err fault) = Err fault
+placed (Ok p) = place_answer p
+
+abbrev pub place_at : List MountEntry → List ℕ → (write : Bool) → Result (List ℕ) MountFault
+place_at ms path write = placed (resolved ms path write)
+
+-- what is mounted, by mount(2) and lofs(4FS): of lofs the place of a path, else what is given. What is no absolute path has no
+-- place
+abbrev pub path_place : List MountEntry → List ℕ → Result (List ℕ) MountFault
+path_place ms path = if is_path path then place_at ms path false else Err (Refused ENOENT)
+
+abbrev pub special_at : List MountEntry → (fstype special : List ℕ) → Result (List ℕ) MountFault
+special_at ms fstype special = if bytes_eq fstype (codes "lofs") then path_place ms special else Ok special
 
 -- a place as the program has it
 abbrev pub as_found : Place → Found

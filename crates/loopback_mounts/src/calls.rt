@@ -13,13 +13,13 @@ use crate::mount::{Last, Mount, MountEntry};
 use crate::paths::is_below;
 use kernel_objects::Errno;
 use std::alloc::{AllocError, Global};
-use zn_base::{AbsPath, TryClone};
+use zn_base::{AbsPath, Listing, TryClone};
 
 // Equal mounts, without their holds.
-fn copies(alloc: Global, entries: &[MountEntry]) -> Result<Vec<Mount>, AllocError>
-    ensures { IfOk result (λ mounts. mounts.items ≡ listed entries.now) }
+fn copies(alloc: Global, entries: &[MountEntry]) -> Result<Listing<Mount>, AllocError>
+    ensures { IfOk result (λ mounts. mounts ≡ listed entries.now) }
 {
-    let mut mounts = Vec::new(alloc);
+    let mut mounts = Listing::new(alloc);
     for entry in entries {
         mounts.push(entry.mount.try_clone(alloc)?)?;
     }
@@ -156,8 +156,8 @@ impl MountCell {
     }
 
     /// The zone's mounts, as mount(8) lists them, in byte order of their directories.
-    pub fn list(&self, alloc: Global) -> Result<Vec<Mount>, MountFault>
-        ensures mounts { IfOk result (λ mounts. mounts.items ≡ listed self.now.list) }
+    pub fn list(&self, alloc: Global) -> Result<Listing<Mount>, MountFault>
+        ensures mounts { IfOk result (λ mounts. mounts ≡ listed self.now.list) }
         ensures memory { IfErr result (λ e. e ≡ Memory) }
     {
         Ok(copies(alloc, self.entries())?)

@@ -1,10 +1,9 @@
 //! The mounts of one zone.
-ghost use Rattle.std.specs.Prelude.{◌≡◌, ◌<◌, [], IsTrue, OnOk};
+ghost use Rattle.std.specs.Prelude.{◌≡◌, ◌<◌, [], IsTrue, Ok, OnOk};
 ghost use Rattle.std.specs.Option.{option_map};
 ghost use Rattle.zone_pools.specs.Owned_lists.{Change, edited};
-ghost use Rattle.loopback_mounts.specs.Mounts.{at_dir, freed_at, held_at, last_of, mount_at, mounted_if_free, unmounted, well_kept, with_hold, without_last};
+ghost use Rattle.loopback_mounts.specs.Mounts.{at_dir, freed_at, held_at, last_of, mount_answer, mount_at, mounted, unmounted, well_kept, with_hold, without_last};
 
-use crate::limits::MOUNTS_MAX;
 use crate::mount::{Mount, MountEntry};
 use crate::search::{find, search};
 use std::alloc::{AllocError, Global};
@@ -63,21 +62,22 @@ impl MountCell {
         self.mounts.reserve(1)
     }
 
-    /// A mount comes to its place among the others, and is free. Where its directory is a mount already, or the zone
-    /// has 128, nothing changes: `check_mount` tells that. There is room for it, so this takes no memory.
+    /// A mount comes to its place among the others, and is free. `check_mount` tells whether it may come. There is room
+    /// for it, so this takes no memory.
     pub fn put_reserved(&mut self, mount: Mount)
-        requires { 0 < self.old.room }
-        ensures { self.new.list ≡ mounted_if_free mount self.old.list }
+        requires room { 0 < self.old.room }
+        requires free { mount_answer mount.dir self.old.list ≡ Ok tt }
+        ensures { self.new.list ≡ mounted mount self.old.list }
     {
-        if self.mounts.len() >= MOUNTS_MAX {
-            return;
-        }
-        if let Err(at) = search(&self.mounts, mount.dir.bytes()) {
-            let entry = MountEntry { mount, held: false };
-            match self.mounts.insert(at, entry) {
-                Ok(()) => {}
-                Err(_) => unreachable!(),
+        match search(&self.mounts, mount.dir.bytes()) {
+            Err(at) => {
+                let entry = MountEntry { mount, held: false };
+                match self.mounts.insert(at, entry) {
+                    Ok(()) => {}
+                    Err(_) => unreachable!(),
+                }
             }
+            Ok(_) => unreachable!(),
         }
     }
 

@@ -7,7 +7,7 @@ ghost use Rattle.zn_base.specs.Path.{is_path};
 ghost use Rattle.zn_base.specs.Text.{is_text, is_text_byte};
 ghost use Rattle.loopback_mounts.specs.declared.faults.MountFault.TheVariants.{Memory};
 ghost use Rattle.loopback_mounts.specs.Mounts.{well_kept};
-ghost use Rattle.loopback_mounts.specs.Places.{as_found, is_plain, mount_over, place_answer, place_text, resolved, with_rest};
+ghost use Rattle.loopback_mounts.specs.Places.{as_found, is_plain, mount_over, place_answer, place_at, place_text, path_place, resolved, special_at, with_rest};
 ghost use Rattle.loopback_mounts.specs.Paths.{IsParent, covers, rest_below};
 
 use crate::cell::MountCell;
@@ -17,7 +17,7 @@ use crate::mount::MountEntry;
 use crate::search::find;
 use kernel_objects::Errno;
 use std::alloc::{AllocError, Global};
-use zn_base::{AbsPath, Text, push_pieces};
+use zn_base::{AbsPath, Text, is_path, push_pieces};
 
 /// Where a path leads: what is mounted over it, and the components of the path that follow, each after a slash.
 #[derive(Clone, Copy)]
@@ -164,5 +164,35 @@ impl MountCell {
             special: &mount.special,
             rest: rest_below(path.bytes(), mount.dir.bytes()),
         })
+    }
+
+    /// The place of a path as text: what `resolve` finds, by `Place::to_text`, or what either refuses.
+    pub fn place(&self, alloc: Global, path: &AbsPath, write: bool) -> Result<Text, MountFault>
+        ensures { AnswersUnless MountFault.Memory (place_at self.now.list path.now write) result }
+    {
+        self.resolve(path, write)?.to_text(alloc)
+    }
+
+    // The place of a path of a zone, where it is one.
+    fn path_place(&self, alloc: Global, path: &Text) -> Result<Text, MountFault>
+        ensures { AnswersUnless MountFault.Memory (path_place self.now.list path.now) result }
+    {
+        if !is_path(path.bytes()) {
+            return Err(MountFault::Refused(Errno::ENOENT));
+        }
+        let path = AbsPath::of(alloc, path.bytes())?;
+        self.place(alloc, &path, false)
+    }
+
+    /// What is mounted, by mount(2): of lofs(4FS) the place of a path, else what is given. What is no absolute path has no
+    /// place, ENOENT.
+    pub fn special(&self, alloc: Global, fstype: &Text, special: &Text) -> Result<Text, MountFault>
+        ensures { AnswersUnless MountFault.Memory (special_at self.now.list fstype.now special.now) result }
+    {
+        if fstype.bytes() == b"lofs".as_slice() {
+            self.path_place(alloc, special)
+        } else {
+            Ok(special.copy(alloc)?)
+        }
     }
 }

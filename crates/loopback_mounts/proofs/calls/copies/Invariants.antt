@@ -3,4 +3,4 @@ use Rattle.loopback_mounts.specs.Mounts.{listed}
 use Rattle.loopback_mounts.proofs.calls.copies.Given as goal
 
 abbrev pub invariant-loop-entry : goal.invariant-loop-entry
-invariant-loop-entry l = l.mounts.items ≡ listed (take l.entry-index l.entries)
+invariant-loop-entry l = l.mounts ≡ listed (take l.entry-index l.entries)
