@@ -5,9 +5,9 @@ use Rattle.std.specs.List.{join_with_byte, slice_split}
 use Rattle.std.proofs.lemmas.List.Splits.{join_with_byte-slice_split}
 use Rattle.priv_sets.specs.Table.{number_of}
 use Rattle.process_calls.specs.declared.call.Call.{Call}
-use Rattle.process_calls.specs.declared.call.Call.TheVariants.{Drop, Exec, Fork, Kill}
+use Rattle.process_calls.specs.declared.call.Call.TheVariants.{Drop, Exec, Fork, Kill, Read, Umount, Write}
 use Rattle.process_calls.specs.declared.call.CallFault.{CallFault}
-use Rattle.process_calls.specs.Calls.{bare_call, call_of, call_of_words, kill_by, made, name_in, pid_in, signal_in}
+use Rattle.process_calls.specs.Calls.{bare_call, call_of, call_of_words, is_fstype, is_special, kill_by, made, mount_by, name_in, path_in, pid_in, read_only_by, ro_in, signal_in, taken}
 use Rattle.process_calls.specs.Words.{IsWithin, Word, ◌>>=◌, is_space, last, next, no_more, placed, said_at, words_from}
 
 -- words that begin in a text or at its end
@@ -69,6 +69,19 @@ kill_within end words h =
     then_within end (AfterWithin end) Any (next signal_in end words) (λ signal. made pid_in (Kill signal.0) end signal.1) (next_within signal_in end words h)
     (λ signal g. made_within pid_in (Kill signal.0) end signal.1 g)
 
+read_only_within : (end : ℕ) (words : List Word) → AreWithin end words → IsRight end Any (read_only_by end words)
+unfolding IsRight Any
+read_only_within end [] h = tt
+read_only_within end (word ∷ words) h = last_within ro_in end (word ∷ words) h
+
+mount_within : (end : ℕ) (words : List Word) → AreWithin end words → IsRight end Any (mount_by end words)
+unfolding IsRight AfterWithin Any
+mount_within end words h =
+    then_within end (AfterWithin end) Any (next (taken is_fstype) end words) _ (next_within (taken is_fstype) end words h) (λ fstype g.
+    then_within end (AfterWithin end) Any (next (taken (is_special fstype.0)) end fstype.1) _ (next_within (taken (is_special fstype.0)) end fstype.1 g) (λ special g.
+    then_within end (AfterWithin end) Any (next path_in end special.1) _ (next_within path_in end special.1 g) (λ dir g.
+    then_within end Any Any (read_only_by end dir.1) _ (read_only_within end dir.1 g) (λ read_only g. tt))))
+
 if_within : {A : Type 0} (end : ℕ) (P : A → Type 0) (b : Bool) (r s : Result A CallFault) → IsRight end P r → IsRight end P s → IsRight end P (if b then r else s)
 if_within end P true r s h g = h
 if_within end P false r s h g = g
@@ -81,7 +94,11 @@ words_within end (first ∷ words) h =
     (if_within end Any (bytes_eq first.bytes (codes "exec")) _ _ (made_within name_in Exec end words h.1)
     (if_within end Any (bytes_eq first.bytes (codes "kill")) _ _ (kill_within end words h.1)
     (if_within end Any (bytes_eq first.bytes (codes "drop")) _ _ (made_within number_of Drop end words h.1)
-    (last_within bare_call end (first ∷ words) h))))
+    (if_within end Any (bytes_eq first.bytes (codes "mount")) _ _ (mount_within end words h.1)
+    (if_within end Any (bytes_eq first.bytes (codes "umount")) _ _ (made_within path_in Umount end words h.1)
+    (if_within end Any (bytes_eq first.bytes (codes "read")) _ _ (made_within path_in Read end words h.1)
+    (if_within end Any (bytes_eq first.bytes (codes "write")) _ _ (made_within path_in Write end words h.1)
+    (last_within bare_call end (first ∷ words) h))))))))
 
 call_within : (text : List ℕ) → IsRight (length text) Any (call_of text)
 unfolding call_of words_from

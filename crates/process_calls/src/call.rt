@@ -5,7 +5,20 @@ ghost use Rattle.process_calls.specs.declared.call.CallFault.TheVariants.{Memory
 use kernel_objects::Signal;
 use std::alloc::AllocError;
 use thiserror::Error;
-use zn_base::Text;
+use zn_base::{AbsPath, Text};
+
+/// A file system that is mounted, by mount(2).
+#[derive(Drop)]
+pub struct MountCall {
+    /// The type of file system, as `lofs`.
+    pub fstype: Text,
+    /// What is mounted: where the type is `lofs` a directory's path, else what the type takes.
+    pub special: Text,
+    /// The directory at which it is mounted.
+    pub dir: AbsPath,
+    /// Whether it is mounted read-only.
+    pub read_only: bool,
+}
 
 /// What a process asks for.
 #[derive(Drop)]
@@ -24,6 +37,22 @@ pub enum Call {
     Privs,
     /// The privilege of this number in the table of `priv_sets` is given up, by setppriv(2).
     Drop(u8),
+    /// A file system is mounted, by mount(2).
+    Mount(MountCall),
+    /// The file system that is mounted at a directory is unmounted, by umount(2).
+    Umount(AbsPath),
+    /// The file of a path is read, by read(2).
+    Read(AbsPath),
+    /// The file of a path is written, by write(2).
+    Write(AbsPath),
+    /// The mounts that the zone sees, as mnttab(5) lists them.
+    Mounts,
+    /// The datalinks that the zone sees, as dladm(8) lists them.
+    Links,
+    /// The datasets that the zone sees, as zfs(8) lists them.
+    Datasets,
+    /// The devices that the zone sees, as devfs(4FS) lists them.
+    Devices,
     /// The name of the zone, by zonename(1).
     Zonename,
     /// What does nothing and succeeds, by true(1).

@@ -1,22 +1,29 @@
 //! Calls, read.
 ghost use Rattle.std.specs.Prelude.{◌≡◌, ◌≤◌, ◌∷◌, IfErr, IfOk, IsTrue, length};
+ghost use Rattle.std.specs.Char.{is_ascii_graphic};
 ghost use Rattle.std.specs.List.{list_all};
 ghost use Rattle.zn_base.specs.Answers.{AnswersUnless};
-ghost use Rattle.zn_base.specs.Names.{is_name_byte};
+ghost use Rattle.zn_base.specs.Names.{is_letter_or_digit, is_name_byte};
 ghost use Rattle.priv_sets.specs.Table.{number_of};
-ghost use Rattle.process_calls.specs.Calls.{bare_call, call_by, call_of, is_call, is_process_name, kill_by, made, name_in, pid_in, signal_in};
+ghost use Rattle.process_calls.specs.Calls.{bare_call, call_by, call_of, is_call, is_fstype, is_process_name, is_special, kill_by, made, mount_by, name_in, path_in, pid_in, read_only_by, signal_in};
 ghost use Rattle.process_calls.specs.Reading.{as_word, end_of};
 ghost use Rattle.process_calls.specs.Words.{IsWithin, last, words_behind};
 
 use crate::words::{Word, next_word, no_more, word_at};
-use crate::{Call, CallFault};
+use crate::{Call, CallFault, MountCall};
 use kernel_objects::Signal;
 use priv_sets::number_of;
 use std::alloc::Global;
-use zn_base::{Text, is_name_byte, read_decimal};
+use zn_base::{AbsPath, Text, is_name_byte, is_path, read_decimal};
 
 // The greatest length of a process's name.
 const NAME_MAX: usize = 16;
+
+// The greatest length of a type of file system.
+const FSTYPE_MAX: usize = 15;
+
+// The greatest length of what is mounted, as that of a text.
+const SPECIAL_MAX: usize = 4200;
 
 fn has_name_bytes(word: &[u8]) -> bool
     ensures { result ≡ list_all is_name_byte word.now }
@@ -28,6 +35,33 @@ fn is_process_name(word: &[u8]) -> bool
     ensures { result ≡ is_process_name word.now }
 {
     !word.is_empty() && word.len() <= NAME_MAX && has_name_bytes(word)
+}
+
+fn is_alphanumeric(word: &[u8]) -> bool
+    ensures { result ≡ list_all is_letter_or_digit word.now }
+{
+    word.iter().all(|byte| byte.is_ascii_alphanumeric())
+}
+
+fn is_fstype(word: &[u8]) -> bool
+    ensures { result ≡ is_fstype word.now }
+{
+    !word.is_empty() && word.len() <= FSTYPE_MAX && is_alphanumeric(word)
+}
+
+fn is_graphic(word: &[u8]) -> bool
+    ensures { result ≡ list_all is_ascii_graphic word.now }
+{
+    word.iter().all(|byte| byte.is_ascii_graphic())
+}
+
+fn is_special(fstype: &[u8], word: &[u8]) -> bool
+    ensures { result ≡ is_special fstype.now word.now }
+{
+    !word.is_empty()
+        && word.len() <= SPECIAL_MAX
+        && is_graphic(word)
+        && (fstype != b"lofs".as_slice() || is_path(word))
 }
 
 /// The signal that a word of kill(1) names by its number: 0, 9 or 15.
@@ -62,6 +96,14 @@ fn bare_call(word: &[u8]) -> Option<Call>
         Some(Call::Ps)
     } else if word == b"privs".as_slice() {
         Some(Call::Privs)
+    } else if word == b"mounts".as_slice() {
+        Some(Call::Mounts)
+    } else if word == b"links".as_slice() {
+        Some(Call::Links)
+    } else if word == b"datasets".as_slice() {
+        Some(Call::Datasets)
+    } else if word == b"devices".as_slice() {
+        Some(Call::Devices)
     } else if word == b"zonename".as_slice() {
         Some(Call::Zonename)
     } else if word == b"true".as_slice() {
@@ -129,6 +171,60 @@ fn read_drop(text: &[u8], behind: usize) -> Result<Call, CallFault>
     Ok(Call::Drop(number))
 }
 
+// `ro` and no more, or nothing.
+fn read_only(text: &[u8], behind: usize) -> Result<bool, CallFault>
+    requires { behind ≤ length text.now }
+    ensures { result ≡ read_only_by (length text.now) (words_behind text.now behind) }
+{
+    let Ok(word) = next_word(text, behind) else {
+        return Ok(false);
+    };
+    if word.bytes != b"ro".as_slice() {
+        return Err(CallFault::BadWord(word.place));
+    }
+    no_more(text, word.end())?;
+    Ok(true)
+}
+
+#[tactic(auto, using(crate::proofs::Named::fstype_is_text, crate::proofs::Named::special_is_text))]
+fn read_mount(alloc: Global, text: &[u8], behind: usize) -> Result<Call, CallFault>
+    requires { behind ≤ length text.now }
+    ensures { AnswersUnless CallFault.Memory (mount_by (length text.now) (words_behind text.now behind)) result }
+{
+    let fstype = next_word(text, behind)?;
+    if !is_fstype(fstype.bytes) {
+        return Err(CallFault::BadWord(fstype.place));
+    }
+    let special = next_word(text, fstype.end())?;
+    if !is_special(fstype.bytes, special.bytes) {
+        return Err(CallFault::BadWord(special.place));
+    }
+    let dir = next_word(text, special.end())?;
+    if !is_path(dir.bytes) {
+        return Err(CallFault::BadWord(dir.place));
+    }
+    let read_only = read_only(text, dir.end())?;
+    Ok(Call::Mount(MountCall {
+        fstype: Text::of(alloc, fstype.bytes)?,
+        special: Text::of(alloc, special.bytes)?,
+        dir: AbsPath::of(alloc, dir.bytes)?,
+        read_only,
+    }))
+}
+
+// A path, and no more.
+fn read_path(alloc: Global, text: &[u8], behind: usize) -> Result<AbsPath, CallFault>
+    requires { behind ≤ length text.now }
+    ensures { AnswersUnless CallFault.Memory (last path_in (length text.now) (words_behind text.now behind)) result }
+{
+    let word = next_word(text, behind)?;
+    if !is_path(word.bytes) {
+        return Err(CallFault::BadWord(word.place));
+    }
+    no_more(text, word.end())?;
+    Ok(AbsPath::of(alloc, word.bytes)?)
+}
+
 // A call of one word, and no more.
 fn read_bare(text: &[u8], word: Word<'_>) -> Result<Call, CallFault>
     requires { end_of word ≤ length text.now }
@@ -154,16 +250,27 @@ fn read_by(alloc: Global, text: &[u8], word: Word<'_>) -> Result<Call, CallFault
         read_kill(text, word.end())
     } else if word.bytes == b"drop".as_slice() {
         read_drop(text, word.end())
+    } else if word.bytes == b"mount".as_slice() {
+        read_mount(alloc, text, word.end())
+    } else if word.bytes == b"umount".as_slice() {
+        Ok(Call::Umount(read_path(alloc, text, word.end())?))
+    } else if word.bytes == b"read".as_slice() {
+        Ok(Call::Read(read_path(alloc, text, word.end())?))
+    } else if word.bytes == b"write".as_slice() {
+        Ok(Call::Write(read_path(alloc, text, word.end())?))
     } else {
         read_bare(text, word)
     }
 }
 
 /// The call that a text spells: `fork NAME`, `exec NAME`, `exit`, `kill SIG PID`, `ps`, `privs`, `drop PRIV`,
-/// `zonename`, `true` or `false`, with one space between two words. NAME is 1 to 16 letters, digits, `_`, `-` and `.`,
-/// SIG is 0, 9 or 15, PID a decimal number without leading zeros of at most 4,294,967,295, and PRIV a name of
-/// privileges(7). Where the text spells no call, the place of its first wrong or missing word is answered; a word too
-/// many is a wrong one, and so is an empty one.
+/// `mount TYPE SPECIAL DIR`, `mount TYPE SPECIAL DIR ro`, `umount DIR`, `read PATH`, `write PATH`, `mounts`, `links`,
+/// `datasets`, `devices`, `zonename`, `true` or `false`, with one space between two words. NAME is 1 to 16 letters,
+/// digits, `_`, `-` and `.`, SIG is 0, 9 or 15, PID a decimal number without leading zeros of at most 4,294,967,295, and
+/// PRIV a name of privileges(7). TYPE is 1 to 15 letters and digits, DIR and PATH are absolute paths as `AbsPath` has
+/// them, and SPECIAL is such a path where TYPE is `lofs`, else 1 to 4,200 printable bytes other than space. Where the
+/// text spells no call, the place of its first wrong or missing word is answered; a word too many is a wrong one, and so
+/// is an empty one.
 pub fn read_call(alloc: Global, text: &[u8]) -> Result<Call, CallFault>
     ensures call { AnswersUnless CallFault.Memory (call_of text.now) result }
     ensures right { IfOk result (λ call. IsTrue (is_call call)) }
