@@ -9,9 +9,11 @@ use Rattle.zoneadmd_steps.specs.Arrivals.{A_process, A_record, An_id, Comes}
 use Rattle.kernel_objects.specs.Kernel.{new_id}
 use Rattle.zoneadmd_steps.specs.Local.{is_idle}
 use Rattle.zoneadmd_steps.specs.Desks.{Desk, Job, state_now}
-use Rattle.zoneadmd_steps.specs.Objects.{Objects, last_dir}
+use Rattle.loopback_mounts.specs.Mounts.{last_of}
+use Rattle.loopback_mounts.specs.declared.mount.MountEntry.{MountEntry}
+use Rattle.zoneadmd_steps.specs.Objects.{Objects}
 use Rattle.zoneadmd_steps.specs.Plans.{may_begin}
-use Rattle.zoneadmd_steps.specs.Turns.{Turn_decision, Turned, asking, begin, goes_on, init_process, next_request, rests, step, turn, turn_at, undo, unmount}
+use Rattle.zoneadmd_steps.specs.Turns.{Turn_decision, Turned, asking, begin, goes_on, init_process, is_stuck, next_request, rests, step, turn, turn_at, undo, unmount}
 use Rattle.zoneadmd_steps.specs.declared.requests.Outcome.{Outcome}
 use Rattle.zoneadmd_steps.specs.declared.requests.RequestKind.{RequestKind}
 use Rattle.zoneadmd_steps.specs.declared.requests.Step.{Step}
@@ -34,9 +36,13 @@ awake-begin d t kind s config = at_test (may_begin kind s) refl
     at_test true e = simp e
     at_test false e = simp e
 
-awake-undo : (d : Desk) (j : Job) (outcome : Outcome) (undone : List Step) → is_idle (undo d j outcome undone).reply ≡ false
-awake-undo d j outcome [] = refl
-awake-undo d j outcome (s ∷ rest) = refl
+awake-undo : (d : Desk) (j : Job) (outcome : Outcome) (ms : List MountEntry) (undone : List Step) → is_idle (undo d j outcome ms undone).reply ≡ false
+awake-undo d j outcome ms [] = refl
+awake-undo d j outcome ms (s ∷ rest) = at_test (is_stuck s ms) refl
+  where
+    at_test : (b : Bool) → is_stuck s ms ≡ b → is_idle (undo d j outcome ms (s ∷ rest)).reply ≡ false
+    at_test true e = simp e
+    at_test false e = simp e
 
 module _ (P : Turn_decision → Type 0) (done : (t : Turned) → is_idle t.reply ≡ false → P (Just t))
     (asks : (d : Desk) (j : Job) (rest : List Step) (c : Comes) (asked : Asked) (shown : ℕ → Step) → is_asked_for c (asked ∷ []) ≡ true → P (asking d j rest c asked shown)) where
@@ -45,16 +51,20 @@ module _ (P : Turn_decision → Type 0) (done : (t : Turned) → is_idle t.reply
   of_step o d j row (Record_step s ∷ rest) = asks d j rest (A_record (λ n. Some (record row { state = s }))) A_serial (λ n. Record_step s) refl
   of_step o d j row (Zid _ ∷ rest) = asks d j rest (An_id (new_id 0)) A_zid (λ n. Zid (Some n)) refl
   of_step o d j row (Init _ ∷ rest) = asks d j rest (A_process (init_process o)) A_pid (λ n. Init (Some n)) refl
-  of_step o d j row (Unmount dir ∷ rest) = at_mount (last_dir o.mounts) (of_step o d j row rest)
+  of_step o d j row (Unmount dir ∷ rest) = at_mount (last_of o.mounts) (of_step o d j row rest)
     where
-      at_mount : (m : Option (List ℕ)) → P (step o d j row rest) → P (unmount d j (Unmount dir ∷ rest) (step o d j row rest) m)
+      at_hold : (m : MountEntry) (b : Bool) → m.held ≡ b → P (unmount d j (Unmount dir ∷ rest) (step o d j row rest) (Some m))
+      at_hold m true e = rw e (done _ refl)
+      at_hold m false e = rw e (done _ refl)
+
+      at_mount : (m : Option MountEntry) → P (step o d j row rest) → P (unmount d j (Unmount dir ∷ rest) (step o d j row rest) m)
       at_mount None ih = ih
-      at_mount (Some m) ih = done _ refl
+      at_mount (Some m) ih = at_hold m m.held refl
   of_step o d j row (_ ∷ rest) = done _ refl
 
   of_job : (o : Objects) (d : Desk) (j : Job) (row : Record) (ending : Option Outcome) → P (goes_on o d j row ending)
   of_job o d j row None = of_step o d j row j.left
-  of_job o d j row (Some outcome) = done _ (awake-undo d j outcome j.undo)
+  of_job o d j row (Some outcome) = done _ (awake-undo d j outcome o.mounts j.undo)
 
   of_next : (d : Desk) (waiting : List (ℕ × RequestKind)) (row : Record) → (is_nil waiting ≡ true → P (Just (rests d))) → P (Just (next_request d waiting row))
   of_next d [] row rested = rested refl

@@ -6,7 +6,7 @@ use Rattle.zoneadmd_steps.specs.Turns.{Turn_decision}
 use Rattle.zoneadmd_steps.specs.declared.requests.Step.{Step}
 use Rattle.zoneadmd_steps.specs.declared.requests.Step.TheVariants.{Hook, Copy, Limits, Devices, Root, Unmount}
 use Rattle.zoneadmd_steps.specs.declared.requests.TurnReply.{TurnReply}
-use Rattle.zoneadmd_steps.specs.declared.requests.TurnReply.TheVariants.{Idle, Stepped, Undone}
+use Rattle.zoneadmd_steps.specs.declared.requests.TurnReply.TheVariants.{Idle, Stepped, Stuck, Undone}
 
 abbrev pub is_idle : TurnReply → Bool
 is_idle Idle = true
@@ -37,6 +37,7 @@ is_local_undo _ = false
 abbrev pub is_local_reply : TurnReply → Bool
 is_local_reply (Stepped s) = is_local_step s
 is_local_reply (Undone s) = is_local_undo s
+is_local_reply Stuck = true
 is_local_reply _ = false
 
 abbrev pub is_local_turn : Turn_decision → Bool

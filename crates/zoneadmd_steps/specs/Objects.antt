@@ -1,16 +1,16 @@
 -- The objects of the kernel that one zone has, and what an event may do to them.
-use Rattle.std.specs.Prelude.{ℕ, List, [], ◌∷◌, Option, Some, None, Bool, true, bytes_eq, is_some, nat_eq, if◌then◌else◌}
+use Rattle.std.specs.Prelude.{ℕ, List, [], ◌∷◌, Option, Some, None, Bool, true, nat_eq}
 use Rattle.std.specs.Option.{option_map}
 use Rattle.kernel_objects.specs.Kernel.{Kernel}
 use Rattle.kernel_objects.specs.Processes.{Process}
 use Rattle.kernel_objects.specs.declared.objects.Id.{Id}
 use Rattle.zone_pools.specs.Firsts.{first_of}
 use Rattle.zone_pools.specs.Owned_lists.{Change, Go, List_edit, edited}
-use Rattle.zoneadmd_steps.specs.declared.objects.Mount.{Mount}
+use Rattle.loopback_mounts.specs.declared.mount.MountEntry.{MountEntry}
 
 pub record Objects : Type 0 where
   pub processes : List Process
-  pub mounts : List Mount
+  pub mounts : List MountEntry
   pub ids : List Id
 
 -- what becomes of them beside what comes with a grant. A process and an id keep their number where they change
@@ -19,7 +19,7 @@ pub data Object_edit : Type 0 where
   -- one goes, and its children get another parent
   Process_goes : (pid : ℕ) → Object_edit
   Processes_change : (Process → Process) → Object_edit
-  Of_mounts : List_edit Mount → Object_edit
+  Of_mounts : List_edit MountEntry → Object_edit
   Ids_go : (Id → Bool) → Object_edit
   Ids_change : (Id → Id) → Object_edit
 
@@ -30,7 +30,7 @@ abbrev pub keeping_zid : (Id → Id) → Id → Id
 keeping_zid f i = record (f i) { zid = i.zid }
 
 -- the mounts and the ids after edits
-abbrev pub mounts_after : List Object_edit → List Mount → List Mount
+abbrev pub mounts_after : List Object_edit → List MountEntry → List MountEntry
 mounts_after [] ms = ms
 mounts_after (Of_mounts e ∷ es) ms = mounts_after es (edited e ms)
 mounts_after (_ ∷ es) ms = mounts_after es ms
@@ -50,16 +50,6 @@ all_of x = true
 
 abbrev pub has_zid : ℕ → Id → Bool
 has_zid n i = nat_eq i.zid n
-
-abbrev pub is_at : List ℕ → Mount → Bool
-is_at dir m = bytes_eq dir m.dir
-
-abbrev pub last_of : {A : Type 0} → List A → Option A
-last_of [] = None
-last_of (x ∷ xs) = if is_some (last_of xs) then last_of xs else Some x
-
-abbrev pub last_dir : List Mount → Option (List ℕ)
-last_dir ms = option_map (λ m. m.dir) (last_of ms)
 
 abbrev pub zid_of : List Id → Option ℕ
 zid_of ids = option_map (λ i. i.zid) (first_of ids)

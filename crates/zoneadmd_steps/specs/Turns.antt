@@ -1,18 +1,21 @@
 -- What a turn of a zone's daemon does: from the zone's objects, what is stored of it, and its desk.
-use Rattle.std.specs.Prelude.{ℕ, List, [], ◌∷◌, ◌++◌, Option, Some, None, true, codes, if◌then◌else◌}
+use Rattle.std.specs.Prelude.{ℕ, List, [], ◌∷◌, ◌++◌, Option, Some, None, Bool, true, false, codes, is_ok, if◌then◌else◌}
 use Rattle.kernel_objects.specs.Kernel.{cleared, entered, limited, new_id}
 use Rattle.kernel_objects.specs.Processes.{Process, count_of}
 use Rattle.kernel_objects.specs.declared.objects.Id.{Id}
 use Rattle.priv_sets.specs.Sets.{default_set}
-use Rattle.zone_pools.specs.Owned_lists.{Come, Go}
+use Rattle.zone_pools.specs.Owned_lists.{Go, Put}
 use Rattle.zone_pools.specs.Asked.{A_pid, A_serial, A_zid, Asked}
 use Rattle.zone_pools.specs.Decisions as decisions
 use Rattle.zone_pools.specs.Decisions.{Ask, Just}
 use Rattle.zn_base.specs.declared.state.ZoneState.{ZoneState}
 use Rattle.zn_base.specs.declared.state.ZoneState.TheVariants.{Installed}
+use Rattle.loopback_mounts.specs.Mounts.{before, is_at, is_held, last_of, mount_answer, mount_at}
+use Rattle.loopback_mounts.specs.declared.mount.Mount.{Mount}
+use Rattle.loopback_mounts.specs.declared.mount.MountEntry.{MountEntry}
 use Rattle.zoneadmd_steps.specs.Arrivals.{A_process, A_record, An_id, Comes}
 use Rattle.zoneadmd_steps.specs.Desks.{Desk, Job, next_place, state_now}
-use Rattle.zoneadmd_steps.specs.Objects.{Ids_change, Ids_go, Object_edit, Objects, Of_mounts, Processes_go, all_of, is_at, kernel_of, last_dir, zid_of}
+use Rattle.zoneadmd_steps.specs.Objects.{Ids_change, Ids_go, Object_edit, Objects, Of_mounts, Processes_go, all_of, kernel_of, zid_of}
 use Rattle.zoneadmd_steps.specs.Plans.{may_begin, plan, undo_after}
 use Rattle.zoneadmd_steps.specs.declared.requests.Outcome.{Outcome}
 use Rattle.zoneadmd_steps.specs.declared.requests.Outcome.TheVariants.{Done, WrongState, Denied}
@@ -20,8 +23,7 @@ use Rattle.zoneadmd_steps.specs.declared.requests.RequestKind.{RequestKind}
 use Rattle.zoneadmd_steps.specs.declared.requests.Step.{Step}
 use Rattle.zoneadmd_steps.specs.declared.requests.Step.TheVariants.{Hook, Record as Record_step, Copy, Zid, Limits, Devices, Root, State as State_step, Init, Kill, Unmount, Clear, ZidBack}
 use Rattle.zoneadmd_steps.specs.declared.requests.TurnReply.{TurnReply}
-use Rattle.zoneadmd_steps.specs.declared.requests.TurnReply.TheVariants.{Idle, Began, Stepped, Failed, Undone, Finished}
-use Rattle.zoneadmd_steps.specs.declared.objects.Mount.{Mount}
+use Rattle.zoneadmd_steps.specs.declared.requests.TurnReply.TheVariants.{Idle, Began, Stepped, Failed, Undone, Finished, Stuck}
 use Rattle.config_terms.specs.Fields.{path_text}
 use Rattle.zone_config.specs.declared.terms.Contents.{Contents}
 use Rattle.commit_journal.specs.declared.records.Record.{Record}
@@ -83,12 +85,20 @@ abbrev pub default_limits : Id → Id
 default_limits i = limited default_set None [] i
 
 abbrev pub root_mount : Contents → Mount
-root_mount config = record { dir = codes "/"; fstype = codes "root"; special = path_text config.zonepath ++ codes "/root" }
+root_mount config = record { dir = codes "/"; fstype = codes "root"; special = path_text config.zonepath ++ codes "/root"; read_only = false; by_process = false }
 
--- the last mount goes, and the plan stays where it is; without one the plan goes on. A zone has one mount at most today
-abbrev pub unmount : Desk → Job → List Step → Turn_decision → Option (List ℕ) → Turn_decision
+-- by mount(2): a mount comes to its place among the others, and is free. In a legal history nothing is mounted in a zone
+-- before its root
+abbrev pub mounting : Mount → List MountEntry → List Object_edit
+mounting m ms = if is_ok (mount_answer m.dir ms) then Of_mounts (Put (before m.dir) (record { mount = m; held = false })) ∷ [] else []
+
+-- by zoneadm(8) and umount2(2): the last mount goes unless it is held, and the plan stays where it is; without one the plan
+-- goes on
+abbrev pub unmount : Desk → Job → List Step → Turn_decision → Option MountEntry → Turn_decision
 unmount d j left next None = next
-unmount d j left next (Some dir) = Just (advance d j left (Of_mounts (Go (is_at dir)) ∷ []) (Unmount (Some dir)))
+unmount d j left next (Some m) =
+    if m.held then Just (reports [] d Stuck)
+    else Just (advance d j left (Of_mounts (Go (is_at m.mount.dir)) ∷ []) (Unmount (Some m.mount.dir)))
 
 -- the next step of a plan; the unmounts are as many turns as there are mounts, the last one first
 abbrev pub step : Objects → Desk → Job → Record → List Step → Turn_decision
@@ -99,11 +109,11 @@ step o d j row (Copy k ∷ rest) = Just (advance d j rest [] (Copy k))
 step o d j row (Zid _ ∷ rest) = asking d j rest (An_id (new_id 0)) A_zid (λ n. Zid (Some n))
 step o d j row (Limits ∷ rest) = Just (advance d j rest (Ids_change default_limits ∷ []) Limits)
 step o d j row (Devices _ ∷ rest) = Just (advance d j rest [] (Devices (Some 0)))
-step o d j row (Root ∷ rest) = Just (advance d j rest (Of_mounts (Come (root_mount j.config)) ∷ []) Root)
+step o d j row (Root ∷ rest) = Just (advance d j rest (mounting (root_mount j.config) o.mounts) Root)
 step o d j row (State_step s ∷ rest) = Just (advance (record d { active = active_after s }) j rest [] (State_step s))
 step o d j row (Init _ ∷ rest) = asking d j rest (A_process (init_process o)) A_pid (λ n. Init (Some n))
 step o d j row (Kill _ ∷ rest) = Just (advance d j rest (Processes_go all_of ∷ []) (Kill (Some (count_of o.processes))))
-step o d j row (Unmount dir ∷ rest) = unmount d j (Unmount dir ∷ rest) (step o d j row rest) (last_dir o.mounts)
+step o d j row (Unmount dir ∷ rest) = unmount d j (Unmount dir ∷ rest) (step o d j row rest) (last_of o.mounts)
 step o d j row (Clear ∷ rest) = Just (advance d j rest (Ids_change cleared ∷ []) Clear)
 step o d j row (ZidBack _ ∷ rest) = Just (advance d j rest (Ids_go all_of ∷ []) (ZidBack (zid_of o.ids)))
 
@@ -118,14 +128,19 @@ undo_edits Limits = Ids_change cleared ∷ []
 undo_edits Root = Of_mounts (Go (is_at (codes "/"))) ∷ []
 undo_edits s = []
 
-abbrev pub undo : Desk → Job → Outcome → List Step → Turned
-undo d j outcome [] = finish d j.ticket outcome
-undo d j outcome (s ∷ rest) = undone d j rest (undo_edits s) s
+-- the root isn't unmounted while it is held
+abbrev pub is_stuck : Step → List MountEntry → Bool
+is_stuck Root ms = is_held (mount_at (codes "/") ms)
+is_stuck s ms = false
+
+abbrev pub undo : Desk → Job → Outcome → List MountEntry → List Step → Turned
+undo d j outcome ms [] = finish d j.ticket outcome
+undo d j outcome ms (s ∷ rest) = if is_stuck s ms then reports [] d Stuck else undone d j rest (undo_edits s) s
 
 -- a request under way goes on
 abbrev pub goes_on : Objects → Desk → Job → Record → Option Outcome → Turn_decision
 goes_on o d j row None = step o d j row j.left
-goes_on o d j row (Some outcome) = Just (undo d j outcome j.undo)
+goes_on o d j row (Some outcome) = Just (undo d j outcome o.mounts j.undo)
 
 -- where none is under way, the next one begins
 abbrev pub next_request : Desk → List (ℕ × RequestKind) → Record → Turned

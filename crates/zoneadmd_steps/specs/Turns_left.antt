@@ -1,4 +1,4 @@
--- How many turns a request under way can still have.
+-- How many turns a request under way can still have, but for those that wait for a held mount.
 use Rattle.std.specs.Prelude.{ℕ, ◌+◌, max, List, [], ◌∷◌, ◌++◌, length, replicate, Option, Some, None}
 use Rattle.zoneadmd_steps.specs.Plans.{undo_after}
 use Rattle.zoneadmd_steps.specs.Desks.{Job}

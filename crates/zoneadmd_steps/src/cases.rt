@@ -24,6 +24,8 @@ pub enum JobCase {
     Ask(Came, usize),
     /// The latest step that is to be undone is undone.
     Undo(ObjectEdit),
+    /// The next unmount is of a mount that is held, and nothing changes.
+    Stuck,
 }
 
 /// What a turn of a zone's daemon comes to.

@@ -50,7 +50,7 @@ pub enum Step {
     Init(Option<u32>),
     /// All processes end, as a count.
     Kill(Option<u32>),
-    /// A mount goes, the last one; a zone has one at most today. In a plan it stands for all of them.
+    /// A mount goes, the one with the greatest directory. In a plan it stands for all of them.
     Unmount(Option<AbsPath>),
     /// The zone's limits and devices are given up.
     Clear,
@@ -82,4 +82,7 @@ pub enum TurnReply {
     Undone(Step),
     /// A request ends: its ticket and its outcome.
     Finished(u32, Outcome),
+    /// The next unmount is of a mount that the global zone holds: nothing changes, and the request waits until it is
+    /// released. By zoneadmd(8)'s umount of a zone's mounts, umount2(2) EBUSY.
+    Stuck,
 }

@@ -135,7 +135,7 @@ fn settle_job(
 ) -> TurnWork
     requires of { IsJobCase job.old case }
     requires room { HasJobRoom job.old case }
-    ensures act { (d : desks.Desk) → d.active ≡ active.old → rest_of_turn (decisions.act_of arrived (job_turn d job.old case) grant) ≡ turn_work result (record d { job = unless_ended result.ended (as_job job.new); active = active.new }) }
+    ensures act { (d : desks.Desk) → d.job ≡ Some (as_job job.old) → d.active ≡ active.old → rest_of_turn (decisions.act_of arrived (job_turn d job.old case) grant) ≡ turn_work result (record d { job = unless_ended result.ended (as_job job.new); active = active.new }) }
     ensures objects { result.objects ≡ job_objects case }
     ensures named { (z : Name) → IsNamedJobCase z case → IfSome result.stored (λ s. s.owner ≡ z) }
 {
@@ -151,6 +151,7 @@ fn settle_job(
             let shown = job.take_undo();
             TurnWork::turned(objects, TurnReply::Undone(shown))
         }
+        JobCase::Stuck => TurnWork::turned(ObjectEdit::Nothing, TurnReply::Stuck),
     }
 }
 
