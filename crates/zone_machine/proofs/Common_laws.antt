@@ -19,7 +19,7 @@ use Rattle.zone_machine.specs.Machine.Common.{Common, HoldOnce, acts_common, cam
 use Rattle.zone_machine.specs.State.Decisions.{Act, act_of, acts, acts_world, after_came}
 use Rattle.zone_machine.specs.State.Edits.{Edit, Of_objects, comes, edit, edits}
 use Rattle.zone_machine.specs.Session.Lines.{Command, Kill, Line, line_of}
-use Rattle.zone_machine.specs.Machine.{decide, holder, line_subject, need, one, one_of, session_number, session_subject, started, subject}
+use Rattle.zone_machine.specs.Machine.{decide, declared_by, holder, line_subject, need, one, one_of, session_number, session_subject, started, subject}
 use Rattle.kernel_objects.specs.Processes.{Process, has_pid}
 use Rattle.zoneadmd_steps.specs.Objects.{Processes_go, has_zid}
 use Rattle.zone_pools.specs.Firsts.{first_of}
@@ -27,11 +27,12 @@ use Rattle.zone_machine.specs.Machine.Pools.{allowed, allowed_of, fits, fits_of,
 use Rattle.commit_journal.proofs.Applied.{stored-push}
 use Rattle.commit_journal.specs.Stored as rows
 use Rattle.commit_journal.specs.Stored.{Rows}
+use Rattle.zone_machine.specs.State.Declarations.{Declared}
 use Rattle.zone_machine.specs.State.{At, Idle, Session as Session_mode, State}
 use Rattle.zone_machine.specs.State.Worlds.{World, doing, view, view_of, world}
 use Rattle.zone_machine.specs.declared.events.Event.{Event}
-use Rattle.zone_machine.specs.declared.events.Event.TheVariants.{Process as Call_of, Session, Turn}
-use Rattle.zone_machine.specs.declared.events.Subject.TheVariants.{Global, Zone}
+use Rattle.zone_machine.specs.declared.events.Event.TheVariants.{Process as Call_of, Session, System, Turn}
+use Rattle.zone_machine.specs.declared.events.Subject.TheVariants.{Global, Whole, Zone}
 use Rattle.commit_journal.specs.declared.records.Commit.{Commit}
 
 -- what no world shows
@@ -40,12 +41,13 @@ record Rest : Type 0 where
   serial : ℕ
   last_pid : ℕ
   last_zid : ℕ
+  declared : Declared
 
 abbrev rest : State → Rest
-rest S = record { rows = rows.stored S.commits; serial = length S.commits; last_pid = S.last_pid; last_zid = S.last_zid }
+rest S = record { rows = rows.stored S.commits; serial = length S.commits; last_pid = S.last_pid; last_zid = S.last_zid; declared = S.declared }
 
 abbrev rest_in : Common → Rest
-rest_in c = record { rows = c.rows; serial = c.serial; last_pid = c.last_pid; last_zid = c.last_zid }
+rest_in c = record { rows = c.rows; serial = c.serial; last_pid = c.last_pid; last_zid = c.last_zid; declared = c.declared }
 
 rest-edit : (z : Name) (n : Option ℕ) (e : Edit) (S : State) → rest (edit z n e S) ≡ rest S
 unfolding edit
@@ -65,7 +67,7 @@ rest-came z (Some (New_record row)) S =
     let c : Commit = record { zone = z; stored = row } in
     let rows = stored-push S.commits c in
     let count : length (S.commits ++ c ∷ []) ≡ length S.commits + 1 = length-append S.commits (c ∷ []) in
-    λ i. record { rows = rows i; serial = count i; last_pid = S.last_pid; last_zid = S.last_zid }
+    λ i. record { rows = rows i; serial = count i; last_pid = S.last_pid; last_zid = S.last_zid; declared = S.declared }
 
 -- what comes is held only once its world shows it
 held-came : (z : Name) (a : Option Arrival) (S : State) → record (came_common z a (common S)) { rows = rows.stored S.commits; serial = length S.commits; last_pid = S.last_pid; last_zid = S.last_zid } ≡ common S
@@ -95,6 +97,7 @@ common-acts z n a S own =
       serial = (r i).serial;
       last_pid = (r i).last_pid;
       last_zid = (r i).last_zid;
+      declared = (r i).declared;
       started = true;
     }
 
@@ -110,6 +113,10 @@ common-one z S e g is =
 pub common-global : (S : State) (e : Event) (g : Grant) → subject S e ≡ Global → common (one S e g).state ≡ record (common S) { started = true }
 unfolding one
 common-global S e g is = ap (λ s. common (one_of s S e g).state) is
+
+pub common-whole : (S : State) (e : Event) (g : Grant) → subject S e ≡ Whole → common (one S e g).state ≡ record (common S) { declared = declared_by e S.declared }
+unfolding one
+common-whole S e g is = ap (λ s. common (one_of s S e g).state) is
 
 -- lists with the same held by each zone have the same among them
 module _ {A : Type 0} (p : A → Bool) where
@@ -234,6 +241,7 @@ subject-common S T (Session n text) once h =
     session-common line S.processes T.processes (S.sessions n) (T.sessions n) (λ z. ap (λ k. k.sessions z n) h) (line-common line.zone S.processes T.processes line.command (λ z n. ap (λ k. k.pids z n) h) once)
 subject-common S T (Turn z) once h = refl
 subject-common S T (Call_of z pid c) once h = refl
+subject-common S T (System what) once h = refl
 
 module _ (z : Name) (S T : State) (e : Event) (is : subject S e ≡ Zone z) (once : HoldOnce (common S).pids) (h : common S ≡ common T) (w : world z S ≡ world z T) where
   it : subject T e ≡ Zone z

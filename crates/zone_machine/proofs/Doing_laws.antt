@@ -64,9 +64,9 @@ pub common_by : (z : Name) (w : World) (g : Common) (t : Shared) (waits : ℕ �
     → ((y : Name) (n : ℕ) → held_by (zid_owner t.kernel) y n ≡ owners.holding z (holds_zid w) g.zids y n)
     → ((y : Name) (n : ℕ) → held_by (owner nat_eq t.sessions) y n ≡ owners.holding z (λ n. is_some (waits n)) g.sessions y n)
     → ((n : ℕ) → is_some (w.sessions n) ≡ is_some (waits n))
-    → rows_of t.rows.entries ≡ g.rows → t.serial ≡ g.serial → t.kernel.last_pid ≡ g.last_pid → t.kernel.last_zid ≡ g.last_zid → t.started ≡ g.started
+    → rows_of t.rows.entries ≡ g.rows → t.serial ≡ g.serial → t.kernel.last_pid ≡ g.last_pid → t.kernel.last_zid ≡ g.last_zid → record { items = t.claims.declared; devices = t.kernel.devices } ≡ g.declared → t.started ≡ g.started
     → common_in t ≡ holding z w g
-common_by z w g t waits pids zids sessions seen rows serial last_pid last_zid started = λ i. record {
+common_by z w g t waits pids zids sessions seen rows serial last_pid last_zid declared started = λ i. record {
   pids = λ y n. pids y n i;
   zids = λ y n. zids y n i;
   sessions = λ y n. (sessions y n ∙ ap (λ b. if bytes_eq z y then b else g.sessions y n) (sym (seen n))) i;
@@ -74,6 +74,7 @@ common_by z w g t waits pids zids sessions seen rows serial last_pid last_zid st
   serial = serial i;
   last_pid = last_pid i;
   last_zid = last_zid i;
+  declared = declared i;
   started = started i;
 }
 
@@ -88,7 +89,7 @@ does_sits z c d s t k x is_open taken h = record {
       (record s { sessions = t.sessions }) (get nat_eq d.waits) (same_pids z c s a) (same_zids z c s a)
       (column z (λ n. is_some (get nat_eq d.waits n)) (owner nat_eq s.sessions) (owner nat_eq t.sessions)
       (λ n. ap (is_owner z) (taken n) ∙ (here a n (nat_eq k n) ∙ sym (ap is_some (h n) ∙ more (nat_eq k n) (get nat_eq c.waits n)))) (λ y ne n. ap (is_owner y) (taken n) ∙ there y ne n (nat_eq k n) refl))
-      (λ n. ap is_some (sym (waits n)) ∙ holds_wait (get nat_eq d.waits n)) refl refl refl refl refl;
+      (λ n. ap is_some (sym (waits n)) ∙ holds_wait (get nat_eq d.waits n)) refl refl refl refl refl refl;
 }
   where
     mapped : (b : Bool) (o : Option ℕ) → option_map state.Awaiting (if b then Some x.ticket else o) ≡ (if b then Some (state.Awaiting x.ticket) else option_map state.Awaiting o)
@@ -124,7 +125,7 @@ does_ends z c d s t ticket h given n = record {
       (record s { sessions = t.sessions }) (get nat_eq d.waits) (same_pids z c s a) (same_zids z c s a)
       (gone_column z (λ n. is_some (get nat_eq c.waits n)) (λ n. is_some (get nat_eq d.waits n)) (λ n. is_wait_for ticket (get nat_eq c.waits n)) (owner nat_eq s.sessions) (owner nat_eq t.sessions)
       a.sessions (λ n. some_wait ticket (get nat_eq c.waits n)) given (λ n. ap is_some (h n) ∙ less (get nat_eq c.waits n)))
-      (λ n. ap is_some (sym (waits n)) ∙ holds_wait (get nat_eq d.waits n)) refl refl refl refl refl;
+      (λ n. ap is_some (sym (waits n)) ∙ holds_wait (get nat_eq d.waits n)) refl refl refl refl refl refl;
 }
   where
     mapped : (o : Option ℕ) → option_map state.Awaiting (unless_ended ticket o) ≡ swept_doing (ticket_ended ticket) (option_map state.Awaiting o)
@@ -153,7 +154,7 @@ does_record z c s t r h found = record {
   world = λ a i. record (cell_world (row_in z s) c) { stored = found i };
   common = λ a. common_by z (record (cell_world (row_in z s) c) { stored = Some r }) (record (common_in s) { rows = placed z r (rows_of s.rows.entries); serial = s.serial + 1 })
       (record s { rows = t.rows; serial = s.serial + 1 }) (get nat_eq c.waits) (same_pids z c s a) (same_zids z c s a) (same_sessions z c s a) (λ n. holds_wait (get nat_eq c.waits n))
-      (ap rows_of h ∙ placed_is z r s.rows.entries) refl refl refl refl;
+      (ap rows_of h ∙ placed_is z r s.rows.entries) refl refl refl refl refl;
 }
 
 -- one after another
@@ -225,6 +226,8 @@ desk-objects n object.Nothing w d = refl
 desk-objects n object.EndProcesses w d = refl
 desk-objects n (object.Mount m) w d = refl
 desk-objects n (object.Unmount dir) w d = refl
+desk-objects n (object.Hold dir) w d = refl
+desk-objects n (object.Release dir) w d = refl
 desk-objects n object.EndIds w d = refl
 desk-objects n (object.EndProcess pid) w d = refl
 desk-objects n (object.Rename pid name) w d = refl

@@ -194,6 +194,7 @@ asks_job : (d : desks.Desk) (j : Job) (c : JobCase) → asks_rightly (job_turn d
 asks_job d j (jobs.Finish outcome) = refl
 asks_job d j (jobs.Pass p) = refl
 asks_job d j (jobs.Ask it next) = asks_came d (as_job j) (drop next j.steps.items) it
+asks_job d j jobs.Stuck = refl
 asks_job d j (jobs.Undo objects) = asks_undo d (as_job j) (object_edits objects) (as_job j).undo
 
 asks_on : (d : Desk) (o : Option Job) (c : JobCase) → asks_rightly (on_job d o c) ≡ true
@@ -221,6 +222,8 @@ room_change object.Nothing c d h = h
 room_change object.EndProcesses c d h = h
 room_change (object.Mount m) c d h = h
 room_change (object.Unmount dir) c d h = h
+room_change (object.Hold dir) c d h = h
+room_change (object.Release dir) c d h = h
 room_change object.EndIds c d h = h
 room_change (object.EndProcess pid) c d h = h
 room_change (object.Rename pid name) c d h = h

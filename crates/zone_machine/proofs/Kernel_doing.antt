@@ -56,6 +56,10 @@ of_id n (Some i) = or_false (nat_eq i.zid n)
     or_false true = refl
     or_false false = refl
 
+-- what is common with another shared part of the kernel, but for who holds what
+abbrev with_kernel : Shared → Kernel_shared → Common
+with_kernel s t = record (common_in s) { last_pid = t.last_pid; last_zid = t.last_zid; declared = record { items = s.claims.declared; devices = t.devices } }
+
 -- what a zone has in the kernel is changed to k, and the shared part of the kernel to t
 module _ (z : Name) (c : Cell) (s : Shared) (k : Kernel) (t : Kernel_shared) where
   abbrev then_cell : Cell
@@ -74,13 +78,13 @@ module _ (z : Name) (c : Cell) (s : Shared) (k : Kernel) (t : Kernel_shared) whe
   pub does_kernel : (f : World → World) (g : Common → Common) → (Agree z c s → cell_world (row_in z s) then_cell ≡ f (cell_world (row_in z s) c))
       → (Agree z c s → (y : Name) (n : ℕ) → held_by (pid_owner t) y n ≡ owners.holding z (λ n. list_any (has_pid n) k.processes) (held_by (pid_owner s.kernel)) y n)
       → (Agree z c s → (y : Name) (n : ℕ) → held_by (zid_owner t) y n ≡ owners.holding z (λ n. list_any (has_zid n) (ids_of k.id)) (held_by (zid_owner s.kernel)) y n)
-      → record (common_in s) { last_pid = t.last_pid; last_zid = t.last_zid } ≡ g (common_in s)
+      → with_kernel s t ≡ g (common_in s)
       → Does z f g c s then_cell then_shared
   does_kernel f g world pids zids last = record {
     world = world;
     common = λ a.
-        common_by z (cell_world (row_in z s) then_cell) (record (common_in s) { last_pid = t.last_pid; last_zid = t.last_zid }) then_shared (get nat_eq c.waits)
-        (pids a) (zids a) (same_sessions z c s a) (λ n. holds_wait (get nat_eq c.waits n)) refl refl refl refl refl
+        common_by z (cell_world (row_in z s) then_cell) (with_kernel s t) then_shared (get nat_eq c.waits)
+        (pids a) (zids a) (same_sessions z c s a) (λ n. holds_wait (get nat_eq c.waits n)) refl refl refl refl refl refl
         ∙ (ap (λ g. holding z (cell_world (row_in z s) then_cell) g) last ∙ ap (λ w. holding z w (g (common_in s))) (world a));
   }
 
@@ -94,7 +98,7 @@ module _ (z : Name) (c : Cell) (s : Shared) (k : Kernel) (t : Kernel_shared) whe
       ∙ ap (λ (j : Kernel). owners.holding z (λ n. list_any (has_pid n) j.processes) (held_by (pid_owner s.kernel)) y n) (sym (is a)))
       (λ a y n. ap (λ (j : Kernel_shared). held_by (zid_owner j) y n) takes.same
       ∙ (same_zids z c s a y n ∙ ap (λ (j : Kernel). owners.holding z (λ n. list_any (has_zid n) (ids_of j.id)) (held_by (zid_owner s.kernel)) y n) (sym (is a))))
-      (ap (λ (j : Kernel_shared). record (common_in s) { last_pid = j.last_pid; last_zid = j.last_zid }) takes.same)
+      (ap (λ (j : Kernel_shared). with_kernel s j) takes.same)
     where
       is : Agree z c s → k ≡ with_process p c.kernel
       is a = begun (none_with p.pid c.kernel.processes (a.pids p.pid ∙ ap (is_owner z) free))
@@ -109,7 +113,7 @@ module _ (z : Name) (c : Cell) (s : Shared) (k : Kernel) (t : Kernel_shared) whe
       ∙ ap (λ (j : Kernel). owners.holding z (λ n. list_any (has_pid n) j.processes) (held_by (pid_owner s.kernel)) y n) (sym is))
       (λ a y n. ap (λ (j : Kernel_shared). held_by (zid_owner j) y n) frees.same
       ∙ (same_zids z c s a y n ∙ ap (λ (j : Kernel). owners.holding z (λ n. list_any (has_zid n) (ids_of j.id)) (held_by (zid_owner s.kernel)) y n) (sym is)))
-      (ap (λ (j : Kernel_shared). record (common_in s) { last_pid = j.last_pid; last_zid = j.last_zid }) frees.same)
+      (ap (λ (j : Kernel_shared). with_kernel s j) frees.same)
 
   -- the zone gets an id, in place of the one that it had
   pub does_activate : (zid : ℕ) → zid_owner s.kernel zid ≡ None → TakesZid z zid (λ n. Kernels.has_zid n c.kernel.id) s.kernel t → k ≡ record c.kernel { id = Some (new_id zid) }
@@ -120,7 +124,7 @@ module _ (z : Name) (c : Cell) (s : Shared) (k : Kernel) (t : Kernel_shared) whe
       ∙ (same_pids z c s a y n ∙ ap (λ (j : Kernel). owners.holding z (λ n. list_any (has_pid n) j.processes) (held_by (pid_owner s.kernel)) y n) (sym is)))
       (λ a y n. column z (λ n. list_any (has_zid n) (new_id zid ∷ [])) (zid_owner s.kernel) (zid_owner t) (here a) (there a) y n
       ∙ ap (λ (j : Kernel). owners.holding z (λ n. list_any (has_zid n) (ids_of j.id)) (held_by (zid_owner s.kernel)) y n) (sym is))
-      (ap (λ (j : Kernel_shared). record (common_in s) { last_pid = j.last_pid; last_zid = j.last_zid }) takes.same)
+      (ap (λ (j : Kernel_shared). with_kernel s j) takes.same)
     where
       taken : (n : ℕ) → zid_owner t n ≡ (if nat_eq zid n then Some z else if had_zid n then None else zid_owner s.kernel n)
       taken n = takes.zids n ∙ ap (λ b. if nat_eq zid n then Some z else if b then None else zid_owner s.kernel n) (of_id n c.kernel.id)
@@ -155,7 +159,7 @@ module _ (z : Name) (c : Cell) (s : Shared) (k : Kernel) (t : Kernel_shared) whe
       (λ a y n. gone_column z had_zid (λ n. false) had_zid (zid_owner s.kernel) (zid_owner t) a.zids (λ n e. e)
       (λ n. frees.zids n ∙ ap (λ b. if b then None else zid_owner s.kernel n) (of_id n c.kernel.id)) (λ n. none_of (had_zid n)) y n
       ∙ ap (λ (j : Kernel). owners.holding z (λ n. list_any (has_zid n) (ids_of j.id)) (held_by (zid_owner s.kernel)) y n) (sym is))
-      (ap (λ (j : Kernel_shared). record (common_in s) { last_pid = j.last_pid; last_zid = j.last_zid }) frees.same)
+      (ap (λ (j : Kernel_shared). with_kernel s j) frees.same)
 
   -- processes and the id change, and keep their numbers
   pub does_change : (f : World → World) (ps : List Process) (id : Option Id) → k ≡ record c.kernel { processes = ps; id = id } → t ≡ s.kernel
@@ -170,7 +174,7 @@ module _ (z : Name) (c : Cell) (s : Shared) (k : Kernel) (t : Kernel_shared) whe
       (λ a y n. ap (λ (j : Kernel_shared). held_by (zid_owner j) y n) same
       ∙ (same_zids z c s a y n ∙ (sym (λ i. owners.holding z (λ n. zids n i) (held_by (zid_owner s.kernel)) y n)
       ∙ ap (λ (j : Kernel). owners.holding z (λ n. list_any (has_zid n) (ids_of j.id)) (held_by (zid_owner s.kernel)) y n) (sym is))))
-      (ap (λ (j : Kernel_shared). record (common_in s) { last_pid = j.last_pid; last_zid = j.last_zid }) same)
+      (ap (λ (j : Kernel_shared). with_kernel s j) same)
 
 -- a process ends, and its number is nobody's where the zone has it
 module _ (pid : ℕ) (ps : List Process) where

@@ -17,6 +17,7 @@ pub mod Waits_laws
 pub mod Doing_laws
 pub mod Kernel_doing
 pub mod Kernel_cases
+mod Mount_cases
 pub mod Rooms_laws
 pub mod Standing
 pub mod Stepping

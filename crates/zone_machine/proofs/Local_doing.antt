@@ -70,13 +70,13 @@ settled decided t d w v is sat works =
 
 -- and so they stand in the cell
 pub after : (row : Option Record) (old mid new : Cell) (d : Desk) (o : ObjectEdit) (t : Turned) → cell_world row mid ≡ cell_world row old
-    → new ≡ record mid { desk = d; kernel = new.kernel; mounts = new.mounts } → new.kernel.processes ≡ mid.kernel.processes
-    → new.mounts.items ≡ mounts_after (object_edits o) mid.mounts.items → ids_of new.kernel.id ≡ ids_after (object_edits o) (ids_of mid.kernel.id)
-    → (mounts_after (object_edits o) mid.mounts.items ≡ mounts_after t.objects mid.mounts.items) × (ids_after (object_edits o) (ids_of mid.kernel.id) ≡ ids_after t.objects (ids_of mid.kernel.id)) × (as_desk d ≡ t.desk)
-    → cell_world row new ≡ record (cell_world row old) { mounts = mounts_after t.objects old.mounts.items; ids = ids_after t.objects (ids_of old.kernel.id); desk = t.desk }
-after row old mid new d o t same is processes mounts ids left =
+    → new ≡ record mid { desk = d; kernel = new.kernel; mounts = new.mounts } → new.kernel.processes ≡ mid.kernel.processes → new.kernel.devices ≡ mid.kernel.devices
+    → new.mounts.list ≡ mounts_after (object_edits o) mid.mounts.list → ids_of new.kernel.id ≡ ids_after (object_edits o) (ids_of mid.kernel.id)
+    → (mounts_after (object_edits o) mid.mounts.list ≡ mounts_after t.objects mid.mounts.list) × (ids_after (object_edits o) (ids_of mid.kernel.id) ≡ ids_after t.objects (ids_of mid.kernel.id)) × (as_desk d ≡ t.desk)
+    → cell_world row new ≡ record (cell_world row old) { mounts = mounts_after t.objects old.mounts.list; ids = ids_after t.objects (ids_of old.kernel.id); desk = t.desk }
+after row old mid new d o t same is processes devices mounts ids left =
     ap (cell_world row) is
-    ∙ ((λ i. record (cell_world row mid) { processes = processes i; mounts = (mounts ∙ left.0) i; ids = (ids ∙ left.1) i; desk = left.2 i })
+    ∙ ((λ i. record (cell_world row mid) { processes = processes i; devices = devices i; mounts = (mounts ∙ left.0) i; ids = (ids ∙ left.1) i; desk = left.2 i })
     ∙ ap (λ (w : World). record w { mounts = mounts_after t.objects w.mounts; ids = ids_after t.objects w.ids; desk = t.desk }) same)
 
 -- a stored zone's world, by its cell

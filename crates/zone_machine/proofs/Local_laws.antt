@@ -1,6 +1,6 @@
 -- Local turns change their zone's mounts, its id but for the number, and its desk alone; and a zone that has work has a turn.
 use Rattle.std.proofs.Common.{◌≡◌, ◌∷◌, ◌++◌, [], ◌&&◌, ◌||◌, ℕ, List, Bool, Option, Some, None, true, false, map, refl, ap, subst, sym, ◌∙◌}
-use Rattle.std.specs.Prelude.{◌≢◌, bytes_eq}
+use Rattle.std.specs.Prelude.{◌≢◌, bytes_eq, if◌then◌else◌, is_ok}
 use Rattle.std.specs.List.{list_all, list_any}
 use Rattle.std.proofs.lemmas.Bool.{and_from, and_parts, false≢true, true≢false}
 use Rattle.zn_base.specs.Names.{Name}
@@ -9,7 +9,7 @@ use Rattle.zone_pools.proofs.Same_laws.{grant-Decides}
 use Rattle.zone_pools.specs.Decisions as decisions
 use Rattle.zone_pools.specs.Decisions.{Ask, Just, asked_of}
 use Rattle.kernel_objects.specs.declared.objects.Id.{Id}
-use Rattle.zone_pools.specs.Owned_lists.{Change, edit_list, mine}
+use Rattle.zone_pools.specs.Owned_lists.{Change, Put, edit_list, mine}
 use Rattle.zone_pools.specs.Pools.{said_by_all}
 use Rattle.zone_pools.specs.declared.owned.Owned.{Owned}
 use Rattle.zone_pools.specs.Same.{same_grant}
@@ -29,12 +29,12 @@ use Rattle.zoneadmd_steps.specs.Desks.{Desk, Job, state_now}
 use Rattle.zone_machine.specs.State.Edits.{Of_objects, Set_desk, edit, edit_world, edits, edits_world}
 use Rattle.zone_machine.specs.Machine.Histories.{is_allowed, is_told}
 use Rattle.zone_machine.specs.Machine.{Answered, decide, done_by, one, started, subject}
-use Rattle.zoneadmd_steps.specs.Objects.{Ids_change, Object_edit, Objects, Of_mounts, has_zid, ids_after, keeping_zid, last_dir, mounts_after}
+use Rattle.zoneadmd_steps.specs.Objects.{Ids_change, Object_edit, Objects, Of_mounts, has_zid, ids_after, keeping_zid, mounts_after}
 use Rattle.zoneadmd_steps.specs.Plans.{may_begin}
 use Rattle.zone_machine.specs.Machine.Pools.{allowed, pools_of}
 use Rattle.zone_machine.specs.Machine.Same.{same_reply, same_subject}
 use Rattle.zone_machine.specs.State.{State}
-use Rattle.zoneadmd_steps.specs.Turns.{Turn_decision, Turned, begin, goes_on, next_request, step, turn, turn_at, undo, unmount}
+use Rattle.zoneadmd_steps.specs.Turns.{Turn_decision, Turned, begin, goes_on, is_stuck, mounting, next_request, reports, root_mount, step, turn, turn_at, undo, undo_edits, undone, unmount}
 use Rattle.zone_machine.specs.State.Worlds.{World, objects_of, view, world}
 use Rattle.zn_base.specs.declared.state.ZoneState.{ZoneState}
 use Rattle.zoneadmd_steps.specs.declared.requests.Outcome.{Outcome}
@@ -42,14 +42,16 @@ use Rattle.zoneadmd_steps.specs.declared.requests.RequestKind.{RequestKind}
 use Rattle.zoneadmd_steps.specs.declared.requests.Step.{Step}
 use Rattle.zoneadmd_steps.specs.declared.requests.Step.TheVariants.{Hook, Record as Record_step, Copy, Zid, Limits, Devices, Root, Init, Unmount}
 use Rattle.zoneadmd_steps.specs.declared.requests.TurnReply.{TurnReply}
-use Rattle.zoneadmd_steps.specs.declared.requests.TurnReply.TheVariants.{Idle}
+use Rattle.zoneadmd_steps.specs.declared.requests.TurnReply.TheVariants.{Idle, Stuck}
 use Rattle.zone_config.specs.declared.terms.Contents.{Contents}
 use Rattle.commit_journal.specs.declared.records.Record.{Record}
 use Rattle.zone_machine.specs.declared.events.Entry.{Entry}
 use Rattle.zone_machine.specs.declared.events.Event.{Event}
-use Rattle.zone_machine.specs.declared.events.Event.TheVariants.{Process as Call_of, Session, Turn}
+use Rattle.zone_machine.specs.declared.events.Event.TheVariants.{Process as Call_of, Session, System, Turn}
 use Rattle.zone_machine.specs.declared.events.Subject.TheVariants.{Zone}
-use Rattle.zoneadmd_steps.specs.declared.objects.Mount.{Mount}
+use Rattle.loopback_mounts.specs.Mounts.{before, last_of, mount_answer}
+use Rattle.loopback_mounts.specs.declared.mount.Mount.{Mount}
+use Rattle.loopback_mounts.specs.declared.mount.MountEntry.{MountEntry}
 use Rattle.zone_machine.specs.declared.replies.Head.TheVariants.{Turned as Told}
 
 -- of the zone's objects a turn changes these alone, it ends no ticket, and it isn't idle
@@ -63,12 +65,25 @@ abbrev If_local : Turn_decision → Type 0
 If_local (Just t) = is_local_reply t.reply ≡ true → Stays t
 If_local (Ask c asked denied given) = Unit {0}
 
-stays-undo : (d : Desk) (j : Job) (outcome : Outcome) (undone : List Step) → If_local (Just (undo d j outcome undone))
-stays-undo d j outcome [] h = absurd (false≢true h)
-stays-undo d j outcome (Limits ∷ rest) h = record { own = refl; ended = refl; busy = refl }
-stays-undo d j outcome (Devices count ∷ rest) h = record { own = refl; ended = refl; busy = refl }
-stays-undo d j outcome (Root ∷ rest) h = record { own = refl; ended = refl; busy = refl }
-stays-undo d j outcome (_ ∷ rest) h = absurd (false≢true h)
+-- one of two turns
+stays-if : (b : Bool) (t u : Turned) → If_local (Just t) → If_local (Just u) → If_local (Just (if b then t else u))
+stays-if true t u h k = h
+stays-if false t u h k = k
+
+stays-undo : (d : Desk) (j : Job) (outcome : Outcome) (ms : List MountEntry) (undone : List Step) → If_local (Just (undo d j outcome ms undone))
+stays-undo d j outcome ms [] = λ h. absurd (false≢true h)
+stays-undo d j outcome ms (Limits ∷ rest) = λ h. record { own = refl; ended = refl; busy = refl }
+stays-undo d j outcome ms (Devices count ∷ rest) = λ h. record { own = refl; ended = refl; busy = refl }
+stays-undo d j outcome ms (Root ∷ rest) =
+    stays-if (is_stuck Root ms) (reports [] d Stuck) (undone d j rest (undo_edits Root) Root) (λ h. record { own = refl; ended = refl; busy = refl }) (λ h. record { own = refl; ended = refl; busy = refl })
+stays-undo d j outcome ms (_ ∷ rest) = λ h. absurd (false≢true h)
+
+own-mounting : (m : Mount) (ms : List MountEntry) → list_all is_of_own (mounting m ms) ≡ true
+own-mounting m ms = at_test (is_ok (mount_answer m.dir ms))
+  where
+    at_test : (b : Bool) → list_all is_of_own (if b then Of_mounts (Put (before m.dir) (record { mount = m; held = false })) ∷ [] else []) ≡ true
+    at_test true = refl
+    at_test false = refl
 
 stays-step : (o : Objects) (d : Desk) (j : Job) (row : Record) (left : List Step) → If_local (step o d j row left)
 stays-step o d j row [] = λ h. absurd (false≢true h)
@@ -77,13 +92,17 @@ stays-step o d j row (Record_step s ∷ rest) = tt
 stays-step o d j row (Copy part ∷ rest) = λ h. record { own = refl; ended = refl; busy = refl }
 stays-step o d j row (Zid _ ∷ rest) = tt
 stays-step o d j row (Limits ∷ rest) = λ h. record { own = refl; ended = refl; busy = refl }
-stays-step o d j row (Root ∷ rest) = λ h. record { own = refl; ended = refl; busy = refl }
+stays-step o d j row (Root ∷ rest) = λ h. record { own = own-mounting (root_mount j.config) o.mounts; ended = refl; busy = refl }
 stays-step o d j row (Init _ ∷ rest) = tt
-stays-step o d j row (Unmount dir ∷ rest) = at_mount (last_dir o.mounts) (stays-step o d j row rest)
+stays-step o d j row (Unmount dir ∷ rest) = at_mount (last_of o.mounts) (stays-step o d j row rest)
   where
-    at_mount : (m : Option (List ℕ)) → If_local (step o d j row rest) → If_local (unmount d j (Unmount dir ∷ rest) (step o d j row rest) m)
+    at_held : (m : MountEntry) (b : Bool) → m.held ≡ b → If_local (unmount d j (Unmount dir ∷ rest) (step o d j row rest) (Some m))
+    at_held m true e = rw e (λ h. record { own = refl; ended = refl; busy = refl })
+    at_held m false e = rw e (λ h. record { own = refl; ended = refl; busy = refl })
+
+    at_mount : (m : Option MountEntry) → If_local (step o d j row rest) → If_local (unmount d j (Unmount dir ∷ rest) (step o d j row rest) m)
     at_mount None ih = ih
-    at_mount (Some m) ih = λ h. record { own = refl; ended = refl; busy = refl }
+    at_mount (Some m) ih = at_held m m.held refl
 stays-step o d j row (_ ∷ rest) = λ h. absurd (false≢true h)
 
 begun : (d : Desk) (t : ℕ) (kind : RequestKind) (s : ZoneState) (config : Contents) → is_local_reply (begin d t kind s config).reply ≡ false
@@ -110,7 +129,7 @@ stays-turn o (Some row) d = at_job d.job
   where
     at_ending : (j : Job) (ending : Option Outcome) → If_local (goes_on o d j row ending)
     at_ending j None = stays-step o d j row j.left
-    at_ending j (Some outcome) = stays-undo d j outcome j.undo
+    at_ending j (Some outcome) = stays-undo d j outcome o.mounts j.undo
 
     at_waiting : (waiting : List (ℕ × RequestKind)) → If_local (Just (next_request d waiting row))
     at_waiting [] h = absurd (false≢true h)
@@ -146,6 +165,7 @@ local-turn z w e h =
     turn_of (Session n text) h = absurd (false≢true h)
     turn_of (Turn y) h = ap Turn (sym (same_true z y h))
     turn_of (Call_of y pid c) h = absurd (false≢true h)
+    turn_of (System what) h = absurd (false≢true h)
 
     at_decision : (d : Turn_decision) → turn (objects_of w) w.stored w.desk ≡ d → e.event ≡ Turn z → e.subject ≡ Zone z → e.grant ≡ Nothing → tells_local d e.reply ≡ true → (t : Turned) × Local z w e t
     at_decision (Just t) is event subject grant h =
@@ -247,7 +267,7 @@ world-after z S e t l =
     ∙ (ap (λ o. edits_world None (map Of_objects t.objects ++ Set_desk t.desk ∷ sweeps o) w) l.stays.ended ∙ world-edits t.objects t.desk w l.stays.own))
 
 pub local-world : (z : Name) (S : State) (e : Entry) → is_local z (world z S) e ≡ true
-    → (ms : List Mount) × (is : List Id) × (d : Desk) × (world z (one S e.event e.grant).state ≡ record (world z S) { mounts = ms; ids = is; desk = d })
+    → (ms : List MountEntry) × (is : List Id) × (d : Desk) × (world z (one S e.event e.grant).state ≡ record (world z S) { mounts = ms; ids = is; desk = d })
 local-world z S e h =
     let found = local-turn z (world z S) e h in
     (mounts_after found.0.objects (world z S).mounts, ids_after found.0.objects (world z S).ids, found.0.desk, world-after z S e found.0 found.1)

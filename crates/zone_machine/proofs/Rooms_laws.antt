@@ -44,6 +44,7 @@ alike_kernel c s t alike = record {
     zids = λ z n. is_owner z (alike.zids n i);
     last_pid = ap (λ (t : Kernel). t.last_pid) alike.same i;
     last_zid = ap (λ (t : Kernel). t.last_zid) alike.same i;
+    declared = ap (λ (t : Kernel). record { items = s.claims.declared; devices = t.devices }) alike.same i;
   };
   pools = λ i. record (pools_in s) {
     pid_used = λ n. is_some (alike.pids n i);

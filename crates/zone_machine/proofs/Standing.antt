@@ -68,8 +68,8 @@ held_nowhere : (o : ℕ → Option Name) → ((n : ℕ) → o n ≡ None) → (z
 held_nowhere o none z n = sym (ap (is_owner z) (none n))
 
 pub nothing-shared : (s : Shared) → ((n : ℕ) → pid_owner s.kernel n ≡ None) → ((n : ℕ) → zid_owner s.kernel n ≡ None) → ((n : ℕ) → owner nat_eq s.sessions n ≡ None)
-    → s.rows.entries ≡ [] → s.serial ≡ 0 → s.kernel.last_pid ≡ 1 → s.kernel.last_zid ≡ 0 → s.started ≡ false → SharedOf s (common (opening []))
-nothing-shared s pids zids sessions rows serial last_pid last_zid started = λ i. record {
+    → s.rows.entries ≡ [] → s.serial ≡ 0 → s.kernel.last_pid ≡ 1 → s.kernel.last_zid ≡ 0 → s.claims.declared ≡ [] → s.kernel.devices ≡ [] → s.started ≡ false → SharedOf s (common (opening []))
+nothing-shared s pids zids sessions rows serial last_pid last_zid items devices started = λ i. record {
   pids = λ z n. held_nowhere (pid_owner s.kernel) pids z n i;
   zids = λ z n. held_nowhere (zid_owner s.kernel) zids z n i;
   sessions = λ z n. held_nowhere (owner nat_eq s.sessions) sessions z n i;
@@ -77,6 +77,7 @@ nothing-shared s pids zids sessions rows serial last_pid last_zid started = λ i
   serial = sym serial i;
   last_pid = sym last_pid i;
   last_zid = sym last_zid i;
+  declared = record { items = sym items i; devices = sym devices i };
   started = sym started i;
 }
 
@@ -106,11 +107,12 @@ subject-stands S s (event.Session n text) h =
     session-stands S.processes s.kernel (λ z n. ap (λ k. k.pids z n) h) (line_of text) (S.sessions n) (owner nat_eq s.sessions n) (λ z. ap (λ k. k.sessions z n) h)
 subject-stands S s (event.Turn z) h = refl
 subject-stands S s (event.Process z pid c) h = refl
+subject-stands S s (event.System what) h = refl
 
 -- what a view of the cell's zone shows
-pub shows : (z : Name) (row : Option Record) (c : Cell) → Shows (view_of z (cell_world row c)) z c.kernel
+pub shows : (z : Name) (row : Option Record) (c : Cell) → Shows (view_of z (cell_world row c)) z c
 unfolding view_of
-shows z row c = record { zone = refl; kernel = λ i. record { id = first_id c.kernel.id i; processes = c.kernel.processes; devices = [] }; process = λ n. refl }
+shows z row c = record { zone = refl; kernel = λ i. record { id = first_id c.kernel.id i; processes = c.kernel.processes; devices = [] }; process = λ n. refl; mounts = refl; claims = refl; devices = refl }
 
 -- the case of an event
 pub decide-stands : (S : State) (z : Name) (w : World) (e : Event) → world z S ≡ w → decide (view z S) e ≡ decide (view_of z w) e
@@ -120,6 +122,7 @@ decide-stands S z w e h = ap (λ v. decide v e) (view-world z S ∙ ap (view_of 
 pub open-to : (z : Name) (s : Shared) (e : Event) → subject_in s e ≡ Zone z → IfSome (session_number e) (λ n. IsOpenTo z (owner nat_eq s.sessions n))
 open-to z s (event.Turn y) is = tt
 open-to z s (event.Process y pid c) is = tt
+open-to z s (event.System what) is = tt
 open-to z s (event.Session n text) is = at_owner (owner nat_eq s.sessions n) is
   where
     at_owner : (o : Option Name) → subject_at (line_of text) s.kernel o ≡ Zone z → IsOpenTo z o

@@ -23,13 +23,14 @@ use Rattle.zone_pools.specs.declared.owned.Owned.{Owned}
 use Rattle.zone_machine.proofs.Common_laws.{any_mine, any_own}
 use Rattle.zone_machine.proofs.Own_worlds.{leaves}
 use Rattle.zone_machine.proofs.Standing.{cell-stands, decide-stands, stored-stands, subject-stands}
-use Rattle.zone_machine.specs.Code.Cells.{CellOf, Keeps, SharedOf, Stands, cell_at, cell_world, empty_world, row_in, world_or_empty}
+use Rattle.zone_machine.specs.Code.Cells.{CellOf, Keeps, SharedOf, Stands, cell_at, cell_world, common_in, empty_world, row_in, world_or_empty}
 use Rattle.zone_machine.specs.Code.Needs.{pools_in}
 use Rattle.zone_machine.specs.Code.Reads.{decide_in, held_subject, idle_subject, subject_at, subject_in}
 use Rattle.zone_machine.specs.Machine.Common.{Common, common}
 use Rattle.zone_machine.specs.Machine.Histories.{concerns}
-use Rattle.zone_machine.specs.Session.Lines.{Blank, Command, Kill, Line, Make, Request, Unknown, line_of}
-use Rattle.zone_machine.specs.Machine.{decide, global_reply, named_subject, one, one_of, subject, subject_of_name}
+use Rattle.zone_machine.specs.Session.Lines.{Command, Kill, Line, line_of}
+use Rattle.zone_machine.specs.declared.events.Declaration.{Declaration}
+use Rattle.zone_machine.specs.Machine.{decide, declare_reply, declared_by, global_reply, named_subject, one, one_of, subject, subject_of_name}
 use Rattle.zone_machine.specs.Machine.Pools.{allowed, allowed_of, fits, fits_of, path_taken, pools_of}
 use Rattle.zone_machine.specs.State.{State, stored}
 use Rattle.zone_machine.specs.Code.Rooms.{Alike, IsFreeOf}
@@ -259,7 +260,7 @@ some_is x y h = cc
 module _ (m : Parts) (z : Name) (e : Event) (c : Cell) (decides : View → Decision) (is : subject_in m.shared e ≡ Zone z)
     (same : (row : Option Record) → world_or_empty row (cell_at z m) ≡ cell_world row c) (reads : (v : View) → decides v ≡ decide v e) where
   case_read : (case : Case) → IsCaseIn z (row_in z m.shared) c decides case → IsCaseIn z (row_in z m.shared) c (λ v. decide v e) case
-  case_read case h = record { decided = sym (reads _) ∙ h.decided; of = h.of; named = h.named }
+  case_read case h = record { decided = sym (reads _) ∙ h.decided; of = h.of; named = h.named; free = h.free }
 
   -- the grant that it takes
   pub taken_read : (stated : Option Grant) (g : Grant) → IsGrantFor z (pools_in m.shared) (asked_of (decides (view_of z (cell_world (row_in z m.shared) c)))) stated g → IsTaken m stated e g
@@ -293,7 +294,7 @@ pub Keeps-roomy : (m u : Parts) (z key : Name) (d : Cell) (roomy : Name → Opti
 Keeps-roomy m u z key d roomy is same keeps row y =
     keeps row y ∙ (ap (λ k. if bytes_eq k y then cell_world row d else world_or_empty row (roomy y)) is ∙ ap (λ o. if bytes_eq z y then cell_world row d else world_or_empty row o) (same y))
 
--- no event is the whole system's yet
+-- only a declaration is the whole system's
 never_named : (word : Option (List ℕ)) → Whole ≡ named_subject word → ⊥
 never_named None h = cc
 never_named (Some word) h = at_name (name_of word) h
@@ -308,16 +309,46 @@ never_held (Some y) h = cc
 
 never_idle : (zone : Option (List ℕ)) (k : Kernel) (c : Command) → Whole ≡ idle_subject zone k c → ⊥
 never_idle named k (Kill signal pid) h = never_held (pid_owner k pid) h
-never_idle named k Blank h = never_named named h
-never_idle named k (Make word) h = never_named named h
-never_idle named k (Request kind) h = never_named named h
-never_idle named k Unknown h = never_named named h
+never_idle named k _ h = never_named named h
 
 never_at : (line : Line) (k : Kernel) (o : Option Name) → Whole ≡ subject_at line k o → ⊥
 never_at line k None h = never_idle line.zone k line.command h
 never_at line k (Some y) h = cc
 
-pub never_whole : (s : Shared) (e : Event) → Whole ≡ subject_in s e → ⊥
-never_whole s (event.Session n text) h = never_at (line_of text) s.kernel (owner nat_eq s.sessions n) h
-never_whole s (event.Turn z) h = cc
-never_whole s (event.Process z pid c) h = cc
+pub never_other : (s : Shared) (e : Event) → subject_in s e ≡ Whole → ((what : Declaration) → e ≡ event.System what → ⊥) → ⊥
+never_other s (event.Session n text) h other = never_at (line_of text) s.kernel (owner nat_eq s.sessions n) (sym h)
+never_other s (event.Turn z) h other = cc
+never_other s (event.Process z pid c) h other = cc
+never_other s (event.System what) h other = other what refl
+
+-- an event of the whole system
+module _ (m : Parts) (e : Event) (is : subject_in m.shared e ≡ Whole) where
+  of_whole : (S : State) → Stands S m → subject S e ≡ Whole
+  of_whole S h = subject-stands S m.shared e h.shared ∙ is
+
+  one-whole : (S : State) (g : Grant) → Stands S m → one S e g ≡ one_of Whole S e g
+  unfolding one
+  one-whole S g h = ap (λ s. one_of s S e g) (of_whole S h)
+
+  pub IsTaken-whole : (stated : Option Grant) (g : Grant) → ((P : Pools) (z : Name) → IsGrantFor z P [] stated g) → IsTaken m stated e g
+  IsTaken-whole None g takes S h = takes (pools_of S) [] ∙ sym (allowed-of S e Whole (of_whole S h))
+  IsTaken-whole (Some stated) g takes S h = let fit = takes (pools_of S) [] in (fit.0, fits-of S e stated Whole (of_whole S h) ∙ fit.1)
+
+  pub IsMisfitUnder-whole : (stated : Option Grant) → ((P : Pools) → IsUnfit P [] stated) → IsMisfitUnder stated m e m
+  IsMisfitUnder-whole None unfit = absurd (unfit (pools_in m.shared))
+  IsMisfitUnder-whole (Some stated) unfit = (λ S h. fits-of S e stated Whole (of_whole S h) ∙ unfit (pools_of S), refl)
+
+  pub IsStep-whole : (g : Grant) (reply : Reply) (t : Shared) → reply ≡ declare_reply e (common_in m.shared).declared → common_in t ≡ record (common_in m.shared) { declared = declared_by e (common_in m.shared).declared }
+      → IsStep m e g (record { event = e; subject = Whole; grant = g; reply = reply }) (record m { shared = t })
+  IsStep-whole g reply t said left S h =
+      let steps = one-whole S g h in
+      let same : S.declared ≡ (common_in m.shared).declared = ap (λ (k : Common). k.declared) h.shared in
+      record {
+        told = λ i. record { event = e; subject = sym (of_whole S h) i; grant = g; reply = (said ∙ (ap (declare_reply e) (sym same) ∙ ap (λ r. r.reply) (sym steps))) i };
+        stands = subst (λ r. Stands r.state (record m { shared = t })) (sym steps)
+            (record { worlds = h.worlds; shared = ap (λ (k : Common). record k { declared = declared_by e k.declared }) h.shared ∙ sym left });
+      }
+
+-- where memory runs out, what was asked of the shared part leaves it as it was
+pub AsItWas-shared : (m : Parts) (t : Shared) → common_in t ≡ common_in m.shared → AsItWas m (record m { shared = t })
+AsItWas-shared m t same S = (λ h. record { worlds = h.worlds; shared = h.shared ∙ sym same }, λ h. record { worlds = h.worlds; shared = h.shared ∙ same })

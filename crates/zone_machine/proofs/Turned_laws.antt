@@ -23,7 +23,7 @@ use Rattle.zone_machine.specs.State.{State}
 use Rattle.zoneadmd_steps.specs.Turns.{Turned, turn}
 use Rattle.zone_machine.specs.State.Worlds.{World, objects_of, view_of, world}
 use Rattle.zone_machine.specs.declared.events.Event.TheVariants.{Turn}
-use Rattle.zoneadmd_steps.specs.declared.objects.Mount.{Mount}
+use Rattle.loopback_mounts.specs.declared.mount.MountEntry.{MountEntry}
 use Rattle.commit_journal.specs.declared.records.Record.{Record}
 use Rattle.zone_machine.specs.declared.replies.Head.TheVariants.{Turned as Told}
 
@@ -69,7 +69,7 @@ stored_after (Some (New_record row)) old = row
 stored_after _ old = old
 
 -- this stands in a world
-pub record Has (row : Option Record) (ms : List Mount) (d : Desk) (w : World) : Type 0 where
+pub record Has (row : Option Record) (ms : List MountEntry) (d : Desk) (w : World) : Type 0 where
   pub stored : w.stored ≡ row
   pub mounts : w.mounts ≡ ms
   pub desk : w.desk ≡ d

@@ -9,9 +9,16 @@ ghost use Rattle.zone_machine.specs.Code.Cases.{IsCaseOf, IsNamedCase, decision_
 ghost use Rattle.zone_machine.specs.State.Decisions.{tells};
 ghost use Rattle.zone_machine.specs.Code.Cells.{Shows};
 ghost use Rattle.zone_machine.specs.State.Worlds.{View};
+ghost use Rattle.zone_machine.specs.Code.Works.{IsFreeCase, MountsNothing};
 ghost use Rattle.zoneadmd_steps.specs.declared.desks.Desk as desk_types;
 
+pub(crate) mod mounts;
+
+use crate::calls::mounts::{
+    datasets_case, devices_case, mount_case, mounts_case, net_case, place_case, umount_case,
+};
 use crate::cases::Case;
+use crate::machine::cell::Cell;
 use crate::replies::{Body, Head, Refusal};
 use kernel_objects::{Errno, KernelCell, Signal};
 use process_calls::Call;
@@ -19,7 +26,7 @@ use std::alloc::{AllocError, Global};
 use zn_base::{Bytes, Listing, Text, ZoneName};
 use zoneadmd_steps::ObjectEdit;
 
-fn refused_by(errno: Errno) -> Case
+pub(crate) fn refused_by(errno: Errno) -> Case
     ensures { result ≡ Case.Says (Head.Refused (Refusal.Errno errno)) }
 {
     Case::Says(Head::Refused(Refusal::Errno(errno)))
@@ -30,6 +37,7 @@ pub(crate) fn signal_case(kernel: &KernelCell, inside: bool, signal: Signal, pid
     ensures decides { (d : desk_types.Desk) → signals inside signal pid (with_pid pid kernel.now.processes) ≡ decision_of d result }
     ensures of { (d : desk_types.Desk) → IsCaseOf d result }
     ensures named { (z : Name) → IsNamedCase z result }
+    ensures free { MountsNothing result }
 {
     match kernel.check_signal(inside, signal, pid) {
         Ok(true) => Case::Change(ObjectEdit::EndProcess(pid)),
@@ -45,6 +53,7 @@ fn fork_case(alloc: Global, kernel: &KernelCell, pid: u32, name: &Text) -> Resul
         → forks p name.now (fork_set (Some p) (at_limit kernel.now)) ≡ decision_of d c) }
     ensures of { IfOk result (λ c. (d : desk_types.Desk) → IsCaseOf d c) }
     ensures named { IfOk result (λ c. (z : Name) → IsNamedCase z c) }
+    ensures free { IfOk result MountsNothing }
 {
     match kernel.forking(pid, name.copy(alloc)?) {
         Ok(running) => Ok(Case::Fork(Box::new(alloc, running)?)),
@@ -58,6 +67,7 @@ fn exec_case(alloc: Global, kernel: &KernelCell, pid: u32, name: &Text) -> Resul
     ensures decides { IfOk result (λ c. (d : desk_types.Desk) (p : Process) → with_pid pid kernel.now.processes ≡ Some p → execs pid p name.now ≡ decision_of d c) }
     ensures of { IfOk result (λ c. (d : desk_types.Desk) → IsCaseOf d c) }
     ensures named { IfOk result (λ c. (z : Name) → IsNamedCase z c) }
+    ensures free { IfOk result MountsNothing }
 {
     match kernel.check_exec(pid) {
         Ok(()) => Ok(Case::Change(ObjectEdit::Rename(pid, name.copy(alloc)?))),
@@ -78,7 +88,7 @@ fn ps_case(alloc: Global, kernel: &KernelCell) -> Result<Case, AllocError>
 
 // One line is told.
 #[inline(never)]
-fn line_case(alloc: Global, line: Bytes) -> Result<Case, AllocError>
+pub(crate) fn line_case(alloc: Global, line: Bytes) -> Result<Case, AllocError>
     ensures { IfOk result (λ c. c ≡ Case.Tells (Body.Lines (line ∷ []))) }
 {
     let mut lines = Listing::new(alloc);
@@ -92,6 +102,7 @@ fn privs_case(alloc: Global, kernel: &KernelCell, pid: u32) -> Result<Case, Allo
     ensures tells { IfOk result (λ c. (p : Process) → with_pid pid kernel.now.processes ≡ Some p → c ≡ Case.Tells (Body.Lines (print_of p.privileges ∷ []))) }
     ensures of { IfOk result (λ c. (d : desk_types.Desk) → IsCaseOf d c) }
     ensures named { IfOk result (λ c. (z : Name) → IsNamedCase z c) }
+    ensures free { IfOk result MountsNothing }
 {
     match kernel.privs(pid) {
         Some(set) => line_case(alloc, Bytes::from_vec(set.print(alloc)?)),
@@ -103,14 +114,16 @@ fn privs_case(alloc: Global, kernel: &KernelCell, pid: u32) -> Result<Case, Allo
 fn call_case(
     alloc: Global,
     zone: &ZoneName,
-    kernel: &KernelCell,
+    cell: &Cell,
     pid: u32,
     call: &Call,
 ) -> Result<Case, AllocError>
-    ensures decides { IfOk result (λ c. (d : desk_types.Desk) (v : View) (p : Process) → Shows v zone.now kernel.now → with_pid pid kernel.now.processes ≡ Some p → calls v pid p call.now ≡ decision_of d c) }
+    ensures decides { IfOk result (λ c. (d : desk_types.Desk) (v : View) (p : Process) → Shows v zone.now cell.now → with_pid pid cell.now.kernel.processes ≡ Some p → calls v pid p call.now ≡ decision_of d c) }
     ensures of { IfOk result (λ c. (d : desk_types.Desk) → IsCaseOf d c) }
     ensures named { IfOk result (λ c. (z : Name) → IsNamedCase z c) }
+    ensures free { IfOk result (λ c. IsFreeCase c cell.now.mounts.list) }
 {
+    let kernel = &cell.kernel;
     match call {
         Call::Fork(name) => fork_case(alloc, kernel, pid, name),
         Call::Exec(name) => exec_case(alloc, kernel, pid, name),
@@ -119,6 +132,14 @@ fn call_case(
         Call::Ps => ps_case(alloc, kernel),
         Call::Privs => privs_case(alloc, kernel, pid),
         Call::Drop(number) => Ok(Case::Change(ObjectEdit::GiveUp(pid, *number))),
+        Call::Mount(mount) => mount_case(alloc, kernel, &cell.mounts, pid, mount),
+        Call::Umount(dir) => umount_case(alloc, kernel, &cell.mounts, pid, dir),
+        Call::Read(path) => place_case(alloc, &cell.mounts, path, false),
+        Call::Write(path) => place_case(alloc, &cell.mounts, path, true),
+        Call::Mounts => mounts_case(alloc, &cell.mounts),
+        Call::Links => net_case(alloc, &cell.claims),
+        Call::Datasets => datasets_case(alloc, &cell.claims),
+        Call::Devices => devices_case(alloc, kernel),
         Call::Zonename => line_case(alloc, Bytes::from_slice(alloc, zone.bytes())?),
         Call::True | Call::False => Ok(Case::Says(Head::Ok)),
     }
@@ -130,16 +151,17 @@ fn call_case(
 pub(crate) fn decide_call(
     alloc: Global,
     zone: &ZoneName,
-    kernel: &KernelCell,
+    cell: &Cell,
     pid: u32,
     call: &Call,
 ) -> Result<Case, AllocError>
-    ensures decides { IfOk result (λ c. (d : desk_types.Desk) (v : View) → Shows v zone.now kernel.now → called v pid call.now ≡ decision_of d c) }
+    ensures decides { IfOk result (λ c. (d : desk_types.Desk) (v : View) → Shows v zone.now cell.now → called v pid call.now ≡ decision_of d c) }
     ensures of { IfOk result (λ c. (d : desk_types.Desk) → IsCaseOf d c) }
     ensures named { IfOk result (λ c. (z : Name) → IsNamedCase z c) }
+    ensures free { IfOk result (λ c. IsFreeCase c cell.now.mounts.list) }
 {
-    match kernel.check_there(pid) {
-        Ok(()) => call_case(alloc, zone, kernel, pid, call),
+    match cell.kernel.check_there(pid) {
+        Ok(()) => call_case(alloc, zone, cell, pid, call),
         Err(_) => Ok(Case::Says(Head::Refused(Refusal::NoProcess))),
     }
 }

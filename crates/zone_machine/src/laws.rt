@@ -9,17 +9,17 @@ ghost use Rattle.zone_machine.specs.State.Decisions.{act_of, says};
 ghost use Rattle.zoneadmd_steps.specs.Desks.{Desk};
 ghost use Rattle.zone_machine.specs.Machine.Histories.{is_allowed, is_told};
 ghost use Rattle.zone_machine.specs.Machine.Local.{is_busy, is_local};
-ghost use Rattle.zone_machine.specs.Machine.{decide, need, one, session_number, subject};
+ghost use Rattle.zone_machine.specs.Machine.{decide, declared_by, need, one, session_number, subject};
 ghost use Rattle.zone_machine.specs.Machine.Pools.{allowed, fits};
 ghost use Rattle.zone_machine.specs.State.{State, stored};
 ghost use Rattle.zone_machine.specs.State.Worlds.{World, view_of, world};
 ghost use Rattle.zoneadmd_steps.specs.declared.requests.TurnReply.TheVariants.{Idle};
 ghost use Rattle.zone_machine.specs.declared.events.Entry.{Entry};
 ghost use Rattle.zone_machine.specs.declared.events.Event.TheVariants.{Turn};
-ghost use Rattle.zoneadmd_steps.specs.declared.objects.Mount.{Mount};
+ghost use Rattle.loopback_mounts.specs.declared.mount.MountEntry.{MountEntry};
 ghost use Rattle.zone_machine.specs.declared.replies.Head.TheVariants.{Turned};
 ghost use Rattle.zone_machine.specs.declared.events.Event.{Event};
-ghost use Rattle.zone_machine.specs.declared.events.Subject.TheVariants.{Global, Zone};
+ghost use Rattle.zone_machine.specs.declared.events.Subject.TheVariants.{Global, Whole, Zone};
 
 /// What an event makes of what is common is a function of that, the event, its grant and its zone's world.
 pub fn changes_what_is_common()
@@ -28,6 +28,9 @@ pub fn changes_what_is_common()
     // An event of the global zone only says that an event has come.
     ensures global { (S : State) (e : Event) (g : Grant) → subject S e ≡ Global
         → common (one S e g).state ≡ record (common S) { started = true } }
+    // An event of the whole system only declares something.
+    ensures whole { (S : State) (e : Event) (g : Grant) → subject S e ≡ Whole
+        → common (one S e g).state ≡ record (common S) { declared = declared_by e S.declared } }
 {}
 
 /// Whose an event is follows from what is common, where no two zones hold one number of a process.
@@ -57,7 +60,7 @@ pub fn local_turns_touch_nothing_common()
     ensures right { (z : Name) (S : State) (e : Entry) → is_local z (world z S) e ≡ true → (is_told S e ≡ true) × (is_allowed S e.event e.grant ≡ true) }
     ensures common { (z : Name) (S : State) (e : Entry) → is_local z (world z S) e ≡ true → common (one S e.event e.grant).state ≡ record (common S) { started = true } }
     ensures world { (z : Name) (S : State) (e : Entry) → is_local z (world z S) e ≡ true
-        → (ms : List Mount) × (is : List Id) × (d : Desk) × (world z (one S e.event e.grant).state ≡ record (world z S) { mounts = ms; ids = is; desk = d }) }
+        → (ms : List MountEntry) × (is : List Id) × (d : Desk) × (world z (one S e.event e.grant).state ≡ record (world z S) { mounts = ms; ids = is; desk = d }) }
     ensures awake { (z : Name) (w : World) (e : Entry) → is_local z w e ≡ true → e.reply ≢ says (Turned Idle) }
 {}
 

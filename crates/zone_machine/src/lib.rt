@@ -1,8 +1,9 @@
-//! The zone machine: sessions type lines, zones' daemons take turns, and each such event has one subject,
-//! one grant and one reply. The definitions in `specs/` say what an event does to the state of all zones. A
-//! `Machine` stands for such a state: its `step` answers the entry that they give, and leaves it standing for
-//! the state after. It keeps a `Cell` for each zone that has something, and a part that zones share: an event of
-//! a zone needs these two alone, by `cell_step`, and a turn that is local the cell alone, by `local_turn`.
+//! The zone machine: sessions type lines, zones' daemons take turns, zones' processes make calls, the whole
+//! system declares what zones may ask for, and each such event has one subject, one grant and one reply. The
+//! definitions in `specs/` say what an event does to the state of all zones. A `Machine` stands for such a state:
+//! its `step` answers the entry that they give, and leaves it standing for the state after. It keeps a `Cell` for
+//! each zone that has something, and a part that zones share: an event of a zone needs these two alone, by
+//! `cell_step`, and a turn that is local the cell alone, by `local_turn`.
 #![tactic(auto)]
 
 mod calls;
@@ -15,7 +16,7 @@ mod maps;
 mod replies;
 mod session;
 
-pub use events::{Answer, Entry, Event, SESSION_MAX, Subject, Whose};
+pub use events::{Answer, Declaration, Entry, Event, SESSION_MAX, Subject, Whose};
 pub use faults::StepFault;
 pub use laws::{
     allowed_by_what_is_common, busy_turns_are_not_idle, changes_what_is_common,

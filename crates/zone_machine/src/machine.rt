@@ -7,6 +7,7 @@ ghost use Rattle.zone_machine.specs.Code.Decided.{entry_by};
 
 pub(crate) mod cell;
 pub(crate) mod comings;
+pub(crate) mod declarations;
 pub(crate) mod effects;
 pub(crate) mod local_turns;
 pub(crate) mod needs;
@@ -61,7 +62,8 @@ impl Machine {
     }
 
     /// Whose an event is: of a session the zone in which it waits for a ticket, else the zone that the
-    /// line names, else the global zone; of a turn the zone whose daemon it is.
+    /// line names, else the global zone; of a turn the zone whose daemon it is; of a call the zone of the
+    /// process; of a declaration the whole system.
     pub fn subject(&self, alloc: Global, event: &Event) -> Result<Subject, StepFault>
         ensures ok { IfOk result (IsSubject self.now event.now) }
         ensures err { IsOkUnless result StepFault.Memory }
@@ -119,7 +121,7 @@ impl Machine {
         self.parts.state(zone)
     }
 
-    /// Whether an event has come.
+    /// Whether an event has come that is no declaration.
     pub fn started(&self) -> bool
         ensures { IsStarted self.now result }
     {

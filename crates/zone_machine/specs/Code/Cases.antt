@@ -14,14 +14,12 @@ use Rattle.zone_machine.specs.State.{Awaiting}
 use Rattle.zoneadmd_steps.specs.Desks.{is_full, with_request}
 use Rattle.zone_machine.specs.declared.cases.Case.{Case}
 use Rattle.zone_machine.specs.declared.cases.Case.TheVariants.{Change, Fork, Says, Make, Put, Tells, Turn}
-use Rattle.zoneadmd_steps.specs.declared.cases.JobCase.TheVariants.{Ask}
 use Rattle.zoneadmd_steps.specs.declared.desks.Desk.{Desk}
 use Rattle.commit_journal.specs.Uuids.{uuid_of}
 use Rattle.commit_journal.specs.declared.records.Record as records
 use Rattle.config_terms.specs.Fields.{path_text}
 use Rattle.zone_machine.specs.declared.replies.Head.TheVariants.{Ok, Ticket}
 use Rattle.zone_machine.specs.declared.replies.Refusal.TheVariants.{Denied}
-use Rattle.zoneadmd_steps.specs.declared.objects.changes.Came.TheVariants.{Record}
 
 -- a zone is made, and its record takes its UUID and its revision from the number
 abbrev pub made : Name → records.Record → Decision

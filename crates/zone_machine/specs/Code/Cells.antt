@@ -14,7 +14,6 @@ use Rattle.zone_machine.specs.declared.machine.cell.Cell.{Cell}
 use Rattle.zone_machine.specs.declared.machine.parts.Parts.{Parts}
 use Rattle.commit_journal.specs.declared.records.Record.{Record}
 use Rattle.zone_machine.specs.declared.machine.shared.Shared.{Shared}
-use Rattle.kernel_objects.specs.Kernel.{Kernel}
 use Rattle.kernel_objects.specs.Processes.{has_pid, with_pid}
 use Rattle.kernel_objects.specs.Shared.{pid_owner, zid_owner}
 use Rattle.zoneadmd_steps.specs.Objects.{has_zid, kernel_of, ids_of}
@@ -24,7 +23,9 @@ use Rattle.zoneadmd_steps.specs.Desks.{empty_desk}
 abbrev pub cell_world : Option Record → Cell → World
 cell_world row c = record {
   processes = c.kernel.processes;
-  mounts = c.mounts.items;
+  mounts = c.mounts.list;
+  claims = c.claims.claims;
+  devices = c.kernel.devices;
   ids = ids_of c.kernel.id;
   stored = row;
   desk = as_desk c.desk;
@@ -33,7 +34,7 @@ cell_world row c = record {
 
 -- a zone without a cell has nothing
 abbrev pub empty_world : Option Record → World
-empty_world row = record { processes = []; mounts = []; ids = []; stored = row; desk = empty_desk; sessions = λ n. None }
+empty_world row = record { processes = []; mounts = []; claims = []; devices = []; ids = []; stored = row; desk = empty_desk; sessions = λ n. None }
 
 abbrev pub world_or_empty : Option Record → Option Cell → World
 world_or_empty row None = empty_world row
@@ -51,14 +52,18 @@ common_in s = record {
   serial = s.serial;
   last_pid = s.kernel.last_pid;
   last_zid = s.kernel.last_zid;
+  declared = record { items = s.claims.declared; devices = s.kernel.devices };
   started = s.started;
 }
 
--- a view of z shows what the zone has in the kernel
-pub record Shows (v : View) (z : Name) (k : Kernel) : Type 0 where
+-- a view of z shows what the zone has in its cell
+pub record Shows (v : View) (z : Name) (c : Cell) : Type 0 where
   pub zone : v.zone ≡ z
-  pub kernel : kernel_of (objects_of v.world) ≡ record k { devices = [] }
-  pub process : (n : ℕ) → v.process n ≡ with_pid n k.processes
+  pub kernel : kernel_of (objects_of v.world) ≡ record c.kernel { devices = [] }
+  pub process : (n : ℕ) → v.process n ≡ with_pid n c.kernel.processes
+  pub mounts : v.world.mounts ≡ c.mounts.list
+  pub claims : v.world.claims ≡ c.claims.claims
+  pub devices : v.world.devices ≡ c.kernel.devices
 
 -- a cell has a world, but for what is stored
 abbrev pub CellOf : Cell → World → Type 0

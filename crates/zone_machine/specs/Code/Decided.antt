@@ -1,8 +1,9 @@
 -- What is known of an event that was decided, and how it is answered.
-use Rattle.std.specs.Prelude.{◌≡◌, ℕ, bytes_eq, slice_get, Option, Some, None}
+use Rattle.std.specs.Prelude.{◌≡◌, ℕ, bytes_eq, slice_get, Option, Some}
 use Rattle.indexmap.specs.IndexMap.{IsUnique, index_of_by, values}
 use Rattle.zn_base.specs.Names.{Name}
 use Rattle.zone_machine.specs.Code.Cases.{IsCaseOf, IsNamedCase, decision_of}
+use Rattle.zone_machine.specs.Code.Works.{IsFreeCase}
 use Rattle.zone_machine.specs.Code.Cells.{cell_at, cell_world}
 use Rattle.zone_machine.specs.State.Decisions.{Decision}
 use Rattle.zone_machine.specs.State.Worlds.{View, view_of}
@@ -11,16 +12,13 @@ use Rattle.zone_machine.specs.declared.machine.cell.Cell.{Cell}
 use Rattle.zone_machine.specs.declared.events.Answer.{Answer}
 use Rattle.zone_machine.specs.declared.events.Entry.{Entry}
 use Rattle.zone_machine.specs.declared.events.Event.{Event}
-use Rattle.zone_machine.specs.declared.events.Event.TheVariants.{Process, Session, Turn}
+use Rattle.zone_machine.specs.declared.events.Event.TheVariants.{Process, Session, System, Turn}
 use Rattle.zone_machine.specs.declared.events.Subject.{Subject}
-use Rattle.zone_machine.specs.declared.events.Subject.TheVariants.{Global, Zone}
+use Rattle.zone_machine.specs.declared.events.Subject.TheVariants.{Global, Whole, Zone}
 use Rattle.zone_machine.specs.declared.events.Whose.{Whose}
 use Rattle.zone_machine.specs.declared.events.Whose.TheVariants.{Found, Own}
 use Rattle.zone_machine.specs.declared.machine.parts.Parts.{Parts}
 use Rattle.commit_journal.specs.declared.records.Record.{Record}
-use Rattle.zone_machine.specs.declared.replies.Head.{Head}
-use Rattle.zone_machine.specs.declared.replies.Head.TheVariants.{Ok, Refused}
-use Rattle.zone_machine.specs.declared.replies.Refusal.{Refusal}
 use Rattle.zone_machine.specs.declared.replies.Reply.{Reply}
 use Rattle.zone_pools.specs.declared.grant.Grant.{Grant}
 
@@ -29,6 +27,7 @@ pub record IsCaseIn (z : Name) (row : Option Record) (c : Cell) (decides : View 
   pub decided : decides (view_of z (cell_world row c)) ≡ decision_of c.desk case
   pub of : IsCaseOf c.desk case
   pub named : IsNamedCase z case
+  pub free : IsFreeCase case c.mounts.list
 
 -- z's cell stands at an index
 pub record IsCellAt (p : Parts) (at : ℕ) (z : Name) : Type 0 where
@@ -36,20 +35,16 @@ pub record IsCellAt (p : Parts) (at : ℕ) (z : Name) : Type 0 where
   pub value : slice_get (values p.cells) at ≡ cell_at z p
   pub unique : IsUnique bytes_eq p.cells
 
--- the first line of the reply to an event that is no zone's
-abbrev pub head_of : Option Refusal → Head
-head_of None = Ok
-head_of (Some r) = Refused r
-
 -- the entry of an event, by what it is granted and the reply
 abbrev pub entry_of : Subject → Event → Grant → Reply → Entry
 entry_of s e g reply = record { event = e; subject = s; grant = g; reply = reply }
 
--- the zone that an event itself has; a session's line has none
+-- whose an event is by itself: the zone that it has, or the whole system; of a session's line that is to be found
 abbrev pub own_subject : Event → Subject
 own_subject (Session n text) = Global
 own_subject (Turn z) = Zone z
 own_subject (Process z pid c) = Zone z
+own_subject (System what) = Whole
 
 -- whose an event was that was answered
 abbrev pub subject_by : Event → Whose → Subject

@@ -5,7 +5,7 @@ use Rattle.std.specs.Option.{option_map}
 use Rattle.zone_machine.specs.Session.Lines as lines
 use Rattle.zone_machine.specs.Session.Lines.{is_space, words}
 use Rattle.zone_machine.specs.declared.session.lines.Command.{Command}
-use Rattle.zone_machine.specs.declared.session.lines.Command.TheVariants.{Blank, Kill, Make, Request, Unknown}
+use Rattle.zone_machine.specs.declared.session.lines.Command.TheVariants.{Blank, Hold, Kill, Make, Release, Request, Unknown}
 use Rattle.zone_machine.specs.declared.session.lines.Line.{Line}
 
 -- a text begins with a word
@@ -41,6 +41,8 @@ as_command Blank = lines.Blank
 as_command (Make word) = lines.Make word.now
 as_command (Request kind) = lines.Request kind
 as_command (Kill signal pid) = lines.Kill signal pid
+as_command (Hold dir) = lines.Hold dir.now
+as_command (Release dir) = lines.Release dir.now
 as_command Unknown = lines.Unknown
 
 abbrev pub as_line : Line → lines.Line

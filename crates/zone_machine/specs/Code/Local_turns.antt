@@ -21,7 +21,7 @@ IsNext c d = (row : Record) → turn (objects_of (cell_world (Some row) c)) (Som
 
 -- the turn was done on the cell
 abbrev pub After : Turned → Cell → Cell → Type 0
-After t c d = (row : Option Record) → cell_world row d ≡ record (cell_world row c) { mounts = mounts_after t.objects c.mounts.items; ids = ids_after t.objects (ids_of c.kernel.id); desk = t.desk }
+After t c d = (row : Option Record) → cell_world row d ≡ record (cell_world row c) { mounts = mounts_after t.objects c.mounts.list; ids = ids_after t.objects (ids_of c.kernel.id); desk = t.desk }
 
 -- the turn of z was local and answered by this entry, and the cell has its world after it
 pub record IsDone (z : Name) (S : State) (entry : Entry) (d : Cell) : Type 0 where

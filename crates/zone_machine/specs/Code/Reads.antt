@@ -1,9 +1,10 @@
 -- An event as the code reads it once, as the definitions have it.
-use Rattle.std.specs.Prelude.{ℕ, List, Option, Some, None, nat_eq}
+use Rattle.std.specs.Prelude.{ℕ, List, [], Option, Some, None, nat_eq}
 use Rattle.kernel_objects.specs.Shared.{Shared as Kernel, pid_owner}
 use Rattle.zone_machine.specs.Calls.{called}
 use Rattle.zn_base.specs.Names.{Name}
-use Rattle.zone_machine.specs.State.Decisions.{Decision, says}
+use Rattle.zone_pools.specs.Decisions.{Just}
+use Rattle.zone_machine.specs.State.Decisions.{Decision, done_saying, says}
 use Rattle.zone_machine.specs.declared.replies.Head.TheVariants.{Ok}
 use Rattle.commit_journal.specs.declared.records.Record.{Record}
 use Rattle.zone_pools.specs.Owners.{owner}
@@ -14,7 +15,7 @@ use Rattle.zone_machine.specs.declared.machine.cell.Cell.{Cell}
 use Rattle.zone_machine.specs.declared.events.Event.{Event}
 use Rattle.zone_machine.specs.declared.events.Event.TheVariants as event
 use Rattle.zone_machine.specs.declared.events.Subject.{Subject}
-use Rattle.zone_machine.specs.declared.events.Subject.TheVariants.{Global, Zone}
+use Rattle.zone_machine.specs.declared.events.Subject.TheVariants.{Global, Whole, Zone}
 use Rattle.zone_machine.specs.declared.machine.shared.Shared.{Shared}
 use Rattle.zone_machine.specs.declared.replies.Reply.{Reply}
 use Rattle.zone_machine.specs.declared.machine.reads.Read.TheVariants as read
@@ -40,6 +41,7 @@ abbrev pub subject_in : Shared → Event → Subject
 subject_in s (event.Session n text) = subject_at (line_of text) s.kernel (owner nat_eq s.sessions n)
 subject_in s (event.Turn z) = Zone z
 subject_in s (event.Process z pid c) = Zone z
+subject_in s (event.System what) = Whole
 
 -- an event as it is read once: whose it is, its case in a view, the session that it is typed in, and what it is answered where
 -- it is no zone's
@@ -47,21 +49,25 @@ abbrev pub subject_read : Shared → Read → Subject
 subject_read s (read.Line n line) = subject_at (as_line line) s.kernel (owner nat_eq s.sessions n)
 subject_read s (read.Turn z) = Zone z.now
 subject_read s (read.Process z pid c) = Zone z.now
+subject_read s (read.System what) = Whole
 
 abbrev pub decide_read : View → Read → Decision
 decide_read v (read.Line n line) = typed v (v.world.sessions n) (as_line line)
 decide_read v (read.Turn z) = turn v
 decide_read v (read.Process z pid c) = called v pid c.now
+decide_read v (read.System what) = Just (done_saying [] Ok)
 
 abbrev pub number_read : Read → Option ℕ
 number_read (read.Line n line) = Some n
 number_read (read.Turn z) = None
 number_read (read.Process z pid c) = None
+number_read (read.System what) = None
 
 abbrev pub global_read : Read → Reply
 global_read (read.Line n line) = global_line (as_line line)
 global_read (read.Turn z) = says Ok
 global_read (read.Process z pid c) = says Ok
+global_read (read.System what) = says Ok
 
 -- the case of an event of z, by its cell and what is stored of it
 abbrev pub decide_in : Name → Option Record → Cell → Event → Decision

@@ -1,5 +1,6 @@
 -- Room that is taken before anything is changed, and that nothing is changed by taking it.
-use Rattle.std.specs.Prelude.{◌≡◌, ◌⊎◌, ◌<◌, List, [], ◌∷◌, Option, Some, None, false, true, vec_capacity, vec_len}
+use Rattle.std.specs.Prelude.{◌≡◌, ◌⊎◌, ◌<◌, List, [], ◌∷◌, Option, Some, None, false, true, Ok}
+use Rattle.loopback_mounts.specs.Mounts.{mount_answer}
 use Rattle.indexmap.specs.IndexMap.{spare}
 use Rattle.zn_base.specs.Names.{Name}
 use Rattle.zone_pools.specs.Asked.{A_pid, A_zid, Asked}
@@ -54,9 +55,9 @@ IsFreeOf (Some (New_process p)) P = P.pid_used p.pid ≡ false
 IsFreeOf (Some (New_id i)) P = P.zid_used i.zid ≡ false
 IsFreeOf (Some (New_record row)) P = has_room P ≡ true
 
--- room for what becomes of the zone's objects
+-- room for what becomes of the zone's objects, where nothing refuses a mount
 abbrev pub HasRoomToChange : ObjectEdit → Cell → Type 0
-HasRoomToChange (Mount m) c = vec_len c.mounts < vec_capacity c.mounts
+HasRoomToChange (Mount m) c = (0 < c.mounts.room) × (mount_answer m.value.dir c.mounts.list ≡ Ok tt)
 HasRoomToChange _ c = Unit {0}
 
 -- room for a session that waits

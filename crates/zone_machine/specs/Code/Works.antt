@@ -17,7 +17,8 @@ use Rattle.zoneadmd_steps.specs.declared.objects.changes.ObjectEdit.TheVariants.
 use Rattle.zone_machine.specs.declared.machine.work.Sitting.{Sitting}
 use Rattle.zone_machine.specs.declared.machine.work.Work.{Work}
 use Rattle.zone_pools.specs.Owners.{owner}
-use Rattle.zoneadmd_steps.specs.Code.Cases.{object_edits, turn_objects}
+use Rattle.zoneadmd_steps.specs.Code.Cases.{IsFreeFor, object_edits, turn_objects}
+use Rattle.loopback_mounts.specs.declared.mount.MountEntry.{MountEntry}
 use Rattle.zoneadmd_steps.specs.Code.Works.{arrival_of}
 
 pub record IsNamedWork (z : Name) (w : Work) : Type 0 where
@@ -28,6 +29,13 @@ abbrev pub objects_of : Case → ObjectEdit
 objects_of (Turn c) = turn_objects c
 objects_of (Change edit) = edit
 objects_of _ = Nothing
+
+-- a case that mounts nothing, or what nothing refuses
+abbrev pub IsFreeCase : Case → List MountEntry → Type 0
+IsFreeCase c ms = IsFreeFor (objects_of c) ms
+
+abbrev pub MountsNothing : Case → Type 0
+MountsNothing c = (ms : List MountEntry) → IsFreeCase c ms
 
 -- who sits down
 abbrev pub sitting_of : Desk → Case → Option Sitting

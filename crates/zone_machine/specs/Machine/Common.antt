@@ -1,4 +1,5 @@
--- What more than one zone may ask of the state: who holds which number, what is stored, and the last numbers given.
+-- What more than one zone may ask of the state: who holds which number, what is stored, the last numbers given, and what is
+-- declared.
 use Rattle.std.specs.Prelude.{◌≡◌, ℕ, ◌+◌, Option, Some, None, Bool, true, is_some, length}
 use Rattle.std.specs.List.{list_any}
 use Rattle.zn_base.specs.Names.{Name}
@@ -9,6 +10,7 @@ use Rattle.kernel_objects.specs.Processes.{has_pid}
 use Rattle.zoneadmd_steps.specs.Objects.{has_zid}
 use Rattle.commit_journal.specs.Stored.{Rows, stored, with_stored}
 use Rattle.zone_machine.specs.State.{State}
+use Rattle.zone_machine.specs.State.Declarations.{Declared}
 use Rattle.zone_machine.specs.State.Worlds.{World, world}
 
 pub record Common : Type 0 where
@@ -20,6 +22,7 @@ pub record Common : Type 0 where
   pub serial : ℕ
   pub last_pid : ℕ
   pub last_zid : ℕ
+  pub declared : Declared
   pub started : Bool
 
 -- each process's number is held by one zone at most
@@ -45,6 +48,7 @@ common S = record {
   serial = length S.commits;
   last_pid = S.last_pid;
   last_zid = S.last_zid;
+  declared = S.declared;
   started = S.started;
 }
 

@@ -1,5 +1,5 @@
 -- What a line does that a session types.
-use Rattle.std.specs.Prelude.{ℕ, List, [], ◌∷◌, ◌+◌, false, Option, Some, None, Result, Ok as Right, Err, codes, if◌then◌else◌}
+use Rattle.std.specs.Prelude.{ℕ, List, [], ◌∷◌, ◌+◌, Bool, true, false, Option, Some, None, Result, Ok as Right, Err, codes, if◌then◌else◌}
 use Rattle.std.specs.Result.{result_ok}
 use Rattle.zn_base.specs.Names.{Name, name_of}
 use Rattle.zn_base.specs.declared.values.Value.TheVariants.{Simple}
@@ -10,9 +10,15 @@ use Rattle.zone_pools.specs.Decisions.{Ask, Just}
 use Rattle.zoneadmd_steps.specs.Arrivals.{A_record}
 use Rattle.zoneadmd_steps.specs.Desks.{Desk, is_full, with_request}
 use Rattle.zone_machine.specs.State.Edits.{Here, Set_desk}
-use Rattle.zone_machine.specs.Calls.{signals}
+use Rattle.loopback_mounts.specs.Mounts.{at_dir, hold_answer, release_answer, with_hold}
+use Rattle.loopback_mounts.specs.declared.faults.HoldFault.{HoldFault}
+use Rattle.loopback_mounts.specs.declared.mount.MountEntry.{MountEntry}
+use Rattle.loopback_mounts.specs.declared.faults.HoldFault.TheVariants.{HoldState as Wrong_hold, NoMount as No_such_mount}
+use Rattle.zone_pools.specs.Owned_lists.{Change}
+use Rattle.zoneadmd_steps.specs.Objects.{Object_edit, Of_mounts}
+use Rattle.zone_machine.specs.Calls.{changes, signals}
 use Rattle.kernel_objects.specs.declared.faults.Errno.TheVariants.{ESRCH}
-use Rattle.zone_machine.specs.Session.Lines.{Blank, Command, Kill, Line, Make, Request, Unknown}
+use Rattle.zone_machine.specs.Session.Lines.{Blank, Command, Hold, Kill, Line, Make, Release, Request, Unknown}
 use Rattle.zone_machine.specs.State.{Awaiting, Doing}
 use Rattle.zone_machine.specs.State.Worlds.{View}
 use Rattle.zoneadmd_steps.specs.declared.requests.RequestKind.{RequestKind}
@@ -25,7 +31,7 @@ use Rattle.commit_journal.specs.Uuids.{uuid_of}
 use Rattle.commit_journal.specs.declared.records.Record.{Record}
 use Rattle.zone_machine.specs.declared.replies.Head.TheVariants.{Ok, Ticket, Refused}
 use Rattle.zone_machine.specs.declared.replies.Refusal.{Refusal}
-use Rattle.zone_machine.specs.declared.replies.Refusal.TheVariants.{BadName, BadValue, NeedForce, NoZone, Waiting, DeskFull, Usage, Denied, Errno as Of_errno}
+use Rattle.zone_machine.specs.declared.replies.Refusal.TheVariants.{BadName, BadValue, NeedForce, NoZone, Waiting, DeskFull, Usage, Denied, HoldState, NoMount, Errno as Of_errno}
 use Rattle.zone_machine.specs.declared.replies.Reply.{Reply}
 
 -- a property is set, where nothing was refused before
@@ -59,11 +65,34 @@ put_request d kind (Some row) =
     else done_saying (Set_desk (with_request d kind) ∷ Here (Some (Awaiting (d.last + 1))) ∷ [])
     (Ticket (d.last + 1))
 
+-- whether a mount may be held, or released
+abbrev pub held_answer : Bool → List ℕ → List MountEntry → Result (Unit {0}) HoldFault
+held_answer true dir ms = hold_answer dir ms
+held_answer false dir ms = release_answer dir ms
+
+-- the global zone holds a mount of a zone that is stored, or does so no more
+abbrev pub hold_refusal : HoldFault → Refusal
+hold_refusal Wrong_hold = HoldState
+hold_refusal No_such_mount = NoMount
+
+abbrev pub hold_changes : Object_edit → Result (Unit {0}) HoldFault → Decision
+hold_changes e (Err fault) = Just (refused (hold_refusal fault))
+hold_changes e (Right done) = changes e
+
+abbrev pub holds : Option Record → Result (Unit {0}) HoldFault → Object_edit → Decision
+holds None answer e = Just (refused NoZone)
+holds (Some row) answer e = hold_changes e answer
+
+abbrev pub holding_at : Bool → List ℕ → Object_edit
+holding_at held dir = Of_mounts (Change (at_dir dir (with_hold held)))
+
 abbrev pub idle_line : View → Command → Decision
 idle_line v Blank = Just (done_saying [] Ok)
 idle_line v (Make word) = make v.zone v.world.stored word
 idle_line v (Request kind) = Just (put_request v.world.desk kind v.world.stored)
 idle_line v (Kill signal pid) = signals false signal pid (v.process pid)
+idle_line v (Hold dir) = holds v.world.stored (held_answer true dir v.world.mounts) (holding_at true dir)
+idle_line v (Release dir) = holds v.world.stored (held_answer false dir v.world.mounts) (holding_at false dir)
 idle_line v Unknown = Just (refused Usage)
 
 -- by what the session does in the zone

@@ -52,6 +52,11 @@ says head = record { head = head; body = No_body }
 abbrev pub done_saying : List Edit → Head → Effect
 done_saying edits head = record { edits = edits; reply = says head }
 
+-- ok, or why it is refused
+abbrev pub head_of : Option Refusal → Head
+head_of None = Ok
+head_of (Some r) = Refused r
+
 abbrev pub refused : Refusal → Effect
 refused r = done_saying [] (Refused r)
 

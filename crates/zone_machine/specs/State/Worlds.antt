@@ -9,7 +9,8 @@ use Rattle.kernel_objects.specs.Processes.{has_pid, with_pid, Process}
 use Rattle.zoneadmd_steps.specs.Objects.{Objects}
 use Rattle.zone_machine.specs.State.{At, Doing, Idle, Session, State, stored}
 use Rattle.kernel_objects.specs.declared.objects.Id.{Id}
-use Rattle.zoneadmd_steps.specs.declared.objects.Mount.{Mount}
+use Rattle.loopback_mounts.specs.declared.mount.MountEntry.{MountEntry}
+use Rattle.datalink_table.specs.declared.claims.Claim.{Claim}
 use Rattle.commit_journal.specs.declared.records.Record.{Record}
 
 -- what a session does in z; nothing where it is away
@@ -20,7 +21,9 @@ doing z (At y d) = if bytes_eq z y then Some d else None
 -- a zone's world: its objects, its stored record, its desk, and what each session does in it
 pub record World : Type 0 where
   pub processes : List Process
-  pub mounts : List Mount
+  pub mounts : List MountEntry
+  pub claims : List Claim
+  pub devices : List (List ℕ)
   pub ids : List Id
   pub stored : Option Record
   pub desk : Desk
@@ -34,6 +37,8 @@ abbrev pub world : Name → State → World
 world z S = record {
   processes = mine z S.processes;
   mounts = mine z S.mounts;
+  claims = mine z S.claims;
+  devices = mine z S.devices;
   ids = mine z S.ids;
   stored = stored z S.commits;
   desk = S.desks z;

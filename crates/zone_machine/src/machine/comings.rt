@@ -51,7 +51,8 @@ fn job_newcomer(case: &JobCase) -> Newcomer<'_>
 {
     match case {
         JobCase::Ask(it, _) => came_newcomer(it),
-        JobCase::Finish(_) | JobCase::Pass(_) | JobCase::Undo(_) => Newcomer::Nothing,
+        JobCase::Finish(_) | JobCase::Pass(_) | JobCase::Stuck | JobCase::Undo(_) =>
+            Newcomer::Nothing,
     }
 }
 

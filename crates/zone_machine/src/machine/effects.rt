@@ -29,11 +29,12 @@ use crate::maps::put;
 use crate::replies::Reply;
 use crate::session::waits::{end_waits, wait};
 use kernel_objects::KernelCell;
+use loopback_mounts::Mount;
 use priv_sets::PrivSet;
 use std::alloc::Global;
-use zn_base::Text;
+use zn_base::{AbsPath, Text};
 use zone_pools::Grant;
-use zoneadmd_steps::{ObjectEdit, Stored, unmount};
+use zoneadmd_steps::{ObjectEdit, Stored};
 
 // What is stored of the zone from now on.
 #[inline(never)]
@@ -108,6 +109,43 @@ fn give_up(cell: &mut Cell, pid: u32, number: u8)
     cell.kernel.give_up(pid, number);
 }
 
+// Something is mounted, which nothing refuses.
+#[inline(never)]
+fn mount_at(cell: &mut Cell, mount: Box<Mount>)
+    requires { HasRoomToChange (ObjectEdit.Mount mount) cell.old }
+    ensures does { (z : Name) (n : Option ℕ) (s : shared_types.Shared) → Does z (edits_world n (map Of_objects (object_edits (ObjectEdit.Mount mount)))) kept cell.old s cell.new s }
+    ensures waits { cell.new.waits ≡ cell.old.waits }
+{
+    cell.mounts.put_reserved(Box::into_inner(mount));
+}
+
+// A mount goes.
+#[inline(never)]
+fn unmount(cell: &mut Cell, dir: &AbsPath)
+    ensures does { (z : Name) (n : Option ℕ) (s : shared_types.Shared) → Does z (edits_world n (map Of_objects (object_edits (ObjectEdit.Unmount dir.now)))) kept cell.old s cell.new s }
+    ensures waits { cell.new.waits ≡ cell.old.waits }
+{
+    cell.mounts.take_out(dir);
+}
+
+// The global zone holds a mount.
+#[inline(never)]
+fn hold(cell: &mut Cell, dir: &AbsPath)
+    ensures does { (z : Name) (n : Option ℕ) (s : shared_types.Shared) → Does z (edits_world n (map Of_objects (object_edits (ObjectEdit.Hold dir.now)))) kept cell.old s cell.new s }
+    ensures waits { cell.new.waits ≡ cell.old.waits }
+{
+    cell.mounts.put_hold(dir);
+}
+
+// The global zone holds a mount no more.
+#[inline(never)]
+fn release(cell: &mut Cell, dir: &AbsPath)
+    ensures does { (z : Name) (n : Option ℕ) (s : shared_types.Shared) → Does z (edits_world n (map Of_objects (object_edits (ObjectEdit.Release dir.now)))) kept cell.old s cell.new s }
+    ensures waits { cell.new.waits ≡ cell.old.waits }
+{
+    cell.mounts.lift_hold(dir);
+}
+
 /// The zone's limits are set.
 #[inline(never)]
 pub(crate) fn set_limits(alloc: Global, kernel: &mut KernelCell)
@@ -128,8 +166,10 @@ fn edit_objects(alloc: Global, cell: &mut Cell, shared: &mut Shared, edit: Objec
         ObjectEdit::EndProcess(pid) => end_process(cell, shared, pid),
         ObjectEdit::Rename(pid, name) => rename(cell, pid, name),
         ObjectEdit::GiveUp(pid, number) => give_up(cell, pid, number),
-        ObjectEdit::Mount(mount) => cell.mounts.push_reserved(Box::into_inner(mount)),
-        ObjectEdit::Unmount(dir) => unmount(&mut cell.mounts, &dir),
+        ObjectEdit::Mount(mount) => mount_at(cell, mount),
+        ObjectEdit::Unmount(dir) => unmount(cell, &dir),
+        ObjectEdit::Hold(dir) => hold(cell, &dir),
+        ObjectEdit::Release(dir) => release(cell, &dir),
         ObjectEdit::EndIds => end_ids(cell, shared),
         ObjectEdit::SetLimits => set_limits(alloc, &mut cell.kernel),
         ObjectEdit::ClearLimits => cell.kernel.clear_limits(alloc),

@@ -3,7 +3,7 @@ ghost use Rattle.std.specs.Prelude.{◌≡◌, IfOk, IfSome, None, false, OnErr,
 ghost use Rattle.std.specs.List.{list_all};
 ghost use Rattle.zone_pools.specs.Decisions.{Just};
 ghost use Rattle.zone_machine.specs.Code.Cases.{IsCaseOf, decision_of};
-ghost use Rattle.zoneadmd_steps.specs.Code.Cases.{IsTurnOf, object_edits, turn_decision_of, turn_objects};
+ghost use Rattle.zoneadmd_steps.specs.Code.Cases.{IsFreeFor, IsTurnOf, object_edits, turn_decision_of, turn_objects};
 ghost use Rattle.zone_machine.specs.Code.Rooms.{HasRoomFor, HasRoomToChange};
 ghost use Rattle.zone_machine.specs.Code.Works.{objects_of};
 ghost use Rattle.zoneadmd_steps.specs.Objects.{ids_of, ids_after, mounts_after};
@@ -26,7 +26,7 @@ use crate::replies::Reply;
 use std::alloc::{AllocError, Global};
 use zn_base::ZoneName;
 use zone_pools::Grant;
-use zoneadmd_steps::{ObjectEdit, TurnCase, local_case, unmount};
+use zoneadmd_steps::{ObjectEdit, TurnCase, local_case};
 
 // What the next turn comes to, where that is local.
 fn next_local(alloc: Global, cell: &Cell) -> Result<Option<TurnCase>, AllocError>
@@ -34,6 +34,7 @@ fn next_local(alloc: Global, cell: &Cell) -> Result<Option<TurnCase>, AllocError
     ensures local { IfOk result (λ o. IfSome o (λ c. is_local_turn (turn_decision_of cell.now.desk c) ≡ true)) }
     ensures of { IfOk result (λ o. IfSome o (IsTurnOf cell.now.desk)) }
     ensures own { IfOk result (λ o. IfSome o (λ c. list_all is_of_own (object_edits (turn_objects c)) ≡ true)) }
+    ensures free { IfOk result (λ o. IfSome o (λ c. IsFreeFor (turn_objects c) cell.now.mounts.list)) }
     ensures job { IfOk result (λ o. IfSome o (λ c. is_some cell.now.desk.job ≡ true)) }
     ensures none { IfOk result (λ o. o ≡ None → (row : records.Record) → is_local_turn (turn (worlds.objects_of (cell_world (Some row) cell.now)) (Some row) (as_desk cell.now.desk)) ≡ false) }
 {
@@ -44,15 +45,20 @@ fn next_local(alloc: Global, cell: &Cell) -> Result<Option<TurnCase>, AllocError
 fn edit_own(alloc: Global, cell: &mut Cell, edit: ObjectEdit)
     requires own { list_all is_of_own (object_edits edit) ≡ true }
     requires room { HasRoomToChange edit cell.old }
-    ensures mounts { cell.new.mounts.items ≡ mounts_after (object_edits edit) cell.old.mounts.items }
+    ensures mounts { cell.new.mounts.list ≡ mounts_after (object_edits edit) cell.old.mounts.list }
     ensures ids { ids_of cell.new.kernel.id ≡ ids_after (object_edits edit) (ids_of cell.old.kernel.id) }
     ensures processes { cell.new.kernel.processes ≡ cell.old.kernel.processes }
+    ensures devices { cell.new.kernel.devices ≡ cell.old.kernel.devices }
     ensures same { cell.new ≡ record cell.old { kernel = cell.new.kernel; mounts = cell.new.mounts } }
 {
     match edit {
         ObjectEdit::Nothing => {}
-        ObjectEdit::Mount(mount) => cell.mounts.push_reserved(Box::into_inner(mount)),
-        ObjectEdit::Unmount(dir) => unmount(&mut cell.mounts, &dir),
+        ObjectEdit::Mount(mount) => cell.mounts.put_reserved(Box::into_inner(mount)),
+        ObjectEdit::Unmount(dir) => {
+            cell.mounts.take_out(&dir);
+        }
+        ObjectEdit::Hold(dir) => cell.mounts.put_hold(&dir),
+        ObjectEdit::Release(dir) => cell.mounts.lift_hold(&dir),
         ObjectEdit::SetLimits => set_limits(alloc, &mut cell.kernel),
         ObjectEdit::ClearLimits => cell.kernel.clear_limits(alloc),
         ObjectEdit::EndProcesses
@@ -65,7 +71,8 @@ fn edit_own(alloc: Global, cell: &mut Cell, edit: ObjectEdit)
 
 // Room for what a case does to the cell. Nothing is changed by it, whether or not memory runs out.
 fn room_for(cell: &mut Cell, case: &Case) -> Result<(), AllocError>
-    requires { IsCaseOf cell.old.desk case.now }
+    requires of { IsCaseOf cell.old.desk case.now }
+    requires free { IsFreeFor (objects_of case.now) cell.old.mounts.list }
     ensures same { IsAsItWas cell.old cell.new }
     ensures seen { decision_of cell.new.desk case.now ≡ decision_of cell.old.desk case.now }
     ensures of { IsCaseOf cell.new.desk case.now }
@@ -80,6 +87,7 @@ fn room_for(cell: &mut Cell, case: &Case) -> Result<(), AllocError>
 fn do_local(alloc: Global, cell: &mut Cell, case: TurnCase) -> Result<Reply, AllocError>
     requires of { IsTurnOf cell.old.desk case }
     requires own { list_all is_of_own (object_edits (turn_objects case)) ≡ true }
+    requires free { IsFreeFor (turn_objects case) cell.old.mounts.list }
     ensures reply { IfOk result (λ reply. reply ≡ (act_of (effects turned (turn_decision_of cell.old.desk case)) Grant.Nothing).effect.reply) }
     ensures done { IfOk result (λ reply. (t : Turned) → effects turned (turn_decision_of cell.old.desk case) ≡ effects turned (Just t) → After t cell.old cell.new) }
     ensures memory { OnErr result (IsAsItWas cell.old cell.new) }
@@ -92,9 +100,9 @@ fn do_local(alloc: Global, cell: &mut Cell, case: TurnCase) -> Result<Reply, All
 }
 
 /// The next turn of a zone's daemon is done on the zone's cell, where it is local: it steps through a hook, through
-/// the zone's files, limits and mounts, or undoes such a step, and nothing that other zones may ask is touched. Else
-/// nothing is done, and it is to be a step of the cell with what zones share. Where memory runs out, the cell is as it
-/// was.
+/// the zone's files, limits and mounts, undoes such a step, or waits for a held mount, and nothing that other zones may
+/// ask is touched. Else nothing is done, and it is to be a step of the cell with what zones share. Where memory runs
+/// out, the cell is as it was.
 pub fn local_turn(
     alloc: Global,
     zone: &ZoneName,

@@ -41,6 +41,7 @@ fn job_need(case: &JobCase) -> Need<'_>
         JobCase::Ask(it, _) => came_need(it),
         JobCase::Finish(_) => Need::Nothing,
         JobCase::Pass(_) => Need::Nothing,
+        JobCase::Stuck => Need::Nothing,
         JobCase::Undo(_) => Need::Nothing,
     }
 }

@@ -8,23 +8,25 @@ ghost use Rattle.zone_machine.specs.Code.Cases.{decision_of};
 ghost use Rattle.zone_machine.specs.Code.Cells.{Keeps, Stands, cell_at, cell_world, empty_world, row_in, world_or_empty};
 ghost use Rattle.zone_machine.specs.Code.Needs.{pools_in};
 ghost use Rattle.zone_machine.specs.Code.Reads.{decide_read, global_read, subject_in};
-ghost use Rattle.zone_machine.specs.Code.Decided.{IsCaseIn, IsCellAt, entry_by, entry_of, head_of, own_subject};
+ghost use Rattle.zone_machine.specs.Code.Decided.{IsCaseIn, IsCellAt, entry_by, entry_of, own_subject};
 ghost use Rattle.zone_machine.specs.Code.Rooms.{IsFreeOf};
 ghost use Rattle.zone_machine.specs.Code.Steps.{AsItWas, IsAllowed, IsGrantFor, IsStep, IsStepUnder, IsTaken, IsUnfit, Leaves};
 ghost use Rattle.zoneadmd_steps.specs.Desks.{state_of};
 ghost use Rattle.zone_machine.specs.Machine.{decide, global_reply, opening};
 ghost use Rattle.zone_machine.specs.State.{State};
-ghost use Rattle.zone_machine.specs.State.Decisions.{act_of, says};
+ghost use Rattle.zone_machine.specs.State.Decisions.{act_of, head_of, says};
 ghost use Rattle.zone_machine.specs.State.Worlds.{View};
+ghost use Rattle.zone_machine.specs.declared.events.Event.TheVariants as events;
 ghost use Rattle.zone_machine.specs.declared.events.Subject.TheVariants as subject_variants;
 ghost use Rattle.zone_machine.specs.declared.events.Subject.TheVariants.{Zone};
 ghost use Rattle.zone_machine.specs.declared.machine.cell.Cell as cell_types;
 ghost use Rattle.commit_journal.specs.declared.records.Record as record_types;
 
 use crate::cases::Case;
-use crate::events::{Answer, Entry, Event, Subject, Whose};
+use crate::events::{Answer, Declaration, Entry, Event, Subject, Whose};
 use crate::faults::StepFault;
 use crate::machine::cell::Cell;
+use crate::machine::declarations::declare;
 use crate::machine::reads::{Read, global_refusal, read_event, subject};
 use crate::machine::shared::Shared;
 use crate::machine::steps::{cell_grant, granted_case, perform_case};
@@ -132,7 +134,7 @@ impl Parts {
         match subject(&self.shared, alloc, read)? {
             Subject::Zone(zone) => self.zone_grant(alloc, event, read, &zone),
             Subject::Global => Ok(Grant::Nothing),
-            Subject::Whole => unreachable!(),
+            Subject::Whole => Ok(Grant::Nothing),
         }
     }
 
@@ -272,6 +274,39 @@ impl Parts {
         Ok((grant, answer_reply(refusal)))
     }
 
+    // What the whole system declares is answered.
+    fn answer_declaration(
+        &mut self,
+        alloc: Global,
+        what: &Declaration,
+        stated: Option<Grant>,
+    ) -> Result<(Grant, Reply), StepFault>
+        ensures ok { IfOk result (λ r. IsStepUnder stated self.old (events.System what.now) (entry_of subject_variants.Whole (events.System what.now) r.0 r.1) self.new) }
+        ensures fault { IfErr result (λ fault. Leaves fault stated self.old (events.System what.now) self.new) }
+    {
+        let grant = nothing_of(stated)?;
+        let refusal = declare(alloc, &mut self.shared, what)?;
+        Ok((grant, answer_reply(refusal)))
+    }
+
+    // An event of the whole system is answered.
+    #[inline(never)]
+    fn answer_whole(
+        &mut self,
+        alloc: Global,
+        event: &Event,
+        stated: Option<Grant>,
+    ) -> Result<(Grant, Reply), StepFault>
+        requires { subject_in self.old.shared event.now ≡ subject_variants.Whole }
+        ensures ok { IfOk result (λ r. IsStepUnder stated self.old event.now (entry_of subject_variants.Whole event.now r.0 r.1) self.new) }
+        ensures fault { IfErr result (λ fault. Leaves fault stated self.old event.now self.new) }
+    {
+        match event {
+            Event::System(what) => self.answer_declaration(alloc, what, stated),
+            _ => unreachable!(),
+        }
+    }
+
     // An event is answered of which it was found whose it is.
     fn answer_of(
         &mut self,
@@ -290,7 +325,7 @@ impl Parts {
         match subject {
             Subject::Zone(zone) => self.answer_zone(alloc, event, read, zone, stated),
             Subject::Global => self.answer_global(alloc, event, read, stated),
-            Subject::Whole => unreachable!(),
+            Subject::Whole => self.answer_whole(alloc, event, stated),
         }
     }
 
@@ -304,6 +339,20 @@ impl Parts {
         let (grant, reply) = self.answer_of(alloc, event, read, &subject, None)?;
         Ok(Answer {
             whose: Whose::Found(subject),
+            grant,
+            reply,
+        })
+    }
+
+    // An event of the whole system is answered, under the grant that it has.
+    fn answer_system(&mut self, alloc: Global, event: &Event) -> Result<Answer, StepFault>
+        requires { own_subject event.now ≡ subject_variants.Whole }
+        ensures ok { IfOk result (λ answer. IsStepUnder None self.old event.now (entry_by event.now answer) self.new) }
+        ensures fault { IfErr result (λ fault. Leaves fault None self.old event.now self.new) }
+    {
+        let (grant, reply) = self.answer_whole(alloc, event, None)?;
+        Ok(Answer {
+            whose: Whose::Own,
             grant,
             reply,
         })
@@ -345,6 +394,7 @@ impl Parts {
                 Read::Process(zone, *pid, call),
                 zone,
             ),
+            Event::System(_) => self.answer_system(alloc, event),
         }
     }
 

@@ -2,8 +2,7 @@
 ghost use Rattle.std.specs.Prelude.{◌≡◌, IfOk, None, Some, Option};
 ghost use Rattle.zone_machine.specs.Code.Reads.{decide_read, global_read, held_subject, idle_subject, number_read, subject_in, subject_read};
 ghost use Rattle.kernel_objects.specs.Shared.{pid_owner};
-ghost use Rattle.zone_machine.specs.Code.Decided.{head_of};
-ghost use Rattle.zone_machine.specs.State.Decisions.{says};
+ghost use Rattle.zone_machine.specs.State.Decisions.{head_of, says};
 ghost use Rattle.zone_machine.specs.Code.Lines.{as_line, as_word};
 ghost use Rattle.zone_machine.specs.Machine.{decide, global_reply, named_subject, session_number};
 ghost use Rattle.zone_machine.specs.State.{State};
@@ -12,7 +11,7 @@ ghost use Rattle.zone_machine.specs.State.Worlds.{View};
 ghost use Rattle.zone_machine.specs.declared.events.Subject.TheVariants.{Zone};
 ghost use Rattle.zone_machine.specs.declared.machine.shared.Shared as shared_types;
 
-use crate::events::{Event, Subject};
+use crate::events::{Declaration, Event, Subject};
 use crate::machine::shared::Shared;
 use crate::replies::Refusal;
 use crate::session::lines::{Command, Line, line_of};
@@ -21,12 +20,14 @@ use process_calls::Call;
 use std::alloc::{AllocError, Global};
 use zn_base::{NameFault, ZoneName};
 
-/// An event as it is read, once: what a session types, a turn of a zone's daemon, or a call of a zone's process.
+/// An event as it is read, once: what a session types, a turn of a zone's daemon, a call of a zone's process, or what the whole
+/// system declares.
 #[derive(Clone, Copy)]
 pub(crate) enum Read<'e> {
     Line(u8, Line<'e>),
     Turn(&'e ZoneName),
     Process(&'e ZoneName, u32, &'e Call),
+    System(&'e Declaration),
 }
 
 /// An event is read.
@@ -41,6 +42,7 @@ pub(crate) fn read_event(event: &Event) -> Read<'_>
         Event::Session { number, text } => Read::Line(*number, line_of(text.bytes())),
         Event::Turn { zone } => Read::Turn(zone),
         Event::Process { zone, pid, call } => Read::Process(zone, *pid, call),
+        Event::System(what) => Read::System(what),
     }
 }
 
@@ -78,9 +80,12 @@ fn idle_subject(kernel: &KernelShared, alloc: Global, line: Line<'_>) -> Result<
 {
     match line.command {
         Command::Kill(_, pid) => holder(kernel, alloc, pid),
-        Command::Blank | Command::Make(_) | Command::Request(_) | Command::Unknown => named_subject(
-            alloc, line.zone,
-        ),
+        Command::Blank
+        | Command::Make(_)
+        | Command::Request(_)
+        | Command::Hold(_)
+        | Command::Release(_)
+        | Command::Unknown => named_subject(alloc, line.zone),
     }
 }
 
@@ -95,6 +100,7 @@ pub(crate) fn subject(shared: &Shared, alloc: Global, read: Read<'_>) -> Result<
             Some(zone) => Ok(Subject::Zone(zone.copy(alloc)?)),
             None => idle_subject(&shared.kernel, alloc, line),
         },
+        Read::System(_) => Ok(Subject::Whole),
     }
 }
 
@@ -120,7 +126,9 @@ fn global_line(alloc: Global, line: Line<'_>) -> Result<Option<Refusal>, AllocEr
         Command::Blank => Ok(None),
         Command::Unknown => Ok(Some(Refusal::Usage)),
         Command::Kill(_, _) => Ok(Some(Refusal::Errno(Errno::ESRCH))),
-        Command::Make(_) | Command::Request(_) => Ok(Some(badly_named(alloc, line.zone)?)),
+        Command::Make(_) | Command::Request(_) | Command::Hold(_) | Command::Release(_) => Ok(Some(
+            badly_named(alloc, line.zone)?,
+        )),
     }
 }
 
@@ -130,6 +138,6 @@ pub(crate) fn global_refusal(alloc: Global, read: Read<'_>) -> Result<Option<Ref
 {
     match read {
         Read::Line(_, line) => global_line(alloc, line),
-        Read::Turn(_) | Read::Process(_, _, _) => Ok(None),
+        Read::Turn(_) | Read::Process(_, _, _) | Read::System(_) => Ok(None),
     }
 }

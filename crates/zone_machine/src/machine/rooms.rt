@@ -4,7 +4,7 @@ ghost use Rattle.zoneadmd_steps.specs.Code.Desks.{as_desk};
 ghost use Rattle.zone_machine.specs.Code.Cases.{IsCaseOf, decision_of};
 ghost use Rattle.zone_machine.specs.Code.Rooms.{HasRoomFor, Alike, HasRoom, HasRoomIfSits, HasRoomToChange, HasRoomToStore};
 ghost use Rattle.zone_machine.specs.Code.Works.{objects_of};
-ghost use Rattle.zoneadmd_steps.specs.Code.Cases.{turn_objects};
+ghost use Rattle.zoneadmd_steps.specs.Code.Cases.{IsFreeFor, turn_objects};
 ghost use Rattle.zone_machine.specs.Code.Needs.{asked_by};
 
 use crate::cases::Case;
@@ -44,19 +44,21 @@ fn room_to_store(shared: &mut Shared, need: Need<'_>) -> Result<(), AllocError>
 
 // Room for what becomes of the zone's objects.
 fn room_to_change(cell: &mut Cell, edit: &ObjectEdit) -> Result<(), AllocError>
-    ensures mounts { cell.new.mounts.items ≡ cell.old.mounts.items }
+    requires { IsFreeFor edit.now cell.old.mounts.list }
+    ensures mounts { cell.new.mounts.list ≡ cell.old.mounts.list }
     ensures same { cell.new ≡ record cell.old { mounts = cell.new.mounts } }
     ensures room { OnOk result (HasRoomToChange edit.now cell.new) }
 {
     match edit {
-        ObjectEdit::Mount(_) => cell.mounts.reserve(1),
+        ObjectEdit::Mount(_) => cell.mounts.reserve(),
         _ => Ok(()),
     }
 }
 
 // Room for what a turn does to the zone's objects.
 fn room_to_turn(cell: &mut Cell, case: &TurnCase) -> Result<(), AllocError>
-    ensures mounts { cell.new.mounts.items ≡ cell.old.mounts.items }
+    requires { IsFreeFor (turn_objects case.now) cell.old.mounts.list }
+    ensures mounts { cell.new.mounts.list ≡ cell.old.mounts.list }
     ensures same { cell.new ≡ record cell.old { mounts = cell.new.mounts } }
     ensures room { OnOk result (HasRoomToChange (turn_objects case.now) cell.new) }
 {
@@ -69,7 +71,8 @@ fn room_to_turn(cell: &mut Cell, case: &TurnCase) -> Result<(), AllocError>
 
 /// Room for what a case does to the zone's objects.
 pub(crate) fn room_for_objects(cell: &mut Cell, case: &Case) -> Result<(), AllocError>
-    ensures mounts { cell.new.mounts.items ≡ cell.old.mounts.items }
+    requires { IsFreeFor (objects_of case.now) cell.old.mounts.list }
+    ensures mounts { cell.new.mounts.list ≡ cell.old.mounts.list }
     ensures same { cell.new ≡ record cell.old { mounts = cell.new.mounts } }
     ensures room { OnOk result (HasRoomToChange (objects_of case.now) cell.new) }
 {
@@ -82,6 +85,7 @@ pub(crate) fn room_for_objects(cell: &mut Cell, case: &Case) -> Result<(), Alloc
 
 // Room for what a case does to the zone's objects, and for the session that waits from now on.
 fn room_to_do(cell: &mut Cell, shared: &mut Shared, case: &Case) -> Result<(), AllocError>
+    requires { IsFreeFor (objects_of case.now) cell.old.mounts.list }
     ensures alike { Alike cell.old shared.old cell.new shared.new }
     ensures desk { cell.new.desk ≡ cell.old.desk }
     ensures objects { OnOk result (HasRoomToChange (objects_of case.now) cell.new) }
@@ -98,7 +102,8 @@ fn room_to_do(cell: &mut Cell, shared: &mut Shared, case: &Case) -> Result<(), A
 
 /// Room for all that a case does. Nothing is changed by it, whether or not memory runs out.
 pub(crate) fn make_room(cell: &mut Cell, shared: &mut Shared, case: &Case) -> Result<(), AllocError>
-    requires { IsCaseOf cell.old.desk case.now }
+    requires of { IsCaseOf cell.old.desk case.now }
+    requires free { IsFreeFor (objects_of case.now) cell.old.mounts.list }
     ensures alike { Alike cell.old shared.old cell.new shared.new }
     ensures same { decision_of cell.new.desk case.now ≡ decision_of cell.old.desk case.now }
     ensures of { IsCaseOf cell.new.desk case.now }

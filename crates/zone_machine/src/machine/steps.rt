@@ -29,7 +29,7 @@ use crate::machine::pools::{fits, grant_for};
 use crate::machine::reads::{Read, read_event};
 use crate::machine::rooms::make_room;
 use crate::machine::shared::Shared;
-use crate::replies::Reply;
+use crate::replies::{Head, Reply};
 use crate::session::line_cases::decide_line;
 use crate::session::waits::awaited;
 use commit_journal::Record;
@@ -52,21 +52,14 @@ fn case_of(
     match read {
         Read::Line(number, line) => {
             let ticket = awaited(&cell.waits, number);
-            decide_line(
-                alloc,
-                zone,
-                &cell.kernel,
-                &cell.desk,
-                row,
-                ticket,
-                line.command,
-            )
+            decide_line(alloc, zone, cell, row, ticket, line.command)
         }
         Read::Turn(_) => {
             let case = decide_turn(alloc, zone, &cell.desk, row, &cell.kernel, &cell.mounts)?;
             Ok(Case::Turn(case))
         }
-        Read::Process(_, pid, call) => decide_call(alloc, zone, &cell.kernel, pid, call),
+        Read::Process(_, pid, call) => decide_call(alloc, zone, cell, pid, call),
+        Read::System(_) => Ok(Case::Says(Head::Ok)),
     }
 }
 
@@ -75,7 +68,7 @@ fn session_number(event: &Event) -> Option<u8>
 {
     match event {
         Event::Session { number, .. } => Some(*number),
-        Event::Turn { .. } | Event::Process { .. } => None,
+        Event::Turn { .. } | Event::Process { .. } | Event::System(_) => None,
     }
 }
 

@@ -1,6 +1,5 @@
 //! What the lines come to that sessions type.
-ghost use Rattle.kernel_objects.specs.Processes.{with_pid};
-ghost use Rattle.std.specs.Prelude.{◌≡◌, IfOk, List, MatchBool, MatchOption, None, Ok, Option, false, ℕ};
+ghost use Rattle.std.specs.Prelude.{◌∷◌, ◌≡◌, [], IfOk, IfSome, List, MatchBool, MatchOption, None, Ok, Option, false, true, ℕ};
 ghost use Rattle.std.specs.Result.{result_ok};
 ghost use Rattle.std.specs.Option.{option_map};
 ghost use Rattle.zn_base.specs.Text.{is_text};
@@ -10,23 +9,30 @@ ghost use Rattle.zone_machine.specs.Code.Cases.{IsCaseOf, IsNamedCase, decision_
 ghost use Rattle.zoneadmd_steps.specs.Code.Desks.{as_desk};
 ghost use Rattle.zone_machine.specs.Code.Lines.{as_command};
 ghost use Rattle.zone_machine.specs.State.{Awaiting};
-ghost use Rattle.zone_machine.specs.Session.Typed.{idle_line, made_config, make, make_with, put_request, typed};
+ghost use Rattle.loopback_mounts.specs.Mounts.{mount_at};
+ghost use Rattle.loopback_mounts.specs.declared.mount.MountEntry as entry_types;
+ghost use Rattle.zoneadmd_steps.specs.Code.Cases.{IsFreeFor, object_edits};
+ghost use Rattle.zn_base.specs.Names.{Name};
+ghost use Rattle.zone_machine.specs.Code.Cells.{Shows};
+ghost use Rattle.zone_machine.specs.Code.Works.{IsFreeCase, MountsNothing};
+ghost use Rattle.zone_machine.specs.Session.Typed.{held_answer, hold_refusal, holding_at, holds, idle_line, made_config, make, make_with, put_request, typed};
 ghost use Rattle.zoneadmd_steps.specs.Desks.{is_full};
 ghost use Rattle.zone_machine.specs.State.Worlds.{View};
 ghost use Rattle.zoneadmd_steps.specs.declared.desks.Desk as desk_types;
 
 use crate::calls::signal_case;
 use crate::cases::Case;
+use crate::machine::cell::Cell;
 use crate::replies::{Head, Refusal};
 use crate::session::lines::Command;
 use commit_journal::Record;
 use config_terms::ConfigFault;
-use kernel_objects::KernelCell;
+use loopback_mounts::{HoldFault, MountCell};
 use std::alloc::{AllocError, Global};
 use uuid::Uuid;
-use zn_base::{Text, TextFault, Value, ZoneName, ZoneState};
+use zn_base::{AbsPath, Text, TextFault, Value, ZoneName, ZoneState, is_path};
 use zone_config::{ZoneConfig, blank};
-use zoneadmd_steps::{Desk, RequestKind};
+use zoneadmd_steps::{Desk, ObjectEdit, RequestKind};
 
 fn refused(refusal: Refusal) -> Case
     ensures { result ≡ Case.Says (Head.Refused refusal) }
@@ -76,6 +82,7 @@ fn make_with(alloc: Global, zone: &ZoneName, config: Option<ZoneConfig>) -> Resu
     ensures decides { IfOk result (λ c. (d : desk_types.Desk) → make_with zone.now config ≡ decision_of d c) }
     ensures of { IfOk result (λ c. (d : desk_types.Desk) → IsCaseOf d c) }
     ensures named { IfOk result (IsNamedCase zone.now) }
+    ensures free { IfOk result MountsNothing }
 {
     let Some(config) = config else {
         return Ok(refused(Refusal::BadValue));
@@ -102,6 +109,7 @@ fn make_case(
     ensures decides { IfOk result (λ c. (d : desk_types.Desk) → make zone.now (option_map (λ r. r.now) row.entry) word.now ≡ decision_of d c) }
     ensures of { IfOk result (λ c. (d : desk_types.Desk) → IsCaseOf d c) }
     ensures named { IfOk result (IsNamedCase zone.now) }
+    ensures free { IfOk result MountsNothing }
 {
     match row {
         Some(_) => Ok(refused(Refusal::NeedForce)),
@@ -123,6 +131,7 @@ fn put_case(
     ensures decides { IfOk result (λ c. Just (put_request (as_desk desk.now) kind (option_map (λ r. r.now) row.entry)) ≡ decision_of desk.now c) }
     ensures of { IfOk result (IsCaseOf desk.now) }
     ensures named { IfOk result (IsNamedCase zone.now) }
+    ensures free { IfOk result MountsNothing }
 {
     if row.is_none() {
         return Ok(refused(Refusal::NoZone));
@@ -133,25 +142,97 @@ fn put_case(
     Ok(Case::Put(kind, zone.copy(alloc)?))
 }
 
+// The directory that a word is. What is no path is no mount's.
+fn dir_of(alloc: Global, mounts: &MountCell, word: &[u8]) -> Result<Option<AbsPath>, AllocError>
+    ensures some { IfOk result (λ dir. IfSome dir (λ dir. dir ≡ word.now)) }
+    ensures none { IfOk result (λ dir. dir ≡ None → mount_at word.now mounts.now.list ≡ None) }
+{
+    let entries = mounts.entries();
+    if !is_path(word) {
+        return Ok(None);
+    }
+    Ok(Some(AbsPath::of(alloc, word)?))
+}
+
+fn hold_refusal(fault: HoldFault) -> Refusal
+    ensures { result ≡ hold_refusal fault }
+{
+    match fault {
+        HoldFault::HoldState => Refusal::HoldState,
+        HoldFault::NoMount => Refusal::NoMount,
+    }
+}
+
+// Whether the global zone may hold the mount at a directory, or holds it and may release it.
+fn check_held(mounts: &MountCell, dir: &AbsPath, held: bool) -> Result<(), HoldFault>
+    ensures { result ≡ held_answer held dir.now mounts.now.list }
+{
+    if held {
+        mounts.check_hold(dir)
+    } else {
+        mounts.check_release(dir)
+    }
+}
+
+// The mount at a directory is held from now on, or free.
+fn holding_at(dir: AbsPath, held: bool) -> ObjectEdit
+    ensures edits { object_edits result ≡ holding_at held dir ∷ [] }
+    ensures free { (ms : List entry_types.MountEntry) → IsFreeFor result ms }
+{
+    if held {
+        ObjectEdit::Hold(dir)
+    } else {
+        ObjectEdit::Release(dir)
+    }
+}
+
+// The global zone holds a mount of a zone that is stored, or holds it no more.
+#[inline(never)]
+fn hold_case(
+    alloc: Global,
+    mounts: &MountCell,
+    row: Option<&Record>,
+    word: &[u8],
+    held: bool,
+) -> Result<Case, AllocError>
+    ensures decides { IfOk result (λ c. (d : desk_types.Desk) → holds (option_map (λ r. r.now) row.entry) (held_answer held word.now mounts.now.list) (holding_at held word.now) ≡ decision_of d c) }
+    ensures of { IfOk result (λ c. (d : desk_types.Desk) → IsCaseOf d c) }
+    ensures named { IfOk result (λ c. (z : Name) → IsNamedCase z c) }
+    ensures free { IfOk result MountsNothing }
+{
+    if row.is_none() {
+        return Ok(refused(Refusal::NoZone));
+    }
+    let Some(dir) = dir_of(alloc, mounts, word)? else {
+        return Ok(refused(Refusal::NoMount));
+    };
+    match check_held(mounts, &dir, held) {
+        Ok(()) => Ok(Case::Change(holding_at(dir, held))),
+        Err(fault) => Ok(refused(hold_refusal(fault))),
+    }
+}
+
 // A line of an idle session.
 fn idle_case(
     alloc: Global,
     zone: &ZoneName,
-    kernel: &KernelCell,
-    desk: &Desk,
+    cell: &Cell,
     row: Option<&Record>,
     command: Command<'_>,
 ) -> Result<Case, AllocError>
-    ensures decides { IfOk result (λ c. (v : View) → v.zone ≡ zone.now → ((n : ℕ) → v.process n ≡ with_pid n kernel.now.processes) → v.world.stored ≡ option_map (λ r. r.now) row.entry → v.world.desk ≡ as_desk desk.now
-        → idle_line v (as_command command.entry) ≡ decision_of desk.now c) }
-    ensures of { IfOk result (IsCaseOf desk.now) }
+    ensures decides { IfOk result (λ c. (v : View) → Shows v zone.now cell.now → v.world.stored ≡ option_map (λ r. r.now) row.entry → v.world.desk ≡ as_desk cell.now.desk
+        → idle_line v (as_command command.entry) ≡ decision_of cell.now.desk c) }
+    ensures of { IfOk result (IsCaseOf cell.now.desk) }
     ensures named { IfOk result (IsNamedCase zone.now) }
+    ensures free { IfOk result (λ c. IsFreeCase c cell.now.mounts.list) }
 {
     match command {
         Command::Blank => Ok(Case::Says(Head::Ok)),
         Command::Make(word) => make_case(alloc, zone, row, word),
-        Command::Request(kind) => put_case(alloc, zone, desk, row, kind),
-        Command::Kill(signal, pid) => Ok(signal_case(kernel, false, signal, pid)),
+        Command::Request(kind) => put_case(alloc, zone, &cell.desk, row, kind),
+        Command::Kill(signal, pid) => Ok(signal_case(&cell.kernel, false, signal, pid)),
+        Command::Hold(word) => hold_case(alloc, &cell.mounts, row, word, true),
+        Command::Release(word) => hold_case(alloc, &cell.mounts, row, word, false),
         Command::Unknown => Ok(refused(Refusal::Usage)),
     }
 }
@@ -162,19 +243,19 @@ fn idle_case(
 pub(crate) fn decide_line(
     alloc: Global,
     zone: &ZoneName,
-    kernel: &KernelCell,
-    desk: &Desk,
+    cell: &Cell,
     row: Option<&Record>,
     awaited: Option<u32>,
     command: Command<'_>,
 ) -> Result<Case, AllocError>
-    ensures decides { IfOk result (λ c. (v : View) (named : Option (List ℕ)) → v.zone ≡ zone.now → ((n : ℕ) → v.process n ≡ with_pid n kernel.now.processes) → v.world.stored ≡ option_map (λ r. r.now) row.entry → v.world.desk ≡ as_desk desk.now
-        → typed v (option_map Awaiting awaited) (record { zone = named; command = as_command command.entry }) ≡ decision_of desk.now c) }
-    ensures of { IfOk result (IsCaseOf desk.now) }
+    ensures decides { IfOk result (λ c. (v : View) (named : Option (List ℕ)) → Shows v zone.now cell.now → v.world.stored ≡ option_map (λ r. r.now) row.entry → v.world.desk ≡ as_desk cell.now.desk
+        → typed v (option_map Awaiting awaited) (record { zone = named; command = as_command command.entry }) ≡ decision_of cell.now.desk c) }
+    ensures of { IfOk result (IsCaseOf cell.now.desk) }
     ensures named { IfOk result (IsNamedCase zone.now) }
+    ensures free { IfOk result (λ c. IsFreeCase c cell.now.mounts.list) }
 {
     match awaited {
         Some(ticket) => Ok(refused(Refusal::Waiting(ticket))),
-        None => idle_case(alloc, zone, kernel, desk, row, command),
+        None => idle_case(alloc, zone, cell, row, command),
     }
 }

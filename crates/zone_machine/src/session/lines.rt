@@ -3,11 +3,12 @@ ghost use Rattle.std.specs.Prelude.{◌∷◌, ◌≡◌, None, Some, codes, nat
 ghost use Rattle.std.specs.List.{ends_with, list_all, starts_with};
 ghost use Rattle.std.specs.Option.{option_map};
 ghost use Rattle.zone_pools.specs.Firsts.{first_of, is_nil};
-ghost use Rattle.zone_machine.specs.Session.Lines.{after_word, begins_token, command_by, command_of, is_space, is_word, is_word_byte, kill_command, line_of, path_word, request_word, tool_command, word_after_flag, words, zone_command, zoneadm_command, zonecfg_command};
+ghost use Rattle.zone_machine.specs.Session.Lines.{after_word, begins_token, command_by, command_of, dir_words, is_space, is_word, is_word_byte, kill_command, line_of, path_word, request_word, tool_command, word_after_flag, words, zone_command, zoneadm_command, zonecfg_command};
 ghost use Rattle.zone_machine.specs.Code.Lines.{BeginsWord, EndsWord, GivesRest, GivesWord, IsWordFirst, as_command, as_line, as_word};
 
 use kernel_objects::Signal;
 use process_calls::{pid_in, signal_in};
+use zn_base::is_path;
 use zoneadmd_steps::RequestKind;
 
 /// What a line asks for.
@@ -20,6 +21,10 @@ pub(crate) enum Command<'t> {
     Request(RequestKind),
     /// A signal is sent to the process of a number, whichever zone has it, by kill(1).
     Kill(Signal, u32),
+    /// The global zone holds the mount at this directory.
+    Hold(&'t [u8]),
+    /// The global zone holds the mount at this directory no more.
+    Release(&'t [u8]),
     Unknown,
 }
 
@@ -201,6 +206,18 @@ fn zoneadm_command(text: &[u8]) -> Option<Command<'_>>
     }
 }
 
+// A directory, and no more.
+fn dir_words(text: &[u8]) -> Option<&[u8]>
+    ensures { as_word result ≡ dir_words (words text.now) }
+{
+    let (word, text) = split_word(text)?;
+    if is_path(word) && is_blank(text) {
+        Some(word)
+    } else {
+        None
+    }
+}
+
 fn tool_command<'t>(tool: &[u8], text: &'t [u8]) -> Option<Command<'t>>
     ensures { option_map as_command result ≡ tool_command tool.now (words text.now) }
 {
@@ -208,6 +225,10 @@ fn tool_command<'t>(tool: &[u8], text: &'t [u8]) -> Option<Command<'t>>
         zonecfg_command(text)
     } else if tool == b"zoneadm".as_slice() {
         zoneadm_command(text)
+    } else if tool == b"fhold".as_slice() {
+        Some(Command::Hold(dir_words(text)?))
+    } else if tool == b"frelease".as_slice() {
+        Some(Command::Release(dir_words(text)?))
     } else {
         None
     }

@@ -27,3 +27,15 @@ returns-in-SetLimits-clause-does c = λ z n. rw c.in-SetLimits.is (does_limits z
 
 pub returns-in-ClearLimits-clause-does : goal.returns-in-ClearLimits-clause-does
 returns-in-ClearLimits-clause-does c = λ z n. rw c.in-ClearLimits.is (does_limits z c.args.cell.now c.args.shared.now c.clear_limits.new.self cleared c.clear_limits.ensures (λ i. refl) (edits_world n (map Of_objects (object_edits ClearLimits))) refl)
+
+pub returns-in-Mount-clause-does : goal.returns-in-Mount-clause-does
+returns-in-Mount-clause-does c = λ z n. rw c.in-Mount.is (c.mount_at.ensures.does z n c.args.shared.now)
+
+pub returns-in-Unmount-clause-does : goal.returns-in-Unmount-clause-does
+returns-in-Unmount-clause-does c = λ z n. rw c.in-Unmount.is (c.unmount.ensures.does z n c.args.shared.now)
+
+pub returns-in-Hold-clause-does : goal.returns-in-Hold-clause-does
+returns-in-Hold-clause-does c = λ z n. rw c.in-Hold.is (c.hold.ensures.does z n c.args.shared.now)
+
+pub returns-in-Release-clause-does : goal.returns-in-Release-clause-does
+returns-in-Release-clause-does c = λ z n. rw c.in-Release.is (c.release.ensures.does z n c.args.shared.now)

@@ -14,5 +14,5 @@ returns-clause-reply c =
 
 pub returns-clause-done : goal.returns-clause-done
 returns-clause-done c = λ t is row.
-    after row c.args.cell.now c.room_for.new.cell c.edit_own.new.cell c.settle-work.new.desk c.settle-work.result.objects t (c.room_for.ensures.same row) c.edit_own.ensures.same c.edit_own.ensures.processes c.edit_own.ensures.mounts c.edit_own.ensures.ids
+    after row c.args.cell.now c.room_for.new.cell c.edit_own.new.cell c.settle-work.new.desk c.settle-work.result.objects t (c.room_for.ensures.same row) c.edit_own.ensures.same c.edit_own.ensures.processes c.edit_own.ensures.devices c.edit_own.ensures.mounts c.edit_own.ensures.ids
     (settled (decision_of c.room_for.new.cell.desk (Turn c.args.case)) t (as_desk c.settle-work.new.desk) c.settle-work.result (cell_world row c.room_for.new.cell) (c.room_for.ensures.seen ∙ is) c.settle-work.ensures.sits (c.settle-work.ensures.works None (cell_world row c.room_for.new.cell) refl))
