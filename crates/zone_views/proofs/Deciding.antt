@@ -1,12 +1,20 @@
 -- What an event of a zone leaves of the zone's world.
-use Rattle.std.specs.Prelude.{Result, Ok as Right, Err}
-use Rattle.kernel_objects.specs.Kernel.{at_limit, fork_set, forked}
-use Rattle.kernel_objects.specs.Processes.{Process, at_pid, below, dropping, ends, may_exec, renamed, with_pid, without_pid}
+use Rattle.std.specs.Prelude.{◌&&◌, Result, Ok as Right, Err}
+use Rattle.kernel_objects.specs.Kernel.{at_limit, fork_set, forked, fs_allowed_of}
+use Rattle.kernel_objects.specs.Processes.{Process, at_pid, below, dropping, ends, may_exec, may_mount, renamed, with_pid, without_pid}
 use Rattle.kernel_objects.specs.declared.faults.Errno.{Errno}
 use Rattle.kernel_objects.specs.declared.objects.Signal.{Signal}
 use Rattle.process_calls.specs.declared.call.Call.{Call}
 use Rattle.process_calls.specs.declared.call.Call.TheVariants as call
-use Rattle.zone_machine.specs.Calls.{called, calls, calls_if_there, ending, execs, forks, signals}
+use Rattle.process_calls.specs.declared.call.MountCall.{MountCall}
+use Rattle.loopback_mounts.specs.Mounts.{at_dir, hold_answer, mount_answer, mount_at, mounted, release_answer, unmount_answer, unmounted, with_hold}
+use Rattle.loopback_mounts.specs.Places.{place_at, special_at}
+use Rattle.loopback_mounts.specs.Types.{may_mount_type}
+use Rattle.loopback_mounts.specs.declared.faults.HoldFault.{HoldFault}
+use Rattle.loopback_mounts.specs.declared.faults.MountFault.{MountFault}
+use Rattle.loopback_mounts.specs.declared.mount.Mount.{Mount}
+use Rattle.loopback_mounts.specs.declared.mount.MountEntry.{MountEntry}
+use Rattle.zone_machine.specs.Calls.{called, calls, calls_if_there, ending, execs, forks, is_by_process, mount_of, mounts, mounts_if_free, mounts_special, signals, tells_place, unmounts, unmounts_if_free}
 use Rattle.std.proofs.Common.{◌≡◌, ◌+◌, ℕ, List, Bool, Option, Some, None, true, false, refl, subst, sym}
 use Rattle.zn_base.specs.Names.{Name}
 use Rattle.std.specs.Result.{result_ok}
@@ -20,15 +28,14 @@ use Rattle.zoneadmd_steps.specs.Arrivals.{Arrival}
 use Rattle.zone_machine.specs.State.Decisions.{Act, Effect, act_of, acts_world, after_came_world, done_saying}
 use Rattle.zoneadmd_steps.specs.Desks.{Desk, is_full, with_request}
 use Rattle.zone_machine.specs.State.Edits.{at_session, edits_world}
-use Rattle.zone_machine.specs.Session.Lines.{Blank, Command, Kill, Line, Make, Request, Unknown, line_of}
+use Rattle.zone_machine.specs.Session.Lines.{Blank, Command, Hold, Kill, Line, Make, Release, Request, Unknown, line_of}
 use Rattle.zone_machine.specs.Machine.{decide, session_number}
 use Rattle.zone_machine.specs.State.{Awaiting, Doing}
-use Rattle.zone_machine.specs.Session.Typed.{idle_line, made_config, make, make_with, new_record, put_request, typed}
+use Rattle.zone_machine.specs.Session.Typed.{holding_at, holds, idle_line, made_config, make, make_with, new_record, put_request, typed}
 use Rattle.zone_machine.specs.State.Worlds.{World, objects_of, view_of}
 use Rattle.zoneadmd_steps.specs.declared.requests.RequestKind.{RequestKind}
 use Rattle.zone_machine.specs.declared.events.Event.{Event}
-use Rattle.zone_machine.specs.declared.events.Event.TheVariants.{Process as Call_of, Session, Turn}
-use Rattle.zoneadmd_steps.specs.declared.objects.Mount.{Mount}
+use Rattle.zone_machine.specs.declared.events.Event.TheVariants.{Process as Call_of, Session, System, Turn}
 use Rattle.zone_machine.specs.declared.replies.Head.TheVariants.{Ok}
 use Rattle.commit_journal.specs.declared.records.Record.{Record}
 
@@ -39,12 +46,19 @@ pub data Called (ps : List Process) : List Process → Type 0 where
   Renames : (pid : ℕ) (name : List ℕ) → Called ps (edited (Change (keeping_pid (at_pid pid (renamed name)))) ps)
   Drops : (pid number : ℕ) → Called ps (edited (Change (keeping_pid (at_pid pid (dropping number)))) ps)
 
--- a line leaves all as it was, or the zone is made, or a request is put on its desk; a call or a signal leaves all as it
--- was, or other processes
+-- what a call of a zone's process makes of the zone's mounts, or a hold from the global zone
+pub data Mounted (ms : List MountEntry) : List MountEntry → Type 0 where
+  Mounts : (m : Mount) → mount_answer m.dir ms ≡ Right tt → Mounted ms (mounted m ms)
+  Unmounts : (dir : List ℕ) → Mounted ms (unmounted dir ms)
+  Holds : (dir : List ℕ) (held : Bool) → Mounted ms (edited (Change (at_dir dir (with_hold held))) ms)
+
+-- a line leaves all as it was, or the zone is made, or a request is put on its desk; a call, a signal or a hold leaves all as
+-- it was, or other processes, or other mounts
 module _ (P : World → Type 0) (z : Name) (w : World) (same : P w)
     (made : (config : Contents) (k : ℕ) → w.stored ≡ None → P (record w { stored = Some (new_record z config k) }))
     (asked : (kind : RequestKind) (sessions : ℕ → Option Doing) → P (record w { desk = with_request w.desk kind; sessions = sessions }))
-    (others : (ps : List Process) → Called w.processes ps → P (record w { processes = ps })) where
+    (others : (ps : List Process) → Called w.processes ps → P (record w { processes = ps }))
+    (remounted : (ms : List MountEntry) → Mounted w.mounts ms → P (record w { mounts = ms })) where
   abbrev After : Option ℕ → Option Arrival → Effect → Type 0
   After n c e = P (edits_world n e.edits (after_came_world c w))
 
@@ -72,6 +86,11 @@ module _ (P : World → Type 0) (z : Name) (w : World) (same : P w)
       at_test true = others _ (Goes pid)
       at_test false = same
 
+  of_hold : (n : Option ℕ) (row : Option Record) (answer : Result (Unit {0}) HoldFault) (held : Bool) (dir : List ℕ) → In (After n) (holds row answer (holding_at held dir))
+  of_hold n None answer held dir = same
+  of_hold n (Some row) (Err fault) held dir = same
+  of_hold n (Some row) (Right done) held dir = remounted _ (Holds dir held)
+
   of_line : (n : Option ℕ) (command : Command) → In (After n) (idle_line (view_of z w) command)
   unfolding view_of
   of_line n Blank = same
@@ -79,6 +98,8 @@ module _ (P : World → Type 0) (z : Name) (w : World) (same : P w)
   of_line n (Make word) = of_make n word w.stored refl
   of_line n (Request kind) = of_request n kind w.stored
   of_line n (Kill signal pid) = of_signal n false signal pid (with_pid pid w.processes)
+  of_line n (Hold dir) = of_hold n w.stored (hold_answer dir w.mounts) true dir
+  of_line n (Release dir) = of_hold n w.stored (release_answer dir w.mounts) false dir
 
   of_typed : (n : Option ℕ) (d : Option Doing) (line : Line) → In (After n) (typed (view_of z w) d line)
   unfolding typed view_of
@@ -97,6 +118,36 @@ module _ (P : World → Type 0) (z : Name) (w : World) (same : P w)
       at_test true e = simp e (others _ (Renames pid name))
       at_test false e = simp e same
 
+  of_free : (m : Mount) (answer : Result (Unit {0}) MountFault) → mount_answer m.dir w.mounts ≡ answer → In (After None) (mounts_if_free m answer)
+  of_free m (Err fault) is = same
+  of_free m (Right free) is = remounted _ (Mounts m is)
+
+  of_special : (m : MountCall) (special : Result (List ℕ) MountFault) → In (After None) (mounts_special m w.mounts special)
+  of_special m (Err fault) = same
+  of_special m (Right special) = of_free (mount_of m special) (mount_answer m.dir w.mounts) refl
+
+  of_mount : (p : Process) (allowed : Option (List ℕ)) (m : MountCall) → In (After None) (mounts p allowed m w.mounts)
+  of_mount p allowed m = at_test (may_mount p && may_mount_type allowed m.fstype) refl
+    where
+      at_test : (b : Bool) → (may_mount p && may_mount_type allowed m.fstype) ≡ b → In (After None) (mounts p allowed m w.mounts)
+      at_test true e = rw e (of_special m (special_at w.mounts m.fstype m.special))
+      at_test false e = rw e same
+
+  of_unmount : (p : Process) (dir : List ℕ) → In (After None) (unmounts p dir w.mounts)
+  of_unmount p dir = at_test (may_mount p && is_by_process (mount_at dir w.mounts)) refl
+    where
+      at_answer : (answer : Result Mount MountFault) → In (After None) (unmounts_if_free dir answer)
+      at_answer (Err fault) = same
+      at_answer (Right m) = remounted _ (Unmounts dir)
+
+      at_test : (b : Bool) → (may_mount p && is_by_process (mount_at dir w.mounts)) ≡ b → In (After None) (unmounts p dir w.mounts)
+      at_test true e = rw e (at_answer (unmount_answer dir w.mounts))
+      at_test false e = rw e same
+
+  of_place : (place : Result (List ℕ) MountFault) → In (After None) (tells_place place)
+  of_place (Err fault) = same
+  of_place (Right place) = same
+
   of_calls : (pid : ℕ) (p : Process) (c : Call) → with_pid pid w.processes ≡ Some p → In (After None) (calls (view_of z w) pid p c)
   unfolding view_of
   of_calls pid p (call.Fork name) is = of_fork pid p name (fork_set (Some p) (at_limit (kernel_of (objects_of w)))) is
@@ -104,6 +155,10 @@ module _ (P : World → Type 0) (z : Name) (w : World) (same : P w)
   of_calls pid p call.Exit is = others _ (Goes pid)
   of_calls pid p (call.Kill signal target) is = of_signal None true signal target (with_pid target w.processes)
   of_calls pid p (call.Drop number) is = others _ (Drops pid number)
+  of_calls pid p (call.Mount m) is = of_mount p (fs_allowed_of (kernel_of (objects_of w)).id) m
+  of_calls pid p (call.Umount dir) is = of_unmount p dir
+  of_calls pid p (call.Read path) is = of_place (place_at w.mounts path false)
+  of_calls pid p (call.Write path) is = of_place (place_at w.mounts path true)
   of_calls pid p _ is = same
 
   of_called : (pid : ℕ) (p : Option Process) (c : Call) → with_pid pid w.processes ≡ p → In (After None) (calls_if_there (view_of z w) pid p c)
@@ -115,9 +170,10 @@ module _ (P : World → Type 0) (z : Name) (w : World) (same : P w)
   unfolding decide view_of called
   of_event g h (Session n text) = in-act (After (Some n)) (typed (view_of z w) (w.sessions n) (line_of text)) g (of_typed (Some n) (w.sessions n) (line_of text))
   of_event g h (Call_of y pid c) = in-act (After None) (called (view_of z w) pid c) g (of_called pid (with_pid pid w.processes) c refl)
+  of_event g h (System what) = same
   of_event g h (Turn y) = subst (λ (b : Act). P (acts_world None b w)) (sym (decide-turn z y w g)) h
 
 -- what holds of what a turn leaves stored, of the mounts and of the desk holds of these in the world that it leaves
-pub of_turned : (P : Option Record → List Mount → Desk → Type 0) (w : World) (g : Grant) → (let a = turn_act w g in P (stored_after a.came w.stored) (mounts_after a.effect.objects w.mounts) a.effect.desk)
+pub of_turned : (P : Option Record → List MountEntry → Desk → Type 0) (w : World) (g : Grant) → (let a = turn_act w g in P (stored_after a.came w.stored) (mounts_after a.effect.objects w.mounts) a.effect.desk)
     → (let v = acts_world None (turned_act (turn_act w g)) w in P v.stored v.mounts v.desk)
 of_turned P w g h = let has = has-turned None (turn_act w g) w in rw (has.stored, has.mounts, has.desk) h

@@ -1,6 +1,6 @@
 -- A history of two zones, computed by the definitions.
 use Rattle.std.proofs.Common.{◌≡◌, ◌∷◌, ◌++◌, ◌&&◌, [], ℕ, List, true, false, Some, None, map, refl}
-use Rattle.std.specs.Prelude.{codes, not, replicate}
+use Rattle.std.specs.Prelude.{codes, drop, not, replicate}
 use Rattle.config_terms.specs.Rules.{obeys}
 use Rattle.config_terms.specs.Texts.{setting}
 use Rattle.zone_config.specs.Edits.{with_property}
@@ -22,10 +22,12 @@ use Rattle.zoneadmd_steps.specs.Turns.{turn}
 use Rattle.zone_machine.specs.Session.Typed.{typed}
 use Rattle.zone_machine.specs.State.Worlds.{view}
 use Rattle.zoneadmd_steps.specs.declared.requests.Outcome.TheVariants.{WrongState}
-use Rattle.zoneadmd_steps.specs.declared.requests.TurnReply.TheVariants.{Finished, Idle}
+use Rattle.zoneadmd_steps.specs.declared.requests.Step.TheVariants.{Unmount}
+use Rattle.zoneadmd_steps.specs.declared.requests.TurnReply.TheVariants.{Finished, Idle, Stepped, Stuck}
 use Rattle.zone_machine.specs.declared.events.Entry.{Entry}
 use Rattle.zone_machine.specs.declared.events.Event.{Event}
-use Rattle.zone_machine.specs.declared.events.Event.TheVariants.{Process as Call_of, Session, Turn}
+use Rattle.zone_machine.specs.declared.events.Declaration.TheVariants.{Device}
+use Rattle.zone_machine.specs.declared.events.Event.TheVariants.{Process as Call_of, Session, System, Turn}
 use Rattle.zone_machine.specs.declared.events.Subject.TheVariants.{Global, Zone}
 use Rattle.zone_machine.specs.Calls.{called}
 use Rattle.process_calls.specs.declared.call.Call.TheVariants.{Drop, Fork}
@@ -36,8 +38,10 @@ use Rattle.kernel_objects.specs.Processes.{may_exec, may_fork}
 use Rattle.zn_base.specs.Decimals.{decimal_of}
 use Rattle.commit_journal.specs.declared.records.Commit.{Commit}
 use Rattle.zone_machine.specs.declared.replies.Head.{Head}
-use Rattle.zone_machine.specs.declared.replies.Head.TheVariants.{Ok, Ticket, Turned}
+use Rattle.zone_machine.specs.declared.replies.Head.TheVariants.{Ok, Refused, Ticket, Turned}
+use Rattle.zone_machine.specs.declared.replies.Refusal.TheVariants.{Duplicate}
 use Rattle.zone_views.specs.Numbers.{pids, zids}
+use Rattle.zone_views.specs.Whole.{whole_replies}
 
 abbrev make : ℕ → List ℕ → Event
 make n zone = Session n (codes "zonecfg -z " ++ zone ++ codes " create -b; set zonepath=/zones/" ++ zone ++ codes "; set brand=ipkg")
@@ -121,6 +125,22 @@ processes_left = refl
 may_fork_not_exec : map (λ o. may_fork o.it && not (may_exec o.it)) called_on.processes ≡ true ∷ true ∷ []
 unfolding line_of typed turn view decide subject one first_free allowed edit comes with_property setting_named obeys setting export_text called decimal_of default_set union without the_one all_of set_of has is_of privileges
 may_fork_not_exec = refl
+
+-- a halts, but for its root, which the global zone holds for a while
+abbrev halts : List Event
+halts = replicate 3 (Turn (codes "a")) ++ Session 3 (codes "fhold -z a /") ∷ Session 3 (codes "zoneadm -z a halt") ∷ replicate 5 (Turn (codes "a")) ++ Session 4 (codes "frelease -z a /") ∷ Turn (codes "a") ∷ []
+
+waits_for_the_hold : map (λ e. e.reply.head) (drop 9 (history booted halts)) ≡ Turned Stuck ∷ Ok ∷ Turned (Stepped (Unmount (Some (codes "/")))) ∷ []
+unfolding line_of typed turn view decide subject one first_free allowed edit comes with_property setting_named obeys setting export_text
+waits_for_the_hold = refl
+
+-- a device is declared once, whatever zones do in between
+abbrev declare : Event
+declare = System (Device (codes "/dev/zero"))
+
+told_to_all : map (λ r. r.head) (whole_replies (history booted (declare ∷ Turn (codes "a") ∷ declare ∷ []))) ≡ Ok ∷ Refused Duplicate ∷ []
+unfolding line_of typed turn view decide subject one first_free allowed edit comes with_property setting_named obeys setting export_text
+told_to_all = refl
 
 -- grants that don't fit may give one number twice, and after a process number of 0 the pools give 1, which doesn't fit
 abbrev readied : ℕ → List ℕ → List (Event × Grant)

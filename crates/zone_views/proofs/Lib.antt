@@ -5,8 +5,11 @@ pub mod Deciding
 pub mod Keeping
 pub mod Steady
 pub mod Under_way
+pub mod Trails
 pub mod Ending
 pub mod Limits
 pub mod Differing
 pub mod Granting
 pub mod Numbered
+pub mod Whole
+pub mod Claiming

@@ -1,7 +1,7 @@
 -- Each process's set lies within its zone's limit set. What each zone keeps for that: one that may have processes is active
 -- wherever a request ends or fails, and neither a step nor an undo changes its id.
 use Rattle.std.proofs.Common.{◌≡◌, ◌∷◌, [], ◌&&◌, ◌||◌, ◌∙◌, ℕ, List, Bool, true, false, not, filter, Option, Some, None, ap, refl, sym, subst}
-use Rattle.std.specs.Prelude.{codes, unwrap_or}
+use Rattle.std.specs.Prelude.{codes, is_ok, unwrap_or}
 use Rattle.std.proofs.lemmas.Bool.{and_parts, false≢true, not-true, true≢false}
 use Rattle.zone_pools.specs.Firsts.{is_nil}
 use Rattle.zone_pools.specs.Owned_lists.{Change, edited}
@@ -9,6 +9,8 @@ use Rattle.zone_pools.specs.declared.grant.Grant.{Grant}
 use Rattle.zn_base.specs.Names.{Name}
 use Rattle.zn_base.specs.declared.state.ZoneState.{ZoneState}
 use Rattle.zn_base.specs.declared.state.ZoneState.TheVariants.{Configured, Installed, Ready, Running}
+use Rattle.loopback_mounts.specs.Mounts.{last_of, mount_answer}
+use Rattle.loopback_mounts.specs.declared.mount.MountEntry.{MountEntry}
 use Rattle.kernel_objects.proofs.Kept.{at_pid_keeps, within-dropped, within-entered, within-forked, within-gone, within-renamed}
 use Rattle.kernel_objects.specs.declared.objects.Id.{Id}
 use Rattle.kernel_objects.specs.Kernel.{within_limit}
@@ -18,10 +20,10 @@ use Rattle.zone_machine.proofs.Turned_laws.{In, in-act}
 use Rattle.zoneadmd_steps.specs.Arrivals.{Arrival}
 use Rattle.zoneadmd_steps.specs.Desks.{Desk, Job}
 use Rattle.zoneadmd_steps.specs.Plans.{may_begin, plan}
-use Rattle.zoneadmd_steps.specs.Turns.{Turned, active_after, goes_on, next_request, step, turn, turn_at, undo, unmount}
+use Rattle.zoneadmd_steps.specs.Turns.{Turned, active_after, goes_on, is_stuck, next_request, step, turn, turn_at, undo, undo_edits, undone, unmount}
 use Rattle.zone_machine.specs.Machine.Histories.{after}
 use Rattle.zone_machine.specs.Machine.{decide, opening, session_number}
-use Rattle.zoneadmd_steps.specs.Objects.{all_of, keeping_pid, kernel_of, last_dir}
+use Rattle.zoneadmd_steps.specs.Objects.{all_of, keeping_pid, kernel_of}
 use Rattle.zone_machine.specs.State.Decisions.{act_of, acts_world}
 use Rattle.zone_machine.specs.State.Worlds.{World, objects_of, view_of, world}
 use Rattle.zoneadmd_steps.specs.declared.requests.Outcome.{Outcome}
@@ -34,8 +36,12 @@ use Rattle.zone_machine.specs.declared.events.Event.{Event}
 use Rattle.commit_journal.specs.declared.records.Commit.{Commit}
 use Rattle.commit_journal.specs.declared.records.Record.{Record}
 use Rattle.zone_views.proofs.Deciding.{Called, Drops, Forks, Goes, Renames, of_event}
-use Rattle.zone_views.proofs.Ending.{is_up}
 use Rattle.zone_views.proofs.Keeping.{kept-after}
+
+abbrev is_up : Option ZoneState → Bool
+is_up None = false
+is_up (Some Installed) = false
+is_up (Some _) = true
 
 -- a zone that may have processes is active, and a failure undoes nothing
 abbrev stands : (may up clean : Bool) → Bool
@@ -117,8 +123,8 @@ module _ (w : World) (may : Bool) (none : may ≡ false → w.processes ≡ []) 
   abbrev Leaves : Option Arrival → Turned → Type 0
   Leaves c t = Limited (acts_world None (turned_act (record { came = c; effect = t })) w)
 
-  -- the step of a request under way
-  module _ (d : Desk) (j : Job) (row : Record) where
+  -- the step of a request under way. The desk stays where a mount is held
+  module _ (d : Desk) (j : Job) (row : Record) (still : desk_stands may (is_up d.active) d.job ≡ true) where
     abbrev Steps : List Step → Type 0
     Steps left = In Leaves (step (objects_of w) d (record j { ending = None }) row left)
 
@@ -135,28 +141,41 @@ module _ (w : World) (may : Bool) (none : may ≡ false → w.processes ≡ []) 
           λ n. record { may = true; none = λ e. absurd (true≢false e); within = within-entered (kernel_of (objects_of w)) (codes "init") true n within; desk = parts.1 },
         )
     limited_step (Kill count ∷ rest) h = let gone = none_left w.processes in record { may = false; none = λ e. gone; within = rw gone refl; desk = h }
-    limited_step (Unmount dir ∷ rest) h = at_mount (last_dir w.mounts) (limited_step rest h)
+    limited_step (Root ∷ rest) h = at_test (is_ok (mount_answer (codes "/") w.mounts)) refl
       where
-        at_mount : (m : Option (List ℕ)) → Steps rest → let k = record j { ending = None } in In Leaves (unmount d k (Unmount dir ∷ rest) (step (objects_of w) d k row rest) m)
+        at_test : (b : Bool) → is_ok (mount_answer (codes "/") w.mounts) ≡ b → Steps (Root ∷ rest)
+        at_test true e = simp e (stay h)
+        at_test false e = simp e (stay h)
+    limited_step (Unmount dir ∷ rest) h = at_mount (last_of w.mounts) (limited_step rest h)
+      where
+        at_mount : (m : Option MountEntry) → Steps rest → let k = record j { ending = None } in In Leaves (unmount d k (Unmount dir ∷ rest) (step (objects_of w) d k row rest) m)
         at_mount None ih = ih
-        at_mount (Some m) ih = stay h
+        at_mount (Some m) ih = at_hold m.held refl
+          where
+            at_hold : (b : Bool) → m.held ≡ b → let k = record j { ending = None } in In Leaves (unmount d k (Unmount dir ∷ rest) (step (objects_of w) d k row rest) (Some m))
+            at_hold true e = rw e (stay still)
+            at_hold false e = rw e (stay h)
     limited_step (Clear ∷ rest) h = change h
     limited_step (ZidBack id ∷ rest) h = change h
     limited_step (_ ∷ rest) h = stay h
 
     -- a step back
-    limited_undo : (outcome : Outcome) (undone : List Step) → stands may (is_up d.active) (is_nil undone) ≡ true → Leaves None (undo d (record j { ending = Some outcome }) outcome undone)
+    limited_undo : (outcome : Outcome) (undone : List Step) → stands may (is_up d.active) (is_nil undone) ≡ true → Leaves None (undo d (record j { ending = Some outcome }) outcome w.mounts undone)
     limited_undo outcome [] h = stay h
-    limited_undo outcome (s ∷ rest) h = at_step s (shut may (is_up d.active) h)
+    limited_undo outcome (s ∷ rest) h = at_test (is_stuck s w.mounts) refl
       where
         shut : (may up : Bool) → stands may up false ≡ true → may ≡ false
         shut false up h = refl
         shut true true h = absurd (false≢true h)
         shut true false h = absurd (false≢true h)
 
-        at_step : (s : Step) → may ≡ false → Leaves None (undo d (record j { ending = Some outcome }) outcome (s ∷ rest))
+        at_step : (s : Step) → may ≡ false → Leaves None (undone d (record j { ending = Some outcome }) rest (undo_edits s) s)
         at_step (Zid id) e = change (rw e refl)
         at_step _ e = change (rw e refl)
+
+        at_test : (b : Bool) → is_stuck s w.mounts ≡ b → Leaves None (undo d (record j { ending = Some outcome }) outcome w.mounts (s ∷ rest))
+        at_test true e = rw e (stay still)
+        at_test false e = rw e (at_step s (shut may (is_up d.active) h))
 
     limited_job : (ending : Option Outcome) → job_stands may (is_up d.active) j ending ≡ true → In Leaves (goes_on (objects_of w) d (record j { ending = ending }) row ending)
     limited_job None h = limited_step j.left h
@@ -173,7 +192,7 @@ module _ (w : World) (may : Bool) (none : may ≡ false → w.processes ≡ []) 
 
   limited_turn_at : (d : Desk) (job : Option Job) (row : Record) → desk_stands may (is_up d.active) job ≡ true → In Leaves (turn_at (objects_of w) (record d { job = job }) job row)
   limited_turn_at d None row h = limited_next d row d.waiting h
-  limited_turn_at d (Some j) row h = limited_job (record d { job = Some j }) j row j.ending h
+  limited_turn_at d (Some j) row h = limited_job (record d { job = Some j }) j row h j.ending h
 
   limited_turn : (row : Option Record) → desk_stands may (is_up w.desk.active) w.desk.job ≡ true → In Leaves (turn (objects_of w) row w.desk)
   unfolding turn
@@ -206,7 +225,8 @@ module _ (w : World) (may : Bool) (none : may ≡ false → w.processes ≡ []) 
 limited-event : (z : Name) (w : World) (e : Event) (g : Grant) → Limited w → Limited (acts_world (session_number e) (act_of (decide (view_of z w) e) g) w)
 limited-event z w e g is =
     let turned = in-act (Leaves w is.may is.none is.within) (turn (objects_of w) w.stored w.desk) g (limited_turn w is.may is.none is.within w.stored is.desk) in
-    of_event Limited z w is (λ config k none. is) (λ kind sessions. is) (λ ps called. limited_called w is.may is.none is.within ps called is.desk) g turned e
+    of_event Limited z w is (λ config k none. is) (λ kind sessions. is) (λ ps called. limited_called w is.may is.none is.within ps called is.desk)
+    (λ ms mounted. record { may = is.may; none = is.none; within = is.within; desk = is.desk }) g turned e
 
 pub within-history : (z : Name) (commits : List Commit) (h : List Entry) → within_limit (kernel_of (objects_of (world z (after (opening commits) h)))) ≡ true
 within-history z commits h = (kept-after Limited limited-event (opening commits) h (λ z. record { may = false; none = λ e. refl; within = refl; desk = refl }) z).within

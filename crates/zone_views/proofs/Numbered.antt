@@ -97,7 +97,7 @@ numbered-of (Zone z) S e g f h =
     let k : AreNumbered T = numbered-edits z (session_number e) (act_of d g).effect.edits (after_came z (act_of d g).came S) (numbered-came z d g S (asks-decide (view z S) e) f h) in
     record { pids = k.pids; zids = k.zids; last = k.last }
 numbered-of Global S e g f h = record { pids = h.pids; zids = h.zids; last = h.last }
-numbered-of Whole S e g f h = h
+numbered-of Whole S e g f h = record { pids = h.pids; zids = h.zids; last = h.last }
 
 numbered-one : (S : State) (e : Event) (g : Grant) → fits S e g ≡ true → AreNumbered S → AreNumbered (one S e g).state
 unfolding one fits

@@ -13,7 +13,7 @@ use Rattle.zn_base.specs.Names.{Name}
 use Rattle.zone_pools.specs.declared.grant.Grant.{Grant}
 use Rattle.zone_machine.proofs.Acts_laws.{IsOwn}
 use Rattle.zone_machine.proofs.Common_laws.{has_it, holder-one}
-use Rattle.zone_machine.proofs.Own_worlds.{leaves, reply-whole, reply-world, world-one, world_by-other}
+use Rattle.zone_machine.proofs.Own_worlds.{leaves, reply-world, world-one, world_by-other}
 use Rattle.zone_machine.proofs.Same_laws.{reply-Decides, subject-Decides}
 use Rattle.zoneadmd_steps.specs.Desks.{empty_desk}
 use Rattle.zone_machine.specs.Machine.Histories.{after, after_entry, any_grant, asked, concerns, entry_at, is_history, is_of, is_told, only, replay, replies, run, world_by, world_one}
@@ -24,9 +24,10 @@ use Rattle.zone_machine.specs.State.{At, Idle, Session as Session_mode, State, s
 use Rattle.zone_machine.specs.State.Worlds.{World, doing, world}
 use Rattle.zone_machine.specs.declared.events.Entry.{Entry}
 use Rattle.zone_machine.specs.declared.events.Event.{Event}
-use Rattle.zone_machine.specs.declared.events.Event.TheVariants.{Process as Call_of, Session, Turn}
+use Rattle.zone_machine.specs.declared.events.Event.TheVariants.{Process as Call_of, Session, System, Turn}
 use Rattle.zone_machine.specs.declared.events.Subject.{Subject}
 use Rattle.zone_machine.specs.declared.events.Subject.TheVariants.{Zone, Global, Whole}
+use Rattle.zone_machine.specs.declared.replies.Reply.{Reply}
 use Rattle.commit_journal.specs.declared.records.Commit.{Commit}
 use Rattle.commit_journal.specs.declared.records.Record.{Record}
 
@@ -122,11 +123,12 @@ subjects z S T (Session n text) a h = at_sessions (S.sessions n) (T.sessions n) 
     at_sessions (At y x) (At y' x') d own h = ap Zone (own ∙ same_true z y h)
 subjects z S T (Call_of y pid c) a h = refl
 subjects z S T (Turn y) a h = refl
+subjects z S T (System what) a h = refl
 
 -- a step of both
 kept_step : (z : Name) (S T : State) (e : Event) (g : Grant) → Agree z S T → concerns z (subject S e) ≡ true
-    → Agree z (one S e g).state (one T e g).state × ((one S e g).reply ≡ (one T e g).reply)
-kept_step z S T e g a h = (record { world = worlds; purged = purged }, at_subject (subject S e) refl h)
+    → Agree z (one S e g).state (one T e g).state × (is_of z (subject S e) ≡ true → (one S e g).reply ≡ (one T e g).reply)
+kept_step z S T e g a h = (record { world = worlds; purged = purged }, at_subject (subject S e) refl)
   where
     same : subject T e ≡ subject S e
     same = subjects z S T e a h
@@ -137,27 +139,38 @@ kept_step z S T e g a h = (record { world = worlds; purged = purged }, at_subjec
     worlds : world z (one S e g).state ≡ world z (one T e g).state
     worlds = world-one z S e g ∙ (ap (λ w. world_by (subject S e) z w e g) a.world ∙ (ap (λ s. world_by s z (world z T) e g) (sym same) ∙ sym (world-one z T e g)))
 
-    at_subject : (s : Subject) → subject S e ≡ s → concerns z s ≡ true → (one S e g).reply ≡ (one T e g).reply
+    at_subject : (s : Subject) → subject S e ≡ s → is_of z s ≡ true → (one S e g).reply ≡ (one T e g).reply
     at_subject (Zone y) is h = let mine : subject S e ≡ Zone z = is ∙ ap Zone (sym (same_true z y h)) in reply-world z S T e g mine (same ∙ mine) a.world
     at_subject Global is h = absurd (false≢true h)
-    at_subject Whole is h = reply-whole S T e g is (same ∙ is)
+    at_subject Whole is h = absurd (false≢true h)
 
-replies-cons : (z : Name) (e : Entry) (h : List Entry) → replies z (e ∷ h) ≡ (if is_of z e.subject then e.reply ∷ replies z h else replies z h)
-replies-cons z e h = at_test (is_of z e.subject)
-  where
-    at_test : (b : Bool) → map (λ e. e.reply) (if b then e ∷ filter (λ e. is_of z e.subject) h else filter (λ e. is_of z e.subject) h) ≡ (if b then e.reply ∷ replies z h else replies z h)
-    at_test true = refl
-    at_test false = refl
+-- the replies of entries with certain subjects, at the first entry: it is another's, or it has the reply of an entry of another
+-- history, and the replies agree from there on
+module _ (p : Subject → Bool) where
+  abbrev told : List Entry → List Reply
+  told h = map (λ e. e.reply) (filter (λ e. p e.subject) h)
+
+  told-first : (e : Entry) (h : List Entry) → told (e ∷ h) ≡ (if p e.subject then e.reply ∷ told h else told h)
+  told-first e h = at_test (p e.subject)
+    where
+      at_test : (b : Bool) → map (λ e. e.reply) (if b then e ∷ filter (λ e. p e.subject) h else filter (λ e. p e.subject) h) ≡ (if b then e.reply ∷ told h else told h)
+      at_test true = refl
+      at_test false = refl
+
+  pub told-skip : (e : Entry) (h : List Entry) → p e.subject ≡ false → told (e ∷ h) ≡ told h
+  told-skip e h is = rw is refl
+
+  pub told-step : (e f : Entry) (h k : List Entry) → p e.subject ≡ p f.subject → (p e.subject ≡ true → e.reply ≡ f.reply) → told h ≡ told k → told (e ∷ h) ≡ told (f ∷ k)
+  told-step e f h k same reply more = told-first e h ∙ (at_test (p e.subject) refl ∙ (ap (λ b. if b then f.reply ∷ told k else told k) same ∙ sym (told-first f k)))
+    where
+      at_test : (b : Bool) → p e.subject ≡ b → (if b then e.reply ∷ told h else told h) ≡ (if b then f.reply ∷ told k else told k)
+      at_test true is = λ i. reply is i ∷ more i
+      at_test false is = more
 
 not_of : (z : Name) (s : Subject) → concerns z s ≡ false → is_of z s ≡ false
 not_of z (Zone y) h = h
 not_of z Global h = refl
 not_of z Whole h = refl
-
--- two entries with one subject and one reply, and replies that agree from there on
-replies-step : (z : Name) (e f : Entry) (h k : List Entry) → e.subject ≡ f.subject → e.reply ≡ f.reply → replies z h ≡ replies z k → replies z (e ∷ h) ≡ replies z (f ∷ k)
-replies-step z e f h k subject reply more =
-    replies-cons z e h ∙ ((λ i. if is_of z (subject i) then reply i ∷ more i else more i) ∙ sym (replies-cons z f k))
 
 -- removing the entries of all other zones changes no reply of z
 pub purge : (z : Name) (es : List (Event × Grant)) (S T : State) → Agree z S T → replies z (run S es) ≡ replies z (run T (asked (only z (run S es))))
@@ -169,15 +182,17 @@ purge z (e ∷ es) S T a = at_test (λ S T a. purge z es S T a) _ refl
     at_test ih true h =
         let both = kept_step z S T e.0 e.1 a h in
         let left : List Entry = run (one S e.0 e.1).state es in
-        rw h (replies-step z (entry_at S e.0 e.1) (entry_at T e.0 e.1) left (run (one T e.0 e.1).state (asked (only z left))) (sym (subjects z S T e.0 a h)) both.1 (ih (one S e.0 e.1).state (one T e.0 e.1).state both.0))
+        let same = ap (is_of z) (sym (subjects z S T e.0 a h)) in
+        rw h (told-step (is_of z) (entry_at S e.0 e.1) (entry_at T e.0 e.1) left (run (one T e.0 e.1).state (asked (only z left))) same both.1 (ih (one S e.0 e.1).state (one T e.0 e.1).state both.0))
     at_test ih false h =
-        rw (h, replies-cons z (entry_at S e.0 e.1) (run (one S e.0 e.1).state es), not_of z (subject S e.0) h)
-        (ih (one S e.0 e.1).state T (record { world = leaves z S e.0 e.1 h ∙ a.world; purged = a.purged }))
+        let left : List Entry = run (one S e.0 e.1).state es in
+        let agree : Agree z (one S e.0 e.1).state T = record { world = leaves z S e.0 e.1 h ∙ a.world; purged = a.purged } in
+        rw h (told-skip (is_of z) (entry_at S e.0 e.1) left (not_of z (subject S e.0) h) ∙ ih (one S e.0 e.1).state T agree)
 
 -- the openings of two stores that hold the same of z
 pub opening-agree : (z : Name) (commits others : List Commit) → stored z commits ≡ stored z others → Agree z (opening commits) (opening others)
 opening-agree z commits others h = record {
-  world = let f : Option Record → World = λ row. record { processes = []; mounts = []; ids = []; stored = row; desk = empty_desk; sessions = λ n. None } in ap f h;
+  world = let f : Option Record → World = λ row. record { processes = []; mounts = []; claims = []; devices = []; ids = []; stored = row; desk = empty_desk; sessions = λ n. None } in ap f h;
   purged = IsPurged-opening z others;
 }
 

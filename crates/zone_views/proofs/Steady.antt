@@ -18,12 +18,14 @@ use Rattle.zone_machine.specs.State.Decisions.{act_of, acts_world}
 use Rattle.zoneadmd_steps.specs.Desks.{Desk, Job, empty_desk, state_of, with_request}
 use Rattle.zone_machine.specs.Machine.Histories.{after, world_by}
 use Rattle.zone_machine.specs.Machine.{decide, one, opening, session_number, subject}
-use Rattle.zoneadmd_steps.specs.Objects.{Objects, last_dir}
+use Rattle.loopback_mounts.specs.Mounts.{last_of}
+use Rattle.loopback_mounts.specs.declared.mount.MountEntry.{MountEntry}
+use Rattle.zoneadmd_steps.specs.Objects.{Objects}
 use Rattle.zoneadmd_steps.specs.Plans.{may_begin, plan}
 use Rattle.zone_machine.proofs.Acts_laws.{stored-append}
 use Rattle.zone_config.specs.declared.terms.Contents.{Contents}
 use Rattle.zone_machine.specs.State.{State, stored}
-use Rattle.zoneadmd_steps.specs.Turns.{Turn_decision, Turned, active_after, goes_on, next_request, step, turn, turn_at, undo, unmount}
+use Rattle.zoneadmd_steps.specs.Turns.{Turn_decision, Turned, active_after, goes_on, is_stuck, next_request, step, turn, turn_at, undo, unmount}
 use Rattle.zone_machine.specs.Session.Typed.{new_record}
 use Rattle.zone_machine.specs.State.Worlds.{World, objects_of, view_of, world}
 use Rattle.zoneadmd_steps.specs.declared.requests.Outcome.{Outcome}
@@ -105,11 +107,11 @@ abbrev KeepsIn : Option Record → Desk → Turn_decision → Type 0
 KeepsIn row d decision = In (λ c (t : Turned). Keeps row d (stored_after c row) t.desk) decision
 
 module _ (o : Objects) (row : Record) where
-  -- the step of a request under way
-  keeps_step : (d : Desk) (j : Job) (left : List Step) → fits_stored d.active row.state ≡ true → leads d.active row.state left ≡ true
+  -- the step of a request under way, whose desk stays where a mount is held
+  keeps_step : (d : Desk) (j : Job) (left : List Step) → steady (Some row) d ≡ true → fits_stored d.active row.state ≡ true → leads d.active row.state left ≡ true
       → KeepsIn (Some row) d (step o d (record j { ending = None }) row left)
-  keeps_step d j [] f l = record { steady = and_from _ _ f refl; moves = inl refl }
-  keeps_step d j (Record_step s ∷ rest) f l =
+  keeps_step d j [] h f l = record { steady = and_from _ _ f refl; moves = inl refl }
+  keeps_step d j (Record_step s ∷ rest) h f l =
       let last_part = and_parts (is_none d.active && is_stored s && may_move (Some row.state) (Some s)) (leads d.active s rest) l in
       let mid_part = and_parts (is_none d.active && is_stored s) (may_move (Some row.state) (Some s)) last_part.0 in
       let first_part = and_parts (is_none d.active) (is_stored s) mid_part.0 in
@@ -119,8 +121,8 @@ module _ (o : Objects) (row : Record) where
           → let e = record d { active = active } in KeepsIn (Some row) e (step o e (record j { ending = None }) row (Record_step s ∷ rest))
       at_active None i st m r f = (λ pool. record { steady = and_from _ _ f refl; moves = inl refl }, λ n. record { steady = and_from _ _ st r; moves = inr m })
       at_active (Some a) i st m r f = absurd (false≢true i)
-  keeps_step d j (Zid _ ∷ rest) f l = (λ pool. record { steady = and_from _ _ f refl; moves = inl refl }, λ n. record { steady = and_from _ _ f l; moves = inl refl })
-  keeps_step d j (State_step s ∷ rest) f l =
+  keeps_step d j (Zid _ ∷ rest) h f l = (λ pool. record { steady = and_from _ _ f refl; moves = inl refl }, λ n. record { steady = and_from _ _ f l; moves = inl refl })
+  keeps_step d j (State_step s ∷ rest) h f l =
       let last_part = and_parts (same_state row.state Installed && fits_stored (active_after s) row.state && may_move (Some (unwrap_or d.active row.state)) (Some s)) (leads (active_after s) row.state rest) l in
       let mid_part = and_parts (same_state row.state Installed && fits_stored (active_after s) row.state) (may_move (Some (unwrap_or d.active row.state)) (Some s)) last_part.0 in
       let first_part = and_parts (same_state row.state Installed) (fits_stored (active_after s) row.state) mid_part.0 in
@@ -130,19 +132,28 @@ module _ (o : Objects) (row : Record) where
       now_at : (s t : ZoneState) → t ≡ Installed → unwrap_or (active_after s) t ≡ s
       now_at Installed t e = e
       now_at _ t e = refl
-  keeps_step d j (Init _ ∷ rest) f l = (λ pool. record { steady = and_from _ _ f refl; moves = inl refl }, λ n. record { steady = and_from _ _ f l; moves = inl refl })
-  keeps_step d j (Unmount dir ∷ rest) f l = at_mount (last_dir o.mounts) (keeps_step d j rest f l)
+  keeps_step d j (Init _ ∷ rest) h f l = (λ pool. record { steady = and_from _ _ f refl; moves = inl refl }, λ n. record { steady = and_from _ _ f l; moves = inl refl })
+  keeps_step d j (Unmount dir ∷ rest) h f l = at_mount (last_of o.mounts) (keeps_step d j rest h f l)
     where
-      at_mount : (m : Option (List ℕ)) → KeepsIn (Some row) d (step o d (record j { ending = None }) row rest)
+      at_mount : (m : Option MountEntry) → KeepsIn (Some row) d (step o d (record j { ending = None }) row rest)
           → let k = record j { ending = None } in KeepsIn (Some row) d (unmount d k (Unmount dir ∷ rest) (step o d k row rest) m)
       at_mount None ih = ih
-      at_mount (Some m) ih = record { steady = and_from _ _ f l; moves = inl refl }
-  keeps_step d j (_ ∷ rest) f l = record { steady = and_from _ _ f l; moves = inl refl }
+      at_mount (Some m) ih = at_hold m.held refl
+        where
+          at_hold : (b : Bool) → m.held ≡ b → let k = record j { ending = None } in KeepsIn (Some row) d (unmount d k (Unmount dir ∷ rest) (step o d k row rest) (Some m))
+          at_hold true e = rw e (record { steady = h; moves = inl refl })
+          at_hold false e = rw e (record { steady = and_from _ _ f l; moves = inl refl })
+  keeps_step d j (_ ∷ rest) h f l = record { steady = and_from _ _ f l; moves = inl refl }
 
   -- a step back
-  keeps_undo : (d : Desk) (j : Job) (outcome : Outcome) (undone : List Step) → fits_stored d.active row.state ≡ true → Keeps (Some row) d (Some row) (undo d (record j { ending = Some outcome }) outcome undone).desk
-  keeps_undo d j outcome [] f = record { steady = and_from _ _ f refl; moves = inl refl }
-  keeps_undo d j outcome (s ∷ rest) f = record { steady = and_from _ _ f refl; moves = inl refl }
+  keeps_undo : (d : Desk) (j : Job) (outcome : Outcome) (undone : List Step) → steady (Some row) d ≡ true → fits_stored d.active row.state ≡ true
+      → Keeps (Some row) d (Some row) (undo d (record j { ending = Some outcome }) outcome o.mounts undone).desk
+  keeps_undo d j outcome [] h f = record { steady = and_from _ _ f refl; moves = inl refl }
+  keeps_undo d j outcome (s ∷ rest) h f = at_test (is_stuck s o.mounts) refl
+    where
+      at_test : (b : Bool) → is_stuck s o.mounts ≡ b → Keeps (Some row) d (Some row) (undo d (record j { ending = Some outcome }) outcome o.mounts (s ∷ rest)).desk
+      at_test true e = rw e (record { steady = h; moves = inl refl })
+      at_test false e = rw e (record { steady = and_from _ _ f refl; moves = inl refl })
 
   -- a request begins, or ends at once
   keeps_next : (d : Desk) (waiting : List (ℕ × RequestKind)) → fits_stored d.active row.state ≡ true → let e = record d { job = None } in Keeps (Some row) e (Some row) (next_request e waiting row).desk
@@ -153,16 +164,16 @@ module _ (o : Objects) (row : Record) where
       at_test true m = simp m (record { steady = and_from _ _ f (begin_leads r.1 d.active row.state f m); moves = inl refl })
       at_test false m = simp m (record { steady = and_from _ _ f refl; moves = inl refl })
 
-  keeps_job : (d : Desk) (j : Job) (ending : Option Outcome) → fits_stored d.active row.state ≡ true → job_leads ending d.active row.state j.left ≡ true
+  keeps_job : (d : Desk) (j : Job) (ending : Option Outcome) → steady (Some row) d ≡ true → fits_stored d.active row.state ≡ true → job_leads ending d.active row.state j.left ≡ true
       → KeepsIn (Some row) d (goes_on o d (record j { ending = ending }) row ending)
-  keeps_job d j None f l = keeps_step d j j.left f l
-  keeps_job d j (Some outcome) f l = keeps_undo d j outcome j.undo f
+  keeps_job d j None h f l = keeps_step d j j.left h f l
+  keeps_job d j (Some outcome) h f l = keeps_undo d j outcome j.undo h f
 
   keeps_turn_at : (d : Desk) (job : Option Job) → let e = record d { job = job } in steady (Some row) e ≡ true → KeepsIn (Some row) e (turn_at o e job row)
   keeps_turn_at d None h = keeps_next d d.waiting (and_parts (fits_stored d.active row.state) true h).0
   keeps_turn_at d (Some j) h =
       let parts = and_parts (fits_stored d.active row.state) (job_leads j.ending d.active row.state j.left) h in
-      keeps_job (record d { job = Some j }) j j.ending parts.0 parts.1
+      keeps_job (record d { job = Some j }) j j.ending h parts.0 parts.1
 
 -- a turn
 keeps_turn : (o : Objects) (row : Option Record) (d : Desk) → steady row d ≡ true → KeepsIn row d (turn o row d)
@@ -189,7 +200,7 @@ keeps-asked (Some row) d kind h = record { steady = h; moves = inl refl }
 keeps-event : (z : Name) (w : World) (e : Event) (g : Grant) → steady w.stored w.desk ≡ true
     → let v = acts_world (session_number e) (act_of (decide (view_of z w) e) g) w in Keeps w.stored w.desk v.stored v.desk
 keeps-event z w e g h =
-    of_event (λ v. Keeps w.stored w.desk v.stored v.desk) z w stays (λ config k none. keeps-made w.stored w.desk z config k none h) (λ kind sessions. keeps-asked w.stored w.desk kind h) (λ ps called. stays) g
+    of_event (λ v. Keeps w.stored w.desk v.stored v.desk) z w stays (λ config k none. keeps-made w.stored w.desk z config k none h) (λ kind sessions. keeps-asked w.stored w.desk kind h) (λ ps called. stays) (λ ms mounted. stays) g
     (of_turned (λ row ms d. Keeps w.stored w.desk row d) w g turned) e
   where
     stays : Keeps w.stored w.desk w.stored w.desk

@@ -1,2 +1,3 @@
 pub mod Storable
 pub mod Numbers
+pub mod Whole

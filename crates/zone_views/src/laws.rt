@@ -15,15 +15,18 @@ ghost use Rattle.zone_machine.specs.Machine.Turns_left.{turns_left};
 ghost use Rattle.zone_machine.specs.State.Worlds.{objects_of, world};
 ghost use Rattle.zoneadmd_steps.specs.Objects.{kernel_of};
 ghost use Rattle.kernel_objects.specs.Kernel.{within_limit};
-ghost use Rattle.zoneadmd_steps.specs.declared.requests.TurnReply.TheVariants.{Idle as Idle_turn};
+ghost use Rattle.zoneadmd_steps.specs.declared.requests.TurnReply.TheVariants.{Idle as Idle_turn, Stuck};
 ghost use Rattle.zone_machine.specs.declared.events.Entry.{Entry};
 ghost use Rattle.zone_machine.specs.declared.events.Event.{Event};
 ghost use Rattle.zone_machine.specs.declared.events.Event.TheVariants.{Turn};
-ghost use Rattle.zone_machine.specs.declared.events.Subject.TheVariants.{Zone};
+ghost use Rattle.zone_machine.specs.declared.events.Subject.TheVariants.{Whole, Zone};
+ghost use Rattle.datalink_table.specs.Claims.{holds};
+ghost use Rattle.datalink_table.specs.declared.claims.Claim.{Claim};
 ghost use Rattle.commit_journal.specs.declared.records.Commit.{Commit};
 ghost use Rattle.zone_machine.specs.declared.replies.Head.TheVariants.{Turned};
 ghost use Rattle.zone_views.specs.Numbers.{AllDiffer, pids, zids};
 ghost use Rattle.zone_views.specs.Storable.{are_storable};
+ghost use Rattle.zone_views.specs.Whole.{is_whole, whole_replies};
 
 /// An event that belongs neither to the zone nor to the whole system leaves the zone's world as it was.
 pub fn others_change_nothing()
@@ -40,6 +43,15 @@ pub fn own_world_decides()
         → world z S ≡ world z T → need S e ≡ need T e }
     ensures after { (z : Name) (S T : State) (e : Event) (g : Grant) → concerns z (subject S e) ≡ true
         → subject S e ≡ subject T e → world z S ≡ world z T → world z (one S e g).state ≡ world z (one T e g).state }
+{}
+
+/// What is declared changes by events of the whole system alone. The reply to such an event, and what it leaves
+/// declared, are functions of what was declared.
+pub fn declarations_are_common()
+    ensures whole { (S T : State) (e : Event) (g : Grant) → subject S e ≡ Whole → subject T e ≡ Whole → S.declared ≡ T.declared
+        → ((one S e g).reply ≡ (one T e g).reply) × ((one S e g).state.declared ≡ (one T e g).state.declared) }
+    ensures declared { (S : State) (e : Event) (g : Grant) → is_whole (subject S e) ≡ false
+        → (one S e g).state.declared ≡ S.declared }
 {}
 
 /// A state that only entries of a zone and of the whole system reached has the same subject for each event
@@ -100,6 +112,10 @@ pub fn purging_keeps_replies()
     // The same of a run, whose grants may be any.
     ensures runs { (z : Name) (commits others : List Commit) (es : List (Event × Grant)) → stored z commits ≡ stored z others
         → replies z (run (opening commits) es) ≡ replies z (run (opening others) (asked (only z (run (opening commits) es)))) }
+    // Nor does it change a reply to an event of the whole system, whatever is stored.
+    ensures whole { (z : Name) (permits : State → Event → Grant → Bool) (commits others : List Commit) (h : List Entry)
+        → is_history permits (opening commits) h ≡ true
+        → whole_replies h ≡ whole_replies (run (opening others) (asked (only z h))) }
 {}
 
 /// The world of a zone after a history is what its own entries and those of the whole system make of the
@@ -117,12 +133,13 @@ pub fn states_move_along_the_table()
         (zone_state z T ≡ zone_state z S) ⊎ ((subject S e ≡ Zone z) × (may_move (zone_state z S) (zone_state z T) ≡ true)) }
 {}
 
-/// After any history a turn of a zone that isn't idle leaves its daemon fewer turns than it had, whatever it is
-/// granted. So turns come to an end where no more is asked.
+/// After any history a turn of a zone leaves its daemon fewer turns than it had, whatever it is granted, unless the turn
+/// is idle or waits for a mount that is held. So turns come to an end where nothing more is asked or mounted and no mount
+/// stays held.
 pub fn turns_come_to_an_end()
     ensures { (z : Name) (commits : List Commit) (h : List Entry) (g : Grant)
         → let S = after (opening commits) h in let a = one S (Turn z) g in
-        a.reply ≢ says (Turned Idle_turn) → turns_left (world z a.state) < turns_left (world z S) }
+        a.reply ≢ says (Turned Idle_turn) → a.reply ≢ says (Turned Stuck) → turns_left (world z a.state) < turns_left (world z S) }
 {}
 
 /// After any history, whatever was granted, each process's privileges lie within its zone's limit set, as
@@ -143,4 +160,10 @@ pub fn local_turns_leave_what_is_common()
     ensures { (z : Name) (commits : List Commit) (h : List Entry) (e : Entry)
         → let S = after (opening commits) h in
         is_local z (world z S) e ≡ true → common (one S e.event e.grant).state ≡ common S }
+{}
+
+/// After any history no item is claimed by two zones.
+pub fn each_item_has_one_holder()
+    ensures { (commits : List Commit) (h : List Entry) (y z : Name) (c : Claim) → let S = after (opening commits) h in
+        holds c (world y S).claims ≡ true → holds c (world z S).claims ≡ true → y ≡ z }
 {}

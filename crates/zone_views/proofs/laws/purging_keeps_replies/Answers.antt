@@ -2,6 +2,8 @@ use Rattle.std.proofs.Common.{◌≡◌, ap, refl, sym, ◌∙◌, subst}
 use Rattle.zone_machine.specs.Machine.Histories.{asked, only, replies, run}
 use Rattle.zone_machine.specs.Machine.{opening}
 use Rattle.zone_views.proofs.Purge.{opening-agree, purge, run-asked}
+use Rattle.zone_views.proofs.Whole.{purge-whole}
+use Rattle.zone_views.specs.Whole.{whole_replies}
 use Rattle.zone_views.proofs.laws.purging_keeps_replies.Goals as goal
 
 histories : goal.returns-clause-histories
@@ -17,3 +19,7 @@ returns-clause-alike c = λ z permits commits others h k is also same alike.
 
 pub returns-clause-runs : goal.returns-clause-runs
 returns-clause-runs c = λ z commits others es same. purge z es (opening commits) (opening others) (opening-agree z commits others same)
+
+pub returns-clause-whole : goal.returns-clause-whole
+returns-clause-whole c = λ z permits commits others h is.
+    subst (λ k. whole_replies k ≡ whole_replies (run (opening others) (asked (only z k)))) (run-asked permits (opening commits) h is) (purge-whole z (asked h) (opening commits) (opening others) refl)
