@@ -9,3 +9,4 @@ mod values;
 
 pub use config::{matches, verify};
 pub use flaw::Flaw;
+pub use values::is_plain_address;

@@ -45,8 +45,9 @@ fn are_octets(first: &[u8], second: &[u8], third: &[u8], last: &[u8]) -> bool
     is_up_to(255, first) && is_up_to(255, second) && is_up_to(255, third) && is_up_to(255, last)
 }
 
+/// Whether a text is an IPv4 address without a prefix: four numbers from 0 to 255 without leading zeros, parted by dots.
 #[tactic(auto, using(crate::proofs::Addresses::no_dot, crate::proofs::Addresses::one_dot, crate::proofs::Addresses::two_dots, crate::proofs::Addresses::four_dots, crate::proofs::Addresses::three_dots))]
-pub(crate) fn is_plain_address(text: &[u8]) -> bool
+pub fn is_plain_address(text: &[u8]) -> bool
     ensures { result ≡ is_plain_address text.now }
 {
     let Some(first) = next_dot(text) else {

@@ -1,5 +1,5 @@
 -- A line that is printed is read as its event.
-use Rattle.std.proofs.Common.{◌≡◌, ◌+◌, ◌≤◌, ℕ, Bool, true, false, zero, suc, not, ◌&&◌, nat_eq, nat_lt, List, [], ◌∷◌, ◌++◌, length, Option, Some, None, Ok, IsTrue, refl, ap, ◌∙◌, arith, append-nil}
+use Rattle.std.proofs.Common.{◌≡◌, ◌+◌, ◌≤◌, ℕ, Bool, true, false, zero, suc, not, ◌&&◌, nat_eq, nat_lt, List, [], ◌∷◌, ◌++◌, length, Option, Some, None, Ok, IsTrue, refl, ap, ◌∙◌, arith, append-nil, codes}
 use Rattle.std.specs.Prelude.{◌==◌, position, is_ok, unwrap_or}
 use Rattle.std.specs.Fmt.{decimal, digits}
 use Rattle.std.specs.List.{position_or_len}
@@ -10,13 +10,18 @@ use Rattle.zn_base.specs.Decimals.{decimal_of}
 use Rattle.zn_base.specs.Names.{is_name, name_of}
 use Rattle.zn_base.specs.Text.{is_text, is_text_byte, text_unless}
 use Rattle.zn_base.proofs.First_byte.{after_first, before_first}
-use Rattle.zn_base.proofs.Read_back.{name_lacks, name_of_name}
+use Rattle.zn_base.proofs.Read_back.{name_lacks, name_of_name, path_lacks}
 use Rattle.process_calls.specs.declared.call.Call.{Call}
 use Rattle.process_calls.specs.Calls.{call_text, greatest_pid, is_call, pid_in}
 use Rattle.process_calls.proofs.Again.{call_again}
 use Rattle.process_calls.proofs.Numbers.{pid_again, pid_lacks}
-use Rattle.zone_machine.specs.declared.events.Event.TheVariants.{Process, Session, Turn}
-use Rattle.trace_text.specs.Lines.{Said, after_word, pid_by, event_by, event_of, first_word, line_text, pid_at, process_by, process_of, session_of, turn_of, typed_text, types, types_unless}
+use Rattle.datalink_table.specs.declared.claims.ClaimKind.TheVariants.{Address, Dataset, Link}
+use Rattle.zone_machine.specs.declared.events.Declaration.{Declaration}
+use Rattle.zone_machine.specs.declared.events.Declaration.TheVariants.{Device, Item}
+use Rattle.zone_machine.specs.declared.events.Event.TheVariants.{Process, Session, System, Turn}
+use Rattle.trace_text.proofs.Items.{item_lacks}
+use Rattle.trace_text.specs.Declarations.{declaration_text, is_declaration}
+use Rattle.trace_text.specs.Lines.{Said, after_word, declaration_by, declaration_of, item_at, pid_by, event_by, event_of, first_word, line_text, pid_at, process_by, process_of, session_of, turn_of, typed_text, types, types_unless}
 
 -- bytes without a byte are cut nowhere
 none_reached : (c : ℕ) (xs : List ℕ) → lacks c xs ≡ true → position_or_len (λ b. b == c) xs ≡ length xs
@@ -78,7 +83,7 @@ typed_again : (n place : ℕ) (text : List ℕ) → IsTrue (is_text text) → ty
 typed_again n place text is = ap (λ bad. types_unless bad n place text) (no_bad (position (λ b. not (is_text_byte b)) text) text (cc))
 
 -- what follows the tag
-by_tag : (tag : ℕ) (rest : List ℕ) (said : Said) → (tag == 32) ≡ false → event_by (tag ∷ []) (Some rest) ≡ said → event_by (first_word (tag ∷ 32 ∷ rest)) (after_word (tag ∷ 32 ∷ rest)) ≡ said
+by_tag : (tag : ℕ) (rest : List ℕ) (said : Said) → (tag == 32) ≡ false → event_by false (tag ∷ []) (Some rest) ≡ said → event_by false (first_word (tag ∷ 32 ∷ rest)) (after_word (tag ∷ 32 ∷ rest)) ≡ said
 by_tag tag rest said other is =
     let alone : lacks 32 (tag ∷ []) ≡ true = rw other refl in
     rw (before_first 32 (tag ∷ 32 ∷ rest) (tag ∷ []) rest alone refl, after_first 32 (tag ∷ 32 ∷ rest) (tag ∷ []) rest alone refl) is
@@ -92,7 +97,7 @@ session_words n (b ∷ text) some few is =
     let words = decimal n ++ 32 ∷ b ∷ text in
     rw (before_first 32 words (decimal n) (b ∷ text) number.1 refl, after_first 32 words (decimal n) (b ∷ text) number.1 refl, number.0) (typed_again n (length (decimal n) + 3) (b ∷ text) is)
 
-pub session_again : (n : ℕ) (text : List ℕ) → IsTrue (is_text text) → 1 ≤ n → n ≤ 64 → event_of (line_text (Session n text)) ≡ Ok (Some (Session n text))
+pub session_again : (n : ℕ) (text : List ℕ) → IsTrue (is_text text) → 1 ≤ n → n ≤ 64 → event_of false (line_text (Session n text)) ≡ Ok (Some (Session n text))
 session_again n text is some few = by_tag 83 (decimal n ++ typed_text text) (Ok (Some (Session n text))) refl (session_words n text some few is)
 
 turn_words : (zone : List ℕ) → IsTrue (is_name zone) → turn_of zone ≡ Ok (Some (Turn zone))
@@ -100,7 +105,7 @@ turn_words zone is =
     let alone = name_lacks 32 refl zone is in
     rw (word_alone zone alone, nothing_after zone alone, (name_of_name zone is).0) refl
 
-pub turn_again : (zone : List ℕ) → IsTrue (is_name zone) → event_of (line_text (Turn zone)) ≡ Ok (Some (Turn zone))
+pub turn_again : (zone : List ℕ) → IsTrue (is_name zone) → event_of false (line_text (Turn zone)) ≡ Ok (Some (Turn zone))
 turn_again zone is = by_tag 68 zone (Ok (Some (Turn zone))) refl (turn_words zone is)
 
 -- by a process's first word, and what follows its space
@@ -125,6 +130,24 @@ process_words zone pid call is few right =
     process_of_word words zone rest (before_first 32 words zone rest alone refl) (after_first 32 words zone rest alone refl)
     ∙ (rw (name_of_name zone is).0 (pid_words zone pid (2 + length zone + 1) call few right))
 
-pub process_again : (zone : List ℕ) (pid : ℕ) (call : Call) → IsTrue (is_name zone) → pid ≤ greatest_pid → IsTrue (is_call call) → event_of (line_text (Process zone pid call)) ≡ Ok (Some (Process zone pid call))
+pub process_again : (zone : List ℕ) (pid : ℕ) (call : Call) → IsTrue (is_name zone) → pid ≤ greatest_pid → IsTrue (is_call call) → event_of false (line_text (Process zone pid call)) ≡ Ok (Some (Process zone pid call))
 process_again zone pid call is few right =
     by_tag 80 (zone ++ 32 ∷ (decimal pid ++ 32 ∷ call_text call)) (Ok (Some (Process zone pid call))) refl (process_words zone pid call is few right)
+
+-- what is declared, as an item alone after its word
+item_again : (what : List ℕ → Declaration) (place : ℕ) (item : List ℕ) → is_declaration (what item) ≡ true → lacks 32 item ≡ true → item_at false what place item ≡ Ok (Some (System (what item)))
+item_again what place item right alone = rw (word_alone item alone, nothing_after item alone, right) refl
+
+by_kind : (word item : List ℕ) (said : Said) → lacks 32 word ≡ true → declaration_by false word (2 + length word) (Some item) ≡ said → declaration_of false (word ++ 32 ∷ item) ≡ said
+by_kind word item said alone is =
+    let words = word ++ 32 ∷ item in
+    rw (before_first 32 words word item alone refl, after_first 32 words word item alone refl) is
+
+declaration_again : (what : Declaration) → IsTrue (is_declaration what) → declaration_of false (declaration_text what) ≡ Ok (Some (System what))
+declaration_again (Item Link name) right = by_kind (codes "link") name _ refl (item_again (Item Link) 7 name right (item_lacks Link name right))
+declaration_again (Item Address address) right = by_kind (codes "address") address _ refl (item_again (Item Address) 10 address right (item_lacks Address address right))
+declaration_again (Item Dataset name) right = by_kind (codes "dataset") name _ refl (item_again (Item Dataset) 10 name right (item_lacks Dataset name right))
+declaration_again (Device path) right = by_kind (codes "device") path _ refl (item_again Device 9 path right (path_lacks 32 refl path right))
+
+pub system_again : (what : Declaration) → IsTrue (is_declaration what) → event_of false (line_text (System what)) ≡ Ok (Some (System what))
+system_again what right = by_tag 89 (declaration_text what) (Ok (Some (System what))) refl (declaration_again what right)
