@@ -2,6 +2,8 @@ pub mod Cuts
 pub mod Parts
 pub mod Runs
 pub mod Fronts
+pub mod Starting
+pub mod Declaring
 pub mod Traces
 pub mod TraceRuns
 pub mod Begins

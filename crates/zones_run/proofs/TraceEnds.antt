@@ -1,5 +1,5 @@
 -- How a trace ends, and what standard output has taken then.
-use Rattle.std.proofs.Common.{◌≡◌, ◌+◌, ◌≤◌, ◌<◌, ◌||◌, ◌++◌, ◌⊎◌, inl, inr, ℕ, true, false, cond, nat_lt, List, [], ◌∷◌, length, take, drop, Option, Some, None, IfSome, Result, Ok, Err, refl, ap, sym, subst, ◌∙◌, arith, append_assoc, zero, suc}
+use Rattle.std.proofs.Common.{◌≡◌, ◌+◌, ◌≤◌, ◌<◌, ◌||◌, ◌++◌, ◌⊎◌, inl, inr, ℕ, Bool, true, false, cond, nat_lt, List, [], ◌∷◌, length, take, drop, Option, Some, None, IfSome, Result, Ok, Err, refl, ap, sym, subst, ◌∙◌, arith, append_assoc, zero, suc}
 use Rattle.std.specs.Prelude.{IfOk, IsErrAnd, IsErrOf, nat_le}
 use Rattle.std.specs.Io.KnownBytes.{IsAtEnd}
 use Rattle.std.specs.Option.{option_map}
@@ -8,20 +8,19 @@ use Rattle.std.proofs.lemmas.Grind.{flat_map-append}
 use Rattle.std.proofs.lemmas.List.{append-nil, append_cancel_left, take-append-drop, take-append-le, take_all}
 use Rattle.std.proofs.Math.Seq.{take-append-add, take-append_seam, take-length}
 use Rattle.zn_io.specs.Streams.{after_known, before_known}
-use Rattle.trace_text.specs.Lines.{event_of}
+use Rattle.trace_text.specs.Lines.{Said, event_of}
 use Rattle.trace_text.specs.declared.fault.LineFault.{LineFault}
 use Rattle.zone_machine.specs.Machine.{opening}
 use Rattle.zone_pools.specs.Pools.{or_else}
 use Rattle.zone_machine.specs.State.{State}
 use Rattle.zone_machine.specs.declared.events.Entry.{Entry}
-use Rattle.zone_machine.specs.declared.events.Event.{Event}
 use Rattle.zn_base.specs.Lines.{is_newline, lines_of, with_first}
 use Rattle.zones_run.specs.Complaints.{complaint_text}
 use Rattle.zones_run.specs.Output.{Output}
 use Rattle.zones_run.specs.Reading.{FirstIsLong}
 use Rattle.zones_run.specs.Taking.{BeginsLine, TakesPiece}
 use Rattle.zones_run.specs.Run.{HasFront, run_fault_of}
-use Rattle.zones_run.specs.Tracing.{AnswersAs, AnswersLines, AnswersRead, At_end, At_fault, Ending, HasReplies, HasWritten, Past_limit, Run, RunsLines, Stops, Tells, ends, entry_text, left_to_tell, replies_text, run_of, script_from, told, told_refusal, traced, with_line}
+use Rattle.zones_run.specs.Tracing.{AnswersAs, AnswersLines, AnswersRead, At_end, At_fault, Ending, HasReplies, HasWritten, Past_limit, Run, RunsLines, Stops, Tells, ends, entry_text, left_to_tell, replies_text, run_of, script_from, told, told_refusal, traced}
 use Rattle.zones_run.specs.declared.outcome.Complaint.{Complaint}
 use Rattle.zones_run.specs.declared.outcome.Complaint.TheVariants.{Grammar as Bad_line, Limit}
 use Rattle.zones_run.specs.declared.trace.Stop.{Stop}
@@ -33,13 +32,13 @@ use Rattle.zones_run.specs.declared.lines.ReadFault.TheVariants.{Failed, Memory 
 use Rattle.zones_run.proofs.Begins.{takes_known}
 use Rattle.zones_run.proofs.Fronts.{after_known-append, after_known-nil}
 use Rattle.zones_run.proofs.TraceRuns.{Knows, RunsOn, known_run}
-use Rattle.zones_run.proofs.Traces.{from_first_line, or_else-None, run_on, script_line, with_script}
+use Rattle.zones_run.proofs.Traces.{from_first_line, line_said, or_else-None, run_on, script_line, with_script}
 
 abbrev ended_run : List Entry → Option ℕ → Ending → Run
 ended_run done refused ending = record { entries = done; refused = refused; ending = ending }
 
 -- with no event to come the run is what it has come to
-no_more : (done : List Entry) (refused : Option ℕ) (n : ℕ) (S : State) (lines : List (List ℕ)) (ending : Ending) → script_from n lines ≡ ends ending → run_on done refused n S lines ≡ ended_run done refused ending
+no_more : (done : List Entry) (refused : Option ℕ) (n : ℕ) (S : State) (lines : List (List ℕ)) (ending : Ending) → script_from S.started n lines ≡ ends ending → run_on done refused n S lines ≡ ended_run done refused ending
 no_more done refused n S lines ending is =
     ap (with_script done refused S) is ∙ ap (λ entries. ended_run entries (or_else refused None) ending) (append-nil done) ∙ ap (λ first. ended_run done first ending) (or_else-None refused)
 
@@ -50,14 +49,18 @@ told-out done (Some n) At_end = refl
 told-out done refused (At_fault n fault) = refl
 told-out done refused (Past_limit n) = refl
 
+-- the lines of the bytes to come end so, before any event
+abbrev EndsSo : (started : Bool) → ℕ → Ending → Option (List ℕ) → Type 0
+EndsSo started n ending bytes = IfSome bytes (λ bs. script_from started n (lines_of bs) ≡ ends ending)
+
 -- the run has ended so
 pub tells_ending : (stands : State → Type 0) (refused : Option ℕ) (n : ℕ) (held holds bytes input : Option (List ℕ)) (ending : Ending) (complaint : Option Complaint)
-    → RunsOn stands refused n held holds bytes input → IfSome bytes (λ bs. script_from n (lines_of bs) ≡ ends ending) → ((done : List Entry) → left_to_tell complaint ≡ record (told (ended_run done refused ending)) { out = [] })
+    → RunsOn stands refused n held holds bytes input → ((S : State) → stands S → EndsSo S.started n ending bytes) → ((done : List Entry) → left_to_tell complaint ≡ record (told (ended_run done refused ending)) { out = [] })
     → IfSome input (λ bs. Tells complaint held holds (traced bs))
 tells_ending stands refused n held holds bytes None ending complaint run ended is = tt
 tells_ending stands refused n held holds bytes (Some input) ending complaint run ended is =
     let known = run.known in
-    let here : script_from n (lines_of known.to_come) ≡ ends ending = subst (λ bytes. IfSome bytes (λ bs. script_from n (lines_of bs) ≡ ends ending)) known.here ended in
+    let here : script_from run.state.started n (lines_of known.to_come) ≡ ends ending = subst (EndsSo run.state.started n ending) known.here (ended run.state run.stood) in
     let whole : run_of input ≡ ended_run run.done refused ending = known_run refused n run.state run.done bytes input known ∙ no_more run.done refused n run.state (lines_of known.to_come) ending here in
     subst (λ r. Tells complaint held holds (told r)) (sym whole) (record {
       rest = is run.done;
@@ -65,42 +68,42 @@ tells_ending stands refused n held holds bytes (Some input) ending complaint run
     })
 
 -- the four ways in which lines end
-pub at_end : (n : ℕ) (bytes : Option (List ℕ)) → IfSome (option_map lines_of bytes) (λ ls. ls ≡ []) → IfSome bytes (λ bs. script_from n (lines_of bs) ≡ ends At_end)
-at_end n None h = tt
-at_end n (Some bs) h = ap (script_from n) h
+at_end : (started : Bool) (n : ℕ) (bytes : Option (List ℕ)) → IfSome (option_map lines_of bytes) (λ ls. ls ≡ []) → EndsSo started n At_end bytes
+at_end started n None h = tt
+at_end started n (Some bs) h = ap (script_from started n) h
 
 past_limit : (n m : ℕ) → 4096 < m → (nat_lt 200000 n || nat_lt 4096 m) ≡ true
 past_limit n m h = grind (arith, nat_tests)
 
-first_long : (n : ℕ) (lines : List (List ℕ)) → FirstIsLong lines → script_from n lines ≡ ends (Past_limit n)
-first_long n [] h = absurd h
-first_long n (line ∷ ls) h = ap (λ v. cond v (ends (Past_limit n)) (with_line n (event_of line) (script_from (n + 1) ls))) (past_limit n (length line) h)
+first_long : (started : Bool) (n : ℕ) (lines : List (List ℕ)) → FirstIsLong lines → script_from started n lines ≡ ends (Past_limit n)
+first_long started n [] h = absurd h
+first_long started n (line ∷ ls) h = ap (λ v. cond v (ends (Past_limit n)) (line_said started n ls (event_of started line))) (past_limit n (length line) h)
 
-pub at_long : (n : ℕ) (bytes : Option (List ℕ)) → IfSome (option_map lines_of bytes) FirstIsLong → IfSome bytes (λ bs. script_from n (lines_of bs) ≡ ends (Past_limit n))
-at_long n None h = tt
-at_long n (Some bs) h = first_long n (lines_of bs) h
+at_long : (started : Bool) (n : ℕ) (bytes : Option (List ℕ)) → IfSome (option_map lines_of bytes) FirstIsLong → EndsSo started n (Past_limit n) bytes
+at_long started n None h = tt
+at_long started n (Some bs) h = first_long started n (lines_of bs) h
 
-pub at_fault : (n : ℕ) (line : List ℕ) (fault : LineFault) (bytes : Option (List ℕ)) (new : Option (List (List ℕ))) → option_map lines_of bytes ≡ option_map (λ ls. line ∷ ls) new → n ≤ 200000 → length line ≤ 4096 → event_of line ≡ Err fault → IfSome bytes (λ bs. script_from n (lines_of bs) ≡ ends (At_fault n fault))
-at_fault n line fault None new is h k e = tt
-at_fault n line fault (Some bs) None is h k e = absurd (cc)
-at_fault n line fault (Some bs) (Some ls) is h k e =
+at_fault : (started : Bool) (n : ℕ) (line : List ℕ) (fault : LineFault) (bytes : Option (List ℕ)) (new : Option (List (List ℕ))) → option_map lines_of bytes ≡ option_map (λ ls. line ∷ ls) new → n ≤ 200000 → length line ≤ 4096 → event_of started line ≡ Err fault → EndsSo started n (At_fault n fault) bytes
+at_fault started n line fault None new is h k e = tt
+at_fault started n line fault (Some bs) None is h k e = absurd (cc)
+at_fault started n line fault (Some bs) (Some ls) is h k e =
     let first : lines_of bs ≡ line ∷ ls = cc in
-    ap (script_from n) first ∙ script_line n line ls h k ∙ ap (λ r. with_line n r (script_from (n + 1) ls)) e
+    ap (script_from started n) first ∙ script_line started n line ls h k ∙ ap (line_said started n ls) e
 
-past_last : (b : ℕ) (bytes : List ℕ) → script_from 200001 (lines_of (b ∷ bytes)) ≡ ends (Past_limit 200001)
-past_last b bytes =
-    elim (is_newline b) as (λ v. script_from 200001 (cond v ([] ∷ lines_of bytes) (with_first b (lines_of bytes))) ≡ ends (Past_limit 200001)) [
+past_last : (started : Bool) (b : ℕ) (bytes : List ℕ) → script_from started 200001 (lines_of (b ∷ bytes)) ≡ ends (Past_limit 200001)
+past_last started b bytes =
+    elim (is_newline b) as (λ v. script_from started 200001 (cond v ([] ∷ lines_of bytes) (with_first b (lines_of bytes))) ≡ ends (Past_limit 200001)) [
       | true ↦ refl
-      | false ↦ elim (lines_of bytes) as (λ lines. script_from 200001 (with_first b lines) ≡ ends (Past_limit 200001)) [
+      | false ↦ elim (lines_of bytes) as (λ lines. script_from started 200001 (with_first b lines) ≡ ends (Past_limit 200001)) [
         | [] ↦ refl
         | line ∷ lines ↦ refl
       ]
     ]
 
-pub at_last : (ahead : List ℕ) (left : Option (List ℕ)) → 0 < length ahead → IfSome (before_known ahead left) (λ bs. script_from 200001 (lines_of bs) ≡ ends (Past_limit 200001))
-at_last [] left some = absurd (omega arith)
-at_last (b ∷ ahead) None some = tt
-at_last (b ∷ ahead) (Some left) some = past_last b (ahead ++ left)
+at_last : (started : Bool) (ahead : List ℕ) (left : Option (List ℕ)) → 0 < length ahead → EndsSo started 200001 (Past_limit 200001) (before_known ahead left)
+at_last started [] left some = absurd (omega arith)
+at_last started (b ∷ ahead) None some = tt
+at_last started (b ∷ ahead) (Some left) some = past_last started b (ahead ++ left)
 
 -- before the input has ended, some whole replies were written
 pub has_replies : (stands : State → Type 0) (refused : Option ℕ) (n : ℕ) (held holds bytes input : Option (List ℕ)) → RunsOn stands refused n held holds bytes input → IfSome input (λ bs. HasReplies held holds (run_of bs))
@@ -233,7 +236,7 @@ pub tells_last : (stands : State → Type 0) (refused : Option ℕ) (n : ℕ) (h
 tells_last stands refused n held holds bytes ahead left input run last same some =
     let here : RunsOn stands refused 200001 held holds bytes input = subst (λ m. RunsOn stands refused m held holds bytes input) last run in
     tells_ending stands refused 200001 held holds bytes input (Past_limit 200001) (Some (Limit 200001)) here
-    (subst (λ known. IfSome known (λ bs. script_from 200001 (lines_of bs) ≡ ends (Past_limit 200001))) (sym same) (at_last ahead left some)) (λ done. refl)
+    (λ S _. subst (EndsSo S.started 200001 (Past_limit 200001)) (sym same) (at_last S.started ahead left some)) (λ done. refl)
 
 -- at an ending all replies were written, and the whole text
 pub whole_replies : (complaint : Option Complaint) (held holds : Option (List ℕ)) (input : Option (List ℕ)) → IfSome input (λ bytes. Tells complaint held holds (traced bytes)) → IfSome input (λ bytes. HasReplies held holds (run_of bytes))
@@ -264,7 +267,7 @@ refusal_alone text (Some n) = refl
 pub tells_end : (stands : State → Type 0) (refused : Option ℕ) (n : ℕ) (held holds bytes input : Option (List ℕ)) (complaint : Option Complaint)
     → RunsOn stands refused n held holds bytes input → IfSome (option_map lines_of bytes) (λ ls. ls ≡ []) → left_to_tell complaint ≡ record (told_refusal [] refused) { out = [] } → IfSome input (λ bs. Tells complaint held holds (traced bs))
 tells_end stands refused n held holds bytes input complaint run none is =
-    tells_ending stands refused n held holds bytes input At_end complaint run (at_end n bytes none) (λ done. is ∙ refusal_alone (replies_text done) refused)
+    tells_ending stands refused n held holds bytes input At_end complaint run (λ S _. at_end S.started n bytes none) (λ done. is ∙ refusal_alone (replies_text done) refused)
 
 nothing_ahead : (ahead : List ℕ) (left : Option (List ℕ)) → ahead ≡ [] → IsAtEnd left → IfSome (option_map lines_of (before_known ahead left)) (λ ls. ls ≡ [])
 nothing_ahead ahead None none end = tt
@@ -278,14 +281,14 @@ tells_last_end stands refused n held holds bytes ahead left input complaint run 
 
 -- a line that is too long
 pub tells_long : (stands : State → Type 0) (refused : Option ℕ) (n : ℕ) (held holds bytes input : Option (List ℕ)) → RunsOn stands refused n held holds bytes input → IfSome (option_map lines_of bytes) FirstIsLong → IfSome input (λ bs. Tells (Some (Limit n)) held holds (traced bs))
-tells_long stands refused n held holds bytes input run long = tells_ending stands refused n held holds bytes input (Past_limit n) (Some (Limit n)) run (at_long n bytes long) (λ done. refl)
+tells_long stands refused n held holds bytes input run long = tells_ending stands refused n held holds bytes input (Past_limit n) (Some (Limit n)) run (λ S _. at_long S.started n bytes long) (λ done. refl)
 
 -- a line outside the grammar
 pub tells_fault : (stands : State → Type 0) (refused : Option ℕ) (n : ℕ) (held holds : Option (List ℕ)) (line : List ℕ) (fault : LineFault) (bytes : Option (List ℕ)) (new : Option (List (List ℕ))) (input : Option (List ℕ))
-    → RunsOn stands refused n held holds bytes input → option_map lines_of bytes ≡ option_map (λ ls. line ∷ ls) new → n ≤ 200000 → length line ≤ 4096 → event_of line ≡ Err fault
+    → RunsOn stands refused n held holds bytes input → option_map lines_of bytes ≡ option_map (λ ls. line ∷ ls) new → n ≤ 200000 → length line ≤ 4096 → ((S : State) → stands S → event_of S.started line ≡ Err fault)
     → IfSome input (λ bs. Tells (Some (Bad_line n fault)) held holds (traced bs))
 tells_fault stands refused n held holds line fault bytes new input run is h k says =
-    tells_ending stands refused n held holds bytes input (At_fault n fault) (Some (Bad_line n fault)) run (at_fault n line fault bytes new is h k says) (λ done. refl)
+    tells_ending stands refused n held holds bytes input (At_fault n fault) (Some (Bad_line n fault)) run (λ S stood. at_fault S.started n line fault bytes new is h k (says S stood)) (λ done. refl)
 
 -- a run ended, and what waited then was not written whole
 pub ended_front : (result : Result (Option Complaint) RunFault) (held holds now input : Option (List ℕ)) (waiting : List ℕ)
@@ -304,7 +307,7 @@ ended_front (Err Write) held holds now input waiting tells answered front none w
     take_nil (suc n) = refl
 
 -- what a line that ended the trace outside the grammar says
-pub stops_outside : (stop : Stop) (fault : LineFault) (said : Result (Option Event) LineFault) → Stops stop said → stop ≡ Grammar fault → said ≡ Err fault
+pub stops_outside : (stop : Stop) (fault : LineFault) (said : Said) → Stops stop said → stop ≡ Grammar fault → said ≡ Err fault
 stops_outside (Grammar found) fault said stops same = stops ∙ cc
 stops_outside No_room fault said stops same = absurd (cc)
 

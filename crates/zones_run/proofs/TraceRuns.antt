@@ -1,10 +1,9 @@
 -- What a machine, standard output and the bytes to come amount to, in the midst of a trace.
-use Rattle.std.proofs.Common.{◌≡◌, ◌+◌, ◌≤◌, ◌<◌, ◌++◌, ◌⊎◌, ℕ, Bool, true, false, cond, List, [], ◌∷◌, length, Option, Some, None, IfSome, Result, Ok, Err, refl, ap, sym, subst, inl, inr, ◌∙◌, arith, append_assoc}
+use Rattle.std.proofs.Common.{◌≡◌, ◌+◌, ◌≤◌, ◌<◌, ◌++◌, ◌⊎◌, ℕ, Bool, true, false, cond, List, [], ◌∷◌, length, Option, Some, None, IfSome, Ok, Err, refl, ap, sym, subst, inl, inr, ◌∙◌, arith, append_assoc}
 use Rattle.std.specs.Io.KnownBytes.{IsAtEnd}
 use Rattle.std.proofs.lemmas.List.{append-nil}
 use Rattle.zn_io.specs.Streams.{after_known, before_known}
-use Rattle.trace_text.specs.Lines.{event_of}
-use Rattle.trace_text.specs.declared.fault.LineFault.{LineFault}
+use Rattle.trace_text.specs.Lines.{Said, event_of}
 use Rattle.zone_machine.specs.Machine.Histories.{after_entry, entry_at}
 use Rattle.zone_machine.specs.Machine.{opening}
 use Rattle.zone_machine.specs.Machine.Pools.{allowed}
@@ -160,7 +159,7 @@ for_input done now_done refused now n S T line old new (Some input) step took kn
 
 -- a line that is no event
 runs_past : (stands : State → Type 0) (refused : Option ℕ) (n : ℕ) (held holds : Option (List ℕ)) (line : List ℕ) (old new input : Option (List ℕ))
-    → RunsOn stands refused n held holds old input → TakesLine line old new → n ≤ 200000 → length line ≤ 4096 → event_of line ≡ Ok None → RunsOn stands refused (n + 1) held holds new input
+    → (run : RunsOn stands refused n held holds old input) → TakesLine line old new → n ≤ 200000 → length line ≤ 4096 → event_of run.state.started line ≡ Ok None → RunsOn stands refused (n + 1) held holds new input
 runs_past stands refused n held holds line old new input run took h k e = record {
   state = run.state;
   stood = run.stood;
@@ -179,7 +178,7 @@ refused_as refused n refusal false e = rw e (or_else-None refused)
 
 -- a line that is an event
 runs_through : (stands now_stands : State → Type 0) (refused now : Option ℕ) (n : ℕ) (held holds now_holds : Option (List ℕ)) (e : Event) (refusal : Bool) (line : List ℕ) (old new input : Option (List ℕ))
-    → RunsOn stands refused n held holds old input → IsAnswered stands now_stands e refusal holds now_holds → TakesLine line old new → n ≤ 200000 → length line ≤ 4096 → event_of line ≡ Ok (Some e)
+    → (run : RunsOn stands refused n held holds old input) → IsAnswered stands now_stands e refusal holds now_holds → TakesLine line old new → n ≤ 200000 → length line ≤ 4096 → event_of run.state.started line ≡ Ok (Some e)
     → now ≡ cond refusal (or_else refused (Some n)) refused → RunsOn now_stands now (n + 1) held now_holds new input
 runs_through stands now_stands refused now n held holds now_holds e refusal line old new input run answered took h k says so =
     let S = run.state in
@@ -195,11 +194,10 @@ runs_through stands now_stands refused now n held holds now_holds e refusal line
           (λ lines. answers_line run.done refused n S e line lines h k says ∙ ap (λ r. run_on (run.done ++ entry ∷ []) r (n + 1) (after_entry S entry) lines) told) took run.known;
     }
 
--- a line that was taken, whatever it is
-pub runs_line : (stands now_stands : State → Type 0) (refused now : Option ℕ) (n : ℕ) (held holds now_holds : Option (List ℕ)) (line : List ℕ) (old new input : Option (List ℕ)) (said : Result (Option Event) LineFault)
-    → event_of line ≡ said → RunsOn stands refused n held holds old input → TakesEvent stands now_stands said n refused now holds now_holds → TakesLine line old new → n ≤ 200000 → length line ≤ 4096
-    → RunsOn now_stands now (n + 1) held now_holds new input
-runs_line stands now_stands refused now n held holds now_holds line old new input (Ok None) says run took line_took h k =
+-- a line that was taken, whatever it says
+pub runs_said : (stands now_stands : State → Type 0) (refused now : Option ℕ) (n : ℕ) (held holds now_holds : Option (List ℕ)) (line : List ℕ) (old new input : Option (List ℕ)) (run : RunsOn stands refused n held holds old input) (said : Said)
+    → event_of run.state.started line ≡ said → TakesEvent stands now_stands said n refused now holds now_holds → TakesLine line old new → n ≤ 200000 → length line ≤ 4096 → RunsOn now_stands now (n + 1) held now_holds new input
+runs_said stands now_stands refused now n held holds now_holds line old new input run (Ok None) says took line_took h k =
     let past = runs_past stands refused n held holds line old new input run line_took h k says in
     subst (λ r. RunsOn now_stands r (n + 1) held now_holds new input) (sym took.1)
     (subst (λ known. RunsOn now_stands refused (n + 1) held known new input) (sym took.2) (record {
@@ -209,9 +207,22 @@ runs_line stands now_stands refused now n held holds now_holds line old new inpu
       text = past.text;
       known = past.known;
     }))
-runs_line stands now_stands refused now n held holds now_holds line old new input (Ok (Some e)) says run took line_took h k =
+runs_said stands now_stands refused now n held holds now_holds line old new input run (Ok (Some e)) says took line_took h k =
     runs_through stands now_stands refused now n held holds now_holds e took.0 line old new input run took.1 line_took h k says took.2
-runs_line stands now_stands refused now n held holds now_holds line old new input (Err fault) says run took line_took h k = absurd took
+runs_said stands now_stands refused now n held holds now_holds line old new input run (Err fault) says took line_took h k = absurd took
+
+-- what it says depends on whether an event has come, which the machine's state tells
+pub runs_line : (stands now_stands : State → Type 0) (refused now : Option ℕ) (n : ℕ) (held holds now_holds : Option (List ℕ)) (line : List ℕ) (old new input : Option (List ℕ))
+    → RunsOn stands refused n held holds old input → ((S : State) → stands S → TakesEvent stands now_stands (event_of S.started line) n refused now holds now_holds) → TakesLine line old new → n ≤ 200000 → length line ≤ 4096
+    → RunsOn now_stands now (n + 1) held now_holds new input
+runs_line stands now_stands refused now n held holds now_holds line old new input run took line_took h k =
+    runs_said stands now_stands refused now n held holds now_holds line old new input run (event_of run.state.started line) refl (took run.state run.stood) line_took h k
+
+-- the event that a line was read as is answered, in whatever state the machine stood for
+pub takes_answered : (stands now_stands : State → Type 0) (started : Bool) (S : State) (line : List ℕ) (e : Event) (refusal : Bool) (n : ℕ) (refused now : Option ℕ) (holds now_holds : Option (List ℕ))
+    → started ≡ S.started → event_of started line ≡ Ok (Some e) → IsAnswered stands now_stands e refusal holds now_holds → now ≡ cond refusal (or_else refused (Some n)) refused → TakesEvent stands now_stands (event_of S.started line) n refused now holds now_holds
+takes_answered stands now_stands started S line e refusal n refused now holds now_holds is says answered so =
+    subst (λ said. TakesEvent stands now_stands said n refused now holds now_holds) (sym says ∙ ap (λ b. event_of b line) is) (refusal, answered, so)
 
 -- the run of the input is the run over the bytes to come, from here on
 pub known_run : (refused : Option ℕ) (n : ℕ) (S : State) (done : List Entry) (bytes : Option (List ℕ)) (input : List ℕ) (known : Knows refused n S done bytes input) → run_of input ≡ run_on done refused n S (lines_of known.to_come)

@@ -12,6 +12,7 @@ pub mod Complaints
 pub mod Exporting
 pub mod Outcomes
 pub mod Tracing
+pub mod Declarations
 pub mod Program
 pub mod Run
 pub mod Denoted

@@ -1,9 +1,9 @@
 -- What `trace` writes for the whole of its input: its lines are read, their events make a history of the zone machine
 -- from no record on, and the history's replies are printed.
-use Rattle.std.specs.Prelude.{ℕ, List, [], ◌∷◌, ◌+◌, ◌≡◌, map, take, Bool, true, false, Option, Some, None, Result, Ok, Err, if◌then◌else◌}
+use Rattle.std.specs.Prelude.{ℕ, List, [], ◌∷◌, ◌+◌, ◌≡◌, map, take, Bool, true, false, ◌||◌, Option, Some, None, Result, Ok, Err, if◌then◌else◌}
 use Rattle.std.specs.List.{flat_map}
 use Rattle.zn_io.specs.Streams.{after_known}
-use Rattle.trace_text.specs.Lines.{event_of}
+use Rattle.trace_text.specs.Lines.{Said, event_of}
 use Rattle.trace_text.specs.Replies.{reply_text}
 use Rattle.trace_text.specs.declared.fault.LineFault.{LineFault}
 use Rattle.zone_machine.specs.Machine.Histories.{after_entry, entry_at, history}
@@ -14,9 +14,10 @@ use Rattle.zone_machine.specs.State.{State}
 use Rattle.zoneadmd_steps.specs.declared.requests.Outcome.{Outcome}
 use Rattle.zoneadmd_steps.specs.declared.requests.Outcome.TheVariants.{Done}
 use Rattle.zoneadmd_steps.specs.declared.requests.TurnReply.{TurnReply}
-use Rattle.zoneadmd_steps.specs.declared.requests.TurnReply.TheVariants.{Failed, Finished}
+use Rattle.zoneadmd_steps.specs.declared.requests.TurnReply.TheVariants.{Failed, Finished, Stuck}
 use Rattle.zone_machine.specs.declared.events.Entry.{Entry}
 use Rattle.zone_machine.specs.declared.events.Event.{Event}
+use Rattle.zone_machine.specs.declared.events.Event.TheVariants.{System}
 use Rattle.zone_machine.specs.declared.replies.Head.{Head}
 use Rattle.zone_machine.specs.declared.replies.Head.TheVariants.{Refused, Turned}
 use Rattle.zones_run.specs.declared.trace.Stop.{Stop}
@@ -45,19 +46,29 @@ abbrev pub ends : Ending → Script
 ends ending = record { events = []; ending = ending }
 
 -- a line's event, if it is one, stands before those of the lines after it
-abbrev pub with_line : ℕ → Result (Option Event) LineFault → Script → Script
+abbrev pub with_line : ℕ → Said → Script → Script
 with_line number (Err fault) more = ends (At_fault number fault)
 with_line number (Ok None) more = more
 with_line number (Ok (Some event)) more = record { events = (number, event) ∷ more.events; ending = more.ending }
 
--- the script of the lines from a number on
-abbrev pub script_from : ℕ → List (List ℕ) → Script
-script_from number [] = ends At_end
-script_from number (line ∷ lines) =
-    if is_past_limit number line then ends (Past_limit number)
-    else with_line number (event_of line) (script_from (number + 1) lines)
+-- an event counts unless it is a declaration: once one that counts has come, nothing may be declared
+abbrev pub counts_event : Event → Bool
+counts_event (System what) = false
+counts_event event = true
 
--- a refusal: `err`, `failed`, or `finished` other than `ok`
+-- whether a line says such an event
+abbrev pub counts : Said → Bool
+counts (Ok (Some event)) = counts_event event
+counts said = false
+
+-- the script of the lines from a number on, by whether an event that counts has come before them
+abbrev pub script_from : (started : Bool) → ℕ → List (List ℕ) → Script
+script_from started number [] = ends At_end
+script_from started number (line ∷ lines) =
+    if is_past_limit number line then ends (Past_limit number)
+    else let said = event_of started line in with_line number said (script_from (started || counts said) (number + 1) lines)
+
+-- a refusal: `err`, `failed`, `finished` other than `ok`, or `stuck`
 abbrev pub is_refused_outcome : Outcome → Bool
 is_refused_outcome Done = false
 is_refused_outcome outcome = true
@@ -65,6 +76,7 @@ is_refused_outcome outcome = true
 abbrev pub is_refused_turn : TurnReply → Bool
 is_refused_turn (Failed place outcome) = true
 is_refused_turn (Finished ticket outcome) = is_refused_outcome outcome
+is_refused_turn Stuck = true
 is_refused_turn turn = false
 
 abbrev pub is_refusal : Head → Bool
@@ -94,7 +106,7 @@ script_run script = run_by script (history (opening []) (map (λ e. e.1) script.
 
 -- the run of a whole input
 abbrev pub run_of : List ℕ → Run
-run_of bytes = script_run (script_from 1 (lines_of bytes))
+run_of bytes = script_run (script_from false 1 (lines_of bytes))
 
 -- the text of an entry's reply, and of those of several
 abbrev pub entry_text : Entry → List ℕ
@@ -162,7 +174,7 @@ pub record IsAnswered (stands new_stands : State → Type 0) (e : Event) (refusa
   pub refused : (S : State) → stands S → refusal ≡ is_refusal (entry_at S e (allowed S e)).reply.head
 
 -- a line was taken: it is no event, or its event was answered, and the first refused line is reported
-abbrev pub TakesEvent : (State → Type 0) → (State → Type 0) → Result (Option Event) LineFault → ℕ → Option ℕ → Option ℕ → Option (List ℕ) → Option (List ℕ) → Type 0
+abbrev pub TakesEvent : (State → Type 0) → (State → Type 0) → Said → ℕ → Option ℕ → Option ℕ → Option (List ℕ) → Option (List ℕ) → Type 0
 TakesEvent stands new_stands (Ok None) number refused now holds new_holds =
     ((S : State) → stands S → new_stands S) × (now ≡ refused) × (new_holds ≡ holds)
 TakesEvent stands new_stands (Ok (Some e)) number refused now holds new_holds =
@@ -170,7 +182,7 @@ TakesEvent stands new_stands (Ok (Some e)) number refused now holds new_holds =
 TakesEvent stands new_stands (Err fault) number refused now holds new_holds = ⊥
 
 -- why a line ends the trace: it is outside the grammar, or memory ran out
-abbrev pub Stops : Stop → Result (Option Event) LineFault → Type 0
+abbrev pub Stops : Stop → Said → Type 0
 Stops (Grammar fault) said = said ≡ Err fault
 Stops No_room said = Unit {0}
 

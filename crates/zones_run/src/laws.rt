@@ -1,4 +1,5 @@
-//! What follows from the definition of `export`'s output, whatever the program's body is.
+//! What follows from the definitions of `export`'s output and of a trace's script, whatever the program's body is.
+ghost use Rattle.zones_run.specs.Declarations.{DeclaresFirst};
 ghost use Rattle.zones_run.specs.Denoted.{ExportsWhatIsDenoted, RefusesAtWhatIsDenoted};
 
 /// A law: where `export` ends with status 0, it has written the export text of the configuration that the
@@ -11,4 +12,9 @@ pub fn exports_what_is_denoted()
 /// subcommand is, at what all subcommands before it denote; or why the end is, at what those of all lines denote.
 pub fn refuses_at_what_is_denoted()
     ensures { RefusesAtWhatIsDenoted }
+{}
+
+/// A law: of the events that `trace` takes from its input, only declarations stand before a declaration.
+pub fn declares_first()
+    ensures { DeclaresFirst }
 {}

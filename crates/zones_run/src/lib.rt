@@ -16,5 +16,5 @@ mod trace;
 mod words;
 
 pub use fault::RunFault;
-pub use laws::{exports_what_is_denoted, refuses_at_what_is_denoted};
+pub use laws::{declares_first, exports_what_is_denoted, refuses_at_what_is_denoted};
 pub use run::{fail, run_zones};

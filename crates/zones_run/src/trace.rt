@@ -4,6 +4,7 @@
 ghost use Rattle.std.specs.Prelude.{◌≡◌, ◌≢◌, ◌<◌, ◌≤◌, ◌⊎◌, ℕ, List, [], Err, IfErr, length, IfOk, IfSome, IsErrOf, OnErr, OnOk, Option};
 ghost use Rattle.zn_io.specs.Streams.{Rose, after_known};
 ghost use Rattle.zone_machine.specs.Machine.{opening};
+ghost use Rattle.zone_machine.specs.State.{State};
 ghost use Rattle.zone_machine.specs.Code.Cells.{Stands};
 ghost use Rattle.trace_text.specs.Lines.{event_of};
 ghost use Rattle.zones_run.specs.Run.{HasFront};
@@ -25,7 +26,7 @@ fn is_refused_turn(turn: &TurnReply) -> bool
     ensures { result ≡ is_refused_turn turn.now }
 {
     match turn {
-        TurnReply::Failed(_, _) => true,
+        TurnReply::Failed(_, _) | TurnReply::Stuck => true,
         TurnReply::Finished(_, outcome) => !matches!(outcome, Outcome::Done),
         _ => false,
     }
@@ -87,11 +88,11 @@ fn take_line(
     waiting: &mut Vec<u8>,
 ) -> Result<Option<u64>, Stop>
     requires { length line.now ≤ 4096 }
-    ensures taken { IfOk result (λ now. (held : Option (List ℕ)) → TakesEvent (λ S. Stands S machine.old) (λ S. Stands S machine.new) (event_of line.now) number refused now (after_known held waiting.old.items) (after_known held waiting.new.items)) }
-    ensures stopped { IfErr result (λ stop. Stops stop (event_of line.now)) }
+    ensures taken { IfOk result (λ now. (S : State) → Stands S machine.old → (held : Option (List ℕ)) → TakesEvent (λ S. Stands S machine.old) (λ S. Stands S machine.new) (event_of S.started line.now) number refused now (after_known held waiting.old.items) (after_known held waiting.new.items)) }
+    ensures stopped { IfErr result (λ stop. (S : State) → Stands S machine.old → Stops stop (event_of S.started line.now)) }
     ensures same { OnErr result (waiting.new.items ≡ waiting.old.items) }
 {
-    match read_line(alloc, line) {
+    match read_line(alloc, line, machine.started()) {
         Ok(None) => Ok(refused),
         Ok(Some(event)) => match answer(alloc, machine, &event, text, waiting) {
             Ok(true) => Ok(refused.or(Some(number))),

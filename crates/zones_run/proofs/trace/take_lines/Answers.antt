@@ -72,9 +72,9 @@ returns-in-Err-Memory-clause-written g c = written_on _ _ _ c.loop-before.invari
 pub returns-in-Err-Grammar-clause-told : goal.returns-in-Err-Grammar-clause-told
 returns-in-Err-Grammar-clause-told g c =
     let line = rw c.in-Line.is at c.in_ok-next_line.ensures.got in
-    let says = rw c.deref.ensures.value at c.in-Err-Grammar.ensures.stopped in
+    let stopped = rw c.deref.ensures.value at c.in-Err-Grammar.ensures.stopped in
     tells_fault _ _ _ _ _ c.next_line.new.line.items _ _ _ _
-    (runs_told _ _ _ _ _ _ _ _ (ap (after_known (g.K.Sink.holds c.write_some.new.out)) c.in-Err-Grammar.ensures.same ∙ c.in_ok-write_some.ensures.same) c.loop-before.invariant.run) line.0 (omega arith) line.1 (stops_outside _ _ _ says (cc))
+    (runs_told _ _ _ _ _ _ _ _ (ap (after_known (g.K.Sink.holds c.write_some.new.out)) c.in-Err-Grammar.ensures.same ∙ c.in_ok-write_some.ensures.same) c.loop-before.invariant.run) line.0 (omega arith) line.1 (λ S stood. stops_outside _ _ _ (stopped S stood) (cc))
 
 pub returns-in-Err-Grammar-clause-taken : goal.returns-in-Err-Grammar-clause-taken
 returns-in-Err-Grammar-clause-taken g c =
@@ -89,8 +89,8 @@ loop-before-preserved g c =
     let took = rw c.in-Line.is at c.in_ok-next_line.ensures.took in
     let taken = rw c.deref.ensures.value at c.in-Ok.ensures.taken in
     record {
-      run = runs_line _ _ _ _ _ _ _ _ _ _ _ _ _ refl (runs_told _ _ _ _ _ _ _ _ c.in_ok-write_some.ensures.same c.loop-before.invariant.run)
-          (taken (g.K.Sink.holds c.write_some.new.out)) took (omega arith) line.1;
+      run = runs_line _ _ _ _ _ _ _ _ _ _ _ _ (runs_told _ _ _ _ _ _ _ _ c.in_ok-write_some.ensures.same c.loop-before.invariant.run)
+          (λ S stood. taken S stood (g.K.Sink.holds c.write_some.new.out)) took (omega arith) line.1;
       few = c.in_ok-next_line.ensures.few c.in-Line.is;
       written = written_on _ _ _ c.loop-before.invariant.written c.in_ok-write_some.ensures.written;
       read = omega (arith, c.loop-before.invariant.read, c.next_line.ensures.later);

@@ -1,0 +1,15 @@
+-- The order in which a trace declares.
+use Rattle.std.specs.Prelude.{◌≡◌, ◌++◌, ℕ, List, ◌∷◌, map, All, false}
+use Rattle.zn_base.specs.Lines.{lines_of}
+use Rattle.zone_machine.specs.declared.events.Declaration.{Declaration}
+use Rattle.zone_machine.specs.declared.events.Event.{Event}
+use Rattle.zone_machine.specs.declared.events.Event.TheVariants.{System}
+use Rattle.zones_run.specs.Tracing.{counts_event, script_from}
+
+-- the events of a whole input, in order
+abbrev pub events_of : List ℕ → List Event
+events_of bytes = map (λ e. e.1) (script_from false 1 (lines_of bytes)).events
+
+-- a law: only declarations stand before a declaration
+abbrev pub DeclaresFirst : Type 0
+DeclaresFirst = (bytes : List ℕ) (before after : List Event) (what : Declaration) → events_of bytes ≡ before ++ System what ∷ after → All (λ e. counts_event e ≡ false) before
