@@ -19,6 +19,8 @@ mod paths;
 #[cfg(test)]
 mod patterns;
 #[cfg(test)]
+mod places;
+#[cfg(test)]
 mod privileges;
 #[cfg(test)]
 mod states;

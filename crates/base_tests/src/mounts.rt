@@ -1,4 +1,4 @@
-//! The mounts of a zone: each call where it does something, and each refusal in its order; the places of paths, by
+//! The mounts of a zone: each call where it does something, and each refusal in its order; the mounts over paths, by
 //! whole components. What is done goes through helpers without contracts, so that no test's proof follows what a cell
 //! holds.
 use kernel_objects::Errno;
@@ -25,8 +25,6 @@ const EINVAL: Came = Came::Fault(MountFault::Refused(Errno::EINVAL));
 const ENOENT: Came = Came::Fault(MountFault::Refused(Errno::ENOENT));
 
 const EROFS: Came = Came::Fault(MountFault::Refused(Errno::EROFS));
-
-const ENAMETOOLONG: Came = Came::Fault(MountFault::Refused(Errno::ENAMETOOLONG));
 
 const TOO_MANY: Came = Came::Fault(MountFault::TooManyMounts);
 
@@ -96,6 +94,14 @@ fn unmount(alloc: Global, cell: &mut MountCell, dir: &[u8]) -> Result<Came, Fail
     })
 }
 
+fn hold(alloc: Global, cell: &mut MountCell, dir: &[u8]) -> Result<Came, Fail> {
+    Ok(held(cell.hold(&AbsPath::read(alloc, dir)?)))
+}
+
+fn release(alloc: Global, cell: &mut MountCell, dir: &[u8]) -> Result<Came, Fail> {
+    Ok(held(cell.release(&AbsPath::read(alloc, dir)?)))
+}
+
 // Whether a path has a place.
 fn find(
     alloc: Global,
@@ -123,6 +129,14 @@ fn goes_last(cell: &mut MountCell, dir: &[u8]) -> Came {
     }
 }
 
+fn last_is_held(cell: &mut MountCell) -> Came {
+    holds(matches!(cell.unmount_last(), Last::Held))
+}
+
+fn nothing_is_left(cell: &mut MountCell) -> Came {
+    holds(matches!(cell.unmount_last(), Last::Nothing))
+}
+
 enum Step {
     Mount(&'static [u8], What),
     Unmount(&'static [u8]),
@@ -140,37 +154,46 @@ fn take(alloc: Global, cell: &mut MountCell, step: &Step) -> Result<Came, Fail> 
     Ok(match step {
         Step::Mount(dir, what) => mount(alloc, cell, dir, *what)?,
         Step::Unmount(dir) => unmount(alloc, cell, dir)?,
-        Step::Hold(dir) => held(cell.hold(&AbsPath::read(alloc, dir)?)),
-        Step::Release(dir) => held(cell.release(&AbsPath::read(alloc, dir)?)),
+        Step::Hold(dir) => hold(alloc, cell, dir)?,
+        Step::Release(dir) => release(alloc, cell, dir)?,
         Step::Read(path, place) => find(alloc, cell, path, false, place)?,
         Step::Write(path, place) => find(alloc, cell, path, true, place)?,
         Step::Last(dir) => goes_last(cell, dir),
-        Step::LastIsHeld => holds(matches!(cell.unmount_last(), Last::Held)),
-        Step::NothingIsLeft => holds(matches!(cell.unmount_last(), Last::Nothing)),
+        Step::LastIsHeld => last_is_held(cell),
+        Step::NothingIsLeft => nothing_is_left(cell),
     })
 }
 
-// Whether just these directories are listed, each with its type and whether it is read-only.
-fn lists(alloc: Global, cell: &MountCell, rows: &[(&[u8], &[u8], bool)]) -> Result<bool, Fail> {
-    let mounts = cell.list(alloc)?;
+// A directory, its type, and whether it is read-only.
+type Row = (&'static [u8], &'static [u8], bool);
+
+fn is_row(mount: &Mount, row: &Row) -> bool {
+    let (dir, fstype, read_only) = row;
+    mount.dir.bytes() == *dir && mount.fstype.bytes() == *fstype && mount.read_only == *read_only
+}
+
+fn are_rows(mounts: &[Mount], rows: &[Row]) -> bool {
     if mounts.len() != rows.len() {
-        return Ok(false);
+        return false;
     }
-    for (mount, (dir, fstype, read_only)) in mounts.iter().zip(rows) {
-        if mount.dir.bytes() != *dir
-            || mount.fstype.bytes() != *fstype
-            || mount.read_only != *read_only
-        {
-            return Ok(false);
+    for (mount, row) in mounts.iter().zip(rows) {
+        if !is_row(mount, row) {
+            return false;
         }
     }
-    Ok(true)
+    true
+}
+
+// Whether just these mounts are listed.
+fn lists(alloc: Global, cell: &MountCell, rows: &[Row]) -> Result<bool, Fail> {
+    let mounts = cell.list(alloc)?;
+    Ok(are_rows(mounts.as_slice(), rows))
 }
 
 // What becomes of a zone without mounts, and what is listed then.
 struct Script {
     steps: &'static [(Step, Came)],
-    left: &'static [(&'static [u8], &'static [u8], bool)],
+    left: &'static [Row],
 }
 
 // The first step that comes to something else, or their number where it is the list that differs.
@@ -320,51 +343,25 @@ fn a_halt_unmounts_the_greatest_first(rt: HostRuntime) -> Result<(), Fail> {
     Ok(())
 }
 
-// `/d/`, and then so many bytes.
-fn path_below(alloc: Global, count: usize) -> Result<Vec<u8>, Fail> {
-    let mut path = Vec::from_slice(alloc, b"/d/")?;
-    for _ in 0..count {
-        path.push(b'x')?;
-    }
-    Ok(path)
-}
-
-// What becomes of a place of 4,001 bytes and some more, so many in all.
-fn long_place(alloc: Global, more: usize, all: usize) -> Result<Came, Fail> {
-    let mut cell = MountCell::new(alloc);
-    mount(alloc, &mut cell, b"/d", What::Lofs(&[b'a'; 4000]))?;
-    let path = AbsPath::read(alloc, &path_below(alloc, more)?)?;
-    let Ok(place) = cell.resolve(&path, false) else {
-        return Ok(Came::NotSo);
-    };
-    Ok(match place.to_text(alloc) {
-        Ok(text) => holds(text.bytes().len() == all),
-        Err(fault) => Came::Fault(fault),
-    })
-}
-
-#[test]
-fn a_place_has_4096_bytes_at_most(rt: HostRuntime) -> Result<(), Fail> {
-    assert_eq!(rt; long_place(rt.alloc(), 95, 4096)?, DONE);
-    assert_eq!(rt; long_place(rt.alloc(), 96, 4097)?, ENAMETOOLONG);
-    Ok(())
-}
-
 fn mount_at(alloc: Global, cell: &mut MountCell, number: u64) -> Result<Came, Fail> {
     let mut dir = Vec::new(alloc);
     push_numbered(&mut dir, b"/m", number)?;
     mount(alloc, cell, &dir, What::Lofs(b"/x"))
 }
 
-// Whether a zone has 128 mounts at most. A directory that is one already comes first.
 fn mounts_all(alloc: Global, cell: &mut MountCell) -> Result<bool, Fail> {
     for number in 0..128 {
         if mount_at(alloc, cell, number)? != DONE {
             return Ok(false);
         }
     }
+    Ok(true)
+}
+
+// Whether a zone has 128 mounts at most. A directory that is one already comes first.
+fn has_all(alloc: Global, cell: &mut MountCell) -> Result<bool, Fail> {
     Ok(
-        MOUNTS_MAX == 128
+        mounts_all(alloc, cell)?
             && mount_at(alloc, cell, 128)? == TOO_MANY
             && mount_at(alloc, cell, 127)? == EBUSY
             && unmount(alloc, cell, b"/m5")? == DONE
@@ -375,22 +372,33 @@ fn mounts_all(alloc: Global, cell: &mut MountCell) -> Result<bool, Fail> {
 #[test]
 fn there_are_128_mounts_at_most(rt: HostRuntime) -> Result<(), Fail> {
     let mut cell = MountCell::new(rt.alloc());
-    assert!(rt; mounts_all(rt.alloc(), &mut cell)?);
+    assert!(rt; MOUNTS_MAX == 128 && has_all(rt.alloc(), &mut cell)?);
     Ok(())
+}
+
+// A mount in its two halves, of which the second wants no memory.
+fn mount_in_halves(
+    alloc: Global,
+    cell: &mut MountCell,
+    dir: &[u8],
+    what: What,
+) -> Result<Came, Fail> {
+    let mount = mount_of(alloc, dir, what)?;
+    if let Err(fault) = cell.check_mount(&mount.dir) {
+        return Ok(Came::Fault(fault));
+    }
+    cell.reserve()?;
+    cell.put_reserved(mount);
+    Ok(DONE)
 }
 
 // Whether a mount comes, and another not in its place, once it is looked at.
 fn decides_and_mounts(alloc: Global, cell: &mut MountCell) -> Result<bool, Fail> {
-    let dir = AbsPath::read(alloc, b"/a")?;
-    let first = mount_of(alloc, b"/a", What::ReadOnly(b"/x"))?;
-    let second = mount_of(alloc, b"/a", What::Lofs(b"/y"))?;
-    let may = told(cell.check_mount(&dir)) == DONE;
-    cell.reserve()?;
-    cell.put_reserved(first);
-    let again = told(cell.check_mount(&dir));
-    cell.reserve()?;
-    cell.put_reserved(second);
-    Ok(may && again == EBUSY && lists(alloc, cell, &[(b"/a", b"lofs", true)])?)
+    Ok(
+        mount_in_halves(alloc, cell, b"/a", What::ReadOnly(b"/x"))? == DONE
+            && mount_in_halves(alloc, cell, b"/a", What::Lofs(b"/y"))? == EBUSY
+            && lists(alloc, cell, &[(b"/a", b"lofs", true)])?,
+    )
 }
 
 fn is_held(cell: &MountCell, dir: &AbsPath) -> bool {
@@ -411,21 +419,35 @@ fn decides_and_holds(alloc: Global, cell: &mut MountCell) -> Result<bool, Fail> 
     Ok(may && is && back && !is_held(cell, &dir))
 }
 
+fn takes_out(cell: &mut MountCell, dir: &AbsPath) -> bool {
+    cell.take_out(dir).is_some()
+}
+
+fn takes_last(cell: &mut MountCell) -> bool {
+    cell.take_last().is_some()
+}
+
 // Whether it goes, and nothing more then.
 fn decides_and_unmounts(alloc: Global, cell: &mut MountCell) -> Result<bool, Fail> {
     let dir = AbsPath::read(alloc, b"/a")?;
     let may = told(cell.check_unmount(&dir)) == DONE && cell.last().is_some();
-    let gone = cell.take_out(&dir).is_some() && cell.take_out(&dir).is_none();
-    let empty = cell.entries().is_empty() && cell.last().is_none() && cell.take_last().is_none();
+    let gone = takes_out(cell, &dir) && !takes_out(cell, &dir) && !takes_last(cell);
+    let empty = cell.entries().is_empty() && cell.last().is_none();
     Ok(may && gone && empty && told(cell.check_unmount(&dir)) == EINVAL)
+}
+
+fn decides_and_does(alloc: Global, cell: &mut MountCell) -> Result<bool, Fail> {
+    Ok(
+        decides_and_mounts(alloc, cell)?
+            && decides_and_holds(alloc, cell)?
+            && decides_and_unmounts(alloc, cell)?,
+    )
 }
 
 #[test]
 fn what_is_decided_of_mounts_is_done(rt: HostRuntime) -> Result<(), Fail> {
     let mut cell = MountCell::new(rt.alloc());
-    assert!(rt; decides_and_mounts(rt.alloc(), &mut cell)?);
-    assert!(rt; decides_and_holds(rt.alloc(), &mut cell)?);
-    assert!(rt; decides_and_unmounts(rt.alloc(), &mut cell)?);
+    assert!(rt; decides_and_does(rt.alloc(), &mut cell)?);
     Ok(())
 }
 

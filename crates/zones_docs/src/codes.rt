@@ -18,8 +18,17 @@ const PAGE: &str = "CODES.md";
 // How the paragraph of a code begins; its code and name follow, to the end of the line.
 const HEAD: &str = "### ";
 
-// A command, an input that it refuses, and the code and name that it prints.
+// A command, or `IN_A_ZONE`, an input that it refuses, and the code and name that it prints.
 type Run = (&'static str, &'static str, &'static str);
+
+// A trace in which the zone `a` has its first process.
+const IN_A_ZONE: &str = "trace in a zone";
+
+const BOOTED: &str = "S 1 zonecfg -z a create -b; set zonepath=/a; set brand=ipkg
+S 1 zoneadm -z a install
+D a\nD a\nD a\nD a\nD a\nD a\nD a\nD a\nD a\nD a
+S 1 zoneadm -z a boot
+D a\nD a\nD a\nD a\nD a\nD a\nD a\nD a\nD a\nD a\nD a\nD a\nD a\n";
 
 // For each variant of a fault type the runs that print it: a variant that is left out doesn't compile.
 macro_rules! runs_of {
@@ -132,6 +141,7 @@ fn line_runs() -> &'static [Run] {
         LineFault::BadTag => [("trace", "Q\n", "101 BadTag")],
         LineFault::BadWord(_) => [("trace", "S 65 x\n", "102 BadWord")],
         LineFault::GrantForm => [("trace", "@- D a\n", "103 GrantForm")],
+        LineFault::SysAfterStart => [("trace", "S 1\nY link a\n", "104 SysAfterStart")],
     )
 }
 
@@ -166,6 +176,7 @@ S 1 zoneadm -z a install\nS 2 zoneadm -z a install\nS 3 zoneadm -z a install
 S 4 zoneadm -z a install\nS 5 zoneadm -z a install\nS 6 zoneadm -z a install
 S 7 zoneadm -z a install\nS 8 zoneadm -z a install\nS 9 zoneadm -z a install\n";
 
+// `TooMany` and `TooManyMounts` want longer inputs; of the latter `too_many_mounts` makes one.
 fn reply_runs() -> &'static [Run] {
     runs_of!(Refusal:
         Refusal::BadName(_) => [],
@@ -177,29 +188,64 @@ fn reply_runs() -> &'static [Run] {
         Refusal::DeskFull => [("trace", ASKED_NINE_TIMES, "92 DeskFull")],
         Refusal::Usage => [("trace", "S 1 zlogin a\n", "93 Usage")],
         Refusal::NoProcess => [("trace", "P a 2 true\n", "98 NoProcess")],
+        Refusal::Duplicate => [("trace", "Y link a\nY link a\n", "24 Duplicate")],
+        Refusal::TooMany(_) => [],
+        Refusal::TooManyMounts => [],
+        Refusal::HoldState => [(IN_A_ZONE, "S 1 frelease -z a /\n", "96 HoldState")],
+        Refusal::NoMount => [(IN_A_ZONE, "S 1 fhold -z a /x\n", "99 NoMount")],
         Refusal::Errno(_) => [],
     )
 }
 
-const FORKED_WITHOUT_PRIVILEGE: &str = "S 1 zonecfg -z a create -b; set zonepath=/a; set brand=ipkg
-S 1 zoneadm -z a install
-D a\nD a\nD a\nD a\nD a\nD a\nD a\nD a\nD a\nD a
-S 1 zoneadm -z a boot
-D a\nD a\nD a\nD a\nD a\nD a\nD a\nD a\nD a\nD a\nD a\nD a\nD a
-P a 2 drop proc_fork
-P a 2 fork x\n";
+const FORKED_WITHOUT_PRIVILEGE: &str = "P a 2 drop proc_fork\nP a 2 fork x\n";
 
-// No zone's configuration limits its processes, so no trace prints `EAGAIN`. The last five are of calls that no process
-// makes.
+const WRITTEN_READ_ONLY: &str = "P a 2 mount lofs /b /c ro\nP a 2 write /c\n";
+
+const MOUNTED_TWICE: &str = "P a 2 mount lofs /b /c\nP a 2 mount lofs /b /c\n";
+
+const TOO_MANY_MOUNTS: &str = "71 TooManyMounts";
+
+// One mount more than a zone may have, its root among them.
+fn too_many_mounts(alloc: Global) -> Result<Vec<u8>, AllocError> {
+    let mut input = Vec::new(alloc);
+    for first in b'a'..=b'h' {
+        for last in b'a'..=b'p' {
+            input.extend_from_slice(b"P a 2 mount lofs / /")?;
+            input.push(first)?;
+            input.push(last)?;
+            input.push(b'\n')?;
+        }
+    }
+    Ok(input)
+}
+
+const NAME_TOO_LONG: &str = "ENAMETOOLONG";
+
+// A path whose place is too long.
+fn name_too_long(alloc: Global) -> Result<Vec<u8>, AllocError> {
+    let mut input = b"P a 2 mount nfs ".to_vec(alloc)?;
+    for _ in 0..4060 {
+        input.push(b'x')?;
+    }
+    input.extend_from_slice(b" /b\nP a 2 read /b/")?;
+    for _ in 0..40 {
+        input.push(b'x')?;
+    }
+    input.push(b'\n')?;
+    Ok(input)
+}
+
+// No zone's configuration limits its processes, so no trace prints `EAGAIN`; a zone with processes has its root mounted, so
+// none prints `ENOENT`; and `ENAMETOOLONG` wants a longer input, as `name_too_long` makes.
 fn errno_runs() -> &'static [Run] {
     runs_of!(Errno:
         Errno::ESRCH => [("trace", "S 1 kill 9 2\n", "ESRCH")],
-        Errno::EPERM => [("trace", FORKED_WITHOUT_PRIVILEGE, "EPERM")],
+        Errno::EPERM => [(IN_A_ZONE, FORKED_WITHOUT_PRIVILEGE, "EPERM")],
         Errno::EAGAIN => [],
-        Errno::EINVAL => [],
+        Errno::EINVAL => [(IN_A_ZONE, "P a 2 umount /b\n", "EINVAL")],
         Errno::ENOENT => [],
-        Errno::EROFS => [],
-        Errno::EBUSY => [],
+        Errno::EROFS => [(IN_A_ZONE, WRITTEN_READ_ONLY, "EROFS")],
+        Errno::EBUSY => [(IN_A_ZONE, MOUNTED_TWICE, "EBUSY")],
         Errno::ENAMETOOLONG => [],
     )
 }
@@ -233,14 +279,29 @@ fn has_paragraph(page: &str, title: &str) -> bool {
     false
 }
 
+// The input of a run, and the command that is given it.
+fn given(
+    alloc: Global,
+    command: &'static str,
+    input: &[u8],
+) -> Result<(&'static str, Vec<u8>), AllocError> {
+    if command != IN_A_ZONE {
+        return Ok((command, input.to_vec(alloc)?));
+    }
+    let mut bytes = BOOTED.as_bytes().to_vec(alloc)?;
+    bytes.extend_from_slice(input)?;
+    Ok(("trace", bytes))
+}
+
 // Runs a command, and prints what is wrong: that it doesn't print the code and name, or that they have no paragraph.
 fn check_run(
     rt: &(impl Print + AllocGlobal),
     page: &str,
-    command: &str,
-    input: Vec<u8>,
+    command: &'static str,
+    input: &[u8],
     title: &str,
 ) -> io::Result<()> {
+    let (command, input) = given(rt.alloc(), command, input)?;
     let ended = run(rt.alloc(), command, input)?;
     if !has(ended.out.bytes(), title) && !has(ended.err.bytes(), title) {
         println!(rt; "{title} IS NOT PRINTED")?;
@@ -291,23 +352,18 @@ pub fn check(rt: &(impl Files + Print + AllocGlobal)) -> io::Result<()> {
     ];
     for runs in all {
         for (command, input, title) in runs {
-            check_run(
-                rt,
-                page.as_str(),
-                command,
-                input.as_bytes().to_vec(rt.alloc())?,
-                title,
-            )?;
+            check_run(rt, page.as_str(), command, input.as_bytes(), title)?;
             titles.push(*title)?;
         }
     }
-    check_run(
-        rt,
-        page.as_str(),
-        "export",
-        too_large(rt.alloc())?,
-        TOO_LARGE,
-    )?;
-    titles.push(TOO_LARGE)?;
+    let long = [
+        ("export", too_large(rt.alloc())?, TOO_LARGE),
+        (IN_A_ZONE, too_many_mounts(rt.alloc())?, TOO_MANY_MOUNTS),
+        (IN_A_ZONE, name_too_long(rt.alloc())?, NAME_TOO_LONG),
+    ];
+    for (command, input, title) in &long {
+        check_run(rt, page.as_str(), command, input.as_slice(), title)?;
+        titles.push(*title)?;
+    }
     check_paragraphs(rt, page.as_str(), titles.as_slice())
 }

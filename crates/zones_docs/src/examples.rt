@@ -63,6 +63,13 @@ const EXAMPLES: &[Example] = &[
         out: Some("examples/processes.replies"),
         err: Some("examples/processes.message"),
     },
+    Example {
+        command: "trace",
+        input: "examples/mounts.trace",
+        status: 1,
+        out: Some("examples/mounts.replies"),
+        err: Some("examples/mounts.message"),
+    },
 ];
 
 fn text_of(rt: &(impl Files + AllocGlobal), file: Option<&str>) -> io::Result<Vec<u8>> {

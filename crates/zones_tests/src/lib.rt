@@ -6,11 +6,19 @@
 #[cfg(test)]
 mod cells;
 #[cfg(test)]
+mod declarations;
+#[cfg(test)]
 mod exports;
+#[cfg(test)]
+mod holds;
 #[cfg(test)]
 mod limits;
 #[cfg(test)]
+mod lives;
+#[cfg(test)]
 mod machine;
+#[cfg(test)]
+mod mounts;
 #[cfg(test)]
 mod processes;
 #[cfg(test)]

@@ -1,105 +1,9 @@
 //! Calls of processes, in runs of `trace`.
-use crate::runs::{Ended, compare, run};
-use crate::traces::TRACED;
-use std::alloc::{AllocError, Global};
-use std::process::Abort;
+use crate::lives::{A, B, Row, check_rows};
 use std::test::Fail;
 
-// Two zones are made, installed and booted, each by a session of its own. Their first processes are 2 and 3.
-const BOOTING: &[u8] = b"S 1 zonecfg -z a create -b; set zonepath=/zones/a; set brand=ipkg
-S 1 zoneadm -z a install
-D a\nD a\nD a\nD a\nD a\nD a\nD a\nD a\nD a\nD a
-S 1 zoneadm -z a boot
-D a\nD a\nD a\nD a\nD a\nD a\nD a\nD a\nD a\nD a\nD a\nD a\nD a
-S 2 zonecfg -z b create -b; set zonepath=/zones/b; set brand=ipkg
-S 2 zoneadm -z b install
-D b\nD b\nD b\nD b\nD b\nD b\nD b\nD b\nD b\nD b
-S 2 zoneadm -z b boot
-D b\nD b\nD b\nD b\nD b\nD b\nD b\nD b\nD b\nD b\nD b\nD b\nD b
-";
-
-const BOOTED: &[u8] = b"a ok
-a ticket 1
-a began 1 install
-a step hook before install
-a step record incomplete
-a step copy 1
-a step copy 2
-a step copy 3
-a step copy 4
-a step record installed
-a step hook after install
-a finished 1 ok
-a ticket 2
-a began 2 boot
-a step hook before ready
-a step zid 1
-a step limits
-a step devices 0
-a step root
-a step state ready
-a step hook after ready
-a step hook before boot
-a step init 2
-a step state running
-a step hook after boot
-a finished 2 ok
-b ok
-b ticket 1
-b began 1 install
-b step hook before install
-b step record incomplete
-b step copy 1
-b step copy 2
-b step copy 3
-b step copy 4
-b step record installed
-b step hook after install
-b finished 1 ok
-b ticket 2
-b began 2 boot
-b step hook before ready
-b step zid 2
-b step limits
-b step devices 0
-b step root
-b step state ready
-b step hook after ready
-b step hook before boot
-b step init 3
-b step state running
-b step hook after boot
-b finished 2 ok
-";
-
-// One text behind the other.
-fn joined(alloc: Global, first: &[u8], second: &[u8]) -> Result<Vec<u8>, AllocError> {
-    let mut both = first.to_vec(alloc)?;
-    both.extend_from_slice(second)?;
-    Ok(both)
-}
-
-// Runs some lines once the two zones have booted.
-fn run_booted(alloc: Global, lines: &[u8]) -> Result<Ended, AllocError> {
-    let input = joined(alloc, BOOTING, lines)?;
-    run(alloc, &TRACED, &input, 64)
-}
-
-fn check_booted<R: Abort + AllocGlobal>(
-    rt: &R,
-    lines: &[u8],
-    status: u8,
-    replies: &[u8],
-    err_text: &[u8],
-) -> Result<(), Fail> {
-    let out_text = joined(rt.alloc(), BOOTED, replies)?;
-    let ended = run_booted(rt.alloc(), lines)?;
-    compare(rt, &ended, status, &out_text, err_text);
-    Ok(())
-}
-
-// The lines, the first of which is line 53 of its run; the status, the replies, and the line on standard error.
-const CALLS: &[(&[u8], u8, &[u8], &[u8])] = &[
+// Two zones have come up, with their first processes 2 and 3. The first line is line 53 of its run.
+const CALLS: &[Row] = &[
     // A zone's process can't reach those of another zone, nor learn whether they are there, and the first process of a
     // zone ignores signals of its own zone.
     (
@@ -322,8 +226,5 @@ P a 2 fork
 
 #[test]
 fn processes_call(rt: HostRuntime) -> Result<(), Fail> {
-    for (lines, status, replies, err_text) in CALLS {
-        check_booted(&rt, lines, *status, replies, err_text)?;
-    }
-    Ok(())
+    check_rows(&rt, &[A, B], CALLS)
 }

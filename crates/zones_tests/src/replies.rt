@@ -1,5 +1,6 @@
 //! The replies of one zone's way through install, boot and halt, refusals, failures and bodies.
 use kernel_objects::{Errno, ProcRow};
+use loopback_mounts::Mount;
 use std::alloc::Global;
 use std::process::Abort;
 use std::test::Fail;
@@ -33,6 +34,7 @@ enum Told {
     Clear,
     UndoneZid(Option<u32>),
     UndoneZidBack(Option<u32>),
+    Stuck,
 }
 
 fn step(told: Told) -> Step {
@@ -61,6 +63,7 @@ fn head(told: Told) -> Head {
         Told::Began(ticket, kind) => Head::Turned(TurnReply::Began(ticket, kind)),
         Told::Finished(ticket, outcome) => Head::Turned(TurnReply::Finished(ticket, outcome)),
         Told::Failed(number, outcome) => Head::Turned(TurnReply::Failed(number, outcome)),
+        Told::Stuck => Head::Turned(TurnReply::Stuck),
         Told::UndoneZid(_) | Told::UndoneZidBack(_) => Head::Turned(TurnReply::Undone(step(told))),
         _ => Head::Turned(TurnReply::Stepped(step(told))),
     }
@@ -205,8 +208,20 @@ const REFUSALS: &[Row] = &[
     ),
     (Told::Refused(Refusal::BadValue), "global err 23 BadValue\n"),
     (
+        Told::Refused(Refusal::Duplicate),
+        "global err 24 Duplicate\n",
+    ),
+    (
+        Told::Refused(Refusal::TooMany(1024)),
+        "global err 27 TooMany 1024\n",
+    ),
+    (
         Told::Refused(Refusal::NeedForce),
         "global err 34 NeedForce\n",
+    ),
+    (
+        Told::Refused(Refusal::TooManyMounts),
+        "global err 71 TooManyMounts\n",
     ),
     (
         Told::Refused(Refusal::Denied(Pool::Zones)),
@@ -224,9 +239,14 @@ const REFUSALS: &[Row] = &[
     (Told::Refused(Refusal::DeskFull), "global err 92 DeskFull\n"),
     (Told::Refused(Refusal::Usage), "global err 93 Usage\n"),
     (
+        Told::Refused(Refusal::HoldState),
+        "global err 96 HoldState\n",
+    ),
+    (
         Told::Refused(Refusal::NoProcess),
         "global err 98 NoProcess\n",
     ),
+    (Told::Refused(Refusal::NoMount), "global err 99 NoMount\n"),
     (
         Told::Refused(Refusal::Errno(Errno::ESRCH)),
         "global err ESRCH\n",
@@ -238,6 +258,26 @@ const REFUSALS: &[Row] = &[
     (
         Told::Refused(Refusal::Errno(Errno::EAGAIN)),
         "global err EAGAIN\n",
+    ),
+    (
+        Told::Refused(Refusal::Errno(Errno::EINVAL)),
+        "global err EINVAL\n",
+    ),
+    (
+        Told::Refused(Refusal::Errno(Errno::ENOENT)),
+        "global err ENOENT\n",
+    ),
+    (
+        Told::Refused(Refusal::Errno(Errno::EROFS)),
+        "global err EROFS\n",
+    ),
+    (
+        Told::Refused(Refusal::Errno(Errno::EBUSY)),
+        "global err EBUSY\n",
+    ),
+    (
+        Told::Refused(Refusal::Errno(Errno::ENAMETOOLONG)),
+        "global err ENAMETOOLONG\n",
     ),
 ];
 
@@ -255,6 +295,7 @@ const FAILURES: &[Row] = &[
         Told::Failed(1, Outcome::Denied(Pool::Store)),
         "* failed 1: 82 Denied store\n",
     ),
+    (Told::Stuck, "* stuck unmount\n"),
     (Told::UndoneZidBack(None), "* undone zidback\n"),
     (Told::UndoneZid(Some(1)), "* undone zid 1\n"),
     (
@@ -337,5 +378,74 @@ fn each_text_has_a_line(rt: HostRuntime) -> Result<(), Fail> {
             "a ok\n| proc_exec,proc_fork\n| \n"
         )?
     );
+    Ok(())
+}
+
+fn mount(
+    alloc: Global,
+    dir: &[u8],
+    fstype: &[u8],
+    special: &[u8],
+    read_only: bool,
+) -> Result<Mount, Fail> {
+    Ok(Mount {
+        dir: AbsPath::read(alloc, dir)?,
+        fstype: Text::read(alloc, fstype)?,
+        special: Text::read(alloc, special)?,
+        read_only,
+        by_process: true,
+    })
+}
+
+fn two_mounts(alloc: Global) -> Result<Body, Fail> {
+    let mut mounts = Listing::new(alloc);
+    mounts.push(mount(alloc, b"/", b"root", b"/zones/a/root", false)?)?;
+    mounts.push(mount(alloc, b"/m", b"nfs", b"host:/e", true)?)?;
+    Ok(Body::Mounts(mounts))
+}
+
+#[test]
+fn each_mount_has_a_line(rt: HostRuntime) -> Result<(), Fail> {
+    let wanted = "a ok\n| / root rw\n| /m nfs ro\n";
+    assert!(rt; is_body(rt.alloc(), two_mounts(rt.alloc())?, wanted)?);
+    Ok(())
+}
+
+fn texts(alloc: Global, rows: &[&[u8]]) -> Result<Listing<Text>, Fail> {
+    let mut texts = Listing::new(alloc);
+    for row in rows {
+        texts.push(Text::read(alloc, row)?)?;
+    }
+    Ok(texts)
+}
+
+#[test]
+fn links_come_before_addresses(rt: HostRuntime) -> Result<(), Fail> {
+    let links = texts(rt.alloc(), &[b"net1", b"net0"])?;
+    let addresses = texts(rt.alloc(), &[b"10.0.0.2"])?;
+    let wanted = "a ok\n| link net1\n| link net0\n| address 10.0.0.2\n";
+    assert!(rt; is_body(rt.alloc(), Body::Net(links, addresses), wanted)?);
+    Ok(())
+}
+
+#[test]
+fn each_dataset_has_a_line(rt: HostRuntime) -> Result<(), Fail> {
+    let datasets = texts(rt.alloc(), &[b"rpool/b", b"rpool/a"])?;
+    let wanted = "a ok\n| rpool/b\n| rpool/a\n";
+    assert!(rt; is_body(rt.alloc(), Body::Datasets(datasets), wanted)?);
+    Ok(())
+}
+
+fn two_devices(alloc: Global) -> Result<Body, Fail> {
+    let mut devices = Listing::new(alloc);
+    devices.push(AbsPath::read(alloc, b"/dev/null")?)?;
+    devices.push(AbsPath::read(alloc, b"/dev/a")?)?;
+    Ok(Body::Devices(devices))
+}
+
+#[test]
+fn each_device_has_a_line(rt: HostRuntime) -> Result<(), Fail> {
+    let wanted = "a ok\n| /dev/null\n| /dev/a\n";
+    assert!(rt; is_body(rt.alloc(), two_devices(rt.alloc())?, wanted)?);
     Ok(())
 }

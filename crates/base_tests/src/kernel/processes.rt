@@ -1,7 +1,7 @@
 //! Processes of a zone: how they come, are changed and go, and each refusal in its order.
-use crate::kernel::zone::{Came, DONE, EAGAIN, EPERM, ESRCH, Zone, refused};
+use crate::kernel::zone::{Came, DONE, EAGAIN, EPERM, ESRCH, Row, Zone, refused};
 use kernel_objects::Signal;
-use priv_sets::{PROC_EXEC, PROC_FORK};
+use priv_sets::{PROC_EXEC, PROC_FORK, SYS_MOUNT};
 use std::alloc::Global;
 use std::test::Fail;
 use zn_base::Text;
@@ -17,6 +17,7 @@ enum Step {
     Kill(bool, Signal, u32),
     Drop(u32, u8),
     May(u32, u8),
+    MayMount(u32),
     // Whether the number is free, and whether the pool gives it next.
     IsFree(u32),
     IsNext(u32),
@@ -27,7 +28,7 @@ struct Script {
     most: Option<u64>,
     steps: &'static [(Step, Came)],
     // The processes that are left, each with its parent and its name.
-    left: &'static [(u32, u32, &'static [u8])],
+    left: &'static [Row],
 }
 
 fn holds(it: bool) -> Came {
@@ -43,6 +44,7 @@ fn take(alloc: Global, zone: &mut Zone, step: &Step) -> Result<Came, Fail> {
         Step::Kill(inside, signal, pid) => zone.kill(*inside, *signal, *pid),
         Step::Drop(pid, number) => zone.drop_priv(*pid, *number),
         Step::May(pid, number) => holds(zone.may(*pid, *number)),
+        Step::MayMount(pid) => zone.may_mount(*pid),
         Step::IsFree(pid) => holds(zone.shared.pid_free(*pid)),
         Step::IsNext(pid) => holds(zone.shared.next_pid() == Grant::Number(*pid)),
     })
@@ -138,6 +140,26 @@ const DROPPED: Script = Script {
 #[test]
 fn a_dropped_privilege_stays_dropped(rt: HostRuntime) -> Result<(), Fail> {
     assert_eq!(rt; first_wrong(rt.alloc(), &DROPPED)?, None);
+    Ok(())
+}
+
+const MOUNTERS: Script = Script {
+    most: None,
+    steps: &[
+        (Step::Enter(b"init", true, 2), DONE),
+        (Step::MayMount(2), DONE),
+        (Step::Fork(2, b"x", 3), DONE),
+        (Step::Drop(3, SYS_MOUNT), DONE),
+        (Step::MayMount(3), EPERM),
+        (Step::MayMount(2), DONE),
+        (Step::MayMount(4), ESRCH),
+    ],
+    left: &[(2, 0, b"init"), (3, 2, b"x")],
+};
+
+#[test]
+fn mounts_need_their_privilege(rt: HostRuntime) -> Result<(), Fail> {
+    assert_eq!(rt; first_wrong(rt.alloc(), &MOUNTERS)?, None);
     Ok(())
 }
 

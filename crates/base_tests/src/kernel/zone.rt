@@ -1,6 +1,6 @@
 //! A zone with what it has in the kernel, and what a call on it came to. What is done goes through helpers without
 //! contracts, so that no test's proof follows what a cell holds.
-use kernel_objects::{Errno, KernelCell, KernelFault, KernelShared, Running, Signal};
+use kernel_objects::{Errno, KernelCell, KernelFault, KernelShared, ProcRow, Running, Signal};
 use priv_sets::limit_of;
 use std::alloc::Global;
 use std::test::Fail;
@@ -54,6 +54,33 @@ pub fn refused(answer: Result<(), Errno>) -> Came {
         Ok(()) => DONE,
         Err(errno) => Came::Fault(KernelFault::Refused(errno)),
     }
+}
+
+/// The number of a process, its parent's, and its name.
+pub type Row = (u32, u32, &'static [u8]);
+
+fn are_rows(listed: &[ProcRow], rows: &[Row]) -> bool {
+    if listed.len() != rows.len() {
+        return false;
+    }
+    for (row, (pid, parent, name)) in listed.iter().zip(rows) {
+        if row.pid != *pid || row.parent != *parent || row.name.bytes() != *name {
+            return false;
+        }
+    }
+    true
+}
+
+fn are_paths(devices: &[AbsPath], paths: &[&[u8]]) -> bool {
+    if devices.len() != paths.len() {
+        return false;
+    }
+    for (device, path) in devices.iter().zip(paths) {
+        if device.bytes() != *path {
+            return false;
+        }
+    }
+    true
 }
 
 impl Zone {
@@ -150,6 +177,10 @@ impl Zone {
         refused(self.cell.drop_priv(pid, number))
     }
 
+    pub fn may_mount(&self, pid: u32) -> Came {
+        refused(self.cell.check_mounter(pid))
+    }
+
     pub fn may(&self, pid: u32, number: u8) -> bool {
         match self.cell.privs(pid) {
             Some(set) => set.has(number),
@@ -158,30 +189,14 @@ impl Zone {
     }
 
     /// Whether just these processes are listed, each with its parent and its name.
-    pub fn lists(&self, alloc: Global, rows: &[(u32, u32, &[u8])]) -> Result<bool, Fail> {
+    pub fn lists(&self, alloc: Global, rows: &[Row]) -> Result<bool, Fail> {
         let listed = self.cell.list_procs(alloc)?;
-        if listed.len() != rows.len() {
-            return Ok(false);
-        }
-        for (row, (pid, parent, name)) in listed.as_slice().iter().zip(rows) {
-            if row.pid != *pid || row.parent != *parent || row.name.bytes() != *name {
-                return Ok(false);
-            }
-        }
-        Ok(true)
+        Ok(are_rows(listed.as_slice(), rows))
     }
 
     pub fn has_devices(&self, alloc: Global, paths: &[&[u8]]) -> Result<bool, Fail> {
         let devices = self.cell.list_devices(alloc)?;
-        if devices.len() != paths.len() {
-            return Ok(false);
-        }
-        for (device, path) in devices.iter().zip(paths) {
-            if device.bytes() != *path {
-                return Ok(false);
-            }
-        }
-        Ok(true)
+        Ok(are_paths(devices.as_slice(), paths))
     }
 
     pub fn declare(&mut self, alloc: Global, path: &[u8]) -> Result<Came, Fail> {
