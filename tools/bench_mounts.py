@@ -15,7 +15,7 @@ CALL is one of these; the zone has so many MOUNTS, its root included, at most 12
 Lines and replies of a call are as long for any number of MOUNTS, and no line is refused. The lines before the measured
 ones are the same for every number of LINES, so the instructions of a line are the difference of two lengths;
 `--measure` prints them for each call, with 1 and with 128 mounts, and how many times as many the latter are. It prints
-too what a `Y` line takes among the first and among the last of 1,024 declared items.
+too what a `Y` line of each kind takes among the first and among the last of 1,024 declared items of that kind.
 """
 
 import argparse
@@ -30,6 +30,7 @@ SPECIAL = "/here"
 SIZES = (1, 128)
 LENGTHS = (5000, 10000)
 DECLARED = (0, 256, 768, 1024)
+ITEMS = ["link net%02d.%02d", "address 10.0.1%02d.1%02d", "dataset tank/%02d%02d", "device /dev/%02d/%02d"]
 
 
 def directory(number):
@@ -61,9 +62,10 @@ def trace(call, mounts, lines):
     return ("\n".join(out) + "\n").encode()
 
 
-def declarations(items):
-    """So many links that are declared, in no order of their names."""
-    return "".join("Y link net%d\n" % (number * 389 % 1024) for number in range(items)).encode()
+def declarations(form, items):
+    """So many items of a kind that are declared, in no order of their names, which are as long as one another."""
+    places = [number * 389 % DECLARED[-1] for number in range(items)]
+    return "".join("Y " + form % divmod(place, 32) + "\n" for place in places).encode()
 
 
 def per_line(program, short, long, lines):
@@ -82,11 +84,14 @@ def calls(program):
 
 
 def declared(program):
-    """A table of the instructions of a declaration."""
-    first, last = (per_line(program, declarations(least), declarations(most), most - least)
-                   for least, most in (DECLARED[:2], DECLARED[2:]))
-    row = ["Y link"] + ["{:,}".format(round(it)) for it in (first, last)] + ["%.2f" % (last / first)]
-    return table(["A line of", "among the first 256", "among the last 256", "times"], [row])
+    """A table of the instructions of a declaration of each kind."""
+    rows = []
+    for form in ITEMS:
+        first, last = (per_line(program, declarations(form, least), declarations(form, most), most - least)
+                       for least, most in (DECLARED[:2], DECLARED[2:]))
+        counts = ["{:,}".format(round(it)) for it in (first, last)]
+        rows.append(["Y " + form.split()[0]] + counts + ["%.2f" % (last / first)])
+    return table(["A line of", "among the first 256", "among the last 256", "times"], rows)
 
 
 def main():

@@ -34,8 +34,16 @@ TRACES = [
     b"S 1 zonecfg -z a create -b; set zonepath=/zones/a; set brand=ipkg\nS 1 zoneadm -z a install\n" + b"D a\n" * 10,
     b"S 1 zonecfg -z b create -b; set zonepath=/zones/b; set brand=ipkg\nS 2 zoneadm -z b install\n" + b"D b\n" * 10
     + b"S 2 zoneadm -z b boot\n" + b"D b\n" * 13 + b"S 3 zoneadm -z b halt\n" + b"D b\n" * 11,
+    b"Y link net0\nY address 10.0.0.1\nY dataset tank/a\nY device /dev/dsk\n"
+    b"S 1 zonecfg -z c create -b; set zonepath=/zones/c; set brand=ipkg\nS 1 zoneadm -z c install\n" + b"D c\n" * 10
+    + b"S 1 zoneadm -z c boot\n" + b"D c\n" * 13 + b"P c 2 mount lofs /export /m ro\nP c 2 mount nfs h:/x /m/n\n"
+    b"S 2 fhold -z c /m/n\nP c 2 umount /m\nP c 2 read /m/n/x\nP c 2 write /m/x\nP c 2 mounts\n"
+    b"S 1 zoneadm -z c halt\n" + b"D c\n" * 5 + b"S 2 frelease -z c /m/n\n" + b"D c\n" * 9,
 ]
-PIECES = [b"\n", b";", b"\"", b"(", b"]", b"=", b"\0", b"\xff", b"S 64 ", b"@pids 7 ", b"D ", b" zonecfg -z ", b"set ", b"#", b"\r\n"]
+PIECES = [
+    b"\n", b";", b"\"", b"(", b"]", b"=", b"\0", b"\xff", b"S 64 ", b"@pids 7 ", b"D ", b" zonecfg -z ", b"set ", b"#",
+    b"\r\n", b"Y ", b"P c 2 ", b"/",
+]
 
 
 def damaged(rng, seeds):

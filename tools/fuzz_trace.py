@@ -1,16 +1,13 @@
 #!/usr/bin/env python3
 """Compares `zones trace` with the plain model in trace_model.py over random traces.
 
-    tools/fuzz_trace.py [--count N] [--seed S] [--program FILE] [--objects]
+    tools/fuzz_trace.py [--count N] [--seed S] [--program FILE]
     tools/fuzz_trace.py --self-test
-    tools/fuzz_trace.py --model-only [--count N] [--seed S] [--objects]
+    tools/fuzz_trace.py --model-only [--count N] [--seed S]
 
 Traces are made along the grammar (trace_maker.py, process_maker.py, object_maker.py), with the model at hand so that
 most events do something, and then some are cut, joined or have bytes changed. The first input that differs is made as
 short as dropping lines and bytes makes it, and kept in fuzz-trace.input. It is no part of the gate.
-
-`--objects` makes lines of mounts, of holds on them and of declared items, which the program doesn't read yet. Without it
-none are made, and those that come about by a change are wrong ones: 101, 102 at the call's first word, 93.
 
 `--self-test` compares the model with replies that are known, and needs no program. Nor does `--model-only`, which
 shows what the traces would be answered, and ends at a reply that has no form (reply_forms.py).
@@ -27,7 +24,6 @@ import trace_model as model
 import trace_rows
 from arguments import arguments
 from object_maker import ObjectMaker
-from process_maker import ProcessMaker
 from reply_forms import kind_of, kind_of_line, misformed
 
 
@@ -109,12 +105,12 @@ def compared(maker, args, wanted, got):
 
 
 def main():
-    args = arguments(__doc__, "self-test", "model-only", "objects")
+    args = arguments(__doc__, "self-test", "model-only")
     if args.self_test:
         return self_test()
-    maker = (ObjectMaker if args.objects else ProcessMaker)(random.Random(args.seed), args.objects)
+    maker = ObjectMaker(random.Random(args.seed))
     got = None if args.model_only else (lambda data: answer_of(args.program, data))
-    fault, counts = compared(maker, args, lambda data: model.run(data, args.objects), got)
+    fault, counts = compared(maker, args, model.run, got)
     if fault is not None:
         print(fault)
         return 1

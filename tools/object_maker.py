@@ -2,7 +2,7 @@
 and the global zone holds mounts."""
 
 from process_maker import ProcessMaker
-from trace_maker import NAMES, NO_NAMES
+from trace_maker import FORM, NAMES, NO_NAMES
 from zone_lines import TURNS, done, installed, running
 
 CALLS = {"mount": 24, "read": 22, "umount": 16, "write": 14, "mounts": 14, "links": 2, "datasets": 2, "devices": 2}
@@ -47,6 +47,11 @@ NO_ITEMS = {
     "dataset": ["n" * 64, "", "a b", "tank@snap", "tank:x", "\xe9", "a\x00", "tank\t", "a+b"],
     "device": NO_PATHS,
 }
+OCTETS = ["0", "1", "9", "10", "19", "25", "99", "100", "109", "199", "200", "249", "250", "254", "255"]
+NO_OCTETS = ["256", "259", "260", "300", "999", "1000", "00", "01", "010", "025", "0255", "", "-1", "a", "1a"]
+EDGE_BYTES = "abzAZ0189__--..//!!~~" + ":;@[`{,+*\"' \t\x1f\x7f\x80\xff\x00\r"
+# What a zone's root may lie in.
+ZONEPATHS = ["/z", "/zones/web", "/zones/web/x", "/...", "/" + "z" * 500, "/" + "z" * 1000, "/~!@#$%^&*", "/[a]"]
 # Words as long as they may be, and one byte longer.
 EDGES = [form % (letter * length) for form, letter, most in [
     ("Y link %s", "n", 63), ("Y dataset %s", "n", 63), ("Y device /%s", "p", 1022), ("P web 2 mount %s /x /m", "t", 15),
@@ -161,6 +166,13 @@ class ObjectMaker(ProcessMaker):
         else:
             super().move()
 
+    def make_running(self, zone):
+        """A zone that runs, with its root now and then in another place than others'."""
+        lines = running(zone, self.sessions[0])
+        if self.rng.random() < 0.3:
+            lines[0] = "S %d %s" % (self.sessions[0], FORM % (zone, self.rng.choice(ZONEPATHS)))
+        self.type_lines(lines)
+
     def let_go(self, zone):
         """Releases what keeps a zone's daemon from going on."""
         mounts = self.host.mounts[zone.encode()]
@@ -205,7 +217,7 @@ class ObjectMaker(ProcessMaker):
         rng = self.rng
         self.begin(rng.sample(NAMES, rng.choice([1, 1, 2])), rng.choice([1, 2]))
         for name in self.names:
-            self.type_lines(running(name, self.sessions[0]))
+            self.make_running(name)
         for _ in range(rng.choice([5, 20, 60, 150])):
             zone = rng.choice(self.names)
             if rng.random() < 0.1:
@@ -217,10 +229,75 @@ class ObjectMaker(ProcessMaker):
                 self.process_line(zone, ["mounts"])
         return self.data()
 
+    def looked_at(self, name, directories):
+        """Looks where each of some directories lies, and paths below and beside them."""
+        for directory in directories:
+            path = directory + self.rng.choice(RESTS)
+            self.line("P %s 2 %s %s" % (name, self.rng.choice(["read", "read", "write"]), path))
+
+    def tree(self):
+        """Mounts below mounts below mounts, that come in one order and go in another."""
+        rng = self.rng
+        self.begin(rng.sample(NAMES, 1), 2)
+        name = self.names[0]
+        self.make_running(name)
+        roots = rng.sample(["/a", "/ab", "/a-b", "/a/b", "/usr", "/b"], rng.choice([1, 2]))
+        step = rng.choice(["/a", "/b", "/-", "/~", "/a.b"])
+        directories = [root + step * depth for root in roots for depth in range(rng.choice([2, 4, 8, 40]))]
+        for directory in rng.sample(directories, len(directories)):
+            special = rng.choice([rng.choice(directories), self.path(name)])
+            words = rng.choice([["lofs", special], ["lofs", special], ["nfs", "x"], ["hsfs", "/"]])
+            self.line(" ".join(["P", name, "2", "mount"] + words + [directory] + rng.choice([[], [], ["ro"]])))
+            if rng.random() < 0.05:
+                self.hold(name)
+        self.looked_at(name, directories[:20])
+        self.line("P %s 2 mounts" % name)
+        for directory in rng.sample(directories, rng.randrange(len(directories) + 1)):
+            self.line("P %s 2 umount %s" % (name, directory))
+            self.looked_at(name, rng.sample(directories, 1))
+        self.line("P %s 2 mounts" % name)
+        if rng.random() < 0.5:
+            self.halt_with_holds(name)
+        return self.data()
+
+    def halt_with_holds(self, name):
+        """Halts a zone, and releases what is held as its daemon comes to it."""
+        for directory in list(self.host.mounts[name.encode()].by_directory):
+            if self.rng.random() < 0.15:
+                self.line("S %d fhold -z %s %s" % (self.sessions[1], name, directory))
+        self.type_lines(done(name, "halt", self.sessions[0]))
+        for _ in range(len(self.host.mounts[name.encode()].by_directory) + 8):
+            self.line("D %s" % name)
+            if self.rng.random() < 0.8:
+                self.let_go(name)
+
+    def chain(self):
+        """Mounts of lofs, each of the one before, of which some go and come anew."""
+        rng = self.rng
+        self.begin(rng.sample(NAMES, 1), 1)
+        name = self.names[0]
+        self.make_running(name)
+        directories = rng.sample(DIRECTORIES, rng.choice([3, 6, 12]))
+        under = rng.choice(["/", "/x"])
+        for directory in directories:
+            rest = rng.choice(["", "/y", "/y/z", "/b"])
+            special = under + rest if under != "/" else rest or "/"
+            self.line("P %s 2 mount lofs %s %s%s" % (name, special, directory, rng.choice(["", "", " ro"])))
+            under = directory
+        for _ in range(rng.choice([3, 10, 30])):
+            directory = rng.choice(directories)
+            self.line("P %s 2 umount %s" % (name, directory))
+            self.looked_at(name, rng.sample(directories, 2))
+            if rng.random() < 0.7:
+                self.line("P %s 2 mount lofs %s %s" % (name, rng.choice(directories + ["/"]), directory))
+                self.looked_at(name, [directory])
+        self.line("P %s 2 mounts" % name)
+        return self.data()
+
     def full(self):
         """A zone with about as many mounts as it may have."""
         rng = self.rng
-        self.begin(rng.sample(NAMES, 1), 1)
+        self.begin(rng.sample(NAMES, 1), 2)
         name = self.names[0]
         self.type_lines(running(name, self.sessions[0]))
         form = rng.choice(["/m%d", "/d" * 40 + "/%d", "/a/%d/b"])
@@ -228,12 +305,12 @@ class ObjectMaker(ProcessMaker):
             self.line("P %s 2 mount %s /x %s" % (name, rng.choice(["lofs", "nfs"]), form % number))
         for _ in range(rng.choice([3, 10])):
             self.process_line(name, self.object_call(name))
+            directory = self.mounted(name)
             self.process_line(name, rng.choice([
-                ["mount", "nfs", "x", "/new"], ["mount", "nfs", "x", self.mounted(name)], ["umount",
-                self.mounted(name)],
-                ["mounts"]]))
+                ["mount", "nfs", "x", "/new"], ["mount", "nfs", "x", directory], ["umount", directory], ["mounts"],
+            ]))
         if rng.random() < 0.4:
-            self.type_lines(done(name, "halt", self.sessions[0]) + ["D %s" % name] * rng.choice([0, 126, 130]))
+            self.halt_with_holds(name)
         return self.data()
 
     def of_length(self, zone, directory, length):
@@ -258,7 +335,7 @@ class ObjectMaker(ProcessMaker):
         rng = self.rng
         self.begin(rng.sample(NAMES, 1), 1)
         name = self.names[0]
-        self.type_lines(running(name, self.sessions[0]))
+        self.make_running(name)
         under = self.far(name)
         for _ in range(rng.choice([1, 3, 5])):
             path = self.of_length(name, under, rng.choice([4094, 4095, 4096, 4096, 4097, 4097, 4098]))
@@ -326,7 +403,7 @@ class ObjectMaker(ProcessMaker):
         return rng.choice([
             [rng.choice(NO_TYPES), "/x", "/m"], ["lofs", rng.choice(NO_PATHS), "/m"],
             ["lofs", "/x", rng.choice(NO_PATHS)], ["nfs", rng.choice(NO_SPECIALS + NO_PATHS), "/m"],
-            ["nfs", "x", "/m", rng.choice(NO_RO)], ["lofs", "/x", "/m", "ro", rng.choice(NO_RO)],
+            ["nfs", "x", "/m", rng.choice(NO_RO)], ["lofs", "/x", "/m", "ro", rng.choice(NO_RO + ["ro"])],
             [rng.choice(ODD_TYPES), "x", "/m"],
         ])
 
@@ -361,17 +438,50 @@ class ObjectMaker(ProcessMaker):
             self.process_line(zone, self.object_call(zone))
         return self.data()
 
+    def near(self, word):
+        """A word with a byte gone, put in or changed, for the most part to one beside those that words may have."""
+        rng = self.rng
+        at = rng.randrange(len(word) + 1)
+        return word[:at] + rng.choice(["", rng.choice(EDGE_BYTES)]) + word[at + rng.choice([0, 1]):]
+
+    def near_item(self, kind):
+        rng = self.rng
+        if kind == "address":
+            return ".".join(rng.choice(OCTETS if rng.random() < 0.97 else NO_OCTETS) for _ in range(4))
+        return self.near(rng.choice(ITEMS[kind]))
+
+    def near_words(self):
+        """Lines whose words are right or nearly so, up to a wrong one."""
+        rng = self.rng
+        self.begin(rng.sample(NAMES, 1), 1)
+        name = self.names[0]
+        for _ in range(rng.choice([1, 5, 20])):
+            kind = rng.choice(KINDS)
+            self.line("Y %s %s" % (kind, self.near_item(kind)))
+        if rng.random() < 0.3:
+            return self.data()
+        self.make_running(name)
+        for _ in range(rng.choice([1, 5, 20])):
+            words = rng.choice([
+                ["mount", "nfs", self.near("h:/~!x"), rng.choice(DIRECTORIES)],
+                ["mount", self.near(rng.choice(TYPES + ["t" * 15])), "/x", "/" + self.near("m")],
+                ["mount", "lofs", self.near("/a/b"), self.near("/m/n")],
+                [rng.choice(["read", "write", "umount"]), self.near("/a/b!~")],
+            ])
+            self.line(" ".join(["P", name, "2"] + words))
+        return self.data()
+
     def begin_anew(self):
         """Forgets the lines, for the most part."""
-        if self.rng.random() < 0.8:
+        if self.rng.random() < 0.6:
             self.begin(self.names, 2)
 
     def next(self, traces):
         chance = self.rng.random()
         for bound, make in [
-            (0.04, self.declared), (0.045, self.many_declared), (0.16, self.mounts), (0.17, self.full),
-            (0.20, self.long_places), (0.26, self.held), (0.28, self.stuck), (0.30, self.unprivileged),
-            (0.46, self.one_object_line),
+            (0.04, self.declared), (0.05, self.many_declared), (0.14, self.mounts), (0.16, self.full),
+            (0.20, self.tree), (0.23, self.chain), (0.27, self.long_places), (0.33, self.held), (0.35, self.stuck),
+            (0.38, self.unprivileged), (0.52, self.one_object_line), (0.58, self.near_words),
         ]:
             if chance < bound:
                 return make()

@@ -8,7 +8,7 @@ configuration that no line of a trace sets yet: it is handed to the model.
 import mount_model
 import trace_model as model
 from claim_model import is_matched
-from trace_lines import Outside, Refused
+from trace_lines import Refused
 from zone_lines import done, installed, made, running
 
 FILESYSTEMS = [
@@ -292,26 +292,10 @@ def without_mounts():
         return str(refused)
 
 
-def unread(line):
-    """How a line ends, or is answered, where a program knows no objects."""
-    host = model.Host(objects=False)
-    try:
-        return host.answer(host.read(line.encode()))[1][0]
-    except Outside as fault:
-        return str(fault)
-
-
-UNREAD = [
-    ("Y link net0", "101 BadTag"), ("P a 2 mounts", "102 BadWord 6"), ("P a 2 read", "102 BadWord 6"),
-    ("S 1 fhold -z a /", "err 93 Usage"),
-]
-
-
 def fault():
     """What the model answers otherwise than it is known, or None."""
     faults = [row_fault(*row) for row in ROWS] + [end_fault(*end) for end in ENDS]
     faults += ["%s of %s" % (path, pattern) for pattern, path, want in PATTERNS if is_matched(pattern, path) != want]
-    faults += ["a program without objects: %s" % line for line, want in UNREAD if unread(line) != want]
     if without_mounts() != "ENOENT":
         faults.append("a path in a zone without mounts")
     return next((it for it in faults if it is not None), None)

@@ -100,8 +100,7 @@ class ProcessMaker(Maker):
 
     def unbuilt(self):
         """The words of a call that isn't read."""
-        objects = [] if self.objects else [call.decode() for call in trace_lines.OBJECT_CALLS]
-        return (self.rng.choice(UNBUILT_FORMS) % self.rng.choice(trace_lines.UNBUILT + objects)).split(" ")
+        return (self.rng.choice(UNBUILT_FORMS) % self.rng.choice(trace_lines.UNBUILT)).split(" ")
 
     def call(self, zone):
         """The words of a call."""

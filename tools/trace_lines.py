@@ -1,8 +1,6 @@
 """The lines of a trace, as the model in trace_model.py reads them: events, calls of processes, and what sessions type.
 
-event_of(line, started, objects) reads one line, typed(text, objects) what a session types. `objects` says whether
-the lines of mounts, of holds on them and of declared items are read; a program that doesn't know them refuses such a
-line at its first word.
+event_of(line, started) reads one line, typed(text) what a session types.
 """
 
 import re
@@ -129,8 +127,6 @@ CALLS = {
     b"zonename": [],
     b"true": [],
     b"false": [],
-}
-OBJECT_CALLS = {
     b"mount": None,
     b"umount": [is_path],
     b"read": [is_path],
@@ -152,11 +148,10 @@ def mount_of(words):
     return rest + [words.next(lambda word: word == b"ro")] if words.more() else rest
 
 
-def call_of(words, objects):
+def call_of(words):
     """The words of the call that a line goes on with."""
-    calls = {**CALLS, **OBJECT_CALLS} if objects else CALLS
-    call = words.next(lambda word: word in calls)
-    rest = mount_of(words) if call == b"mount" else [words.next(is_right) for is_right in calls[call]]
+    call = words.next(lambda word: word in CALLS)
+    rest = mount_of(words) if call == b"mount" else [words.next(is_right) for is_right in CALLS[call]]
     words.end()
     return [word.decode() for word in [call] + rest]
 
@@ -171,14 +166,14 @@ def declaration_of(words, started):
     return ("Y", kind.decode(), item.decode())
 
 
-def event_of(line, started=False, objects=True):
+def event_of(line, started=False):
     """("S", number, text), ("D", name), ("P", name, pid, words of the call), ("Y", kind, item), or None for a line that
     is no event. `started` is whether an event other than a declaration came before."""
     if line.strip(b" ") == b"" or line[:1] == b"#":
         return None
     if line[:1] == b"@":
         raise Outside("103 GrantForm")
-    if line.split(b" ", 1)[0] not in ((b"S", b"D", b"P", b"Y") if objects else (b"S", b"D", b"P")):
+    if line.split(b" ", 1)[0] not in (b"S", b"D", b"P", b"Y"):
         raise Outside("101 BadTag")
     words = Words(line)
     tag = words.next(lambda word: True)
@@ -192,7 +187,7 @@ def event_of(line, started=False, objects=True):
         words.end()
         return ("D", name)
     pid = words.next(is_number)
-    return ("P", name, int(pid), call_of(words, objects))
+    return ("P", name, int(pid), call_of(words))
 
 
 # What a session types.
@@ -214,7 +209,7 @@ def made_path(words):
     return path.decode() if words == right and is_one_word(path) else None
 
 
-def typed(text, objects=True):
+def typed(text):
     """What a session's line asks for: (what, name, rest), where name may be None. The rest is the path of a zone that
     is made, signal and number of `kill`, or the directory of a hold."""
     words = text.split()
@@ -229,7 +224,6 @@ def typed(text, objects=True):
         return ("create", name, made_path(words))
     if len(words) == 3 and words[0] == b"kill" and is_signal(words[1]) and is_number(words[2]):
         return ("kill", name, (words[1].decode(), int(words[2])))
-    holds = (b"fhold", b"frelease") if objects else ()
-    if len(words) == 4 and words[0] in holds and words[1] == b"-z" and is_path(words[3]):
+    if len(words) == 4 and words[0] in (b"fhold", b"frelease") and words[1] == b"-z" and is_path(words[3]):
         return (words[0].decode(), name, words[3].decode())
     return ("unknown", name, None)

@@ -57,17 +57,16 @@ HEADS = [
 
 
 class Maker:
-    """Makes traces without processes' calls. It runs each line by the model, to know what has a point next. `objects`
-    says whether the program knows the lines of mounts, of holds on them and of declared items."""
+    """Makes traces without processes' calls. It runs each line by the model, to know what has a point next."""
 
     heads = HEADS
 
-    def __init__(self, rng, objects=True):
-        self.rng, self.objects = rng, objects
+    def __init__(self, rng):
+        self.rng = rng
         self.begin(["web"], 1)
 
     def begin(self, names, sessions):
-        self.host = model.Host(self.objects)
+        self.host = model.Host()
         self.lines = []
         self.names = names
         self.sessions = self.rng.sample(range(1, 65), sessions)

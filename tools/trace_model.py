@@ -1,6 +1,6 @@
 """A plain, slow model of `zones trace`, written from its rules, and not from the program.
 
-run(data, objects) gives (status, standard output, standard error) for a whole input. It shares no code with the
+run(data) gives (status, standard output, standard error) for a whole input. It shares no code with the
 program and is meant for comparing the two; tools/fuzz_trace.py does that, and tools/trace_rows.py and
 tools/object_rows.py compare the model with replies that are known. Lines are read by trace_lines.py, mounts kept by
 mount_model.py, declared items and claims by claim_model.py.
@@ -124,8 +124,8 @@ class Host:
     """The zones of one system with their processes, mounts, devices and claims, its sessions, and the last numbers
     given."""
 
-    def __init__(self, objects=True):
-        self.objects, self.started = objects, False
+    def __init__(self):
+        self.started = False
         self.paths, self.states, self.configs = {}, {}, collections.defaultdict(Config)
         self.desks, self.tickets = {}, {}
         self.zids, self.limits = {}, {}
@@ -135,7 +135,7 @@ class Host:
 
     def read(self, line):
         """The event of a line that comes next, or None where it is none."""
-        return event_of(line, self.started, self.objects)
+        return event_of(line, self.started)
 
     def answer(self, event):
         """The subject of an event, the lines of its reply (the first is the head), and whether it is refused."""
@@ -157,7 +157,7 @@ class Host:
         _, number, text = event
         if number in self.tickets:
             return self.tickets[number][0]
-        what, name, rest = typed(text, self.objects)
+        what, name, rest = typed(text)
         if what == "kill" and rest[1] in self.processes:
             return self.processes[rest[1]].zone
         return b"global" if name is None or name_fault(name) else name
@@ -174,7 +174,7 @@ class Host:
         _, number, text = event
         if number in self.tickets:
             raise Refused("91 Waiting %d" % self.tickets[number][1])
-        return [self.line(number, *typed(text, self.objects))]
+        return [self.line(number, *typed(text))]
 
     # Sessions.
 
@@ -427,9 +427,9 @@ class Host:
 
 # The whole run.
 
-def run(data, objects=True):
+def run(data):
     """The status and both texts of `zones trace` over an input."""
-    host = Host(objects)
+    host = Host()
     out, first = [], None
     for number, line in enumerate(export_model.lines_of(data), 1):
         if number > MOST_LINES or len(line) > MOST_BYTES:
