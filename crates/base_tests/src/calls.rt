@@ -173,7 +173,7 @@ fn is_mounted(mount: &MountCall, wanted: Mounted) -> bool {
 
 fn is_mount(alloc: Global, text: &[u8], wanted: Mounted) -> Result<bool, CallFault> {
     Ok(match &read_call(alloc, text)? {
-        Call::Mount(mount) => is_mounted(mount, wanted),
+        Call::Mount(boxed) => is_mounted(boxed.mount(), wanted),
         _ => false,
     })
 }

@@ -1,9 +1,10 @@
 //! Calls, and why a text is none.
-ghost use Rattle.std.specs.Prelude.{◌≡◌};
+ghost use Rattle.std.specs.Prelude.{◌≡◌, IfOk};
 ghost use Rattle.process_calls.specs.declared.call.CallFault.TheVariants.{Memory};
 
 use kernel_objects::Signal;
-use std::alloc::AllocError;
+use std::alloc::{AllocError, Global};
+use std::marker::Model;
 use thiserror::Error;
 use zn_base::{AbsPath, Text};
 
@@ -18,6 +19,38 @@ pub struct MountCall {
     pub dir: AbsPath,
     /// Whether it is mounted read-only.
     pub read_only: bool,
+}
+
+/// The same behind a pointer, so that a call is small whatever it asks for. Contracts see the mount itself.
+#[derive(Drop)]
+pub struct BoxedMount {
+    mount: Box<MountCall>,
+}
+
+impl Model for BoxedMount {
+    ghost use Rattle.process_calls.specs.declared.call.MountCall.{MountCall};
+
+    ghost Value = { MountCall };
+
+    ghost view = { λ m. m.mount.value };
+}
+
+impl BoxedMount {
+    /// A mount behind a pointer.
+    pub fn new(alloc: Global, mount: MountCall) -> Result<Self, AllocError>
+        ensures { IfOk result (λ boxed. boxed ≡ mount) }
+    {
+        Ok(Self {
+            mount: Box::new(alloc, mount)?,
+        })
+    }
+
+    /// The mount.
+    pub fn mount(&self) -> &MountCall
+        ensures { result.now ≡ self.now }
+    {
+        &self.mount
+    }
 }
 
 /// What a process asks for.
@@ -38,7 +71,7 @@ pub enum Call {
     /// The privilege of this number in the table of `priv_sets` is given up, by setppriv(2).
     Drop(u8),
     /// A file system is mounted, by mount(2).
-    Mount(MountCall),
+    Mount(BoxedMount),
     /// The file system that is mounted at a directory is unmounted, by umount(2).
     Umount(AbsPath),
     /// The file of a path is read, by read(2).

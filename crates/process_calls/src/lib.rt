@@ -8,7 +8,7 @@ mod read;
 mod words;
 mod write;
 
-pub use call::{Call, CallFault, MountCall};
+pub use call::{BoxedMount, Call, CallFault, MountCall};
 pub use laws::{calls_are_read_back, read_calls_are_right};
 pub use read::{pid_in, read_call, signal_in};
 pub use write::push_call;

@@ -10,7 +10,7 @@ ghost use Rattle.process_calls.specs.Reading.{as_word, end_of};
 ghost use Rattle.process_calls.specs.Words.{IsWithin, last, words_behind};
 
 use crate::words::{Word, next_word, no_more, word_at};
-use crate::{Call, CallFault, MountCall};
+use crate::{BoxedMount, Call, CallFault, MountCall};
 use kernel_objects::Signal;
 use priv_sets::number_of;
 use std::alloc::Global;
@@ -204,12 +204,13 @@ fn read_mount(alloc: Global, text: &[u8], behind: usize) -> Result<Call, CallFau
         return Err(CallFault::BadWord(dir.place));
     }
     let read_only = read_only(text, dir.end())?;
-    Ok(Call::Mount(MountCall {
+    let mount = MountCall {
         fstype: Text::of(alloc, fstype.bytes)?,
         special: Text::of(alloc, special.bytes)?,
         dir: AbsPath::of(alloc, dir.bytes)?,
         read_only,
-    }))
+    };
+    Ok(Call::Mount(BoxedMount::new(alloc, mount)?))
 }
 
 // A path, and no more.

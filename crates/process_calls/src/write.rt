@@ -53,7 +53,7 @@ pub fn push_call(text: &mut Vec<u8>, call: &Call) -> Result<(), AllocError>
         Call::Ps => text.extend_from_slice(b"ps"),
         Call::Privs => text.extend_from_slice(b"privs"),
         Call::Drop(number) => push_both(text, b"drop ", name_of(*number).as_bytes()),
-        Call::Mount(mount) => push_mount(text, mount),
+        Call::Mount(boxed) => push_mount(text, boxed.mount()),
         Call::Umount(dir) => push_both(text, b"umount ", dir.bytes()),
         Call::Read(path) => push_both(text, b"read ", path.bytes()),
         Call::Write(path) => push_both(text, b"write ", path.bytes()),

@@ -132,7 +132,7 @@ fn call_case(
         Call::Ps => ps_case(alloc, kernel),
         Call::Privs => privs_case(alloc, kernel, pid),
         Call::Drop(number) => Ok(Case::Change(ObjectEdit::GiveUp(pid, *number))),
-        Call::Mount(mount) => mount_case(alloc, kernel, &cell.mounts, pid, mount),
+        Call::Mount(boxed) => mount_case(alloc, kernel, &cell.mounts, pid, boxed.mount()),
         Call::Umount(dir) => umount_case(alloc, kernel, &cell.mounts, pid, dir),
         Call::Read(path) => place_case(alloc, &cell.mounts, path, false),
         Call::Write(path) => place_case(alloc, &cell.mounts, path, true),
