@@ -1,0 +1,3 @@
+pub mod Last_bytes
+pub mod Kept
+mod Examples
