@@ -1,0 +1,5 @@
+//! Tests of `zone_turn` over its public calls.
+#![tactic(auto)]
+
+#[cfg(test)]
+mod numbers;

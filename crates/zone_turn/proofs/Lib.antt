@@ -1,0 +1,4 @@
+pub mod Sums
+pub mod Moments
+pub mod Steps
+pub mod Calls
