@@ -553,8 +553,8 @@ def is_of_form(form, text):
     return True
 
 
-def flaw(config):
-    """The first flaw, or None."""
+def flaw(config, brands=("ipkg", "lx")):
+    """The first flaw, where these brands are there, or None."""
     def missing(kind, resource, names):
         for name in names:
             if not resource[name]:
@@ -563,7 +563,7 @@ def flaw(config):
 
     if not config["zonepath"]:
         return "41 NoZonepath"
-    if config["brand"] not in ("ipkg", "lx"):
+    if config["brand"] not in brands:
         return "46 UnknownBrand %s" % config["brand"]
     dirs = []
     for fs in config["fs"]:

@@ -1,15 +1,18 @@
 #!/usr/bin/env python3
 """Compares `zones trace` with the plain model in trace_model.py over random traces.
 
-    tools/fuzz_trace.py [--count N] [--seed S] [--program FILE]
+    tools/fuzz_trace.py [--requests] [--twice] [--count N] [--seed S] [--program FILE]
     tools/fuzz_trace.py --self-test
-    tools/fuzz_trace.py --model-only [--count N] [--seed S]
+    tools/fuzz_trace.py --model-only [--requests] [--twice] [--count N] [--seed S]
 
-Traces are made along the grammar (trace_maker.py, process_maker.py, object_maker.py), with the model at hand so that
-most events do something, and then some are cut, joined or have bytes changed. The first input that differs is made as
-short as dropping lines and bytes makes it, and kept in fuzz-trace.input. It is no part of the gate.
+Traces are made along the grammar (trace_maker.py, process_maker.py, object_maker.py, request_maker.py), with the model
+at hand so that most events do something, and then some are cut, joined or have bytes changed. With `--requests` they
+are all of requests of zoneadm(8). The first input that differs is made as short as dropping lines and bytes makes it,
+and kept in fuzz-trace.input. Each trace has a store of its own; with `--twice` it is run on it a second time, and
+compared then. It is no part of the gate.
 
-`--self-test` compares the model with replies that are known, and needs no program. Nor does `--model-only`, which
+`--self-test` compares the model with replies that are known, and looks at what holds of it in random systems
+(trace_rows.py, object_rows.py, request_rows.py, request_laws.py); it needs no program. Nor does `--model-only`, which
 shows what the traces would be answered, and ends at a reply that has no form (reply_forms.py).
 """
 
@@ -18,26 +21,49 @@ import pathlib
 import random
 import subprocess
 import sys
+import tempfile
+import time
 
 import object_rows
+import request_laws
+import request_rows
 import trace_model as model
 import trace_rows
 from arguments import arguments
-from object_maker import ObjectMaker
 from reply_forms import kind_of, kind_of_line, misformed
+from request_maker import RequestMaker
+from store_model import Store
 
 
-def answer_of(program, data):
-    done = subprocess.run([program, "trace"], input=data, capture_output=True, timeout=600)
+# In memory, where there is such a folder: the program waits for each record to be on its disk.
+IN_MEMORY = "/dev/shm" if pathlib.Path("/dev/shm").is_dir() else None
+SECONDS = 600
+
+
+def answer_of(program, data, times=1):
+    """The status and both texts of the program over an input, the last of so many times over one store, which is empty
+    before."""
+    with tempfile.TemporaryDirectory(dir=IN_MEMORY) as folder:
+        for _ in range(times):
+            done = subprocess.run([pathlib.Path(program).resolve(), "trace"], input=data, capture_output=True,
+                                  timeout=SECONDS, cwd=folder)
     return done.returncode, done.stdout, done.stderr
 
 
+def told_of(data, times=1):
+    """What the model says that is."""
+    store = Store()
+    for _ in range(times):
+        said = model.run(data, store)
+    return said
+
+
 def shortened(pieces, differs):
-    """As few of the pieces as still differ when they are joined, found by dropping runs of them."""
-    size = len(pieces)
+    """As few of the pieces as still differ when they are joined, found by dropping runs of them, for a while."""
+    size, end = len(pieces), time.monotonic() + SECONDS
     while size:
         at = 0
-        while at < len(pieces):
+        while at < len(pieces) and time.monotonic() < end:
             rest = pieces[:at] + pieces[at + size:]
             if differs(b"".join(rest)):
                 pieces = rest
@@ -55,7 +81,7 @@ def shortest(data, differs):
 
 
 def self_test():
-    fault = trace_rows.fault() or object_rows.fault()
+    fault = trace_rows.fault() or object_rows.fault() or request_rows.fault() or request_laws.fault()
     print("the model answers as it is known to" if fault is None else "the model differs: %s" % fault)
     return 0 if fault is None else 1
 
@@ -105,12 +131,13 @@ def compared(maker, args, wanted, got):
 
 
 def main():
-    args = arguments(__doc__, "self-test", "model-only")
+    args = arguments(__doc__, "self-test", "model-only", "requests", "twice")
+    times = 2 if args.twice else 1
     if args.self_test:
         return self_test()
-    maker = ObjectMaker(random.Random(args.seed))
-    got = None if args.model_only else (lambda data: answer_of(args.program, data))
-    fault, counts = compared(maker, args, model.run, got)
+    maker = RequestMaker(random.Random(args.seed), 1 if args.requests else 0.3)
+    got = None if args.model_only else (lambda data: answer_of(args.program, data, times))
+    fault, counts = compared(maker, args, lambda data: told_of(data, times), got)
     if fault is not None:
         print(fault)
         return 1

@@ -14,6 +14,7 @@ import pathlib
 import random
 
 import trace_model as model
+from system_model import PIDS
 from zone_lines import done, installed, running
 
 ROUNDS = [1, 1, 2, 5, 50, 300]
@@ -78,8 +79,8 @@ class Pool:
     def go_on(self, lines):
         """The pool is filled, emptied in part and filled again."""
         self.fork_to_the_end()
-        self.line("S 1 kill 0 %d" % (model.PIDS.stop - 1))
-        self.line("P a 2 kill 0 %d" % model.PIDS.stop)
+        self.line("S 1 kill 0 %d" % (PIDS.stop - 1))
+        self.line("P a 2 kill 0 %d" % PIDS.stop)
         self.boots()
         while len(self.lines) < lines:
             self.some_end()

@@ -164,14 +164,15 @@ class ProcessMaker(Maker):
     def wake(self):
         """Brings a zone nearer to running."""
         name = self.rng.choice(self.names)
-        state = self.host.states.get(name.encode())
+        state = self.host.state(name.encode())
         session = self.session()
         if name.encode() in [zone for zone, _ in self.host.tickets.values()] or session in self.host.tickets:
             self.turns(name)
         elif state is None:
             self.type_lines(running(name, session))
         else:
-            kind = {"configured": "install", "installed": "boot", "ready": "boot"}.get(state, "halt")
+            kind = {"configured": "install", "incomplete": "uninstall -F", "installed": "boot", "ready": "boot"}.get(
+                state, "halt")
             self.type_lines(done(name, kind, session))
 
     def move(self):

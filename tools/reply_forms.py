@@ -11,23 +11,34 @@ ZONE = r"[A-Za-z0-9][A-Za-z0-9_.-]{0,62}"
 PATH = r"/[!-~]*"
 ITEM = r"(link [\w./-]{1,63}|address [0-9.]{7,15}|dataset [\w./-]{1,63})"
 STATE = "(configured|incomplete|installed|ready|running|shutting_down|down)"
-POOL = "(pids|zids|zones|paths|store|links|addresses|datasets)"
+POOL = "(pids|zids|zones|paths|store|links|addresses|datasets|source)"
+BRAND = r"[\w.-]{0,32}"
+# A flaw of a configuration, which may end with an empty text, and one of its privileges.
+FLAW = "(%s)" % "|".join([
+    "41 NoZonepath", "42 MissingProperty [a-z]+ [a-z]+", "43 NetForm N", "44 BadAddress [ -~]*", "45 SameDir PATH",
+    "46 UnknownBrand BRAND", r"50 AttrForm [\w.-]{1,63}",
+])
+PRIVILEGE = "(47 PrivWord N|48 PrivRequired [a-z_]+|49 PrivProhibited [a-z_]+)"
 CODE = "|".join([
-    "1 Empty", "2 TooLong", "3 BadByte N", "4 Reserved", "23 BadValue", "24 Duplicate", "27 TooMany N", "34 NeedForce",
-    "71 TooManyMounts", "81 WrongState " + STATE, "82 Denied " + POOL, "90 NoZone", "91 Waiting N", "92 DeskFull",
+    "1 Empty", "2 TooLong", "3 BadByte N", "4 Reserved", "23 BadValue", "24 Duplicate", "27 TooMany N",
+    "29 TooLarge N", "34 NeedForce", "46 UnknownBrand BRAND",
+    "71 TooManyMounts", "81 WrongState " + STATE, "82 Denied " + POOL, "83 HookRefused N",
+    "84 Privilege " + PRIVILEGE, "85 NotVerified " + FLAW, "90 NoZone", "91 Waiting N", "92 DeskFull",
     "93 Usage", "96 HoldState", "98 NoProcess", "99 NoMount",
 ])
 ERRNO = "ESRCH|EPERM|EAGAIN|EINVAL|ENOENT|EROFS|EBUSY|ENAMETOOLONG"
 STEP = "|".join([
-    "hook (before|after) (install|ready|boot|halt)", "record (incomplete|installed)", "copy [1-4]", "zid N", "limits",
+    "hook (before|after) (install|uninstall|clone|attach|detach|ready|boot|halt)",
+    "record (configured|incomplete|installed|moved)", "copy [1-4]", "erase [1-4]", "source ZONE", "zid N", "limits",
     "devices N", "root", "mount PATH", "ITEM", "state " + STATE, "init N", "kill N", "unmount PATH", "release ITEM",
     "clear", "zidback N",
 ])
+KIND = "install|uninstall|clone|attach|detach|mark|move|ready|boot|halt|reboot"
 HEAD = "|".join([
-    "ok", "ticket N", "err (%s|%s)" % (CODE, ERRNO), "idle", "began N (install|boot|halt)", "step (%s)" % STEP,
+    "ok", "ticket N", "err (%s|%s)" % (CODE, ERRNO), "idle", "began N (%s)" % KIND, "step (%s)" % STEP,
     "failed N: (%s)" % CODE, "undone (%s)" % STEP, "stuck unmount", "finished N (ok|err (%s))" % CODE,
 ])
-MADE = [("N", NUMBER), ("PATH", PATH), ("ITEM", ITEM)]
+MADE = [("N", NUMBER), ("PATH", PATH), ("ITEM", ITEM), ("ZONE", ZONE), ("BRAND", BRAND)]
 
 # What a line of a body is, the narrower forms first.
 BODIES = [
@@ -76,8 +87,9 @@ def misformed(text):
 
 
 def kind_of(said):
-    """What is said, without the numbers, directories and items that differ from trace to trace; codes stay."""
-    said = re.sub(r"(?<!err )\b\d+\b", "N", said)
+    """What is said, without the numbers, directories, names and items that differ from trace to trace; codes stay."""
+    said = re.sub(r"\b(source|UnknownBrand) .*", r"\1 NAME", said)
+    said = re.sub(r"\b\d+\b(?! [A-Z])", "N", said)
     said = re.sub(r"\b(mount|unmount) /.*", r"\1 DIR", said)
     return re.sub(r"\b(link|address|dataset) .*", r"\1 ITEM", said)
 

@@ -200,28 +200,62 @@ def is_one_word(text):
         return False
 
 
-def made_path(words):
-    """The path of the zone that these words make, or None where they are no such line."""
-    if len(words) != 9 or words[6][:9] != b"zonepath=" or words[6][-1:] != b";":
+def made_zone(words):
+    """Zonepath and brand of the zone that these words make, or None where they are no such line."""
+    if len(words) != 9 or words[6][:9] != b"zonepath=" or words[6][-1:] != b";" or words[8][:6] != b"brand=":
         return None
-    path = words[6][9:-1]
-    right = [b"zonecfg", b"-z", words[2], b"create", b"-b;", b"set", words[6], b"set", b"brand=ipkg"]
-    return path.decode() if words == right and is_one_word(path) else None
+    path, brand = words[6][9:-1], words[8][6:]
+    right = [b"zonecfg", b"-z", words[2], b"create", b"-b;", b"set", words[6], b"set", words[8]]
+    return (path.decode(), brand.decode()) if words == right and is_one_word(path) and is_one_word(brand) else None
+
+
+def boot_arguments(words):
+    """Whether these words are arguments of a boot: -s, -i PATH and -m WORD, each once at most."""
+    options, left = set(), list(words)
+    while left:
+        option = left.pop(0)
+        if option in options or option not in (b"-s", b"-i", b"-m"):
+            return False
+        options.add(option)
+        if option != b"-s" and (not left or option == b"-i" and not is_path(left[0])):
+            return False
+        left = left if option == b"-s" else left[1:]
+    return True
+
+
+def request_of(words):
+    """(kind, detail) of the request that the words after `zoneadm -z Z` make, where the detail is the path of a move,
+    the zone that is cloned or the arguments of a boot; or None where they make none."""
+    kind, rest = words[0].decode(), words[1:]
+    if kind in ("install", "attach", "detach", "ready", "halt") and not rest:
+        return (kind, None)
+    if kind == "uninstall" and rest == [b"-F"] or kind == "mark" and rest == [b"incomplete"]:
+        return (kind, None)
+    if kind == "move" and len(rest) == 1 and is_path(rest[0]) and rest[0] != b"/":
+        return (kind, rest[0])
+    if kind == "clone" and len(rest) == 1:
+        return (kind, rest[0])
+    if kind in ("boot", "reboot") and rest[:1] in ([], [b"--"]) and boot_arguments(rest[1:]):
+        return (kind, b" ".join(rest[1:]) or None)
+    return None
 
 
 def typed(text):
-    """What a session's line asks for: (what, name, rest), where name may be None. The rest is the path of a zone that
-    is made, signal and number of `kill`, or the directory of a hold."""
+    """What a session's line asks for: (what, name, rest), where name may be None. The rest is the path and brand of a
+    zone that is made, kind and detail of a request, signal and number of `kill`, or the directory of a hold."""
     words = text.split()
     if not words:
         return ("nothing", None, None)
     name = None
     if b"-z" in words[:-1]:
         name = words[words.index(b"-z") + 1]
-    if len(words) == 4 and words[:2] == [b"zoneadm", b"-z"] and words[3] in (b"install", b"boot", b"halt"):
-        return (words[3].decode(), name, None)
-    if made_path(words) is not None:
-        return ("create", name, made_path(words))
+    if len(words) > 3 and words[:2] == [b"zoneadm", b"-z"]:
+        if words[3:] == [b"uninstall"]:
+            return ("unforced", name, None)
+        if request_of(words[3:]) is not None:
+            return ("request", name, request_of(words[3:]))
+    if made_zone(words) is not None:
+        return ("create", name, made_zone(words))
     if len(words) == 3 and words[0] == b"kill" and is_signal(words[1]) and is_number(words[2]):
         return ("kill", name, (words[1].decode(), int(words[2])))
     if len(words) == 4 and words[0] in (b"fhold", b"frelease") and words[1] == b"-z" and is_path(words[3]):

@@ -2,8 +2,10 @@
 
 import trace_lines
 import trace_model as model
+from plan_model import FROM
 
 FORM = "zonecfg -z %s create -b; set zonepath=%s; set brand=ipkg"
+BRANDED = "zonecfg -z %s create -b; set zonepath=%s; set brand=%s"
 NAMES = ["web", "db", "a", "0", "Z9", "a.b-c_d", "x-", "n" * 62, "n" * 63, "sunw", "SUNx", "Global", "globals"]
 NO_NAMES = [
     "global", "SUNW", "SUNWx", "-a", ".a", "_a", "n" * 64, "!" * 64, "a/b", "a~", "ab:", "-z", "a;", "#", "\"a\"",
@@ -48,7 +50,10 @@ JUNK = [
     "S 1 a\x7fb", "S 65 \xff", "S 1 ~\x1f", "-", "S,1", "D,web", "\xef\xbb\xbfS 1",
 ]
 QUIET = ["", " ", "     ", "#", "# web", "#\x00\xff\r", "##", "#@- D web", "#S 65 x"]
-KINDS = ["install", "boot", "halt"]
+KINDS = {
+    "install": 8, "boot": 8, "halt": 6, "ready": 3, "reboot": 3, "attach": 2, "detach": 2, "uninstall": 2, "mark": 2,
+    "move": 2, "clone": 2,
+}
 HEADS = [
     "#", " ", "S 1 ", "S 1", "S 1 foo -z web ", "S 1 zoneadm -z ", "D ", "D web ", "@", "x", "\xff",
     "S 1 zonecfg -z long create -b; set brand=ipkg; set zonepath=/",
@@ -106,7 +111,7 @@ class Maker:
         chance = self.rng.random()
         if chance < 0.8:
             return "/zones/%s" % name
-        held = list(self.host.paths.values())
+        held = [it.config.path for it in self.host.store.records.values()]
         return self.rng.choice(held if held and chance < 0.9 else PATHS)
 
     def create(self, name):
@@ -114,10 +119,18 @@ class Maker:
 
     def request(self, name):
         """A request, for the most part one that the zone's state allows."""
-        state = self.host.states.get(name.encode("latin-1"))
-        fitting = [kind for kind in KINDS if state in model.FROM[kind]]
-        kind = fitting[0] if fitting and self.rng.random() < 0.8 else self.rng.choice(KINDS)
-        self.type("zoneadm -z %s %s" % (name, kind))
+        state = self.host.state(name.encode("latin-1"))
+        fitting = {kind: weight for kind, weight in KINDS.items() if state in FROM[kind]}
+        kinds = fitting if fitting and self.rng.random() < 0.8 else KINDS
+        self.type("zoneadm -z %s %s" % (name, self.asked(self.rng.choices(list(kinds), kinds.values())[0])))
+
+    def asked(self, kind):
+        """The words of a request."""
+        name = self.rng.choice(self.names)
+        return {
+            "uninstall": "uninstall -F", "mark": "mark incomplete", "move": "move " + self.path(name),
+            "clone": "clone " + name, "boot": self.rng.choice(["boot", "boot", "boot -- -s"]),
+        }.get(kind, kind)
 
     def turns(self, name):
         for _ in range(self.rng.choice([1, 1, 2, 3, 5, 10, 11, 13])):
@@ -125,13 +138,13 @@ class Maker:
 
     def busy(self):
         """A zone whose daemon has something to do, where there is one."""
-        names = [name for name, desk in self.host.desks.items() if desk.waiting or desk.under_way]
+        names = [name for name, desk in self.host.desks.items() if desk.is_busy()]
         return self.rng.choice(names).decode() if names else self.name()
 
     def move(self):
         chance = self.rng.random()
         name = self.name()
-        if name.encode("latin-1") not in self.host.states and chance < 0.7:
+        if self.host.state(name.encode("latin-1")) is None and chance < 0.7:
             self.create(name)
         elif chance < 0.25:
             self.request(name)
@@ -181,7 +194,7 @@ class Maker:
         elif which == 3:
             self.type(FORM % (name, rng.choice(PATHS)))
         else:
-            self.type("zoneadm -z %s %s" % (name, rng.choice(KINDS)))
+            self.type("zoneadm -z %s %s" % (name, self.asked(rng.choice(list(KINDS)))))
         return self.data()
 
     def queue(self):
@@ -225,7 +238,7 @@ class Maker:
         self.begin(rng.sample(NAMES, rng.choice([1, 3, 8])), 4)
         for _ in range(rng.choice([100, 300])):
             name = rng.choice(self.names)
-            if name.encode() not in self.host.states:
+            if self.host.state(name.encode()) is None:
                 self.create(name)
                 continue
             self.request(name)

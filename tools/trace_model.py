@@ -1,137 +1,40 @@
 """A plain, slow model of `zones trace`, written from its rules, and not from the program.
 
 run(data) gives (status, standard output, standard error) for a whole input. It shares no code with the
-program and is meant for comparing the two; tools/fuzz_trace.py does that, and tools/trace_rows.py and
-tools/object_rows.py compare the model with replies that are known. Lines are read by trace_lines.py, mounts kept by
-mount_model.py, declared items and claims by claim_model.py.
+program and is meant for comparing the two; tools/fuzz_trace.py does that, and tools/trace_rows.py,
+tools/object_rows.py and tools/request_rows.py compare the model with replies that are known. Lines are read by
+trace_lines.py; what zones have is kept by system_model.py, and their daemons are daemon_model.py's.
 
-At most 256 zones are stored, and each holds one id at most, so the ids never come to their end. The numbers of
-processes do.
-
-**What no line reaches.** No line sets anything of a zone's `Config`: so each zone that a line makes mounts its root
-alone, claims nothing and is given no device, its processes may mount lofs, hsfs, nfs and smbfs, and of the steps of a
-request `init` alone fails, after the zone is ready, so that none is undone. The steps `mount`, `link`, `address`,
-`dataset` and `release`, `undone`, 82 of a claim, the answers of `links`, `datasets` and `devices` with a line, ENOENT,
-EAGAIN, and a mount of the zone's own below its root are reached by the rows, which hand a `Config` in.
+**What no line reaches.** No line sets anything of a zone's configuration but its zonepath and its brand: so each zone
+that a line makes mounts its root alone, claims nothing and is given no device, and its processes may mount lofs, hsfs,
+nfs and smbfs. The steps `mount`, `link`, `address`, `dataset` and `release`, `undone`, 29, 84, 85, 94, 82 of a claim,
+the answers of `links`, `datasets` and `devices` with a line, ENOENT, EAGAIN, and a mount of the zone's own below its
+root are reached by the rows, which hand a `Config` in, and so are most of them by request_laws.py.
 """
 
-import collections
 import dataclasses
-import itertools
 
 import export_model
-from claim_model import Items
-from mount_model import Mount, Mounts
-from trace_lines import LAST_NUMBER, PRIVILEGES, Outside, Refused, event_of, name_fault, typed
+from config_model import Config
+from daemon_model import Daemon, Request
+from mount_model import Mount
+from store_model import Record
+from system_model import Process, System
+from trace_lines import PRIVILEGES, Outside, Refused, event_of, name_fault, typed
 
 MOST_LINES = 200000
 MOST_BYTES = 4096
-MOST_ZONES = 256
-MOST_WAITING = 8
-PIDS = range(2, 30000)
-ZIDS = range(1, 10000)
 
-# The states that a request begins in, and its steps. Numbers are put after zid, devices, init, kill and zidback;
-# `unmount` and `release` are taken as long as there is something of the kind.
-FROM = {"install": ["configured"], "boot": ["installed", "ready"], "halt": ["ready", "running"]}
-INSTALL = [
-    "hook before install", "record incomplete", "copy 1", "copy 2", "copy 3", "copy 4", "record installed",
-    "hook after install",
-]
-BOOT = ["hook before boot", "init", "state running", "hook after boot"]
-HALT = [
-    "hook before halt", "state shutting_down", "kill", "unmount", "release", "clear", "state down", "zidback",
-    "state installed", "hook after halt",
-]
-
-DEFAULT = frozenset(name for name, kind in PRIVILEGES.items() if kind in "DR")
 NEEDED = {"fork": "proc_fork", "exec": "proc_exec", "mount": "sys_mount", "umount": "sys_mount"}
 
 
-@dataclasses.dataclass
-class Filesystem:
-    """An fs of a configuration: what is mounted where as the zone gets ready."""
+class Host(System):
+    """The zones of one system, their daemons, and the sessions that ask them."""
 
-    directory: str
-    special: str
-    fstype: str
-    read_only: bool = False
-
-
-@dataclasses.dataclass
-class Config:
-    """What a zone's configuration asks for. No line sets any of it yet. A net is ("link", NAME) or ("address", A)."""
-
-    filesystems: list = dataclasses.field(default_factory=list)
-    datasets: list = dataclasses.field(default_factory=list)
-    nets: list = dataclasses.field(default_factory=list)
-    devices: list = dataclasses.field(default_factory=list)
-    fs_allowed: str = ""
-    most: int = None
-
-    def ready_part(self):
-        """The steps by which a zone gets ready."""
-        mounts = ["mount %s" % it.directory for it in sorted(self.filesystems, key=lambda it: it.directory)]
-        claims = ["dataset %s" % it for it in self.datasets] + ["%s %s" % net for net in self.nets]
-        return (["hook before ready", "zid", "limits", "devices", "root"] + mounts + claims
-                + ["state ready", "hook after ready"])
-
-
-def next_number(numbers, last, used):
-    """The lowest free number above the last one given, or else the lowest free one."""
-    above = range(max(last + 1, numbers.start), numbers.stop)
-    return next(number for number in itertools.chain(above, numbers) if number not in used)
-
-
-class Desk:
-    """What the daemon of one zone has to do: tickets with their kind, and the request under way. `done` are the steps
-    since it began, as they were printed, and `undo` those of them that are still to be undone."""
-
-    def __init__(self):
-        self.last = 0
-        self.waiting = []
-        self.under_way = None
-        self.steps, self.done, self.undo = [], [], []
-        self.outcome = "ok"
-
-
-@dataclasses.dataclass
-class Limits:
-    """What binds the processes of a zone: the privileges that they begin with, how many there may be, and what they
-    may mount beside lofs."""
-
-    privileges: frozenset = DEFAULT
-    most: int = None
-    fs_allowed: str = ""
-
-    def may_mount(self, fstype):
-        allowed = self.fs_allowed.split(",")
-        return fstype == "lofs" or fstype in allowed or (
-            fstype in ("hsfs", "nfs", "smbfs") and allowed[0] != "-")
-
-
-@dataclasses.dataclass
-class Process:
-    """A process of a zone, with the number of its parent and the privileges that it has left."""
-
-    zone: bytes
-    parent: int
-    name: str
-    privileges: frozenset
-
-
-class Host:
-    """The zones of one system with their processes, mounts, devices and claims, its sessions, and the last numbers
-    given."""
-
-    def __init__(self):
+    def __init__(self, brands=None, store=None):
+        super().__init__(brands, store)
         self.started = False
-        self.paths, self.states, self.configs = {}, {}, collections.defaultdict(Config)
         self.desks, self.tickets = {}, {}
-        self.zids, self.limits = {}, {}
-        self.processes, self.firsts = {}, {}
-        self.mounts, self.devices, self.items = collections.defaultdict(Mounts), {}, Items()
-        self.last_zid, self.last_pid = 0, 0
 
     def read(self, line):
         """The event of a line that comes next, or None where it is none."""
@@ -185,190 +88,67 @@ class Host:
         if what == "unknown":
             raise Refused("93 Usage")
         if what == "kill":
-            return self.kill(None, *rest)
+            self.kill(None, *rest)
+            return "ok"
         if name_fault(name):
             raise Refused(name_fault(name))
         if what == "create":
-            return self.create(name, rest)
-        if name not in self.states:
-            raise Refused("90 NoZone")
-        if what in ("fhold", "frelease"):
-            self.mounts[name].set_held(rest, what == "fhold")
-            return "ok"
-        return self.request(number, what, name)
-
-    def create(self, name, path):
-        if name in self.states:
+            return self.create(name, *rest)
+        if what == "request" and rest[0] == "clone" and name_fault(rest[1]):
+            raise Refused(name_fault(rest[1]))
+        if what == "unforced":
             raise Refused("34 NeedForce")
-        if path == "/" or not export_model.is_path(path):
-            raise Refused("23 BadValue")
-        if len(self.states) == MOST_ZONES:
-            raise Refused("82 Denied zones")
-        if path in self.paths.values():
-            raise Refused("82 Denied paths")
-        self.paths[name], self.states[name] = path, "configured"
+        if self.state(name) is None:
+            raise Refused("90 NoZone")
+        if what == "request":
+            return self.request(number, name, *rest)
+        self.mounts[name].set_held(rest, what == "fhold")
         return "ok"
 
-    def request(self, number, kind, name):
-        desk = self.desks.setdefault(name, Desk())
-        if len(desk.waiting) == MOST_WAITING or desk.last == LAST_NUMBER:
-            raise Refused("92 DeskFull")
-        desk.last += 1
-        desk.waiting.append((desk.last, kind))
-        self.tickets[number] = (name, desk.last)
-        return "ticket %d" % desk.last
+    def create(self, name, path, brand):
+        """Makes a zone. What is typed is looked at from left to right, and then the configuration as it is left."""
+        if self.state(name) is not None:
+            raise Refused("34 NeedForce")
+        if path == "/" or not export_model.is_path(path) or not export_model.is_short(brand):
+            raise Refused("23 BadValue")
+        return self.commit(name, Config.of(zonepath=path, brand=brand))
+
+    def commit(self, name, config, seen=None):
+        """Stores a zone's configuration, of which `seen` was the revision that it was edited from."""
+        flaw = config.flaw(list(self.brands))
+        if flaw is not None:
+            raise Refused(flaw)
+        old = self.store.records.get(name)
+        now = old.revision if old else 0
+        if seen not in (None, now):
+            raise Refused("94 Changed %d %d" % (seen, now))
+        if old is None:
+            self.store.change(name, Record("configured", config), commit=True)
+        elif old.config != config:
+            state, was = self.state(name), old.config
+            if state != "configured" and (was.path, was.brand) != (config.path, config.brand):
+                raise Refused("81 WrongState %s" % state)
+            self.store.change(name, dataclasses.replace(old, config=config), commit=True)
+        return "ok"
+
+    def request(self, number, name, kind, detail):
+        """Gives a request to the zone's daemon, and the session its ticket."""
+        detail = detail.decode() if isinstance(detail, bytes) else detail
+        ticket = self.desks.setdefault(name, Daemon()).put(Request(kind, detail))
+        self.tickets[number] = (name, ticket)
+        return "ticket %d" % ticket
 
     # Daemons.
 
     def turn(self, name):
-        """One turn of a zone's daemon."""
-        desk = self.desks.get(name, Desk())
-        if desk.under_way is None:
-            return self.begin(name, desk) if desk.waiting else "idle"
-        if desk.undo:
-            return self.undo(name, desk)
-        self.leave_out(name, desk)
-        if desk.steps:
-            return self.go_on(name, desk)
-        ticket, desk.under_way = desk.under_way, None
-        self.close(name, ticket)
-        return "finished %d %s" % (ticket, desk.outcome)
-
-    def begin(self, name, desk):
-        """Begins the request that waits longest."""
-        ticket, kind = desk.waiting.pop(0)
-        state = self.states[name]
-        if state not in FROM[kind]:
-            self.close(name, ticket)
-            return "finished %d err 81 WrongState %s" % (ticket, state)
-        desk.under_way, desk.done, desk.outcome = ticket, [], "ok"
-        ready = self.configs[name].ready_part() if state == "installed" else []
-        desk.steps = list({"install": INSTALL, "boot": ready + BOOT, "halt": HALT}[kind])
-        return "began %d %s" % (ticket, kind)
-
-    def leave_out(self, name, desk):
-        """Drops the steps that unmount and release, where there is no more of the kind."""
-        left = {"unmount": self.mounts[name].by_directory, "release": self.items.held(name)}
-        while desk.steps and desk.steps[0] in left and not left[desk.steps[0]]:
-            desk.steps.pop(0)
-
-    def go_on(self, name, desk):
-        """Does the next step of the request under way. Where one fails before the zone is ready, what was done is
-        undone after it, the latest first."""
-        step = desk.steps[0]
-        if step == "unmount" and self.mounts[name].is_held(self.mounts[name].last()):
-            return "stuck unmount"
-        try:
-            said = self.step(name, step)
-        except Refused as refused:
-            if "state ready" in desk.steps:
-                desk.undo = [it for it in reversed(desk.done) if not it.startswith("hook ")]
-            desk.steps, desk.outcome = [], "err %s" % refused
-            return "failed %d: %s" % (len(desk.done) + 1, refused)
-        if step not in ("unmount", "release"):
-            desk.steps.pop(0)
-        desk.done.append(said)
-        return "step %s" % said
-
-    def close(self, name, ticket):
-        """Ends the wait of the session whose ticket it is."""
-        self.tickets = {number: held for number, held in self.tickets.items() if held != (name, ticket)}
-
-    def step(self, name, step):
-        """Does one step of a request, and answers it as it is printed."""
-        kind, _, rest = step.partition(" ")
-        if kind in ("record", "state"):
-            self.states[name] = rest
-        elif kind in ("zid", "devices", "init", "kill", "unmount", "release", "zidback"):
-            return "%s %s" % (kind, getattr(self, "step_" + kind)(name))
-        elif kind == "limits":
-            config = self.configs[name]
-            self.limits[name] = Limits(most=config.most, fs_allowed=config.fs_allowed)
-        elif kind == "root":
-            self.mounts[name].mount("/", Mount("root", self.paths[name] + "/root"))
-        elif kind == "mount":
-            found = next(it for it in self.configs[name].filesystems if it.directory == rest)
-            self.mounts[name].mount(rest, Mount(found.fstype, found.special, found.read_only))
-        elif kind in ("link", "address", "dataset"):
-            self.items.claim(name, kind, rest)
-        elif kind == "clear":
-            del self.limits[name], self.devices[name]
-        return step
-
-    def step_zid(self, name):
-        self.zids[name] = self.last_zid = next_number(ZIDS, self.last_zid, self.zids.values())
-        return self.last_zid
-
-    def step_devices(self, name):
-        self.devices[name] = self.items.devices(self.configs[name].devices)
-        return len(self.devices[name])
-
-    def step_init(self, name):
-        self.firsts[name] = self.enter(Process(name, 0, "init", self.limits[name].privileges))
-        return self.firsts[name]
-
-    def step_kill(self, name):
-        self.firsts.pop(name, None)
-        return len([self.processes.pop(pid) for pid in self.pids(name)])
-
-    def step_unmount(self, name):
-        directory = self.mounts[name].last()
-        self.mounts[name].remove(directory)
-        return directory
-
-    def step_release(self, name):
-        return self.items.release_last(name)
-
-    def step_zidback(self, name):
-        return self.zids.pop(name)
-
-    def undo(self, name, desk):
-        """Undoes the latest step that was done; a mount that is held stays until it is released."""
-        kind, _, rest = desk.undo[0].partition(" ")
-        directory = "/" if kind == "root" else rest
-        if kind in ("root", "mount"):
-            if self.mounts[name].is_held(directory):
-                return "stuck unmount"
-            self.mounts[name].remove(directory)
-        elif kind in ("link", "address", "dataset"):
-            self.items.release_last(name)
-        else:
-            del {"zid": self.zids, "limits": self.limits, "devices": self.devices}[kind][name]
-        return "undone %s" % desk.undo.pop(0)
+        """One turn of a zone's daemon. The session that waits for what is finished waits no longer."""
+        said = self.desks.get(name, Daemon()).turn(name, self)
+        if said.startswith("finished "):
+            held = (name, int(said.split(" ")[1]))
+            self.tickets = {number: it for number, it in self.tickets.items() if it != held}
+        return said
 
     # Processes.
-
-    def pids(self, zone):
-        """The numbers of a zone's processes, in order."""
-        return sorted(pid for pid, process in self.processes.items() if process.zone == zone)
-
-    def enter(self, process):
-        """Gives a new process its number."""
-        most = self.limits[process.zone].most
-        if most is not None and len(self.pids(process.zone)) == most:
-            raise Refused("EAGAIN")
-        if len(self.processes) == len(PIDS):
-            raise Refused("82 Denied pids")
-        self.last_pid = next_number(PIDS, self.last_pid, self.processes)
-        self.processes[self.last_pid] = process
-        return self.last_pid
-
-    def remove(self, pid):
-        """Ends a process. Its children get the zone's first process as parent, or 0 where that is gone."""
-        zone = self.processes.pop(pid).zone
-        if self.firsts.get(zone) == pid:
-            del self.firsts[zone]
-        for process in self.processes.values():
-            if process.parent == pid:
-                process.parent = self.firsts.get(zone, 0)
-
-    def kill(self, inside, signal, pid):
-        """Sends a signal from the zone `inside`, or where that is None, from a session to any zone."""
-        if pid not in self.processes or inside not in (None, self.processes[pid].zone):
-            raise Refused("ESRCH")
-        if signal != "0" and pid != self.firsts.get(inside):
-            self.remove(pid)
-        return "ok"
 
     def call(self, zone, pid, words):
         """Makes the call of a process."""
@@ -427,9 +207,10 @@ class Host:
 
 # The whole run.
 
-def run(data):
-    """The status and both texts of `zones trace` over an input."""
-    host = Host()
+def run(data, store=None):
+    """The status and both texts of `zones trace` over an input, on a store that it changes or, without one, on an empty
+    one."""
+    host = Host(store=store)
     out, first = [], None
     for number, line in enumerate(export_model.lines_of(data), 1):
         if number > MOST_LINES or len(line) > MOST_BYTES:

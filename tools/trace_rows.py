@@ -4,6 +4,8 @@ fault() gives what it answers otherwise, or None; tools/fuzz_trace.py --self-tes
 """
 
 import trace_model as model
+from config_model import Config, rctl_of
+from object_rows import told
 from zone_lines import done, installed, made, running
 
 A_LIFE = """\
@@ -97,20 +99,14 @@ ROWS = [
 
 # With three processes at most, and with one.
 THREE = ["P web 2 fork a", "P web 2 fork b", "P web 2 fork c", "P web 4 exit", "P web 2 fork c"]
-AFTER_THREE = ["ok", "child 3", "ok", "child 4", "err EAGAIN", "ok", "ok", "child 5"]
+AFTER_THREE = ["web ok | child 3", "web ok | child 4", "web err EAGAIN", "web ok", "web ok | child 5"]
 BOUNDED = [
-    ("three processes at most", 3, THREE, AFTER_THREE),
-    ("one process at most", 1, ["P web 2 fork a"], ["err EAGAIN"]),
+    ("three processes at most", [rctl_of("zone.max-processes", 3)], THREE, AFTER_THREE),
+    ("one process at most", [rctl_of("zone.max-lwps", 9, 1, -7), rctl_of("zone.max-processes", 2)],
+     ["P web 2 fork a"], ["web err EAGAIN"]),
+    ("bounds that are only noted", [rctl_of("zone.max-lwps", -1), rctl_of("zone.max-msg-ids", 1)],
+     ["P web 2 fork a"], ["web ok | child 3"]),
 ]
-
-
-def bounded(most, lines):
-    """What a running zone's processes are answered where there may be `most` of them."""
-    host = model.Host()
-    for line in running("web"):
-        host.answer(host.read(line.encode()))
-    host.limits[b"web"].most = most
-    return [said for line in lines for said in host.answer(host.read(line.encode()))[1]]
 
 
 def fault():
@@ -120,8 +116,8 @@ def fault():
         said = got[1][-len(end):] if end else got[1]
         if (got[0], said, got[2]) != (status, end.encode(), fault_line.encode()):
             return "%s: %r" % (title, got)
-    for title, most, lines, want in BOUNDED:
-        got = bounded(most, lines)
+    for title, rctl, lines, want in BOUNDED:
+        got = told({"web": Config.of(rctl=rctl)}, running("web"), lines)
         if got != want:
             return "%s: %r" % (title, got)
     return None

@@ -4,7 +4,10 @@ use Rattle.std.specs.List.{list_all, list_any, range_with_len}
 use Rattle.zn_base.specs.Names.{is_letter_or_digit}
 use Rattle.brand_hooks.specs.declared.fault.BrandFault.{BrandFault}
 use Rattle.brand_hooks.specs.declared.fault.BrandFault.TheVariants.{BadBrandName, SameBrand}
+use Rattle.brand_hooks.specs.declared.change.Change.{Change}
 use Rattle.brand_hooks.specs.declared.table.HookAnswer.{HookAnswer}
+use Rattle.brand_hooks.specs.declared.table.HookAnswer.TheVariants.{Proceed}
+use Rattle.brand_hooks.specs.Tables.{answer_at}
 
 -- a brand, to contracts: its name, what its hook answers, and the hook
 pub record Hooked (F : Type 0) : Type 0 where
@@ -45,3 +48,26 @@ brands_of list = brands_unless (first_again (names_of list)) list
 -- the first brand of a name
 abbrev pub brand_named : {F : Type 0} → List ℕ → List (Hooked F) → Option (Hooked F)
 brand_named name brands = find (λ b. bytes_eq name b.name) brands
+
+-- a brand without its hook: its name, and what its hook answers
+pub record Tabled : Type 0 where
+  pub name : List ℕ
+  pub table : List HookAnswer
+
+abbrev pub tabled : {F : Type 0} → Hooked F → Tabled
+tabled b = record { name = b.name; table = b.table }
+
+-- brands without their hooks
+abbrev pub tables_of : {F : Type 0} → List (Hooked F) → List Tabled
+tables_of brands = map tabled brands
+
+abbrev pub tabled_names : List Tabled → List (List ℕ)
+tabled_names brands = map (λ b. b.name) brands
+
+-- what a brand answers of a change; a brand that isn't there is asked nothing, and the change proceeds
+abbrev pub answer_by : Option Tabled → Change → HookAnswer
+answer_by None change = Proceed
+answer_by (Some b) change = answer_at change b.table
+
+abbrev pub answer_of : List Tabled → List ℕ → Change → HookAnswer
+answer_of brands name change = answer_by (find (λ b. bytes_eq name b.name) brands) change

@@ -3,14 +3,15 @@ ghost use Rattle.std.specs.Prelude.{◌≡◌, IfOk};
 ghost use Rattle.std.specs.Fn.{FnReturnsAt};
 ghost use Rattle.std.specs.List.{list_all};
 ghost use Rattle.zn_base.specs.Answers.{AnswersUnless};
-ghost use Rattle.brand_hooks.specs.Brands.{brand_of, is_brand_byte, is_brand_name};
+ghost use Rattle.brand_hooks.specs.Brands.{brand_of, is_brand_byte, is_brand_name, tabled};
 ghost use Rattle.brand_hooks.specs.Hooks.{AnswersTable, Follows};
 ghost use Rattle.brand_hooks.specs.Tables.{answer_at};
 
 use crate::change::Change;
 use crate::fault::BrandFault;
 use crate::table::{HookAnswer, HookTable};
-use std::alloc::Global;
+use crate::tables::BrandTable;
+use std::alloc::{AllocError, Global};
 use std::marker::Model;
 use zn_base::Text;
 
@@ -55,6 +56,16 @@ impl<F> Brand<F> {
         ensures { result.now ≡ self.now.name }
     {
         &self.name
+    }
+
+    // The brand without its hook.
+    pub(crate) fn tabled(&self, alloc: Global) -> Result<BrandTable, AllocError>
+        ensures { IfOk result (λ t. t ≡ tabled self.now) }
+    {
+        Ok(BrandTable {
+            name: self.name.copy(alloc)?,
+            table: self.table.copy(),
+        })
     }
 }
 

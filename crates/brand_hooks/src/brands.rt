@@ -2,13 +2,14 @@
 ghost use Rattle.std.specs.Prelude.{◌≡◌, ◌<◌, IfOk, IfSome, bytes_eq, length, option_map};
 ghost use Rattle.std.specs.List.{list_any};
 ghost use Rattle.zn_base.specs.Answers.{AnswersUnless};
-ghost use Rattle.brand_hooks.specs.Brands.{brand_named, brands_of, first_again, is_again, names_of};
+ghost use Rattle.brand_hooks.specs.Brands.{answer_of, brand_named, brands_of, first_again, is_again, names_of, tables_of};
 ghost use Rattle.brand_hooks.specs.Hooks.{AllFollow, Follows};
 
 use crate::brand::Brand;
 use crate::change::Change;
 use crate::fault::BrandFault;
 use crate::table::HookAnswer;
+use crate::tables::{BrandTable, BrandTables};
 use std::alloc::{AllocError, Global};
 use std::marker::Model;
 use zn_base::Text;
@@ -39,6 +40,16 @@ fn copy_names<F>(alloc: Global, list: &[Brand<F>]) -> Result<Vec<Text>, AllocErr
         names.push(brand.name().copy(alloc)?)?;
     }
     Ok(names)
+}
+
+fn copy_tables<F>(alloc: Global, list: &[Brand<F>]) -> Result<Vec<BrandTable>, AllocError>
+    ensures { IfOk result (λ tables. tables.items ≡ tables_of list.now) }
+{
+    let mut tables = Vec::with_capacity(alloc, list.len())?;
+    for brand in list {
+        tables.push(brand.tabled(alloc)?)?;
+    }
+    Ok(tables)
 }
 
 fn is_among(names: &[Text], name: &Text) -> bool
@@ -87,5 +98,27 @@ impl<F: Fn(&Change) -> HookAnswer> Brands<F> {
         ensures follows { AllFollow F.Fn self.now → IfSome result (λ brand. Follows F.Fn brand.now) }
     {
         self.list.iter().find(|brand| name == brand.name().bytes())
+    }
+    /// The brands without their hooks.
+    #[tactic(auto, using(crate::proofs::Tabled::names_of_tables))]
+    pub fn tables(&self, alloc: Global) -> Result<BrandTables, AllocError>
+        ensures { IfOk result (λ t. t ≡ tables_of self.now) }
+    {
+        let tables = copy_tables(alloc, &self.list)?;
+        let names = copy_names(alloc, &self.list)?;
+        Ok(BrandTables::of(tables, names))
+    }
+
+    /// Asks the hook of the brand of a name, and answers what it does. Where no brand has the name the change proceeds.
+    /// It takes no memory.
+    #[tactic(auto, using(crate::proofs::Tabled::found_tabled))]
+    pub fn answer(&self, name: &[u8], change: &Change) -> HookAnswer
+        requires { AllFollow F.Fn self.now }
+        ensures { result ≡ answer_of (tables_of self.now) name.now change.now }
+    {
+        match self.find(name) {
+            Some(brand) => brand.ask(change),
+            None => HookAnswer::Proceed,
+        }
     }
 }

@@ -41,6 +41,15 @@ impl HookTable {
         }
     }
 
+    /// The same table once more.
+    pub fn copy(&self) -> HookTable
+        ensures { result ≡ self.now }
+    {
+        HookTable {
+            answers: self.answers,
+        }
+    }
+
     /// The table with another answer at one change. The code of a refusal is 1 to 99.
     pub fn with(self, change: &Change, answer: HookAnswer) -> HookTable
         requires { IsTrue (is_answer answer) }

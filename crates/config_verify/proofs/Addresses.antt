@@ -9,7 +9,6 @@ use Rattle.std.proofs.lemmas.List.Quantifiers.{position-Some}
 use Rattle.std.proofs.lemmas.Slice.Eq.{bytes_eq-Decides}
 use Rattle.zn_base.specs.Path.{is_slash}
 use Rattle.zn_base.proofs.Splits.{split_none, split_some}
-use Rattle.config_terms.specs.Numbers.{number_of}
 use Rattle.zn_base.specs.Decimals.{decimal_of, has_no_leading_zero}
 use Rattle.config_verify.specs.Values.{are_four_octets, is_address, is_dot, is_plain_address, is_up_to}
 

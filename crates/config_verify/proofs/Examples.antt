@@ -4,7 +4,6 @@ use Rattle.config_terms.specs.declared.fields.Field.TheVariants.{DatasetName, Fs
 use Rattle.config_terms.specs.declared.fields.Named.TheVariants.{One}
 use Rattle.config_terms.specs.declared.terms.IpType.TheVariants.{Shared}
 use Rattle.config_terms.specs.declared.terms.Kind.TheVariants as kind
-use Rattle.config_terms.specs.Numbers.{number_of}
 use Rattle.zn_base.specs.Decimals.{decimal_of}
 use Rattle.zone_config.specs.Property.{blank}
 use Rattle.config_verify.specs.declared.flaw.Flaw.TheVariants.{MissingProperty, NetForm, NoZonepath, SameDir, UnknownBrand}

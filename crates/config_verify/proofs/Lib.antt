@@ -1,3 +1,4 @@
 pub mod Chains
 pub mod Addresses
+pub mod Front_texts
 mod Examples

@@ -9,4 +9,5 @@ mod values;
 
 pub use config::{matches, verify};
 pub use flaw::Flaw;
+pub use resources::claimed;
 pub use values::is_plain_address;

@@ -1,11 +1,12 @@
 //! The flaws of resources.
-ghost use Rattle.std.specs.Prelude.{◌≡◌, ◌<◌, ◌≤◌, ◌^◌, ◌&&◌, ◌||◌, ◌==◌, [], bytes_eq, is_some, length, not};
+ghost use Rattle.std.specs.Prelude.{◌≡◌, ◌<◌, ◌≤◌, ◌^◌, ◌&&◌, ◌||◌, ◌==◌, [], IsTrue, bytes_eq, is_some, length, not};
 ghost use Rattle.std.specs.List.{flat_map, list_any};
 ghost use Rattle.config_terms.specs.declared.fields.Field.TheVariants.{FsDir, FsSpecial};
 ghost use Rattle.config_terms.specs.declared.fields.Named.TheVariants.{Many, One};
 ghost use Rattle.config_terms.specs.declared.terms.Kind.TheVariants as kind;
 ghost use Rattle.config_verify.specs.declared.flaw.Flaw.TheVariants.{AttrForm, BadAddress};
 ghost use Rattle.config_verify.specs.Flaws.{claimed, dir_flaws, each_behind, flaws_of_attr, flaws_of_dataset, flaws_of_device, flaws_of_fs, flaws_of_net, flaws_of_rctl, form_flaws, has_dir, has_form, has_special, is_claimed, is_unset, needed, needs_text, unless, Finds};
+ghost use Rattle.zn_base.specs.Text.{is_text};
 ghost use Rattle.config_verify.specs.Values.{is_address, is_of_form, is_plain_address};
 
 use crate::Flaw;
@@ -101,8 +102,11 @@ pub(crate) fn flaw_of_mounts(alloc: Global, all: &[Fs]) -> Result<(), Flaw>
     Ok(())
 }
 
-fn claimed(ip: IpType, net: &Net) -> &[u8]
-    ensures { result.now ≡ claimed ip net.now }
+#[tactic(auto, unfolding(crate::specs::Values::without_prefix), using(crate::proofs::Front_texts::front_text))]
+/// What a net takes for its zone alone: an interface, or in a shared zone an address.
+pub fn claimed(ip: IpType, net: &Net) -> &[u8]
+    ensures item { result.now ≡ claimed ip net.now }
+    ensures text { IsTrue (is_text result.now) }
 {
     match ip {
         IpType::Exclusive => net.physical.bytes(),

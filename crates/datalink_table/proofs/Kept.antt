@@ -38,7 +38,7 @@ is_not : (a : Bool) → not a ≡ true → a ≡ false
 is_not true h = absurd (false≢true h)
 is_not false h = refl
 
-once-last : (c : Claim) (cs : List Claim) → each_once cs ≡ true → holds c cs ≡ false → each_once (cs ++ c ∷ []) ≡ true
+pub once-last : (c : Claim) (cs : List Claim) → each_once cs ≡ true → holds c cs ≡ false → each_once (cs ++ c ∷ []) ≡ true
 once-last c [] once apart = refl
 once-last c (x ∷ cs) once apart =
     let first : (same_claim c x ≡ false) × (holds c cs ≡ false) = neither _ _ apart in
@@ -46,7 +46,7 @@ once-last c (x ∷ cs) once apart =
     and_from _ _ (rw (holds-last x c cs, is_not _ parts.0, first.0) refl) (once-last c cs parts.1 first.1)
 
 -- of claims that are there once, the last isn't among the others, and those are there once
-last_apart : (c : Claim) (cs : List Claim) → each_once (cs ++ c ∷ []) ≡ true → holds c cs ≡ false
+pub last_apart : (c : Claim) (cs : List Claim) → each_once (cs ++ c ∷ []) ≡ true → holds c cs ≡ false
 last_apart c [] once = refl
 last_apart c (x ∷ cs) once =
     let parts : (not (holds x (cs ++ c ∷ [])) ≡ true) × (each_once (cs ++ c ∷ []) ≡ true) = both _ _ once in
@@ -69,7 +69,7 @@ holds-but_last d c cs once = at_item (same_claim c d) refl
     at_item true e = subst (λ x. holds x cs ≡ false) ((claim-Decides c d).0 e) (last_apart c cs once) ∙ none_of (holds d (cs ++ c ∷ []))
     at_item false e = all_of (holds d cs) ∙ ap (λ b. b && true) (ap (λ b. holds d cs || b) (sym e) ∙ sym (holds-last d c cs))
 
-once-but_last : (c : Claim) (cs : List Claim) → each_once (cs ++ c ∷ []) ≡ true → each_once cs ≡ true
+pub once-but_last : (c : Claim) (cs : List Claim) → each_once (cs ++ c ∷ []) ≡ true → each_once cs ≡ true
 once-but_last c [] once = refl
 once-but_last c (x ∷ cs) once =
     let parts : (not (holds x (cs ++ c ∷ [])) ≡ true) × (each_once (cs ++ c ∷ []) ≡ true) = both _ _ once in
@@ -103,8 +103,8 @@ module _ (z : Name) (cs : List Claim) (s t : Shared) where
   pub agree-already : (c : Claim) → Agree z cs s → allows z c s ≡ true → is_held c s ≡ holds c cs
   agree-already c agree may = held_by_it z (holder c s) (both _ _ may).1 ∙ sym (agree.held c)
 
-  pub agree-claimed : (c : Claim) → Agree z cs s → allows z c s ≡ true → Takes z c s t → Agree z (claiming (is_held c s) c cs) t
-  agree-claimed c agree may took = at_test (is_held c s) refl
+  pub agree-claimed : (c : Claim) → Agree z cs s → allows z c s ≡ true → Takes z c s t → Agree z (claiming (holds c cs) c cs) t
+  agree-claimed c agree may took = at_test (holds c cs) refl
     where
       owned : (d : Claim) (b : Bool) → same_claim c d ≡ b → (b || holds d cs) ≡ is_owner z (if b then Some z else holder d s)
       owned d true e = sym (same_self z)
@@ -120,14 +120,14 @@ module _ (z : Name) (cs : List Claim) (s t : Shared) where
       there h d true e = subst (λ x. holds x cs ≡ true) ((claim-Decides c d).0 e) h
       there h d false e = refl
 
-      at_test : (b : Bool) → is_held c s ≡ b → Agree z (claiming b c cs) t
+      at_test : (b : Bool) → holds c cs ≡ b → Agree z (claiming b c cs) t
       at_test true e = record {
-        held = λ d. there (sym (agree-already c agree may) ∙ e) d _ refl ∙ (owned d _ refl ∙ ap (is_owner z) (sym (took.holders d)));
+        held = λ d. there e d _ refl ∙ (owned d _ refl ∙ ap (is_owner z) (sym (took.holders d)));
         once = agree.once;
       }
       at_test false e = record {
         held = λ d. holds-last d c cs ∙ (swapped (holds d cs) (same_claim c d) ∙ (owned d _ refl ∙ ap (is_owner z) (sym (took.holders d))));
-        once = once-last c cs agree.once (sym (agree-already c agree may) ∙ e);
+        once = once-last c cs agree.once e;
       }
 
   pub agree-released : (c : Claim) → Agree z (cs ++ c ∷ []) s → Frees (Some c) s t → Agree z cs t
@@ -191,7 +191,7 @@ all-with cells t z cs here there y = at_zone (bytes_eq z y) refl
     at_zone false e = there y (not_same z y e)
 
 module _ (cells : Name → List Claim) (s t : Shared) (z : Name) (c : Claim) (agree : AllAgree cells s) where
-  pub all-claimed : allows z c s ≡ true → Takes z c s t → AllAgree (with_cell z (claiming (is_held c s) c (cells z)) cells) t
+  pub all-claimed : allows z c s ≡ true → Takes z c s t → AllAgree (with_cell z (claiming (holds c (cells z)) c (cells z)) cells) t
   all-claimed may took = all-with cells t z _ (agree-claimed z (cells z) s t c (agree z) may took) (λ y n. agree-claimed_elsewhere y (cells y) s t z c n (agree y) may took)
 
   pub all-released : (cs : List Claim) → cells z ≡ cs ++ c ∷ [] → Frees (Some c) s t → AllAgree (with_cell z cs cells) t

@@ -1,10 +1,10 @@
 //! What one zone holds.
-ghost use Rattle.std.specs.Prelude.{◌≡◌, ◌≤◌, ◌<◌, ◌++◌, ◌∷◌, [], List, true, IfErr, IfNone, IfOk, IfSome, OnErr, OnOk, if◌then◌else◌};
+ghost use Rattle.std.specs.Prelude.{◌≡◌, ◌≤◌, ◌<◌, ◌++◌, ◌∷◌, [], List, false, true, IfErr, IfNone, IfOk, IfSome, OnErr, OnOk, if◌then◌else◌};
 ghost use Rattle.zn_base.specs.Answers.{AnswersUnless};
 ghost use Rattle.zone_pools.specs.Firsts.{is_nil};
 ghost use Rattle.datalink_table.specs.declared.faults.ClaimFault.TheVariants.{Memory};
 ghost use Rattle.datalink_table.specs.Claims.{claim_of, claiming, holds, is_of, items_of};
-ghost use Rattle.datalink_table.specs.Shared.{Alike, Frees, Takes, allows, claim_answer, is_held};
+ghost use Rattle.datalink_table.specs.Shared.{Alike, Frees, Takes, allows, claim_answer};
 ghost use Rattle.datalink_table.specs.declared.claims.Claim as claim_types;
 
 use crate::claims::{Claim, ClaimKind};
@@ -14,9 +14,9 @@ use std::alloc::{AllocError, Global};
 use std::marker::Model;
 use zn_base::{Listing, Text, ZoneName};
 
-/// What one zone holds, in the order of its claims. Contracts see `Cell`. It has no zone's name: a call that makes the
-/// shared part name the zone is told the name. A cell and the shared part agree where the shared part names the zone as the
-/// holder of just what the cell has, by `Agree`.
+/// What one zone holds, each item once, in the order of its claims. Contracts see `Cell`. It has no zone's name: a call that
+/// makes the shared part name the zone is told the name. A cell and the shared part agree where the shared part names the
+/// zone as the holder of just what the cell has, by `Agree`.
 pub struct ClaimCell {
     claims: Vec<Claim>,
 }
@@ -28,12 +28,14 @@ impl Drop for ClaimCell {
 }
 
 impl Model for ClaimCell {
-    ghost use Rattle.std.specs.Prelude.{◌-◌, vec_capacity, vec_len};
-    ghost use Rattle.datalink_table.specs.Claims.{Cell};
+    ghost use Rattle.std.specs.Prelude.{◌≡◌, ◌-◌, true, vec_capacity, vec_len};
+    ghost use Rattle.datalink_table.specs.Claims.{Cell, each_once};
 
     ghost Value = { Cell };
 
     ghost view = { λ c. record { claims = c.claims.items; room = vec_capacity c.claims - vec_len c.claims } };
+
+    ghost invariant = { λ c. each_once c.claims.items ≡ true };
 }
 
 /// A claim that is ready to be made, with the copies that it takes: the cell keeps one, and the shared part the other with
@@ -132,9 +134,10 @@ impl ClaimCell {
         Ready::new(alloc, Claim { kind, item }, zone)
     }
 
-    // The latest claim from now on.
+    // The latest claim from now on, of an item that the zone doesn't hold yet.
     fn push(&mut self, claim: Claim)
-        requires { 0 < self.old.room }
+        requires fresh { holds claim self.old.claims ≡ false }
+        requires room { 0 < self.old.room }
         ensures { self.new.claims ≡ self.old.claims ++ claim ∷ [] }
     {
         match self.claims.push(claim) {
@@ -143,19 +146,21 @@ impl ClaimCell {
         }
     }
 
-    /// A zone claims an item that it may claim: it holds it from now on. What it holds already stays where it is. There is
-    /// room, so this takes no memory.
+    /// A zone claims an item that it may claim: it holds it from now on. What the cell holds already stays where it is,
+    /// whatever the shared part says. All its claims are looked at. There is room, so this takes no memory.
     #[tactic(auto, using(crate::proofs::Sharing::held_already))]
     pub fn hold(&mut self, shared: &mut ClaimShared, ready: Ready)
         requires allowed { allows ready.zone ready.claim shared.old ≡ true }
         requires room { 0 < self.old.room }
         requires shared_room { 0 < shared.old.holders.room }
-        ensures claimed { self.new.claims ≡ claiming (is_held ready.claim shared.old) ready.claim self.old.claims }
+        ensures claimed { self.new.claims ≡ claiming (holds ready.claim self.old.claims) ready.claim self.old.claims }
         ensures taken { Takes ready.zone ready.claim shared.old shared.new }
     {
         let Ready { claim, copy, zone } = ready;
         if !shared.is_held(&claim) {
             shared.take(copy, zone);
+        }
+        if !self.holds(claim.kind, &claim.item) {
             self.push(claim);
         }
     }
@@ -171,7 +176,7 @@ impl ClaimCell {
         zone: &ZoneName,
     ) -> Result<(), ClaimFault>
         ensures result { AnswersUnless ClaimFault.Memory (claim_answer zone.now (claim_of kind item) shared.old) result }
-        ensures claimed { OnOk result (self.new.claims ≡ claiming (is_held (claim_of kind item) shared.old) (claim_of kind item) self.old.claims) }
+        ensures claimed { OnOk result (self.new.claims ≡ claiming (holds (claim_of kind item) self.old.claims) (claim_of kind item) self.old.claims) }
         ensures taken { OnOk result (Takes zone.now (claim_of kind item) shared.old shared.new) }
         ensures same { OnErr result (self.new.claims ≡ self.old.claims) }
         ensures alike { OnErr result (Alike shared.old shared.new) }
@@ -186,6 +191,7 @@ impl ClaimCell {
     /// changes, where the zone holds nothing. It takes no memory.
     pub fn release_last(&mut self, shared: &mut ClaimShared) -> Option<Claim>
         ensures last { IfSome result (λ claim. self.old.claims ≡ self.new.claims ++ claim ∷ []) }
+        ensures once { IfSome result (λ claim. holds claim self.new.claims ≡ false) }
         ensures nothing { IfNone result ((self.old.claims ≡ []) × (self.new.claims ≡ [])) }
         ensures freed { Frees result shared.old shared.new }
         ensures room { self.old.room ≤ self.new.room }

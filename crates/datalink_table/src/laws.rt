@@ -17,7 +17,7 @@ pub fn cells_and_shared_part_agree()
     ensures alike { (z : Name) (cs : List Claim) (s t : Shared) → Agree z cs s → Alike s t → Agree z cs t }
     ensures declared { (z : Name) (cs : List Claim) (s t : Shared) (c : Claim) → Agree z cs s → Declares c s t → Agree z cs t }
     ensures already { (z : Name) (cs : List Claim) (s : Shared) (c : Claim) → Agree z cs s → allows z c s ≡ true → is_held c s ≡ holds c cs }
-    ensures claimed { (z : Name) (cs : List Claim) (s t : Shared) (c : Claim) → Agree z cs s → allows z c s ≡ true → Takes z c s t → Agree z (claiming (is_held c s) c cs) t }
+    ensures claimed { (z : Name) (cs : List Claim) (s t : Shared) (c : Claim) → Agree z cs s → allows z c s ≡ true → Takes z c s t → Agree z (claiming (holds c cs) c cs) t }
     ensures released { (z : Name) (cs : List Claim) (s t : Shared) (c : Claim) → Agree z (cs ++ c ∷ []) s → Frees (Some c) s t → Agree z cs t }
     ensures claimed_elsewhere { (y z : Name) (cs : List Claim) (s t : Shared) (c : Claim) → y ≢ z → Agree y cs s → allows z c s ≡ true → Takes z c s t → Agree y cs t }
     ensures released_elsewhere { (y z : Name) (ds cs : List Claim) (s t : Shared) (c : Claim) → y ≢ z → Agree y ds s → Agree z (cs ++ c ∷ []) s → Frees (Some c) s t → Agree y ds t }
@@ -32,7 +32,7 @@ pub fn each_item_has_one_holder()
     ensures alike { (cells : Name → List Claim) (s t : Shared) → AllAgree cells s → Alike s t → AllAgree cells t }
     ensures declared { (cells : Name → List Claim) (s t : Shared) (c : Claim) → AllAgree cells s → Declares c s t → AllAgree cells t }
     ensures claimed { (cells : Name → List Claim) (s t : Shared) (z : Name) (c : Claim) → AllAgree cells s → allows z c s ≡ true → Takes z c s t
-        → AllAgree (with_cell z (claiming (is_held c s) c (cells z)) cells) t }
+        → AllAgree (with_cell z (claiming (holds c (cells z)) c (cells z)) cells) t }
     ensures released { (cells : Name → List Claim) (s t : Shared) (z : Name) (cs : List Claim) (c : Claim) → AllAgree cells s → cells z ≡ cs ++ c ∷ [] → Frees (Some c) s t
         → AllAgree (with_cell z cs cells) t }
 {}

@@ -5,7 +5,9 @@ ghost use Rattle.brand_hooks.specs.Tables.{answer_at, proceeding, with_answer};
 ghost use Rattle.brand_hooks.specs.declared.change.ChangeKind.TheVariants.{Clone};
 ghost use Rattle.brand_hooks.specs.declared.table.HookAnswer.TheVariants.{Proceed, Refuse};
 
-use brand_hooks::{Brand, BrandFault, Brands, Change, ChangeKind, HookAnswer, HookTable};
+use brand_hooks::{
+    Brand, BrandFault, BrandTables, Brands, Change, ChangeKind, HookAnswer, HookTable,
+};
 use std::alloc::Global;
 use std::test::Fail;
 
@@ -45,7 +47,7 @@ fn refuses_clones(change: &Change) -> HookAnswer
     }
 }
 
-fn answer<F: Fn(&Change) -> HookAnswer>(
+fn found_answer<F: Fn(&Change) -> HookAnswer>(
     brands: &Brands<F>,
     name: &[u8],
     change: &Change,
@@ -55,12 +57,22 @@ fn answer<F: Fn(&Change) -> HookAnswer>(
     Some(brands.find(name)?.ask(change))
 }
 
+// What a brand answers: found and asked, asked by its name, and by the tables alone.
+#[derive(Clone, Copy)]
+struct Answers {
+    found: Option<HookAnswer>,
+    asked: HookAnswer,
+    tabled: HookAnswer,
+}
+
+impl Answers {
+    fn are(&self, answer: HookAnswer) -> bool {
+        self.found == Some(answer) && self.asked == answer && self.tabled == answer
+    }
+}
+
 // What the brand `ipkg`, which lets all changes proceed, or `lx`, which refuses clones, answers.
-fn answer_of(
-    alloc: Global,
-    name: &[u8],
-    change: &Change,
-) -> Result<Option<HookAnswer>, BrandFault> {
+fn answers_of(alloc: Global, name: &[u8], change: &Change) -> Result<Answers, BrandFault> {
     let ipkg: Hook = proceeds;
     let lx: Hook = refuses_clones;
     let clones = HookTable::proceed().with(&BEFORE_CLONE, HookAnswer::Refuse(7));
@@ -70,7 +82,12 @@ fn answer_of(
         return Err(BrandFault::Memory);
     };
     let brands = Brands::new(alloc, list)?;
-    Ok(answer(&brands, name, change))
+    let tables = brands.tables(alloc)?;
+    Ok(Answers {
+        found: found_answer(&brands, name, change),
+        asked: brands.answer(name, change),
+        tabled: tables.answer(name, change),
+    })
 }
 
 #[test]
@@ -79,13 +96,16 @@ fn hooks_answer_their_tables(rt: HostRuntime) -> Result<(), BrandFault> {
     for kind in KINDS {
         for before in [true, false] {
             let change = Change { before, kind };
-            let ipkg = answer_of(alloc, b"ipkg", &change)?;
-            assert!(rt; ipkg == Some(HookAnswer::Proceed));
-            let lx = answer_of(alloc, b"lx", &change)?;
+            let ipkg = answers_of(alloc, b"ipkg", &change)?;
+            assert!(rt; ipkg.are(HookAnswer::Proceed));
+            let lx = answers_of(alloc, b"lx", &change)?;
             let refused = before && matches!(kind, ChangeKind::Clone);
-            assert!(rt; (lx == Some(HookAnswer::Refuse(7))) == refused);
-            assert!(rt; (lx == Some(HookAnswer::Proceed)) != refused);
-            assert!(rt; answer_of(alloc, b"kvm", &change)?.is_none());
+            assert!(rt; lx.are(HookAnswer::Refuse(7)) == refused);
+            assert!(rt; lx.are(HookAnswer::Proceed) != refused);
+            let kvm = answers_of(alloc, b"kvm", &change)?;
+            assert!(rt; kvm.found.is_none());
+            assert!(rt; kvm.asked == HookAnswer::Proceed);
+            assert!(rt; kvm.tabled == HookAnswer::Proceed);
         }
     }
     Ok(())
@@ -125,5 +145,26 @@ fn names_are_words_and_differ(rt: HostRuntime) -> Result<(), Fail> {
     }
     let message = BrandFault::SameBrand(3).to_string(rt.alloc())?;
     assert_eq!(rt; message.as_str(), "55 SameBrand 3");
+    Ok(())
+}
+
+#[test]
+fn tables_have_the_names_and_no_hooks(rt: HostRuntime) -> Result<(), BrandFault> {
+    let alloc = rt.alloc();
+    let clones = HookTable::proceed().with(&BEFORE_CLONE, HookAnswer::Refuse(7));
+    let copy = clones.copy();
+    assert!(rt; copy.at(&BEFORE_CLONE) == HookAnswer::Refuse(7));
+    let lx: Hook = refuses_clones;
+    let lx = Brand::new(alloc, b"lx", copy, lx)?;
+    let Ok(list) = vec![in alloc; lx] else {
+        return Err(BrandFault::Memory);
+    };
+    let tables = Brands::new(alloc, list)?.tables(alloc)?;
+    assert!(rt; tables.names().len() == 1);
+    assert!(rt; tables.names()[0].bytes() == b"lx".as_slice());
+    assert!(rt; tables.answer(b"lx", &BEFORE_CLONE) == HookAnswer::Refuse(7));
+    let none = BrandTables::none(alloc);
+    assert!(rt; none.names().is_empty());
+    assert!(rt; none.answer(b"lx", &BEFORE_CLONE) == HookAnswer::Proceed);
     Ok(())
 }

@@ -1,29 +1,32 @@
 -- What an event of one zone does to what is common, and what it takes from there. Nothing here opens a case of the machine.
-use Rattle.std.proofs.Common.{◌≡◌, ◌+◌, ◌∷◌, ◌++◌, [], ℕ, List, Bool, Option, Some, None, true, false, length, refl, ap, sym, subst, ◌∙◌, length-append}
+use Rattle.std.proofs.Common.{◌≡◌, ◌+◌, ◌∷◌, ◌++◌, [], ℕ, List, Bool, Option, Some, None, true, false, ◌&&◌, ◌||◌, not, length, refl, ap, sym, subst, ◌∙◌, length-append}
 use Rattle.std.specs.Prelude.{bytes_eq, filter, is_some, if◌then◌else◌}
 use Rattle.std.specs.List.{list_any}
 use Rattle.std.proofs.lemmas.Bool.{false≢true, true≢false}
 use Rattle.zn_base.specs.Names.{Name}
 use Rattle.zone_pools.proofs.Holding.{not_same}
-use Rattle.zone_pools.proofs.Owned_laws.{same_self, same_true}
+use Rattle.brand_hooks.specs.Brands.{Tabled}
+use Rattle.datalink_table.specs.Claims.{holds, same_claim}
+use Rattle.commit_journal.specs.Store.{row_of}
+use Rattle.zone_pools.proofs.Owned_laws.{mine-edit, other-list, same_self, same_true}
 use Rattle.zone_pools.specs.Decisions.{asked_of}
-use Rattle.zone_pools.specs.Owned_lists.{mine}
+use Rattle.zone_pools.specs.Owned_lists.{Go, edit_list, edited, mine}
 use Rattle.zone_pools.specs.Pools.{fits_asked, said_by_all}
 use Rattle.zone_pools.specs.declared.grant.Grant.{Grant}
 use Rattle.zone_pools.specs.declared.grant.Grant.TheVariants.{Nothing}
 use Rattle.zone_pools.specs.declared.owned.Owned.{Owned}
 use Rattle.zone_machine.proofs.Acts_laws.{OwnSession, other-acts, own-acts}
 use Rattle.zone_machine.proofs.Own_worlds.{decide-world, need-world, own_session, view-world}
-use Rattle.zoneadmd_steps.specs.Arrivals.{Arrival, New_id, New_process, New_record}
-use Rattle.zone_machine.specs.Machine.Common.{Common, HoldOnce, acts_common, came_common, common, holds_pid, holds_session, holds_zid}
+use Rattle.zoneadmd_steps.specs.Arrivals.{Arrival, New_claim, New_id, New_process, New_record, No_new_thing}
+use Rattle.zone_machine.specs.Machine.Common.{Common, HoldOnce, acts_common, came_common, common, holds_claim, holds_pid, holds_session, holds_zid, is_up}
 use Rattle.zone_machine.specs.State.Decisions.{Act, act_of, acts, acts_world, after_came}
 use Rattle.zone_machine.specs.State.Edits.{Edit, Of_objects, comes, edit, edits}
 use Rattle.zone_machine.specs.Session.Lines.{Command, Kill, Line, line_of}
 use Rattle.zone_machine.specs.Machine.{decide, declared_by, holder, line_subject, need, one, one_of, session_number, session_subject, started, subject}
 use Rattle.kernel_objects.specs.Processes.{Process, has_pid}
-use Rattle.zoneadmd_steps.specs.Objects.{Processes_go, has_zid}
+use Rattle.zoneadmd_steps.specs.Objects.{Processes_go, all_of, has_zid}
 use Rattle.zone_pools.specs.Firsts.{first_of}
-use Rattle.zone_machine.specs.Machine.Pools.{allowed, allowed_of, fits, fits_of, path_taken, pools_of}
+use Rattle.zone_machine.specs.Machine.Pools.{allowed, allowed_of, fits, fits_of, is_installed, kind_of, of_kind, path_taken, pools_of}
 use Rattle.commit_journal.proofs.Applied.{stored-push}
 use Rattle.commit_journal.specs.Stored as rows
 use Rattle.commit_journal.specs.Stored.{Rows}
@@ -42,12 +45,13 @@ record Rest : Type 0 where
   last_pid : ℕ
   last_zid : ℕ
   declared : Declared
+  brands : List Tabled
 
 abbrev rest : State → Rest
-rest S = record { rows = rows.stored S.commits; serial = length S.commits; last_pid = S.last_pid; last_zid = S.last_zid; declared = S.declared }
+rest S = record { rows = rows.stored S.commits; serial = length S.commits; last_pid = S.last_pid; last_zid = S.last_zid; declared = S.declared; brands = S.brands }
 
 abbrev rest_in : Common → Rest
-rest_in c = record { rows = c.rows; serial = c.serial; last_pid = c.last_pid; last_zid = c.last_zid; declared = c.declared }
+rest_in c = record { rows = c.rows; serial = c.serial; last_pid = c.last_pid; last_zid = c.last_zid; declared = c.declared; brands = c.brands }
 
 rest-edit : (z : Name) (n : Option ℕ) (e : Edit) (S : State) → rest (edit z n e S) ≡ rest S
 unfolding edit
@@ -63,11 +67,13 @@ unfolding comes
 rest-came z None S = refl
 rest-came z (Some (New_process p)) S = refl
 rest-came z (Some (New_id i)) S = refl
+rest-came z (Some (New_claim c)) S = refl
+rest-came z (Some No_new_thing) S = refl
 rest-came z (Some (New_record row)) S =
     let c : Commit = record { zone = z; stored = row } in
     let rows = stored-push S.commits c in
     let count : length (S.commits ++ c ∷ []) ≡ length S.commits + 1 = length-append S.commits (c ∷ []) in
-    λ i. record { rows = rows i; serial = count i; last_pid = S.last_pid; last_zid = S.last_zid; declared = S.declared }
+    λ i. record { rows = rows i; serial = count i; last_pid = S.last_pid; last_zid = S.last_zid; declared = S.declared; brands = S.brands }
 
 -- what comes is held only once its world shows it
 held-came : (z : Name) (a : Option Arrival) (S : State) → record (came_common z a (common S)) { rows = rows.stored S.commits; serial = length S.commits; last_pid = S.last_pid; last_zid = S.last_zid } ≡ common S
@@ -92,12 +98,15 @@ common-acts z n a S own =
     λ i. record {
       pids = λ y k. (spread (λ v. holds_pid v k) y z n a S own ∙ ap (λ (c : Common). if bytes_eq z y then holds_pid w k else c.pids y k) held) i;
       zids = λ y k. (spread (λ v. holds_zid v k) y z n a S own ∙ ap (λ (c : Common). if bytes_eq z y then holds_zid w k else c.zids y k) held) i;
+      claims = λ y k. (spread (λ v. holds_claim v k) y z n a S own ∙ ap (λ (c : Common). if bytes_eq z y then holds_claim w k else c.claims y k) held) i;
       sessions = λ y k. (spread (λ v. holds_session v k) y z n a S own ∙ ap (λ (c : Common). if bytes_eq z y then holds_session w k else c.sessions y k) held) i;
+      up = λ y. (spread is_up y z n a S own ∙ ap (λ (c : Common). if bytes_eq z y then is_up w else c.up y) held) i;
       rows = (r i).rows;
       serial = (r i).serial;
       last_pid = (r i).last_pid;
       last_zid = (r i).last_zid;
       declared = (r i).declared;
+      brands = (r i).brands;
       started = true;
     }
 
@@ -153,6 +162,38 @@ module _ {A : Type 0} (p : A → Bool) where
       at_tests true false e f = sym (passes os ps h e) ∙ f
       at_tests false true e f = sym e ∙ passes ps os (λ z. sym (h z)) f
 
+-- what others than z have is among what is left once z's is gone
+module _ {A : Type 0} (p : A → Bool) (z : Name) where
+  abbrev elsewhere : List (Owned A) → Bool
+  elsewhere os = list_any (λ o. not (bytes_eq z o.zone) && p o.it) os
+
+  abbrev others : List (Owned A) → List (Owned A)
+  others os = edit_list z (Go all_of) os
+
+  elsewhere-others : (os : List (Owned A)) → elsewhere os ≡ list_any (λ o. p o.it) (others os)
+  elsewhere-others [] = refl
+  elsewhere-others (o ∷ os) = at_head (elsewhere-others os) (bytes_eq z o.zone) refl
+    where
+      at_head : elsewhere os ≡ list_any (λ o. p o.it) (others os) → (b : Bool) → bytes_eq z o.zone ≡ b → elsewhere (o ∷ os) ≡ list_any (λ o. p o.it) (others (o ∷ os))
+      at_head ih true e = simp e ih
+      at_head ih false e = simp e (ap (λ b. p o.it || b) ih)
+
+  none_left : (xs : List A) → list_any p (edited (Go all_of) xs) ≡ false
+  none_left [] = refl
+  none_left (x ∷ xs) = none_left xs
+
+  pub same-elsewhere : (os ps : List (Owned A)) → ((y : Name) → list_any p (mine y os) ≡ list_any p (mine y ps)) → elsewhere os ≡ elsewhere ps
+  same-elsewhere os ps same = elsewhere-others os ∙ (same_any p (others os) (others ps) (λ y. at_zone y (bytes_eq z y) refl) ∙ sym (elsewhere-others ps))
+    where
+      gone : (xs : List (Owned A)) → list_any p (mine z (others xs)) ≡ false
+      gone xs = ap (list_any p) (mine-edit z (Go all_of) xs) ∙ none_left (mine z xs)
+
+      at_zone : (y : Name) (b : Bool) → bytes_eq z y ≡ b → list_any p (mine y (others os)) ≡ list_any p (mine y (others ps))
+      at_zone y true e = subst (λ x. list_any p (mine x (others os)) ≡ list_any p (mine x (others ps))) (same_true z y e) (gone os ∙ sym (gone ps))
+      at_zone y false e =
+          let ne = not_same z y e in
+          ap (list_any p) (other-list z y (λ w. ne (sym w)) (Go all_of) os) ∙ (same y ∙ sym (ap (list_any p) (other-list z y (λ w. ne (sym w)) (Go all_of) ps)))
+
 -- what the pools know, whose an event is, and what is allowed and fits, from what is common and the zone's world
 pub pools-common : (S T : State) → common S ≡ common T → pools_of S ≡ pools_of T
 pools-common S T h = λ i. record {
@@ -163,6 +204,8 @@ pools-common S T h = λ i. record {
   zones = length (h i).rows;
   path_taken = path_taken (h i).rows;
   serial = (h i).serial;
+  may_hold = λ z pool item. of_kind (λ c. holds c (h i).declared.items && not (same-elsewhere (same_claim c) z S.claims T.claims (λ y. ap (λ k. k.claims y c) h) i)) (kind_of pool) item;
+  may_clone = λ z. is_installed (row_of z (h i).rows) && not ((h i).up z);
 }
 
 -- the zone that has the process of a number, where one zone at most has it
@@ -256,4 +299,4 @@ module _ (z : Name) (S T : State) (e : Event) (is : subject S e ≡ Zone z) (onc
 
   pub fits-common : (g : Grant) → fits S e g ≡ fits T e g
   unfolding fits
-  fits-common g = ap (λ x. fits_of x S e g) is ∙ ((λ i. fits_asked (pools-common S T h i) (asked_of (decide-world z S T e w i)) g) ∙ sym (ap (λ x. fits_of x T e g) it))
+  fits-common g = ap (λ x. fits_of x S e g) is ∙ ((λ i. fits_asked (pools-common S T h i) z (asked_of (decide-world z S T e w i)) g) ∙ sym (ap (λ x. fits_of x T e g) it))

@@ -1,7 +1,7 @@
 -- Changes of a cell and the shared part.
 use Rattle.std.proofs.Common.{◌≡◌, ◌∷◌, ◌++◌, [], ℕ, List, Bool, Option, Some, None, true, false, not, ◌&&◌, ◌||◌, inl, inr, refl, ap, sym, subst, ◌∙◌, ◌+◌, map}
-use Rattle.indexmap.specs.IndexMap.{get, insert_entry}
-use Rattle.std.specs.Prelude.{◌≢◌, bytes_eq, nat_eq, is_some, if◌then◌else◌}
+use Rattle.indexmap.specs.IndexMap.{get, get_by, insert_entry}
+use Rattle.std.specs.Prelude.{◌≢◌, bytes_eq, nat_eq, is_some, unwrap_or, if◌then◌else◌}
 use Rattle.std.specs.Cmp.{nat_eq_equiv}
 use Rattle.std.specs.Option.{option_map}
 use Rattle.std.specs.List.{list_any}
@@ -16,11 +16,14 @@ use Rattle.commit_journal.proofs.Zones.{placed_is}
 use Rattle.commit_journal.specs.Zones.{rows_of}
 use Rattle.zone_machine.proofs.Acts_laws.{same_other}
 use Rattle.zone_machine.proofs.Waits_laws.{some_wait}
-use Rattle.zone_machine.specs.Code.Cells.{Agree, Does, cell_world, common_in, kept, row_in}
+use Rattle.zone_machine.specs.Code.Cells.{Acts, Agree, Does, cell_world, common_in, declared_in, is_up_in, kept, outside_in, row_in}
 use Rattle.zoneadmd_steps.specs.Objects.{ids_of, has_zid}
 use Rattle.zone_machine.specs.Code.Waits.{is_wait_for, unless_ended}
 use Rattle.zone_machine.specs.Code.Works.{work_world, Works, rest_of, sits, work_act}
-use Rattle.zone_machine.specs.Machine.Common.{Common, came_common, holding, holds_pid, holds_zid}
+use Rattle.datalink_table.specs.Claims.{claiming, holds, same_claim}
+use Rattle.datalink_table.specs.Shared.{Frees, Takes, allows, holder, is_declared, may_hold}
+use Rattle.datalink_table.specs.declared.claims.Claim.{Claim}
+use Rattle.zone_machine.specs.Machine.Common.{Common, came_common, holding, holds_claim, holds_pid, holds_zid, standing}
 use Rattle.zone_machine.specs.State.Edits.{Edit, Of_objects, Set_desk, at_session, comes_world, edit_world, edits_world, swept_doing}
 use Rattle.zone_machine.specs.State as state
 use Rattle.zone_machine.specs.State.Worlds.{World}
@@ -31,7 +34,7 @@ use Rattle.commit_journal.specs.declared.records.Record.{Record}
 use Rattle.zone_machine.specs.declared.machine.shared.Shared.{Shared}
 use Rattle.zoneadmd_steps.specs.declared.objects.changes.ObjectEdit.TheVariants.{EndIds, EndProcesses}
 use Rattle.zoneadmd_steps.specs.declared.objects.changes.ObjectEdit.TheVariants as object
-use Rattle.zoneadmd_steps.specs.Arrivals.{Arrival, New_id, New_process, New_record, in_kernel, in_store}
+use Rattle.zoneadmd_steps.specs.Arrivals.{Arrival, New_claim, New_id, New_process, New_record, No_new_thing, in_kernel, in_store}
 use Rattle.zone_machine.specs.State.Decisions.{Act, acts_world, after_came_world, sweeps, ticket_ended}
 use Rattle.zone_machine.specs.Code.Rooms.{IsOpenTo}
 use Rattle.zone_machine.specs.declared.machine.work.Sitting.{Sitting}
@@ -51,6 +54,9 @@ module _ (z : Name) (c : Cell) (s : Shared) (agree : Agree z c s) where
   pub same_zids : (y : Name) (n : ℕ) → held_by (zid_owner s.kernel) y n ≡ owners.holding z (λ n. list_any (has_zid n) (ids_of c.kernel.id)) (held_by (zid_owner s.kernel)) y n
   same_zids = kept_column z (λ n. list_any (has_zid n) (ids_of c.kernel.id)) (zid_owner s.kernel) agree.zids
 
+  pub same_claims : (y : Name) (k : Claim) → held_by (λ k. holder k s.claims) y k ≡ owners.holding z (λ k. holds k c.claims.claims) (held_by (λ k. holder k s.claims)) y k
+  same_claims = kept_column z (λ k. holds k c.claims.claims) (λ k. holder k s.claims) agree.claims
+
   pub same_sessions : (y : Name) (n : ℕ) → held_by (owner nat_eq s.sessions) y n ≡ owners.holding z (λ n. is_some (get nat_eq c.waits n)) (held_by (owner nat_eq s.sessions)) y n
   same_sessions = kept_column z (λ n. is_some (get nat_eq c.waits n)) (owner nat_eq s.sessions) agree.sessions
 
@@ -62,13 +68,17 @@ holds_wait (Some t) = refl
 pub common_by : (z : Name) (w : World) (g : Common) (t : Shared) (waits : ℕ → Option ℕ)
     → ((y : Name) (n : ℕ) → held_by (pid_owner t.kernel) y n ≡ owners.holding z (holds_pid w) g.pids y n)
     → ((y : Name) (n : ℕ) → held_by (zid_owner t.kernel) y n ≡ owners.holding z (holds_zid w) g.zids y n)
+    → ((y : Name) (k : Claim) → held_by (λ k. holder k t.claims) y k ≡ owners.holding z (holds_claim w) g.claims y k)
     → ((y : Name) (n : ℕ) → held_by (owner nat_eq t.sessions) y n ≡ owners.holding z (λ n. is_some (waits n)) g.sessions y n)
     → ((n : ℕ) → is_some (w.sessions n) ≡ is_some (waits n))
-    → rows_of t.rows.entries ≡ g.rows → t.serial ≡ g.serial → t.kernel.last_pid ≡ g.last_pid → t.kernel.last_zid ≡ g.last_zid → record { items = t.claims.declared; devices = t.kernel.devices } ≡ g.declared → t.started ≡ g.started
+    → is_up_in t ≡ g.up → rows_of t.rows.entries ≡ g.rows → t.serial ≡ g.serial → t.kernel.last_pid ≡ g.last_pid → t.kernel.last_zid ≡ g.last_zid → declared_in t ≡ g.declared → t.brands ≡ g.brands → t.started ≡ g.started
     → common_in t ≡ holding z w g
-common_by z w g t waits pids zids sessions seen rows serial last_pid last_zid declared started = λ i. record {
+common_by z w g t waits pids zids claims sessions seen up rows serial last_pid last_zid declared brands started = λ i. record {
   pids = λ y n. pids y n i;
   zids = λ y n. zids y n i;
+  claims = λ y k. claims y k i;
+  up = up i;
+  brands = brands i;
   sessions = λ y n. (sessions y n ∙ ap (λ b. if bytes_eq z y then b else g.sessions y n) (sym (seen n))) i;
   rows = rows i;
   serial = serial i;
@@ -84,12 +94,12 @@ pub does_sits : (z : Name) (c d : Cell) (s t : Shared) (k : ℕ) (x : Sitting) �
     → ((n : ℕ) → get nat_eq d.waits n ≡ at_session (Some k) n (Some x.ticket) (get nat_eq c.waits n))
     → Does z (edits_world (Some k) (sits (Some x))) kept c s (record c { waits = d.waits }) (record s { sessions = t.sessions })
 does_sits z c d s t k x is_open taken h = record {
-  world = λ a i. record (cell_world (row_in z s) c) { sessions = λ n. waits n i };
-  common = λ a. common_by z (record (cell_world (row_in z s) c) { sessions = λ n. at_session (Some k) n (Some (state.Awaiting x.ticket)) (option_map state.Awaiting (get nat_eq c.waits n)) }) (common_in s)
-      (record s { sessions = t.sessions }) (get nat_eq d.waits) (same_pids z c s a) (same_zids z c s a)
+  world = λ a i. record (cell_world (outside_in z s) c) { sessions = λ n. waits n i };
+  common = λ a. common_by z (record (cell_world (outside_in z s) c) { sessions = λ n. at_session (Some k) n (Some (state.Awaiting x.ticket)) (option_map state.Awaiting (get nat_eq c.waits n)) }) (common_in s)
+      (record s { sessions = t.sessions }) (get nat_eq d.waits) (same_pids z c s a) (same_zids z c s a) (same_claims z c s a)
       (column z (λ n. is_some (get nat_eq d.waits n)) (owner nat_eq s.sessions) (owner nat_eq t.sessions)
       (λ n. ap (is_owner z) (taken n) ∙ (here a n (nat_eq k n) ∙ sym (ap is_some (h n) ∙ more (nat_eq k n) (get nat_eq c.waits n)))) (λ y ne n. ap (is_owner y) (taken n) ∙ there y ne n (nat_eq k n) refl))
-      (λ n. ap is_some (sym (waits n)) ∙ holds_wait (get nat_eq d.waits n)) refl refl refl refl refl refl;
+      (λ n. ap is_some (sym (waits n)) ∙ holds_wait (get nat_eq d.waits n)) refl refl refl refl refl refl refl refl;
 }
   where
     mapped : (b : Bool) (o : Option ℕ) → option_map state.Awaiting (if b then Some x.ticket else o) ≡ (if b then Some (state.Awaiting x.ticket) else option_map state.Awaiting o)
@@ -120,12 +130,12 @@ pub does_ends : (z : Name) (c d : Cell) (s t : Shared) (ticket : ℕ) → ((n : 
     → ((n : ℕ) → owner nat_eq t.sessions n ≡ (if is_wait_for ticket (get nat_eq c.waits n) then None else owner nat_eq s.sessions n))
     → (n : Option ℕ) → Does z (edits_world n (sweeps (Some ticket))) kept c s (record c { waits = d.waits }) (record s { sessions = t.sessions })
 does_ends z c d s t ticket h given n = record {
-  world = λ a i. record (cell_world (row_in z s) c) { sessions = λ n. waits n i };
-  common = λ a. common_by z (record (cell_world (row_in z s) c) { sessions = λ n. swept_doing (ticket_ended ticket) (option_map state.Awaiting (get nat_eq c.waits n)) }) (common_in s)
-      (record s { sessions = t.sessions }) (get nat_eq d.waits) (same_pids z c s a) (same_zids z c s a)
+  world = λ a i. record (cell_world (outside_in z s) c) { sessions = λ n. waits n i };
+  common = λ a. common_by z (record (cell_world (outside_in z s) c) { sessions = λ n. swept_doing (ticket_ended ticket) (option_map state.Awaiting (get nat_eq c.waits n)) }) (common_in s)
+      (record s { sessions = t.sessions }) (get nat_eq d.waits) (same_pids z c s a) (same_zids z c s a) (same_claims z c s a)
       (gone_column z (λ n. is_some (get nat_eq c.waits n)) (λ n. is_some (get nat_eq d.waits n)) (λ n. is_wait_for ticket (get nat_eq c.waits n)) (owner nat_eq s.sessions) (owner nat_eq t.sessions)
       a.sessions (λ n. some_wait ticket (get nat_eq c.waits n)) given (λ n. ap is_some (h n) ∙ less (get nat_eq c.waits n)))
-      (λ n. ap is_some (sym (waits n)) ∙ holds_wait (get nat_eq d.waits n)) refl refl refl refl refl refl;
+      (λ n. ap is_some (sym (waits n)) ∙ holds_wait (get nat_eq d.waits n)) refl refl refl refl refl refl refl refl;
 }
   where
     mapped : (o : Option ℕ) → option_map state.Awaiting (unless_ended ticket o) ≡ swept_doing (ticket_ended ticket) (option_map state.Awaiting o)
@@ -151,10 +161,10 @@ does_ends z c d s t ticket h given n = record {
 pub does_record : (z : Name) (c : Cell) (s t : Shared) (r : Record) → t.rows.entries ≡ insert_entry bytes_eq s.rows.entries z r → row_in z t ≡ Some r
     → Does z (comes_world (New_record (Some r))) (came_common z (Some (New_record (Some r)))) c s c (record s { rows = t.rows; serial = s.serial + 1 })
 does_record z c s t r h found = record {
-  world = λ a i. record (cell_world (row_in z s) c) { stored = found i };
-  common = λ a. common_by z (record (cell_world (row_in z s) c) { stored = Some r }) (record (common_in s) { rows = placed z r (rows_of s.rows.entries); serial = s.serial + 1 })
-      (record s { rows = t.rows; serial = s.serial + 1 }) (get nat_eq c.waits) (same_pids z c s a) (same_zids z c s a) (same_sessions z c s a) (λ n. holds_wait (get nat_eq c.waits n))
-      (ap rows_of h ∙ placed_is z r s.rows.entries) refl refl refl refl refl;
+  world = λ a i. record (cell_world (outside_in z s) c) { stored = found i };
+  common = λ a. common_by z (record (cell_world (outside_in z s) c) { stored = Some r }) (record (common_in s) { rows = placed z r (rows_of s.rows.entries); serial = s.serial + 1 })
+      (record s { rows = t.rows; serial = s.serial + 1 }) (get nat_eq c.waits) (same_pids z c s a) (same_zids z c s a) (same_claims z c s a) (same_sessions z c s a) (λ n. holds_wait (get nat_eq c.waits n))
+      refl (ap rows_of h ∙ placed_is z r s.rows.entries) refl refl refl refl refl refl;
 }
 
 -- one after another
@@ -169,6 +179,7 @@ pub holding_again : (z : Name) (v w : World) (c : Common) → holding z w (holdi
 holding_again z v w c = λ i. record c {
   pids = λ y n. same_again z y (list_any (has_pid n) w.processes) (list_any (has_pid n) v.processes) (c.pids y n) i;
   zids = λ y n. same_again z y (list_any (has_zid n) w.ids) (list_any (has_zid n) v.ids) (c.zids y n) i;
+  claims = λ y k. same_again z y (holds k w.claims) (holds k v.claims) (c.claims y k) i;
   sessions = λ y n. same_again z y (is_some (w.sessions n)) (is_some (v.sessions n)) (c.sessions y n) i;
 }
 
@@ -180,6 +191,7 @@ pub does_agree : (z : Name) (f : World → World) (g : Common → Common) (c d :
 does_agree z f g c d s t does a = record {
   pids = λ n. ap (λ w. list_any (has_pid n) w.processes) (does.world a) ∙ sym (ap (λ k. k.pids z n) (does.common a) ∙ own_if z _ _);
   zids = λ n. ap (λ w. list_any (has_zid n) w.ids) (does.world a) ∙ sym (ap (λ k. k.zids z n) (does.common a) ∙ own_if z _ _);
+  claims = λ k. ap (λ w. holds k w.claims) (does.world a) ∙ sym (ap (λ g. g.claims z k) (does.common a) ∙ own_if z _ _);
   sessions = λ n. sym (holds_wait (get nat_eq d.waits n)) ∙ (ap (λ w. is_some (w.sessions n)) (does.world a) ∙ sym (ap (λ k. k.sessions z n) (does.common a) ∙ own_if z _ _));
 }
 
@@ -190,9 +202,9 @@ does_then z f f' g g' c d e s t u apart one two = record {
   common = λ a.
       two.common (does_agree z f g c d s t one a)
       ∙ (ap (λ w. holding z (f' w) (g' (common_in t))) (one.world a)
-      ∙ (ap (λ k. holding z (f' (f (cell_world (row_in z s) c))) (g' k)) (one.common a)
-      ∙ (ap (holding z (f' (f (cell_world (row_in z s) c)))) (apart (f (cell_world (row_in z s) c)) (g (common_in s)))
-      ∙ holding_again z (f (cell_world (row_in z s) c)) (f' (f (cell_world (row_in z s) c))) (g' (g (common_in s))))));
+      ∙ (ap (λ k. holding z (f' (f (cell_world (outside_in z s) c))) (g' k)) (one.common a)
+      ∙ (ap (holding z (f' (f (cell_world (outside_in z s) c)))) (apart (f (cell_world (outside_in z s) c)) (g (common_in s)))
+      ∙ holding_again z (f (cell_world (outside_in z s) c)) (f' (f (cell_world (outside_in z s) c))) (g' (g (common_in s))))));
 }
 
 -- what comes is apart from what the zones hold
@@ -203,7 +215,9 @@ pub came_apart : (z : Name) (a : Option Arrival) (w : World) (k : Common) → ca
 came_apart z None w k = refl
 came_apart z (Some (New_process p)) w k = refl
 came_apart z (Some (New_id i)) w k = refl
+came_apart z (Some (New_claim c)) w k = refl
 came_apart z (Some (New_record row)) w k = refl
+came_apart z (Some No_new_thing) w k = refl
 
 -- what is taken after it was given back
 pub retaken : (b : Bool) (z : Name) (o : Option Name) → (if b then Some z else (if b then None else o)) ≡ (if b then Some z else o)
@@ -219,7 +233,9 @@ desk-came : (c : Option Arrival) (w : World) (d : desks.Desk) → after_came_wor
 desk-came None w d = refl
 desk-came (Some (New_process p)) w d = refl
 desk-came (Some (New_id i)) w d = refl
+desk-came (Some (New_claim c)) w d = refl
 desk-came (Some (New_record r)) w d = refl
+desk-came (Some No_new_thing) w d = refl
 
 desk-objects : (n : Option ℕ) (o : ObjectEdit) (w : World) (d : desks.Desk) → edits_world n (map Of_objects (object_edits o)) (record w { desk = d }) ≡ record (edits_world n (map Of_objects (object_edits o)) w) { desk = d }
 desk-objects n object.Nothing w d = refl
@@ -229,10 +245,15 @@ desk-objects n (object.Unmount dir) w d = refl
 desk-objects n (object.Hold dir) w d = refl
 desk-objects n (object.Release dir) w d = refl
 desk-objects n object.EndIds w d = refl
+desk-objects n object.EndClaim w d = refl
+desk-objects n (object.SetDevices ds) w d = refl
+desk-objects n object.DropDevices w d = refl
+desk-objects n (object.SetBootargs args) w d = refl
+desk-objects n object.Clear w d = refl
 desk-objects n (object.EndProcess pid) w d = refl
 desk-objects n (object.Rename pid name) w d = refl
 desk-objects n (object.GiveUp pid number) w d = refl
-desk-objects n object.SetLimits w d = refl
+desk-objects n (object.SetLimits l) w d = refl
 desk-objects n object.ClearLimits w d = refl
 
 work-desk : (n : Option ℕ) (w : World) (d : desks.Desk) (work : Work) → work_world n work (record w { desk = d }) ≡ acts_world n (work_act work d) w
@@ -245,39 +266,72 @@ work-desk n w d work =
     ∙ edits-then n (sits work.sits) (sweeps work.ended) (record (edits_world n objects after) { desk = d }))
 
 -- so work that does what an act says does it, where the desk is changed before
-pub does_work : (z : Name) (n : Option ℕ) (a : Act) (work : Work) (c d : Cell) (desk : Desk) (s t : Shared) → Works n a (cell_world (row_in z s) c) (as_desk desk) work
+pub does_work : (z : Name) (n : Option ℕ) (a : Act) (work : Work) (c d : Cell) (desk : Desk) (s t : Shared) → Works n a (cell_world (outside_in z s) c) (as_desk desk) work
     → Does z (work_world n work) (came_common z (arrival_of work.stored)) (record c { desk = desk }) s d t → Does z (acts_world n a) (came_common z a.came) c s d t
 does_work z n a work c d desk s t works does =
-    let w = cell_world (row_in z s) c in
+    let w = cell_world (outside_in z s) c in
     let lasts : work_world n work (record w { desk = as_desk desk }) ≡ acts_world n a w = work-desk n w (as_desk desk) work ∙ works.world in
     record {
-      world = λ a. does.world (record { pids = a.pids; zids = a.zids; sessions = a.sessions }) ∙ lasts;
+      world = λ a. does.world (record { pids = a.pids; zids = a.zids; claims = a.claims; sessions = a.sessions }) ∙ lasts;
       common = λ agree.
-          does.common (record { pids = agree.pids; zids = agree.zids; sessions = agree.sessions })
+          does.common (record { pids = agree.pids; zids = agree.zids; claims = agree.claims; sessions = agree.sessions })
           ∙ (ap (λ v. holding z v (came_common z (arrival_of work.stored) (common_in s))) lasts
           ∙ ap (λ x. holding z (acts_world n a w) (came_common z x (common_in s))) works.came);
     }
 
--- a whole act: what comes to the kernel, and then the rest
+-- the parts of what came
 came_parts : (a : Option Arrival) (w : World) → after_came_world (in_store a) (after_came_world (in_kernel a) w) ≡ after_came_world a w
 came_parts None w = refl
 came_parts (Some (New_process p)) w = refl
 came_parts (Some (New_id i)) w = refl
+came_parts (Some (New_claim c)) w = refl
 came_parts (Some (New_record row)) w = refl
+came_parts (Some No_new_thing) w = refl
 
 common_parts : (z : Name) (a : Option Arrival) (k : Common) → came_common z (in_store a) (came_common z (in_kernel a) k) ≡ came_common z a k
 common_parts z None k = refl
 common_parts z (Some (New_process p)) k = refl
 common_parts z (Some (New_id i)) k = refl
+common_parts z (Some (New_claim c)) k = refl
 common_parts z (Some (New_record row)) k = refl
+common_parts z (Some No_new_thing) k = refl
 
-pub does_whole : (z : Name) (n : Option ℕ) (a : Act) (c d e : Cell) (s t u : Shared) → Does z (after_came_world (in_kernel a.came)) (came_common z (in_kernel a.came)) c s d t
-    → Does z (acts_world n (rest_of a)) (came_common z (in_store a.came)) d t e u → Does z (acts_world n a) (came_common z a.came) c s e u
-does_whole z n a c d e s t u one two =
-    let both = does_then z (after_came_world (in_kernel a.came)) (acts_world n (rest_of a)) (came_common z (in_kernel a.came)) (came_common z (in_store a.came)) c d e s t u (came_apart z (in_store a.came)) one two in
-    let w = cell_world (row_in z s) c in
+-- the shared part says whether z is up, once all else is done; u is the shared part then
+pub acts_up : (z : Name) (f : World → World) (g : Common → Common) (c d : Cell) (s t u : Shared) → Does z f g c s d t → t.ups ≡ s.ups → u ≡ record t { ups = u.ups }
+    → (is_up_in t z ≡ is_some c.desk.active → (y : Name) → is_up_in u y ≡ (if bytes_eq z y then is_some d.desk.active else is_up_in t y)) → Acts z f g c s d u
+acts_up z f g c d s t u does same only marked = record {
+  world = λ a. ap (λ (u : Shared). cell_world (outside_in z u) d) only ∙ does.world a;
+  common = λ a was.
+      ap common_in only
+      ∙ ((λ i. record (common_in t) { up = λ y. marked (ap (λ ups. unwrap_or (get_by (bytes_eq z) ups) false) same ∙ was) y i })
+      ∙ (ap (λ w. standing z w (common_in t)) (does.world a)
+      ∙ ap (standing z (f (cell_world (outside_in z s) c))) (does.common a)));
+}
+
+-- one after another, where the first leaves who is up
+pub acts_then : (z : Name) (f f' : World → World) (g g' : Common → Common) (c d e : Cell) (s t u : Shared) → ((w : World) (k : Common) → g' (holding z w k) ≡ holding z w (g' k))
+    → is_up_in t z ≡ is_up_in s z → d.desk.active ≡ c.desk.active → Does z f g c s d t → Acts z f' g' d t e u → Acts z (λ w. f' (f w)) (λ k. g' (g k)) c s e u
+acts_then z f f' g g' c d e s t u apart up desk one two = record {
+  world = λ a. two.world (does_agree z f g c d s t one a) ∙ ap f' (one.world a);
+  common = λ a was.
+      two.common (does_agree z f g c d s t one a) (up ∙ (was ∙ ap is_some (sym desk)))
+      ∙ (ap (λ w. standing z (f' w) (holding z (f' w) (g' (common_in t)))) (one.world a)
+      ∙ ap (standing z (f' (f (cell_world (outside_in z s) c))))
+      (ap (λ k. holding z (f' (f (cell_world (outside_in z s) c))) (g' k)) (one.common a)
+      ∙ (ap (holding z (f' (f (cell_world (outside_in z s) c)))) (apart (f (cell_world (outside_in z s) c)) (g (common_in s)))
+      ∙ holding_again z (f (cell_world (outside_in z s) c)) (f' (f (cell_world (outside_in z s) c))) (g' (g (common_in s))))));
+}
+
+-- a whole act: what comes to the kernel, and then the rest
+pub acts_whole : (z : Name) (n : Option ℕ) (a : Act) (c d e : Cell) (s t u : Shared) → is_up_in t z ≡ is_up_in s z → d.desk.active ≡ c.desk.active → Does z (after_came_world (in_kernel a.came)) (came_common z (in_kernel a.came)) c s d t
+    → Acts z (acts_world n (rest_of a)) (came_common z (in_store a.came)) d t e u → Acts z (acts_world n a) (came_common z a.came) c s e u
+acts_whole z n a c d e s t u up desk one two =
+    let both = acts_then z (after_came_world (in_kernel a.came)) (acts_world n (rest_of a)) (came_common z (in_kernel a.came)) (came_common z (in_store a.came)) c d e s t u (came_apart z (in_store a.came)) up desk one two in
+    let w = cell_world (outside_in z s) c in
     let acts : acts_world n (rest_of a) (after_came_world (in_kernel a.came) w) ≡ acts_world n a w = ap (edits_world n a.effect.edits) (came_parts a.came w) in
     record {
       world = λ g. both.world g ∙ acts;
-      common = λ g. both.common g ∙ (ap (λ v. holding z v (came_common z (in_store a.came) (came_common z (in_kernel a.came) (common_in s)))) acts ∙ ap (holding z (acts_world n a w)) (common_parts z a.came (common_in s)));
+      common = λ g was. both.common g was
+          ∙ (ap (λ v. standing z v (holding z v (came_common z (in_store a.came) (came_common z (in_kernel a.came) (common_in s))))) acts
+          ∙ ap (λ k. standing z (acts_world n a w) (holding z (acts_world n a w) k)) (common_parts z a.came (common_in s)));
     }

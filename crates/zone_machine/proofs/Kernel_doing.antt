@@ -13,7 +13,7 @@ use Rattle.zone_pools.specs.Owners as owners
 use Rattle.zone_pools.specs.Owners.{held_by, is_owner}
 use Rattle.zone_machine.proofs.Acts_laws.{same_other}
 use Rattle.zone_machine.proofs.Lists_laws.{any-put, none_left}
-use Rattle.zone_machine.specs.Code.Cells.{Agree, Does, cell_world, common_in, kept, row_in}
+use Rattle.zone_machine.specs.Code.Cells.{Agree, Does, cell_world, common_in, kept, outside_in, row_in}
 use Rattle.zoneadmd_steps.specs.Objects.{ids_of, has_zid, keeping_pid, keeping_zid}
 use Rattle.zone_machine.specs.Machine.Common.{Common, came_common, holding}
 use Rattle.zone_machine.specs.State.Edits.{Of_objects, comes_world, edits_world}
@@ -29,7 +29,7 @@ use Rattle.zoneadmd_steps.specs.declared.objects.changes.ObjectEdit.TheVariants.
 use Rattle.zoneadmd_steps.specs.Arrivals.{New_id, New_process}
 use Rattle.zoneadmd_steps.specs.Code.Cases.{object_edits}
 use Rattle.kernel_objects.proofs.Kept.{at_pid_keeps, holds-change, holds-without}
-use Rattle.zone_machine.proofs.Doing_laws.{common_by, holds_wait, same_pids, same_sessions, same_zids}
+use Rattle.zone_machine.proofs.Doing_laws.{common_by, holds_wait, same_claims, same_pids, same_sessions, same_zids}
 
 -- nobody holds a key that is this one
 free_at : (o : ℕ → Option Name) (n : ℕ) → o n ≡ None → (k : ℕ) → nat_eq n k ≡ true → o k ≡ None
@@ -75,24 +75,24 @@ module _ (z : Name) (c : Cell) (s : Shared) (k : Kernel) (t : Kernel_shared) whe
   had_zid n = list_any (has_zid n) (ids_of c.kernel.id)
 
   -- by what the zone holds then, where no more than that is changed
-  pub does_kernel : (f : World → World) (g : Common → Common) → (Agree z c s → cell_world (row_in z s) then_cell ≡ f (cell_world (row_in z s) c))
+  pub does_kernel : (f : World → World) (g : Common → Common) → t.devices ≡ s.kernel.devices → (Agree z c s → cell_world (outside_in z s) then_cell ≡ f (cell_world (outside_in z s) c))
       → (Agree z c s → (y : Name) (n : ℕ) → held_by (pid_owner t) y n ≡ owners.holding z (λ n. list_any (has_pid n) k.processes) (held_by (pid_owner s.kernel)) y n)
       → (Agree z c s → (y : Name) (n : ℕ) → held_by (zid_owner t) y n ≡ owners.holding z (λ n. list_any (has_zid n) (ids_of k.id)) (held_by (zid_owner s.kernel)) y n)
       → with_kernel s t ≡ g (common_in s)
       → Does z f g c s then_cell then_shared
-  does_kernel f g world pids zids last = record {
-    world = world;
+  does_kernel f g devices world pids zids last = record {
+    world = λ a. ap (λ ds. cell_world (record (outside_in z s) { declared = record { items = s.claims.declared; devices = ds } }) then_cell) devices ∙ world a;
     common = λ a.
-        common_by z (cell_world (row_in z s) then_cell) (with_kernel s t) then_shared (get nat_eq c.waits)
-        (pids a) (zids a) (same_sessions z c s a) (λ n. holds_wait (get nat_eq c.waits n)) refl refl refl refl refl refl
-        ∙ (ap (λ g. holding z (cell_world (row_in z s) then_cell) g) last ∙ ap (λ w. holding z w (g (common_in s))) (world a));
+        common_by z (cell_world (outside_in z s) then_cell) (with_kernel s t) then_shared (get nat_eq c.waits)
+        (pids a) (zids a) (same_claims z c s a) (same_sessions z c s a) (λ n. holds_wait (get nat_eq c.waits n)) refl refl refl refl refl refl refl refl
+        ∙ (ap (λ g. holding z (cell_world (outside_in z s) then_cell) g) last ∙ ap (λ w. holding z w (g (common_in s))) (world a));
   }
 
   -- a process comes, where nobody holds its number
   pub does_begin : (p : Process) → pid_owner s.kernel p.pid ≡ None → TakesPid z p.pid s.kernel t → (with_pid p.pid c.kernel.processes ≡ None → k ≡ with_process p c.kernel)
       → Does z (comes_world (New_process p)) (came_common z (Some (New_process p))) c s then_cell then_shared
-  does_begin p free takes begun = does_kernel (comes_world (New_process p)) (came_common z (Some (New_process p)))
-      (λ a. ap (λ k. cell_world (row_in z s) (record c { kernel = k })) (is a))
+  does_begin p free takes begun = does_kernel (comes_world (New_process p)) (came_common z (Some (New_process p))) (ap (λ (j : Kernel_shared). j.devices) takes.same)
+      (λ a. ap (λ k. cell_world (outside_in z s) (record c { kernel = k })) (is a))
       (λ a y n. come_column z had_pid (λ n. list_any (has_pid n) (edited (Put (below p.pid) p) c.kernel.processes)) (pid_owner s.kernel) (pid_owner t) (nat_eq p.pid) a.pids
       (free_at (pid_owner s.kernel) p.pid free) takes.pids (λ n. any-put (has_pid n) (below p.pid) p c.kernel.processes) y n
       ∙ ap (λ (j : Kernel). owners.holding z (λ n. list_any (has_pid n) j.processes) (held_by (pid_owner s.kernel)) y n) (sym (is a)))
@@ -104,11 +104,11 @@ module _ (z : Name) (c : Cell) (s : Shared) (k : Kernel) (t : Kernel_shared) whe
       is a = begun (none_with p.pid c.kernel.processes (a.pids p.pid ∙ ap (is_owner z) free))
 
   -- some processes go, with the numbers that they had
-  pub does_go : (f : World → World) (gone : ℕ → Bool) (ps : List Process) → FreesPids gone s.kernel t → k ≡ with_processes ps c.kernel → f (cell_world (row_in z s) c) ≡ record (cell_world (row_in z s) c) { processes = ps }
+  pub does_go : (f : World → World) (gone : ℕ → Bool) (ps : List Process) → FreesPids gone s.kernel t → k ≡ with_processes ps c.kernel → f (cell_world (outside_in z s) c) ≡ record (cell_world (outside_in z s) c) { processes = ps }
       → ((n : ℕ) → gone n ≡ true → had_pid n ≡ true) → ((n : ℕ) → list_any (has_pid n) ps ≡ (had_pid n && not (gone n)))
       → Does z f kept c s then_cell then_shared
-  does_go f gone ps frees is changed held less = does_kernel f kept
-      (λ a. ap (λ k. cell_world (row_in z s) (record c { kernel = k })) is ∙ sym changed)
+  does_go f gone ps frees is changed held less = does_kernel f kept (ap (λ (j : Kernel_shared). j.devices) frees.same)
+      (λ a. ap (λ k. cell_world (outside_in z s) (record c { kernel = k })) is ∙ sym changed)
       (λ a y n. gone_column z had_pid (λ n. list_any (has_pid n) ps) gone (pid_owner s.kernel) (pid_owner t) a.pids held frees.pids less y n
       ∙ ap (λ (j : Kernel). owners.holding z (λ n. list_any (has_pid n) j.processes) (held_by (pid_owner s.kernel)) y n) (sym is))
       (λ a y n. ap (λ (j : Kernel_shared). held_by (zid_owner j) y n) frees.same
@@ -118,8 +118,8 @@ module _ (z : Name) (c : Cell) (s : Shared) (k : Kernel) (t : Kernel_shared) whe
   -- the zone gets an id, in place of the one that it had
   pub does_activate : (zid : ℕ) → zid_owner s.kernel zid ≡ None → TakesZid z zid (λ n. Kernels.has_zid n c.kernel.id) s.kernel t → k ≡ record c.kernel { id = Some (new_id zid) }
       → Does z (comes_world (New_id (new_id zid))) (came_common z (Some (New_id (new_id zid)))) c s then_cell then_shared
-  does_activate zid free takes is = does_kernel (comes_world (New_id (new_id zid))) (came_common z (Some (New_id (new_id zid))))
-      (λ a. ap (λ k. cell_world (row_in z s) (record c { kernel = k })) is)
+  does_activate zid free takes is = does_kernel (comes_world (New_id (new_id zid))) (came_common z (Some (New_id (new_id zid)))) (ap (λ (j : Kernel_shared). j.devices) takes.same)
+      (λ a. ap (λ k. cell_world (outside_in z s) (record c { kernel = k })) is)
       (λ a y n. ap (λ (j : Kernel_shared). held_by (pid_owner j) y n) takes.same
       ∙ (same_pids z c s a y n ∙ ap (λ (j : Kernel). owners.holding z (λ n. list_any (has_pid n) j.processes) (held_by (pid_owner s.kernel)) y n) (sym is)))
       (λ a y n. column z (λ n. list_any (has_zid n) (new_id zid ∷ [])) (zid_owner s.kernel) (zid_owner t) (here a) (there a) y n
@@ -152,8 +152,8 @@ module _ (z : Name) (c : Cell) (s : Shared) (k : Kernel) (t : Kernel_shared) whe
   -- the zone gives its id back, if it has one
   pub does_give_up_id : FreesZids (λ n. Kernels.has_zid n c.kernel.id) s.kernel t → k ≡ record c.kernel { id = None }
       → (n : Option ℕ) → Does z (edits_world n (map Of_objects (object_edits EndIds))) kept c s then_cell then_shared
-  does_give_up_id frees is m = does_kernel (edits_world m (map Of_objects (object_edits EndIds))) kept
-      (λ a. ap (λ k. cell_world (row_in z s) (record c { kernel = k })) is ∙ ap (λ is. record (cell_world (row_in z s) c) { ids = is }) (sym (none_left (ids_of c.kernel.id))))
+  does_give_up_id frees is m = does_kernel (edits_world m (map Of_objects (object_edits EndIds))) kept (ap (λ (j : Kernel_shared). j.devices) frees.same)
+      (λ a. ap (λ k. cell_world (outside_in z s) (record c { kernel = k })) is ∙ ap (λ is. record (cell_world (outside_in z s) c) { ids = is }) (sym (none_left (ids_of c.kernel.id))))
       (λ a y n. ap (λ (j : Kernel_shared). held_by (pid_owner j) y n) frees.same
       ∙ (same_pids z c s a y n ∙ ap (λ (j : Kernel). owners.holding z (λ n. list_any (has_pid n) j.processes) (held_by (pid_owner s.kernel)) y n) (sym is)))
       (λ a y n. gone_column z had_zid (λ n. false) had_zid (zid_owner s.kernel) (zid_owner t) a.zids (λ n e. e)
@@ -163,11 +163,11 @@ module _ (z : Name) (c : Cell) (s : Shared) (k : Kernel) (t : Kernel_shared) whe
 
   -- processes and the id change, and keep their numbers
   pub does_change : (f : World → World) (ps : List Process) (id : Option Id) → k ≡ record c.kernel { processes = ps; id = id } → t ≡ s.kernel
-      → f (cell_world (row_in z s) c) ≡ record (cell_world (row_in z s) c) { processes = ps; ids = ids_of id }
+      → f (cell_world (outside_in z s) c) ≡ record (cell_world (outside_in z s) c) { processes = ps; ids = ids_of id }
       → ((n : ℕ) → list_any (has_pid n) ps ≡ had_pid n) → ((n : ℕ) → list_any (has_zid n) (ids_of id) ≡ had_zid n)
       → Does z f kept c s then_cell then_shared
-  does_change f ps id is same changed pids zids = does_kernel f kept
-      (λ a. ap (λ k. cell_world (row_in z s) (record c { kernel = k })) is ∙ sym changed)
+  does_change f ps id is same changed pids zids = does_kernel f kept (ap (λ (j : Kernel_shared). j.devices) same)
+      (λ a. ap (λ k. cell_world (outside_in z s) (record c { kernel = k })) is ∙ sym changed)
       (λ a y n. ap (λ (j : Kernel_shared). held_by (pid_owner j) y n) same
       ∙ (same_pids z c s a y n ∙ (sym (λ i. owners.holding z (λ n. pids n i) (held_by (pid_owner s.kernel)) y n)
       ∙ ap (λ (j : Kernel). owners.holding z (λ n. list_any (has_pid n) j.processes) (held_by (pid_owner s.kernel)) y n) (sym is))))
@@ -220,10 +220,10 @@ module _ (z : Name) (c : Cell) (s : Shared) (k : Kernel) where
   changed f keeps [] = refl
   changed f keeps (p ∷ ps) = let pid : p.pid ≡ (f p).pid = sym (keeps p) in let rest = changed f keeps ps in λ i. record (f p) { pid = pid i } ∷ rest i
 
-  does_each : (f : Process → Process) → ((p : Process) → (f p).pid ≡ p.pid) → (g : World → World) → g (cell_world (row_in z s) c) ≡ record (cell_world (row_in z s) c) { processes = map (keeping_pid f) c.kernel.processes }
+  does_each : (f : Process → Process) → ((p : Process) → (f p).pid ≡ p.pid) → (g : World → World) → g (cell_world (outside_in z s) c) ≡ record (cell_world (outside_in z s) c) { processes = map (keeping_pid f) c.kernel.processes }
       → k ≡ with_processes (map f c.kernel.processes) c.kernel → Does z g kept c s (record c { kernel = k }) s
   does_each f keeps g is changes = does_change z c s k s.kernel g (map f c.kernel.processes) c.kernel.id changes refl
-      (is ∙ ap (λ ps. record (cell_world (row_in z s) c) { processes = ps }) (changed f keeps c.kernel.processes))
+      (is ∙ ap (λ ps. record (cell_world (outside_in z s) c) { processes = ps }) (changed f keeps c.kernel.processes))
       (λ n. holds-change n f keeps c.kernel.processes) (λ n. refl)
 
   pub does_rename : (pid : ℕ) (name : List ℕ) → k ≡ with_processes (edited (Change (at_pid pid (renamed name))) c.kernel.processes) c.kernel
@@ -243,8 +243,27 @@ module _ (z : Name) (c : Cell) (s : Shared) (k : Kernel) where
   zid_kept f keeps n None = refl
   zid_kept f keeps n (Some i) = rw (keeps i) refl
 
-  pub does_limits : (f : Id → Id) → k ≡ with_id f c.kernel → ((i : Id) → (f i).zid ≡ i.zid) → (g : World → World) → g (cell_world (row_in z s) c) ≡ record (cell_world (row_in z s) c) { ids = map (keeping_zid f) (ids_of c.kernel.id) }
+  pub does_limits : (f : Id → Id) → k ≡ with_id f c.kernel → ((i : Id) → (f i).zid ≡ i.zid) → (g : World → World) → g (cell_world (outside_in z s) c) ≡ record (cell_world (outside_in z s) c) { ids = map (keeping_zid f) (ids_of c.kernel.id) }
       → Does z g kept c s (record c { kernel = k }) s
   does_limits f is keeps g changes = does_change z c s k s.kernel g c.kernel.processes (option_map f c.kernel.id) is refl
-      (changes ∙ ap (λ is. record (cell_world (row_in z s) c) { ids = is }) (ids_change f keeps c.kernel.id))
+      (changes ∙ ap (λ is. record (cell_world (outside_in z s) c) { ids = is }) (ids_change f keeps c.kernel.id))
       (λ n. refl) (λ n. zid_kept f keeps n c.kernel.id)
+
+  -- the devices are others, and perhaps the limits
+  pub does_devices : (ds : List (List ℕ)) → k ≡ record c.kernel { devices = ds } → (g : World → World) → g (cell_world (outside_in z s) c) ≡ record (cell_world (outside_in z s) c) { devices = ds }
+      → Does z g kept c s (record c { kernel = k }) s
+  does_devices ds is g changes = does_kernel z c s k s.kernel g kept refl
+      (λ a. ap (λ k. cell_world (outside_in z s) (record c { kernel = k })) is ∙ sym changes)
+      (λ a y n. same_pids z c s a y n ∙ ap (λ (j : Kernel). owners.holding z (λ n. list_any (has_pid n) j.processes) (held_by (pid_owner s.kernel)) y n) (sym is))
+      (λ a y n. same_zids z c s a y n ∙ ap (λ (j : Kernel). owners.holding z (λ n. list_any (has_zid n) (ids_of j.id)) (held_by (zid_owner s.kernel)) y n) (sym is))
+      refl
+
+  pub does_clear : (f : Id → Id) → k ≡ record (with_id f c.kernel) { devices = [] } → ((i : Id) → (f i).zid ≡ i.zid) → (g : World → World)
+      → g (cell_world (outside_in z s) c) ≡ record (cell_world (outside_in z s) c) { ids = map (keeping_zid f) (ids_of c.kernel.id); devices = [] }
+      → Does z g kept c s (record c { kernel = k }) s
+  does_clear f is keeps g changes = does_kernel z c s k s.kernel g kept refl
+      (λ a. ap (λ k. cell_world (outside_in z s) (record c { kernel = k })) is ∙ sym (changes ∙ ap (λ is. record (cell_world (outside_in z s) c) { ids = is; devices = [] }) (ids_change f keeps c.kernel.id)))
+      (λ a y n. same_pids z c s a y n ∙ ap (λ (j : Kernel). owners.holding z (λ n. list_any (has_pid n) j.processes) (held_by (pid_owner s.kernel)) y n) (sym is))
+      (λ a y n. same_zids z c s a y n ∙ (sym (λ i. owners.holding z (λ n. zid_kept f keeps n c.kernel.id i) (held_by (zid_owner s.kernel)) y n)
+      ∙ ap (λ (j : Kernel). owners.holding z (λ n. list_any (has_zid n) (ids_of j.id)) (held_by (zid_owner s.kernel)) y n) (sym is)))
+      refl

@@ -11,6 +11,7 @@ pub mod Local_laws
 pub mod Local_doing
 pub mod Words
 pub mod Made
+pub mod Right_lines
 pub mod Pools_laws
 pub mod Lists_laws
 pub mod Waits_laws
@@ -21,3 +22,6 @@ mod Mount_cases
 pub mod Rooms_laws
 pub mod Standing
 pub mod Stepping
+pub mod Claim_doing
+pub mod Roomy
+pub mod Acting

@@ -1,8 +1,6 @@
 -- A local turn on its zone's cell: what is done to the cell is what the turn does to the zone's world.
-use Rattle.std.proofs.Common.{◌≡◌, ◌∷◌, ◌++◌, ◌||◌, [], ℕ, List, Bool, not, Option, Some, None, true, false, map, refl, ap, subst, sym, ◌∙◌}
-use Rattle.std.specs.Prelude.{is_some}
-use Rattle.std.specs.Option.{option_map}
-use Rattle.std.proofs.lemmas.Bool.{false≢true}
+use Rattle.std.proofs.Common.{◌≡◌, ◌∷◌, ◌++◌, [], ℕ, List, Option, Some, None, true, false, map, refl, ap, subst, sym, ◌∙◌}
+use Rattle.std.specs.Prelude.{IsSomeAnd}
 use Rattle.zn_base.specs.Names.{Name}
 use Rattle.zone_pools.specs.Decisions as decisions
 use Rattle.zone_pools.specs.Decisions.{Ask, Just}
@@ -13,17 +11,18 @@ use Rattle.zone_machine.proofs.Turned_laws.{has-turned}
 use Rattle.zoneadmd_steps.specs.Arrivals.{Arrival}
 use Rattle.zoneadmd_steps.specs.Code.Cases.{object_edits}
 use Rattle.zoneadmd_steps.specs.Code.Works.{arrival_of}
-use Rattle.zone_machine.specs.Code.Cells.{CellOf, cell_world}
-use Rattle.zoneadmd_steps.specs.Objects.{ids_of, Object_edit, Objects, Processes_go, ids_after, mounts_after}
+use Rattle.zone_machine.specs.Code.Cells.{CellOf, IsHeardIn, Outside, cell_objects, cell_world, outside_of}
+use Rattle.brand_hooks.specs.declared.table.HookAnswer.{HookAnswer}
+use Rattle.zoneadmd_steps.specs.Objects.{ids_of, Object_edit, Processes_go, devices_after, ids_after, mounts_after}
 use Rattle.zone_machine.specs.State.Decisions.{Decision, act_of, acts_world, after_came_world, effects, says, sweeps, turned}
 use Rattle.zoneadmd_steps.specs.Desks as desks
 use Rattle.zoneadmd_steps.specs.Code.Desks.{as_desk, as_job}
 use Rattle.zone_machine.specs.State.Edits.{Of_objects, Set_desk, edit_world, edits_world}
-use Rattle.zone_machine.specs.Machine.Local.{is_local, job_has_record}
-use Rattle.zoneadmd_steps.specs.Local.{is_local_turn}
-use Rattle.zone_machine.specs.Code.Local_turns.{After, IsDone, IsLocalTurn, IsNext, IsNotLocal}
+use Rattle.zone_machine.specs.Machine.Local.{is_local}
+use Rattle.zone_machine.specs.Code.Local_turns.{After, HasNoNext, IsDone, IsLocalTurn, IsNotLocal}
 use Rattle.zone_machine.specs.Machine.{Answered, one, subject}
-use Rattle.zoneadmd_steps.specs.Turns.{Turn_decision, Turned, turn}
+use Rattle.zoneadmd_steps.specs.Turns.{Turn_decision, Turned, local_turn}
+use Rattle.zone_machine.specs.State.{State}
 use Rattle.zone_machine.specs.State.Worlds.{World, objects_of, world}
 use Rattle.zone_machine.specs.declared.machine.cell.Cell.{Cell}
 use Rattle.zoneadmd_steps.specs.declared.requests.TurnReply.TheVariants.{Idle}
@@ -52,9 +51,29 @@ stored_apart : (s : Option Stored) (v : World) → (after_came_world (arrival_of
 stored_apart None v = refl
 stored_apart (Some s) v = refl
 
+devices-edits : (n : Option ℕ) (es : List Object_edit) (d : desks.Desk) (ended : Option ℕ) (w : World) → (edits_world n (map Of_objects es ++ Set_desk d ∷ sweeps ended) w).devices ≡ devices_after es w.devices
+devices-edits n [] d None w = refl
+devices-edits n [] d (Some t) w = refl
+devices-edits n (Processes_go p ∷ es) d ended w = devices-edits n es d ended (edit_world n (Of_objects (Processes_go p)) w)
+devices-edits n (e ∷ es) d ended w = devices-edits n es d ended (edit_world n (Of_objects e) w)
+
+has-devices : (n : Option ℕ) (a : decisions.Act Arrival Turned) (w : World) → ((v : World) → (after_came_world a.came v).devices ≡ v.devices) → (acts_world n (turned_act a) w).devices ≡ devices_after a.effect.objects w.devices
+has-devices n a w apart = devices-edits n a.effect.objects a.effect.desk a.effect.ended (after_came_world a.came w) ∙ ap (devices_after a.effect.objects) (apart w)
+
+stored_beside : (s : Option Stored) (v : World) → (after_came_world (arrival_of s) v).devices ≡ v.devices
+stored_beside None v = refl
+stored_beside (Some s) v = refl
+
+-- what becomes of a cell's world
+pub record Lasts (o : ObjectEdit) (t : Turned) (d : desks.Desk) (v : World) : Type 0 where
+  pub mounts : mounts_after (object_edits o) v.mounts ≡ mounts_after t.objects v.mounts
+  pub devices : devices_after (object_edits o) v.devices ≡ devices_after t.objects v.devices
+  pub ids : ids_after (object_edits o) v.ids ≡ ids_after t.objects v.ids
+  pub desk : d ≡ t.desk
+
 -- what settling a turn tells to do leaves the mounts, the ids and the desk that the turn leaves
 pub settled : (decided : Decision) (t : Turned) (d : desks.Desk) (w : Work) (v : World) → decided ≡ effects turned (Just t) → w.sits ≡ None → Works None (rest_of (act_of decided Nothing)) v d w
-    → (mounts_after (object_edits w.objects) v.mounts ≡ mounts_after t.objects v.mounts) × (ids_after (object_edits w.objects) v.ids ≡ ids_after t.objects v.ids) × (d ≡ t.desk)
+    → Lasts w.objects t d v
 settled decided t d w v is sat works =
     let told : decisions.Act Arrival Turned = record { came = arrival_of w.stored; effect = record { objects = object_edits w.objects; desk = d; ended = w.ended; reply = Idle } } in
     let done : decisions.Act Arrival Turned = record { came = None; effect = t } in
@@ -62,42 +81,23 @@ settled decided t d w v is sat works =
     let left_ids = has-ids None told v (stored_apart w.stored) in let right_ids = has-ids None done v (λ w. refl) in
     let same : acts_world None (turned_act told) v ≡ acts_world None (turned_act done) v =
     sym (ap (λ s. acts_world None (record { came = arrival_of w.stored; effect = record { edits = map Of_objects (object_edits w.objects) ++ (Set_desk d ∷ (sits s ++ sweeps w.ended)); reply = w.reply } }) v) sat)
-    ∙ (works.world ∙ ap (λ x. acts_world None (rest_of (act_of x Nothing)) v) is) in (
-      sym left.mounts ∙ (ap (λ (u : World). u.mounts) same ∙ right.mounts),
-      sym left_ids ∙ (ap (λ (u : World). u.ids) same ∙ right_ids),
-      sym left.desk ∙ (ap (λ (u : World). u.desk) same ∙ right.desk),
-    )
+    ∙ (works.world ∙ ap (λ x. acts_world None (rest_of (act_of x Nothing)) v) is) in
+    record {
+      mounts = sym left.mounts ∙ (ap (λ (u : World). u.mounts) same ∙ right.mounts);
+      devices = sym (has-devices None told v (stored_beside w.stored)) ∙ (ap (λ (u : World). u.devices) same ∙ has-devices None done v (λ w. refl));
+      ids = sym left_ids ∙ (ap (λ (u : World). u.ids) same ∙ right_ids);
+      desk = sym left.desk ∙ (ap (λ (u : World). u.desk) same ∙ right.desk);
+    }
 
 -- and so they stand in the cell
-pub after : (row : Option Record) (old mid new : Cell) (d : Desk) (o : ObjectEdit) (t : Turned) → cell_world row mid ≡ cell_world row old
-    → new ≡ record mid { desk = d; kernel = new.kernel; mounts = new.mounts } → new.kernel.processes ≡ mid.kernel.processes → new.kernel.devices ≡ mid.kernel.devices
-    → new.mounts.list ≡ mounts_after (object_edits o) mid.mounts.list → ids_of new.kernel.id ≡ ids_after (object_edits o) (ids_of mid.kernel.id)
-    → (mounts_after (object_edits o) mid.mounts.list ≡ mounts_after t.objects mid.mounts.list) × (ids_after (object_edits o) (ids_of mid.kernel.id) ≡ ids_after t.objects (ids_of mid.kernel.id)) × (as_desk d ≡ t.desk)
-    → cell_world row new ≡ record (cell_world row old) { mounts = mounts_after t.objects old.mounts.list; ids = ids_after t.objects (ids_of old.kernel.id); desk = t.desk }
-after row old mid new d o t same is processes devices mounts ids left =
-    ap (cell_world row) is
-    ∙ ((λ i. record (cell_world row mid) { processes = processes i; devices = devices i; mounts = (mounts ∙ left.0) i; ids = (ids ∙ left.1) i; desk = left.2 i })
-    ∙ ap (λ (w : World). record w { mounts = mounts_after t.objects w.mounts; ids = ids_after t.objects w.ids; desk = t.desk }) same)
-
--- a stored zone's world, by its cell
-stored-world : (w : World) (c : Cell) (row : Record) → CellOf c w → w.stored ≡ Some row → w ≡ cell_world (Some row) c
-stored-world w c row of e = of ∙ ap (λ r. cell_world r c) e
-
--- a cell with a request under way stands for a stored zone
-mapped-some : {A B : Type 0} (f : A → B) (o : Option A) → is_some (option_map f o) ≡ is_some o
-mapped-some f None = refl
-mapped-some f (Some x) = refl
-
-stored-of : (w : World) (c : Cell) → CellOf c w → is_some c.desk.job ≡ true → job_has_record w ≡ true → is_some w.stored ≡ true
-stored-of w c of job h = at_job (is_some w.desk.job) (ap (λ (v : World). is_some v.desk.job) of ∙ (mapped-some as_job c.desk.job ∙ job)) h
-  where
-    at_job : (b : Bool) → b ≡ true → (not b || is_some w.stored) ≡ true → is_some w.stored ≡ true
-    at_job true e h = h
-    at_job false e h = absurd (false≢true e)
-
-in-stored : {P : Type 0} (o : Option Record) → is_some o ≡ true → ((row : Record) → o ≡ Some row → P) → P
-in-stored None h k = absurd (false≢true h)
-in-stored (Some row) h k = k row refl
+pub after : (out : Outside) (old mid new : Cell) (d : Desk) (o : ObjectEdit) (t : Turned) → cell_world out mid ≡ cell_world out old
+    → new ≡ record mid { desk = d; kernel = new.kernel; mounts = new.mounts } → new.kernel.processes ≡ mid.kernel.processes → new.kernel.devices ≡ devices_after (object_edits o) mid.kernel.devices
+    → new.mounts.list ≡ mounts_after (object_edits o) mid.mounts.list → ids_of new.kernel.id ≡ ids_after (object_edits o) (ids_of mid.kernel.id) → Lasts o t (as_desk d) (cell_world out mid)
+    → cell_world out new ≡ record (cell_world out old) { mounts = mounts_after t.objects old.mounts.list; devices = devices_after t.objects old.kernel.devices; ids = ids_after t.objects (ids_of old.kernel.id); desk = t.desk }
+after out old mid new d o t same is processes devices mounts ids left =
+    ap (cell_world out) is
+    ∙ ((λ i. record (cell_world out mid) { processes = processes i; devices = (devices ∙ left.devices) i; mounts = (mounts ∙ left.mounts) i; ids = (ids ∙ left.ids) i; desk = left.desk i })
+    ∙ ap (λ (w : World). record w { mounts = mounts_after t.objects w.mounts; devices = devices_after t.objects w.devices; ids = ids_after t.objects w.ids; desk = t.desk }) same)
 
 abbrev answered : Name → Name → Reply → Entry
 answered x y r = record { event = Turn x; subject = Zone y; grant = Nothing; reply = r }
@@ -108,38 +108,41 @@ answered-same x y z r s a b c = ap (λ x. answered x y r) a ∙ (ap (λ y. answe
 abbrev entry_of : Name → Turned → Entry
 entry_of z t = answered z z (says (Told t.reply))
 
-done : (z : Name) (c d : Cell) (t : Turned) → is_some c.desk.job ≡ true → IsNext c (Just t) → is_local_turn (Just t) ≡ true → After t c d → IsLocalTurn z c (entry_of z t) d
-done z c d t job next local left S of served = in-stored (world z S).stored (stored-of (world z S) c of job served) at_row
-  where
-    at_row : (row : Record) → (world z S).stored ≡ Some row → IsDone z S (entry_of z t) d
-    at_row row e =
-        let w = world z S in let entry = entry_of z t in
-        let decided : turn (objects_of w) w.stored w.desk ≡ Just t = ap (λ (v : World). turn (objects_of v) v.stored v.desk) (stored-world w c row of e) ∙ next row in
-        let l : Local z w entry t = record { event = refl; subject = refl; grant = refl; decided = decided; local = local; stays = stays w t decided local; reply = refl } in
-        let world-is = world-after z S entry t l in
-        let cell-is : world z (one S (Turn z) Nothing).state ≡ cell_world w.stored d =
-        world-is ∙ (ap (λ (v : World). record v { mounts = mounts_after t.objects v.mounts; ids = ids_after t.objects v.ids; desk = t.desk }) of ∙ sym (left w.stored)) in
-        record {
-          local = is-local z w entry t l;
-          told = ap (λ s. record entry { subject = s }) (sym (subject-turn S z))
-              ∙ ap (λ r. record entry { subject = subject S (Turn z); reply = r }) (sym (ap (λ (r : Answered). r.reply) (local-one z S entry t l)));
-          cell = cell-is ∙ ap (λ r. cell_world r d) (sym (ap (λ (v : World). v.stored) world-is));
-        }
+-- what a cell's world decides, its cell decides
+next-in : (w : World) (c : Cell) → CellOf c w → local_turn w.brands (objects_of w) w.desk ≡ local_turn w.brands (cell_objects c) (as_desk c.desk)
+next-in w c of = ap (λ (v : World). local_turn w.brands (objects_of v) v.desk) of
 
-pub done-local : (z : Name) (c d : Cell) (entry : Entry) (td : Turn_decision) → is_some c.desk.job ≡ true → IsNext c td → is_local_turn td ≡ true
+done : (z : Name) (c d : Cell) (t : Turned) (S : State) → CellOf c (world z S) → local_turn S.brands (cell_objects c) (as_desk c.desk) ≡ Some t → After t c d → IsDone z S (entry_of z t) d
+done z c d t S of next left =
+    let w = world z S in let entry = entry_of z t in
+    let decided : local_turn w.brands (objects_of w) w.desk ≡ Some t = next-in w c of ∙ next in
+    let l : Local z w entry t = record { event = refl; subject = refl; grant = refl; decided = decided; stays = stays w t decided; reply = refl } in
+    let world-is = world-after z S entry t l in
+    let cell-is : world z (one S (Turn z) Nothing).state ≡ cell_world (outside_of w) d =
+    world-is ∙ (ap (λ (v : World). record v { mounts = mounts_after t.objects v.mounts; devices = devices_after t.objects v.devices; ids = ids_after t.objects v.ids; desk = t.desk }) of ∙ sym (left (outside_of w))) in
+    record {
+      local = is-local z w entry t l;
+      told = ap (λ s. record entry { subject = s }) (sym (subject-turn S z))
+          ∙ ap (λ r. record entry { subject = subject S (Turn z); reply = r }) (sym (ap (λ (r : Answered). r.reply) (local-one z S entry t l)));
+      cell = cell-is ∙ ap (λ out. cell_world out d) (sym (ap outside_of world-is));
+    }
+
+abbrev Decides : Option Turned → Turn_decision → Type 0
+Decides o td = IsSomeAnd o (λ t. Just t ≡ td)
+
+pub done-local : (z : Name) (c d : Cell) (answer : HookAnswer) (entry : Entry) (td : Turn_decision)
+    → ((out : Outside) → IsHeardIn out.brands c answer → IsSomeAnd (local_turn out.brands (cell_objects c) (as_desk c.desk)) (λ t. Just t ≡ td))
     → entry ≡ record { event = Turn z; subject = Zone z; grant = Nothing; reply = (act_of (effects turned td) Nothing).effect.reply }
-    → ((t : Turned) → effects turned td ≡ effects turned (Just t) → After t c d) → IsLocalTurn z c entry d
-done-local z c d entry (Just t) job next local told left = subst (λ e. IsLocalTurn z c e d) (sym told) (done z c d t job next local (left t refl))
-done-local z c d entry (Ask x asked denied given) job next local told left = absurd (false≢true local)
-
-rests-far : (o : Objects) (d : desks.Desk) → is_local_turn (turn o None d) ≡ false
-unfolding turn
-rests-far o d = refl
-
--- no turn is local where the cell's zone decides none
-pub none-local : (z : Name) (c : Cell) → ((row : Record) → is_local_turn (turn (objects_of (cell_world (Some row) c)) (Some row) (as_desk c.desk)) ≡ false) → IsNotLocal z c
-none-local z c none S of entry = at_stored (world z S).stored refl
+    → ((t : Turned) → effects turned td ≡ effects turned (Just t) → After t c d) → IsLocalTurn z c answer entry d
+done-local z c d answer entry td next told left S of heard =
+    at_next (local_turn S.brands (cell_objects c) (as_desk c.desk)) refl (next (outside_of (world z S)) heard)
   where
-    at_stored : (o : Option Record) → (world z S).stored ≡ o → is_local z (world z S) entry ≡ false
-    at_stored None e = not-local z (world z S) entry (ap (λ (row : Option Record). is_local_turn (turn (objects_of (world z S)) row (world z S).desk)) e ∙ rests-far (objects_of (world z S)) (world z S).desk)
-    at_stored (Some row) e = not-local z (world z S) entry (ap (λ (v : World). is_local_turn (turn (objects_of v) v.stored v.desk)) (stored-world (world z S) c row of e) ∙ none row)
+    at_next : (o : Option Turned) → local_turn S.brands (cell_objects c) (as_desk c.desk) ≡ o → Decides o td → IsDone z S entry d
+    at_next None e h = absurd h
+    at_next (Some t) e h =
+        subst (λ entry. IsDone z S entry d) (sym (told ∙ ap (λ (td : Turn_decision). record { event = Turn z; subject = Zone z; grant = Nothing; reply = (act_of (effects turned td) Nothing).effect.reply }) (sym h)))
+        (done z c d t S of e (left t (ap (effects turned) (sym h))))
+
+-- no turn is local where the cell decides none
+pub none-local : (z : Name) (c : Cell) (answer : HookAnswer) → HasNoNext c answer → IsNotLocal z c answer
+none-local z c answer none S of heard entry = not-local z (world z S) entry (next-in (world z S) c of ∙ none (outside_of (world z S)) heard)

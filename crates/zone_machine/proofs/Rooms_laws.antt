@@ -1,6 +1,6 @@
 -- Room is taken, and a cell and the shared part are as they were.
 use Rattle.std.proofs.Common.{◌≡◌, ◌∷◌, [], List, refl, ◌∙◌, ap, subst, sym}
-use Rattle.zone_machine.specs.Code.Cells.{cell_world, common_in}
+use Rattle.zone_machine.specs.Code.Cells.{cell_world, common_in, is_up_in, row_in}
 use Rattle.zoneadmd_steps.specs.Code.Desks.{as_desk}
 use Rattle.zone_machine.specs.Code.Cases.{decision_of}
 use Rattle.zone_machine.specs.Code.Rooms.{Alike, HasRoom, HasRoomIfSits, HasRoomToChange, HasRoomToStore}
@@ -9,18 +9,23 @@ use Rattle.zone_machine.specs.declared.cases.Case.{Case}
 use Rattle.zone_machine.specs.declared.cases.Case.TheVariants as cases
 use Rattle.zoneadmd_steps.specs.declared.objects.changes.ObjectEdit.{ObjectEdit}
 use Rattle.zoneadmd_steps.specs.declared.objects.changes.ObjectEdit.TheVariants as edit
-use Rattle.zone_pools.specs.Asked.{A_pid, A_zid, Asked}
+use Rattle.zone_pools.specs.Asked.{A_pid, A_source, A_zid, An_item, Asked}
+use Rattle.datalink_table.specs.Claims as claims
+use Rattle.datalink_table.specs.Claims.{holds}
+use Rattle.datalink_table.specs.Shared.{Alike as Claims_alike, Shared as Claim_shared, may_hold}
+use Rattle.std.specs.Map.{lookup}
+use Rattle.zn_base.specs.Names.{Name}
 use Rattle.zone_pools.specs.Decisions.{asked_of}
 use Rattle.zone_machine.specs.declared.machine.cell.Cell.{Cell}
 use Rattle.zoneadmd_steps.specs.declared.desks.Desk.{Desk}
 use Rattle.zone_machine.specs.declared.machine.shared.Shared.{Shared}
 use Rattle.kernel_objects.specs.Kernel as Kernels
-use Rattle.std.specs.Prelude.{is_some, length}
+use Rattle.std.specs.Prelude.{bytes_eq, is_some, length, not, ◌&&◌}
 use Rattle.commit_journal.specs.Zones.{rows_of}
 use Rattle.kernel_objects.specs.Shared.{Alike as Kernel_alike, Shared as Kernel}
 use Rattle.zone_pools.specs.Owners.{is_owner}
 use Rattle.zone_machine.specs.Code.Needs.{pools_in}
-use Rattle.zone_machine.specs.Machine.Pools.{path_taken}
+use Rattle.zone_machine.specs.Machine.Pools.{is_installed, kind_of, of_kind, path_taken}
 
 pub alike_then : (c d e : Cell) (s t u : Shared) → Alike c s d t → Alike d t e u → Alike c s e u
 alike_then c d e s t u one two = record {
@@ -57,35 +62,59 @@ alike_kernel c s t alike = record {
 pub alike_kernels : (c : Cell) (s : Shared) (k : Kernels.Kernel) (t : Kernel) → k ≡ c.kernel → Kernel_alike s.kernel t → Alike c s (record c { kernel = k }) (record s { kernel = t })
 alike_kernels c s k t same alike = subst (λ k. Alike c s (record c { kernel = k }) (record s { kernel = t })) (sym same) (alike_kernel c s t alike)
 
+-- so is what other zones may ask of claims
+pub alike_claims : (c : Cell) (s : Shared) (d : claims.Cell) (t : Claim_shared) → d.claims ≡ c.claims.claims → Claims_alike s.claims t → Alike c s (record c { claims = d }) (record s { claims = t })
+alike_claims c s d t same alike = record {
+  world = λ out i. record (cell_world out c) { claims = same i };
+  rows = refl;
+  common = λ i. record (common_in s) {
+    claims = λ z k. is_owner z (alike.holders k i);
+    declared = record { items = alike.declared i; devices = s.kernel.devices };
+  };
+  pools = λ i. record (pools_in s) { may_hold = λ z pool item. of_kind (λ k. holds k (alike.declared i) && may_hold z (alike.holders k i)) (kind_of pool) item };
+}
+
 -- room for a record
 pub alike_rows : (c : Cell) (s t : Shared) → t.rows.entries ≡ s.rows.entries → t ≡ record s { rows = t.rows } → Alike c s c t
 alike_rows c s t rows same = record {
   world = λ row. refl;
   rows = rows;
   common = ap common_in same ∙ ap (λ es. record (common_in s) { rows = rows_of es }) rows;
-  pools = ap pools_in same ∙ ap (λ es. record (pools_in s) { zones = length (rows_of es); path_taken = path_taken (rows_of es) }) rows;
+  pools = ap pools_in same ∙ ap (λ es. record (pools_in s) { zones = length (rows_of es); path_taken = path_taken (rows_of es); may_clone = λ z. is_installed (lookup (bytes_eq z) es) && not (is_up_in s z) }) rows;
 }
 
--- room doesn't go by what the zone has in the kernel
-change_kernel : (o : ObjectEdit) (c : Cell) (k : Kernels.Kernel) → HasRoomToChange o c → HasRoomToChange o (record c { kernel = k })
-change_kernel (edit.Mount m) c k h = h
-change_kernel _ c k h = tt
+-- room among the zones that may be up
+pub alike_ups : (c : Cell) (s t : Shared) → ((y : Name) → is_up_in t y ≡ is_up_in s y) → t ≡ record s { ups = t.ups } → Alike c s c t
+alike_ups c s t ups same = record {
+  world = λ row. refl;
+  rows = ap (λ (t : Shared). t.rows.entries) same;
+  common = ap common_in same ∙ (λ i. record (common_in s) { up = λ y. ups y i });
+  pools = ap pools_in same ∙ (λ i. record (pools_in s) { may_clone = λ z. is_installed (row_in z s) && not (ups z i) });
+}
 
-store_kernel : (asked : List Asked) (s : Shared) (t : Kernel) → HasRoomToStore asked s → HasRoomToStore asked (record s { kernel = t })
-store_kernel [] s t h = tt
-store_kernel (A_pid ∷ asked) s t h = tt
-store_kernel (A_zid ∷ asked) s t h = tt
-store_kernel (_ ∷ asked) s t h = h
+-- room doesn't go by what the zone has in the kernel and what it claims
+change_came : (o : ObjectEdit) (c : Cell) (k : Kernels.Kernel) (cs : claims.Cell) → HasRoomToChange o c → HasRoomToChange o (record c { kernel = k; claims = cs })
+change_came (edit.Mount m) c k cs h = h
+change_came _ c k cs h = tt
 
-sits_kernel : (case : Case) (c : Cell) (s : Shared) (k : Kernels.Kernel) (t : Kernel) → HasRoomIfSits case c s → HasRoomIfSits case (record c { kernel = k }) (record s { kernel = t })
-sits_kernel (cases.Put kind owner) c s k t h = h
-sits_kernel _ c s k t h = tt
+store_came : (asked : List Asked) (s : Shared) (t : Kernel) (u : Claim_shared) → HasRoomToStore asked s → HasRoomToStore asked (record s { kernel = t; claims = u })
+store_came [] s t u h = tt
+store_came (A_pid ∷ asked) s t u h = tt
+store_came (A_zid ∷ asked) s t u h = tt
+store_came (An_item pool item ∷ asked) s t u h = tt
+store_came (A_source z ∷ asked) s t u h = tt
+store_came (_ ∷ asked) s t u h = h
 
-pub room_kernel : (case : Case) (c d : Cell) (s t : Shared) → d ≡ record c { kernel = d.kernel } → t ≡ record s { kernel = t.kernel } → HasRoom case c s → HasRoom case d t
-room_kernel case c d s t cell shared room =
-    subst (λ d. HasRoom case d t) (sym cell) (subst (λ t. HasRoom case (record c { kernel = d.kernel }) t) (sym shared) (record {
-      stored = store_kernel (asked_of (decision_of c.desk case)) s t.kernel room.stored;
-      objects = change_kernel (objects_of case) c d.kernel room.objects;
-      sits = sits_kernel case c s d.kernel t.kernel room.sits;
+sits_came : (case : Case) (c : Cell) (s : Shared) (k : Kernels.Kernel) (cs : claims.Cell) (t : Kernel) (u : Claim_shared) → HasRoomIfSits case c s → HasRoomIfSits case (record c { kernel = k; claims = cs }) (record s { kernel = t; claims = u })
+sits_came (cases.Put request owner) c s k cs t u h = h
+sits_came _ c s k cs t u h = tt
+
+pub room_came : (z : Name) (case : Case) (c d : Cell) (s t : Shared) → d ≡ record c { kernel = d.kernel; claims = d.claims } → t ≡ record s { kernel = t.kernel; claims = t.claims } → HasRoom z case c s → HasRoom z case d t
+room_came z case c d s t cell shared room =
+    subst (λ d. HasRoom z case d t) (sym cell) (subst (λ t. HasRoom z case (record c { kernel = d.kernel; claims = d.claims }) t) (sym shared) (record {
+      stored = store_came (asked_of (decision_of c.desk case)) s t.kernel t.claims room.stored;
+      objects = change_came (objects_of case) c d.kernel d.claims room.objects;
+      sits = sits_came case c s d.kernel d.claims t.kernel t.claims room.sits;
+      rises = room.rises;
       desk = room.desk;
     }))

@@ -1,5 +1,10 @@
 -- What a cell and the shared part stand for, and what they stand for after an event of the cell's zone.
-use Rattle.zoneadmd_steps.proofs.First_process.{first_id}
+use Rattle.brand_hooks.specs.Brands.{Tabled}
+use Rattle.datalink_table.specs.Claims.{holds}
+use Rattle.datalink_table.specs.Shared as claims
+use Rattle.datalink_table.specs.declared.claims.Claim.{Claim}
+use Rattle.kernel_objects.specs.declared.objects.Id.{Id}
+use Rattle.zoneadmd_steps.specs.Objects.{ids_of}
 use Rattle.zone_pools.specs.declared.owned.Owned.{Owned}
 use Rattle.zone_pools.specs.Firsts.{first_of}
 use Rattle.kernel_objects.specs.Shared.{Shared as Kernel, pid_owner, zid_owner}
@@ -7,7 +12,7 @@ use Rattle.kernel_objects.specs.Processes.{Process, has_pid}
 use Rattle.std.proofs.Common.{◌≡◌, [], ℕ, Bool, Option, Some, None, true, false, inl, inr, refl, ap, sym, subst, ◌∙◌, IfSome, List}
 use Rattle.indexmap.specs.IndexMap.{get}
 use Rattle.std.specs.Map.{lookup}
-use Rattle.std.specs.Prelude.{bytes_eq, is_some, nat_eq, filter}
+use Rattle.std.specs.Prelude.{bytes_eq, is_some, nat_eq, filter, unwrap_or}
 use Rattle.std.specs.List.{list_any}
 use Rattle.std.proofs.lemmas.Bool.{true≢false}
 use Rattle.zone_pools.proofs.Owned_laws.{same_self, same_true}
@@ -21,7 +26,7 @@ use Rattle.zone_machine.proofs.Common_laws.{common-acts, has_it, holder-none, ho
 use Rattle.zone_machine.proofs.Doing_laws.{holds_wait}
 use Rattle.zone_machine.proofs.Acts_laws.{own-acts}
 use Rattle.zone_machine.proofs.Own_worlds.{own_session, view-world}
-use Rattle.zone_machine.specs.Code.Cells.{Agree, CellOf, Does, SharedOf, cell_world, row_in, Shows}
+use Rattle.zone_machine.specs.Code.Cells.{Acts, Agree, CellOf, Outside, SharedOf, Shows, cell_world, is_up_in, outside_in, outside_of, row_in}
 use Rattle.zone_machine.specs.Code.Reads.{decide_in, subject_at, subject_in, held_subject, idle_subject}
 use Rattle.zone_machine.specs.Machine.Common.{Common, acts_common, came_common, common}
 use Rattle.zone_machine.specs.State.Decisions.{Act, act_of, acts_world}
@@ -36,7 +41,6 @@ use Rattle.zone_machine.specs.declared.events.Event.{Event}
 use Rattle.zone_machine.specs.declared.events.Event.TheVariants as event
 use Rattle.zone_machine.specs.declared.events.Subject.{Subject}
 use Rattle.zone_machine.specs.declared.events.Subject.TheVariants.{Zone}
-use Rattle.commit_journal.specs.declared.records.Record.{Record}
 use Rattle.zone_machine.specs.declared.replies.Reply.{Reply}
 use Rattle.zone_machine.specs.declared.machine.shared.Shared.{Shared}
 use Rattle.zoneadmd_steps.specs.Objects.{has_zid}
@@ -48,36 +52,45 @@ use Rattle.zone_machine.specs.declared.cases.Case.{Case}
 pub stored-stands : (S : State) (s : Shared) (z : Name) → SharedOf s (common S) → stored z S.commits ≡ row_in z s
 stored-stands S s z h = ap (λ k. row_of z k.rows) h ∙ row_is z s.rows.entries
 
--- so a cell has its zone's world with that row
-pub cell-stands : (z : Name) (S : State) (c : Cell) (s : Shared) → CellOf c (world z S) → SharedOf s (common S) → world z S ≡ cell_world (row_in z s) c
-cell-stands z S c s cell shared = cell ∙ ap (λ row. cell_world row c) (stored-stands S s z shared)
+-- what a world has beside its cell is the shared part's
+pub outside-stands : (S : State) (s : Shared) (z : Name) → SharedOf s (common S) → outside_of (world z S) ≡ outside_in z s
+outside-stands S s z h = λ i. record { stored = stored-stands S s z h i; declared = (h i).declared; brands = (h i).brands }
 
-pub cell-of : (w : World) (row : Option Record) (c : Cell) → w ≡ cell_world row c → CellOf c w
-cell-of w row c h = h ∙ ap (λ row. cell_world row c) (sym (ap (λ w. w.stored) h))
+-- so a cell has its zone's world with that
+pub cell-stands : (z : Name) (S : State) (c : Cell) (s : Shared) → CellOf c (world z S) → SharedOf s (common S) → world z S ≡ cell_world (outside_in z s) c
+cell-stands z S c s cell shared = cell ∙ ap (λ out. cell_world out c) (outside-stands S s z shared)
+
+pub cell-of : (w : World) (out : Outside) (c : Cell) → w ≡ cell_world out c → CellOf c w
+cell-of w out c h = h ∙ ap (λ out. cell_world out c) (sym (ap outside_of h))
 
 -- the shared part agrees with each cell
 pub agrees : (z : Name) (S : State) (c : Cell) (s : Shared) → CellOf c (world z S) → SharedOf s (common S) → Agree z c s
 agrees z S c s cell shared = record {
   pids = λ n. ap (λ w. list_any (has_pid n) w.processes) (sym cell) ∙ ap (λ k. k.pids z n) shared;
   zids = λ n. ap (λ w. list_any (has_zid n) w.ids) (sym cell) ∙ ap (λ k. k.zids z n) shared;
+  claims = λ k. ap (λ w. holds k w.claims) (sym cell) ∙ ap (λ c. c.claims z k) shared;
   sessions = λ n. sym (holds_wait (get nat_eq c.waits n)) ∙ (ap (λ w. is_some (w.sessions n)) (sym cell) ∙ ap (λ k. k.sessions z n) shared);
 }
 
--- before any event nobody holds anything
-held_nowhere : (o : ℕ → Option Name) → ((n : ℕ) → o n ≡ None) → (z : Name) (n : ℕ) → false ≡ held_by o z n
-held_nowhere o none z n = sym (ap (is_owner z) (none n))
+-- before any event nobody holds anything, and no zone is up
+held_nowhere : {K : Type 0} (o : K → Option Name) → ((k : K) → o k ≡ None) → (z : Name) (k : K) → false ≡ held_by o z k
+held_nowhere o none z k = sym (ap (is_owner z) (none k))
 
-pub nothing-shared : (s : Shared) → ((n : ℕ) → pid_owner s.kernel n ≡ None) → ((n : ℕ) → zid_owner s.kernel n ≡ None) → ((n : ℕ) → owner nat_eq s.sessions n ≡ None)
-    → s.rows.entries ≡ [] → s.serial ≡ 0 → s.kernel.last_pid ≡ 1 → s.kernel.last_zid ≡ 0 → s.claims.declared ≡ [] → s.kernel.devices ≡ [] → s.started ≡ false → SharedOf s (common (opening []))
-nothing-shared s pids zids sessions rows serial last_pid last_zid items devices started = λ i. record {
+pub nothing-shared : (s : Shared) (brands : List Tabled) → ((n : ℕ) → pid_owner s.kernel n ≡ None) → ((n : ℕ) → zid_owner s.kernel n ≡ None) → ((k : Claim) → claims.holder k s.claims ≡ None)
+    → ((n : ℕ) → owner nat_eq s.sessions n ≡ None) → s.ups.entries ≡ [] → s.rows.entries ≡ [] → s.serial ≡ 0 → s.kernel.last_pid ≡ 1 → s.kernel.last_zid ≡ 0 → s.claims.declared ≡ []
+    → s.kernel.devices ≡ [] → s.brands ≡ brands → s.started ≡ false → SharedOf s (common (opening brands []))
+nothing-shared s brands pids zids held sessions ups rows serial last_pid last_zid items devices brands-are started = λ i. record {
   pids = λ z n. held_nowhere (pid_owner s.kernel) pids z n i;
   zids = λ z n. held_nowhere (zid_owner s.kernel) zids z n i;
+  claims = λ z k. held_nowhere (λ k. claims.holder k s.claims) held z k i;
   sessions = λ z n. held_nowhere (owner nat_eq s.sessions) sessions z n i;
+  up = λ z. unwrap_or (lookup (bytes_eq z) (sym ups i)) false;
   rows = ap rows_of (sym rows) i;
   serial = sym serial i;
   last_pid = sym last_pid i;
   last_zid = sym last_zid i;
   declared = record { items = sym items i; devices = sym devices i };
+  brands = sym brands-are i;
   started = sym started i;
 }
 
@@ -110,9 +123,13 @@ subject-stands S s (event.Process z pid c) h = refl
 subject-stands S s (event.System what) h = refl
 
 -- what a view of the cell's zone shows
-pub shows : (z : Name) (row : Option Record) (c : Cell) → Shows (view_of z (cell_world row c)) z c
+first_id : (o : Option Id) → first_of (ids_of o) ≡ o
+first_id None = refl
+first_id (Some i) = refl
+
+pub shows : (z : Name) (out : Outside) (c : Cell) → Shows (view_of z (cell_world out c)) z c
 unfolding view_of
-shows z row c = record { zone = refl; kernel = λ i. record { id = first_id c.kernel.id i; processes = c.kernel.processes; devices = [] }; process = λ n. refl; mounts = refl; claims = refl; devices = refl }
+shows z out c = record { zone = refl; kernel = λ i. record c.kernel { id = first_id c.kernel.id i }; process = λ n. refl; mounts = refl; claims = refl; devices = refl }
 
 -- the case of an event
 pub decide-stands : (S : State) (z : Name) (w : World) (e : Event) → world z S ≡ w → decide (view z S) e ≡ decide (view_of z w) e
@@ -140,39 +157,33 @@ one-of S e g s is = ap (λ s. one_of s S e g) is
 -- an event of z, whose case on the cell c and the shared part s was done and left d and t
 module _ (z : Name) (c d : Cell) (s t : Shared) (e : Event) (g : Grant) (reply : Reply) where
   abbrev done_in : Act
-  done_in = act_of (decide_in z (row_in z s) c e) g
+  done_in = act_of (decide_in z (outside_in z s) c e) g
 
   pub cell-answered : reply ≡ done_in.effect.reply
-      → (IfSome (session_number e) (λ n. IsOpenTo z (owner nat_eq s.sessions n)) → Does z (acts_world (session_number e) done_in) (came_common z done_in.came) c s d t)
+      → (IfSome (session_number e) (λ n. IsOpenTo z (owner nat_eq s.sessions n)) → Acts z (acts_world (session_number e) done_in) (came_common z done_in.came) c s d t)
       → IsCellStep z c s e g (record { event = e; subject = Zone z; grant = g; reply = reply }) d (record t { started = true })
   cell-answered said done S has shares is =
-      let n = session_number e in let w = cell_world (row_in z s) c in let a = done_in in
+      let n = session_number e in let w = cell_world (outside_in z s) c in let a = done_in in
       let here : world z S ≡ w = cell-stands z S c s has shares in
       let does = done (open-to z s e (sym (subject-stands S s e shares) ∙ is)) in
-      let case : decide (view z S) e ≡ decide_in z (row_in z s) c e = decide-stands S z w e here in
+      let up : is_up_in s z ≡ is_some c.desk.active = sym (ap (λ (k : Common). k.up z) shares) ∙ ap (λ (x : World). is_some x.desk.active) here in
+      let case : decide (view z S) e ≡ decide_in z (outside_in z s) c e = decide-stands S z w e here in
       let steps : one S e g ≡ done_by z n a S = one-of S e g (Zone z) is ∙ ap (λ x. done_by z n (act_of x g) S) case in
       let told : reply ≡ (one S e g).reply = said ∙ ap (λ x. x.reply) (sym steps) in
-      let left : world z (done_by z n a S).state ≡ cell_world (row_in z t) d = own-acts z n a S ∙ (ap (acts_world n a) here ∙ sym (does.world (agrees z S c s has shares))) in
+      let left : world z (done_by z n a S).state ≡ cell_world (outside_in z t) d = own-acts z n a S ∙ (ap (acts_world n a) here ∙ sym (does.world (agrees z S c s has shares))) in
       record {
         told = λ i. record { event = e; subject = sym is i; grant = g; reply = told i };
-        cell = subst (λ x. CellOf d (world z x.state)) (sym steps) (cell-of (world z (done_by z n a S).state) (row_in z t) d left);
+        cell = subst (λ x. CellOf d (world z x.state)) (sym steps) (cell-of (world z (done_by z n a S).state) (outside_in z t) d left);
         shared = subst (λ x. SharedOf (record t { started = true }) (common x.state)) (sym steps)
             (common-acts z n a S (own_session S e z is) ∙ (ap (λ x. acts_common z n a x (common S)) here
-            ∙ (ap (acts_common z n a w) shares ∙ ap (λ (x : Common). record x { started = true }) (sym (does.common (agrees z S c s has shares))))));
+            ∙ (ap (acts_common z n a w) shares ∙ ap (λ (x : Common). record x { started = true }) (sym (does.common (agrees z S c s has shares) up)))));
       }
 
--- the same, where room was taken between: c and s are as they were, c' and s' with the room
-module _ (z : Name) (c : Cell) (s : Shared) (c' d : Cell) (s' t : Shared) (e : Event) (g : Grant) (reply : Reply) (case : Case) (alike : Alike c s c' s') where
-  row_alike : row_in z s' ≡ row_in z s
-  row_alike = ap (lookup (bytes_eq z)) alike.rows
-
-  pub answered : decide_in z (row_in z s) c e ≡ decision_of c.desk case → decision_of c'.desk case ≡ decision_of c.desk case → reply ≡ (act_of (decision_of c'.desk case) g).effect.reply
-      → (IfSome (session_number e) (λ n. IsOpenTo z (owner nat_eq s'.sessions n)) → Does z (acts_world (session_number e) (act_of (decision_of c'.desk case) g)) (came_common z (act_of (decision_of c'.desk case) g).came) c' s' d t)
+-- the same, of the case that was decided
+module _ (z : Name) (c d : Cell) (s t : Shared) (e : Event) (g : Grant) (reply : Reply) (case : Case) where
+  pub answered : decide_in z (outside_in z s) c e ≡ decision_of c.desk case → reply ≡ (act_of (decision_of c.desk case) g).effect.reply
+      → (IfSome (session_number e) (λ n. IsOpenTo z (owner nat_eq s.sessions n)) → Acts z (acts_world (session_number e) (act_of (decision_of c.desk case) g)) (came_common z (act_of (decision_of c.desk case) g).came) c s d t)
       → IsCellStep z c s e g (record { event = e; subject = Zone z; grant = g; reply = reply }) d (record t { started = true })
-  answered decided same said done S cell shared is =
-      let here : decide_in z (row_in z s') c' e ≡ decision_of c'.desk case =
-      ap (λ (w : World). decide (view_of z w) e) (ap (λ row. cell_world row c') row_alike ∙ alike.world (row_in z s)) ∙ (decided ∙ sym same) in
-      cell-answered z c' d s' t e g reply
-      (said ∙ ap (λ x. (act_of x g).effect.reply) (sym here))
-      (λ opens. subst (λ x. Does z (acts_world (session_number e) (act_of x g)) (came_common z (act_of x g).came) c' s' d t) (sym here) (done opens))
-      S (cell ∙ sym (alike.world (world z S).stored)) (shared ∙ sym alike.common) is
+  answered decided said done =
+      cell-answered z c d s t e g reply (said ∙ ap (λ x. (act_of x g).effect.reply) (sym decided))
+      (λ opens. subst (λ x. Acts z (acts_world (session_number e) (act_of x g)) (came_common z (act_of x g).came) c s d t) (sym decided) (done opens))

@@ -18,10 +18,10 @@ use Rattle.zone_machine.specs.State.Decisions.{Act, act_of, acts_world, after_ca
 use Rattle.zoneadmd_steps.specs.Desks.{Desk}
 use Rattle.zone_machine.specs.State.Edits.{Of_objects, Set_desk, comes_world, edit_world, edits_world}
 use Rattle.zone_machine.specs.Machine.{Answered, decide, done_by, one, subject}
-use Rattle.zoneadmd_steps.specs.Objects.{Object_edit, Processes_go, mounts_after}
+use Rattle.zoneadmd_steps.specs.Objects.{Object_edit, Processes_go, devices_after, mounts_after}
 use Rattle.zone_machine.specs.State.{State}
 use Rattle.zoneadmd_steps.specs.Turns.{Turned, turn}
-use Rattle.zone_machine.specs.State.Worlds.{World, objects_of, view_of, world}
+use Rattle.zone_machine.specs.State.Worlds.{World, seen_of, view_of, world}
 use Rattle.zone_machine.specs.declared.events.Event.TheVariants.{Turn}
 use Rattle.loopback_mounts.specs.declared.mount.MountEntry.{MountEntry}
 use Rattle.commit_journal.specs.declared.records.Record.{Record}
@@ -46,11 +46,11 @@ act-turned (Ask c asked denied given) g = refl
 
 -- what a turn of the zone comes to under a grant
 abbrev pub turn_act : World → Grant → decisions.Act Arrival Turned
-turn_act w g = decisions.act_of arrived (turn (objects_of w) w.stored w.desk) g
+turn_act w g = decisions.act_of arrived (turn (seen_of w)) g
 
 pub decide-turn : (z y : Name) (w : World) (g : Grant) → act_of (decide (view_of z w) (Turn y)) g ≡ turned_act (turn_act w g)
 unfolding decide view_of
-decide-turn z y w g = act-turned (turn (objects_of w) w.stored w.desk) g
+decide-turn z y w g = act-turned (turn (seen_of w)) g
 
 -- a turn of the zone, what it replies, and what it leaves of the zone's world
 pub one-turn : (z : Name) (S : State) (g : Grant) → one S (Turn z) g ≡ done_by z None (turned_act (turn_act (world z S) g)) S
@@ -69,23 +69,24 @@ stored_after (Some (New_record row)) old = row
 stored_after _ old = old
 
 -- this stands in a world
-pub record Has (row : Option Record) (ms : List MountEntry) (d : Desk) (w : World) : Type 0 where
+pub record Has (row : Option Record) (ms : List MountEntry) (ds : List (List ℕ)) (d : Desk) (w : World) : Type 0 where
   pub stored : w.stored ≡ row
   pub mounts : w.mounts ≡ ms
+  pub devices : w.devices ≡ ds
   pub desk : w.desk ≡ d
 
 has-edits : (n : Option ℕ) (es : List Object_edit) (d : Desk) (ended : Option ℕ) (w : World)
-    → Has w.stored (mounts_after es w.mounts) d (edits_world n (map Of_objects es ++ Set_desk d ∷ sweeps ended) w)
-has-edits n [] d None w = record { stored = refl; mounts = refl; desk = refl }
-has-edits n [] d (Some t) w = record { stored = refl; mounts = refl; desk = refl }
+    → Has w.stored (mounts_after es w.mounts) (devices_after es w.devices) d (edits_world n (map Of_objects es ++ Set_desk d ∷ sweeps ended) w)
+has-edits n [] d None w = record { stored = refl; mounts = refl; devices = refl; desk = refl }
+has-edits n [] d (Some t) w = record { stored = refl; mounts = refl; devices = refl; desk = refl }
 has-edits n (Processes_go p ∷ es) d ended w = has-edits n es d ended (edit_world n (Of_objects (Processes_go p)) w)
 has-edits n (e ∷ es) d ended w = has-edits n es d ended (edit_world n (Of_objects e) w)
 
 pub has-turned : (n : Option ℕ) (a : decisions.Act Arrival Turned) (w : World)
-    → Has (stored_after a.came w.stored) (mounts_after a.effect.objects w.mounts) a.effect.desk (acts_world n (turned_act a) w)
+    → Has (stored_after a.came w.stored) (mounts_after a.effect.objects w.mounts) (devices_after a.effect.objects w.devices) a.effect.desk (acts_world n (turned_act a) w)
 has-turned n a w = at_came a.came
   where
-    at_came : (c : Option Arrival) → Has (stored_after c w.stored) (mounts_after a.effect.objects w.mounts) a.effect.desk (acts_world n (turned_act (record a { came = c })) w)
+    at_came : (c : Option Arrival) → Has (stored_after c w.stored) (mounts_after a.effect.objects w.mounts) (devices_after a.effect.objects w.devices) a.effect.desk (acts_world n (turned_act (record a { came = c })) w)
     at_came (Some (New_process p)) = has-edits n a.effect.objects a.effect.desk a.effect.ended (comes_world (New_process p) w)
     at_came c = has-edits n a.effect.objects a.effect.desk a.effect.ended (after_came_world c w)
 

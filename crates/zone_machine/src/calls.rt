@@ -7,7 +7,8 @@ ghost use Rattle.zn_base.specs.Names.{Name};
 ghost use Rattle.zone_machine.specs.Calls.{called, calls, execs, forks, signals};
 ghost use Rattle.zone_machine.specs.Code.Cases.{IsCaseOf, IsNamedCase, decision_of};
 ghost use Rattle.zone_machine.specs.State.Decisions.{tells};
-ghost use Rattle.zone_machine.specs.Code.Cells.{Shows};
+ghost use Rattle.zone_machine.specs.Code.Cells.{Outside, Shows};
+ghost use Rattle.zone_machine.specs.Code.Decided.{IsCaseIn};
 ghost use Rattle.zone_machine.specs.State.Worlds.{View};
 ghost use Rattle.zone_machine.specs.Code.Works.{IsFreeCase, MountsNothing};
 ghost use Rattle.zoneadmd_steps.specs.declared.desks.Desk as desk_types;
@@ -147,7 +148,7 @@ fn call_case(
 
 /// What a call comes to of the process of a number.
 #[inline(never)]
-#[tactic(auto, unfolding(crate::specs::Calls::called))]
+#[tactic(auto, unfolding(crate::specs::Calls::called, crate::specs::State::Worlds::view_of))]
 pub(crate) fn decide_call(
     alloc: Global,
     zone: &ZoneName,
@@ -155,10 +156,7 @@ pub(crate) fn decide_call(
     pid: u32,
     call: &Call,
 ) -> Result<Case, AllocError>
-    ensures decides { IfOk result (λ c. (d : desk_types.Desk) (v : View) → Shows v zone.now cell.now → called v pid call.now ≡ decision_of d c) }
-    ensures of { IfOk result (λ c. (d : desk_types.Desk) → IsCaseOf d c) }
-    ensures named { IfOk result (λ c. (z : Name) → IsNamedCase z c) }
-    ensures free { IfOk result (λ c. IsFreeCase c cell.now.mounts.list) }
+    ensures { IfOk result (λ c. (out : Outside) → IsCaseIn zone.now out cell.now (λ v. called v pid call.now) c) }
 {
     match cell.kernel.check_there(pid) {
         Ok(()) => call_case(alloc, zone, cell, pid, call),

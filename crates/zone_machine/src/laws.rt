@@ -1,5 +1,5 @@
 //! The laws of what zones share, over every state. Each is the contract of a function that does nothing.
-ghost use Rattle.std.specs.Prelude.{◌≡◌, ◌≢◌, List, true};
+ghost use Rattle.std.specs.Prelude.{◌≡◌, ◌≢◌, ℕ, List, true};
 ghost use Rattle.zn_base.specs.Names.{Name};
 ghost use Rattle.commit_journal.specs.Store.{row_of};
 ghost use Rattle.kernel_objects.specs.declared.objects.Id.{Id};
@@ -55,12 +55,12 @@ pub fn is_stored_in_common()
 {}
 
 /// A local turn is told as it is and under the grant that the pools give, leaves what is common as it is but for the
-/// start, changes its zone's mounts, its id and its desk alone, and isn't idle.
+/// start, changes its zone's mounts, its devices, its id and its desk alone, and isn't idle.
 pub fn local_turns_touch_nothing_common()
     ensures right { (z : Name) (S : State) (e : Entry) → is_local z (world z S) e ≡ true → (is_told S e ≡ true) × (is_allowed S e.event e.grant ≡ true) }
     ensures common { (z : Name) (S : State) (e : Entry) → is_local z (world z S) e ≡ true → common (one S e.event e.grant).state ≡ record (common S) { started = true } }
     ensures world { (z : Name) (S : State) (e : Entry) → is_local z (world z S) e ≡ true
-        → (ms : List MountEntry) × (is : List Id) × (d : Desk) × (world z (one S e.event e.grant).state ≡ record (world z S) { mounts = ms; ids = is; desk = d }) }
+        → (ms : List MountEntry) × (ds : List (List ℕ)) × (is : List Id) × (d : Desk) × (world z (one S e.event e.grant).state ≡ record (world z S) { mounts = ms; devices = ds; ids = is; desk = d }) }
     ensures awake { (z : Name) (w : World) (e : Entry) → is_local z w e ≡ true → e.reply ≢ says (Turned Idle) }
 {}
 

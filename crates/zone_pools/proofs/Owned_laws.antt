@@ -1,14 +1,15 @@
 -- What an edit of one zone does to what each zone sees of a flat list.
-use Rattle.std.proofs.Common.{◌≡◌, ℕ, List, Bool, true, false, ◌&&◌, ◌∷◌, [], refl, ap, sym, ◌∙◌}
+use Rattle.std.proofs.Common.{◌≡◌, ℕ, List, Bool, true, false, ◌&&◌, ◌||◌, ◌∷◌, [], refl, ap, sym, ◌∙◌}
 use Rattle.std.specs.Prelude.{◌≢◌, not, filter, map}
-use Rattle.std.specs.List.{cons_option}
+use Rattle.std.specs.List.{cons_option, list_any}
+use Rattle.zone_pools.specs.Firsts.{is_nil}
 use Rattle.std.specs.Str.{bytes_eq}
 use Rattle.std.proofs.lemmas.Slice.Eq.{bytes_eq-Decides}
 use Rattle.std.proofs.lemmas.Bool.{false_from_ne_true}
 use Rattle.std.proofs.lemmas.List.Elements.{filter_map-append}
 use Rattle.std.proofs.lemmas.List.{append-nil}
 use Rattle.zone_pools.specs.declared.owned.Owned.{Owned}
-use Rattle.zone_pools.specs.Owned_lists.{own, mine, List_edit, Go, Come, Put, Change, changed, edited, edit_list, tag, put, put_tagged}
+use Rattle.zone_pools.specs.Owned_lists.{own, mine, List_edit, Go, Last_goes, Come, Put, Change, Become, but_last, but_last_tagged, changed, edited, edit_list, has_none, tag, put, put_tagged}
 
 pub same_self : (z : List ℕ) → bytes_eq z z ≡ true
 same_self z = (bytes_eq-Decides z z).1 refl
@@ -78,15 +79,78 @@ other-change y z n f (o ∷ os) = at_head (other-change y z n f os) _ refl
     at_head ih true e = simp (e, other_tag y z o.zone n e) ih
     at_head ih false e = simp e (ap (λ ts. cons_option (own z o) ts) ih)
 
+-- the last goes
+none-mine : {A : Type 0} (z : List ℕ) (os : List (Owned A)) → has_none z os ≡ true → mine z os ≡ []
+none-mine z [] h = refl
+none-mine z (o ∷ os) h = at_head (none-mine z os) _ refl h
+  where
+    at_head : (has_none z os ≡ true → mine z os ≡ []) → (b : Bool) → bytes_eq z o.zone ≡ b → not (b || list_any (λ o. bytes_eq z o.zone) os) ≡ true → mine z (o ∷ os) ≡ []
+    at_head ih true e k = absurd (cc)
+    at_head ih false e k = simp e (ih k)
+
+some-mine : {A : Type 0} (z : List ℕ) (os : List (Owned A)) → has_none z os ≡ false → is_nil (mine z os) ≡ false
+some-mine z [] h = absurd (cc)
+some-mine z (o ∷ os) h = at_head (some-mine z os) _ refl h
+  where
+    at_head : (has_none z os ≡ false → is_nil (mine z os) ≡ false) → (b : Bool) → bytes_eq z o.zone ≡ b → not (b || list_any (λ o. bytes_eq z o.zone) os) ≡ false → is_nil (mine z (o ∷ os)) ≡ false
+    at_head ih true e k = simp e
+    at_head ih false e k = simp e (ih k)
+
+but-last : {A : Type 0} (x : A) (xs : List A) → is_nil xs ≡ false → but_last (x ∷ xs) ≡ x ∷ but_last xs
+but-last x [] h = absurd (cc)
+but-last x (y ∷ xs) h = refl
+
+mine-last : {A : Type 0} (z : List ℕ) (os : List (Owned A)) → mine z (but_last_tagged z os) ≡ but_last (mine z os)
+mine-last z [] = refl
+mine-last z (o ∷ os) = at_head (mine-last z os) _ _ refl refl
+  where
+    at_head : mine z (but_last_tagged z os) ≡ but_last (mine z os) → (b q : Bool) → bytes_eq z o.zone ≡ b → has_none z os ≡ q → mine z (but_last_tagged z (o ∷ os)) ≡ but_last (mine z (o ∷ os))
+    at_head ih true true e f = simp (e, f, none-mine z os f)
+    at_head ih true false e f = simp (e, f, but-last o.it (mine z os) (some-mine z os f)) (ap (λ ts. o.it ∷ ts) ih)
+    at_head ih false q e f = simp e ih
+
+other-last : {A : Type 0} (y z : List ℕ) → y ≢ z → (os : List (Owned A)) → mine z (but_last_tagged y os) ≡ mine z os
+other-last y z n [] = refl
+other-last y z n (o ∷ os) = at_head (other-last y z n os) _ _ refl refl
+  where
+    at_head : mine z (but_last_tagged y os) ≡ mine z os → (b q : Bool) → bytes_eq y o.zone ≡ b → has_none y os ≡ q → mine z (but_last_tagged y (o ∷ os)) ≡ mine z (o ∷ os)
+    at_head ih true true e f = simp (e, f, other_tag y z o.zone n e)
+    at_head ih true false e f = simp (e, f) (ap (λ ts. cons_option (own z o) ts) ih)
+    at_head ih false q e f = simp e (ap (λ ts. cons_option (own z o) ts) ih)
+
+-- all become others
+mine-tags : {A : Type 0} (z : List ℕ) (ys : List A) → mine z (map (tag z) ys) ≡ ys
+mine-tags z [] = refl
+mine-tags z (y ∷ ys) = simp (same_self z) (ap (λ ts. y ∷ ts) (mine-tags z ys))
+
+other-tags : {A : Type 0} (y z : List ℕ) → y ≢ z → (ys : List A) → mine z (map (tag y) ys) ≡ []
+other-tags y z n [] = refl
+other-tags y z n (x ∷ ys) = simp (other_tag y z y n (same_self y)) (other-tags y z n ys)
+
+none-left : {A : Type 0} (z : List ℕ) (os : List (Owned A)) → mine z (filter (λ o. not (bytes_eq z o.zone)) os) ≡ []
+none-left z [] = refl
+none-left z (o ∷ os) = at_head (none-left z os) _ refl
+  where
+    at_head : mine z (filter (λ o. not (bytes_eq z o.zone)) os) ≡ [] → (b : Bool) → bytes_eq z o.zone ≡ b → mine z (filter (λ o. not (bytes_eq z o.zone)) (o ∷ os)) ≡ []
+    at_head ih true e = simp e ih
+    at_head ih false e = simp e ih
+
 -- the two laws
 pub mine-edit : {A : Type 0} (z : List ℕ) (e : List_edit A) (os : List (Owned A)) → mine z (edit_list z e os) ≡ edited e (mine z os)
 mine-edit z (Go p) os = mine-filter z (λ o. not (bytes_eq z o.zone && p o.it)) (λ x. not (p x)) (λ o e. simp e) os
+mine-edit z Last_goes os = mine-last z os
 mine-edit z (Come a) os = rw (filter_map-append (own z) os (tag z a ∷ [])) (simp (same_self z))
 mine-edit z (Put before a) os = mine-put z before a os
 mine-edit z (Change f) os = mine-change z f os
+mine-edit z (Become ys) os = rw (filter_map-append (own z) (filter (λ o. not (bytes_eq z o.zone)) os) (map (tag z) ys)) (rw (none-left z os, mine-tags z ys) refl)
 
 pub other-list : {A : Type 0} (y z : List ℕ) → y ≢ z → (e : List_edit A) (os : List (Owned A)) → mine z (edit_list y e os) ≡ mine z os
 other-list y z n (Go p) os = mine-kept z (λ o. not (bytes_eq y o.zone && p o.it)) (λ o e. simp (other_tag z y o.zone (λ w. n (sym w)) e)) os
+other-list y z n Last_goes os = other-last y z n os
 other-list y z n (Come a) os = rw (filter_map-append (own z) os (tag y a ∷ [])) (simp (other_tag y z y n (same_self y), append-nil (mine z os)))
 other-list y z n (Put before a) os = other-put y z n before a os
 other-list y z n (Change f) os = other-change y z n f os
+other-list y z n (Become ys) os =
+    rw (filter_map-append (own z) (filter (λ o. not (bytes_eq y o.zone)) os) (map (tag y) ys))
+    (rw (other-tags y z n ys, append-nil (mine z (filter (λ o. not (bytes_eq y o.zone)) os)))
+    (mine-kept z (λ o. not (bytes_eq y o.zone)) (λ o e. simp (other_tag z y o.zone (λ w. n (sym w)) e)) os))

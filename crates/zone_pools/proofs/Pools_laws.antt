@@ -3,11 +3,13 @@ use Rattle.std.proofs.Common.{◌≡◌, ◌∷◌, ◌+◌, ◌-◌, ◌<◌, �
 use Rattle.std.specs.Prelude.{nat_le, not, if◌then◌else◌}
 use Rattle.std.proofs.lemmas.Bool.{and_from, le-leb, not_from_false}
 use Rattle.zn_base.specs.Names.{Name}
-use Rattle.zone_pools.specs.Asked.{A_path, A_pid, A_serial, A_zid, A_zone, Asked}
+use Rattle.zone_pools.specs.Asked.{A_path, A_pid, A_serial, A_source, A_zid, A_zone, An_item, Asked}
 use Rattle.zone_pools.specs.Pools.{Pools, first_free, fits_asked, has_place, has_room, next_free, numbered, or_else, said_by, said_by_all}
 use Rattle.zone_pools.specs.declared.grant.Grant.{Grant}
 use Rattle.zone_pools.specs.declared.grant.Grant.TheVariants.{Nothing, Number, Yes, Denied}
-use Rattle.zone_pools.specs.declared.grant.Pool.TheVariants.{Pids, Zids, Zones, Paths, Store}
+use Rattle.zone_pools.proofs.Same_laws.{pool-Decides}
+use Rattle.zone_pools.specs.declared.grant.Pool.{Pool}
+use Rattle.zone_pools.specs.declared.grant.Pool.TheVariants.{Pids, Zids, Zones, Paths, Store, Source}
 use Rattle.zone_pools.specs.declared.limits.TheConstants.{PID_MAX, PID_MIN, ZID_MAX, ZID_MIN}
 
 -- one pool alone
@@ -49,40 +51,67 @@ free-fits used low high n f =
     and_from _ _ (and_from _ _ (le-leb low n f.from) (le-leb n high (omega (arith, f.below)))) (not_from_false (used n) f.unused)
 
 -- what the pools say fits. A last process number of 0 would let the number 1 be given
-fits-pid : (P : Pools) (found : Option ℕ) → next_free P.pid_used PID_MIN PID_MAX P.last_pid ≡ found → 1 ≤ P.last_pid → fits_asked P (A_pid ∷ []) (numbered Pids found) ≡ true
-fits-pid P None e last = refl
-fits-pid P (Some n) e last = and_from _ _ (free-fits P.pid_used PID_MIN PID_MAX n (next-found P.pid_used PID_MIN PID_MAX P.last_pid n (omega (arith, last)) e)) refl
+fits-pid : (P : Pools) (z : Name) (found : Option ℕ) → next_free P.pid_used PID_MIN PID_MAX P.last_pid ≡ found → 1 ≤ P.last_pid → fits_asked P z (A_pid ∷ []) (numbered Pids found) ≡ true
+fits-pid P z None e last = refl
+fits-pid P z (Some n) e last = and_from _ _ (free-fits P.pid_used PID_MIN PID_MAX n (next-found P.pid_used PID_MIN PID_MAX P.last_pid n (omega (arith, last)) e)) refl
 
-fits-zid : (P : Pools) (found : Option ℕ) → next_free P.zid_used ZID_MIN ZID_MAX P.last_zid ≡ found → fits_asked P (A_zid ∷ []) (numbered Zids found) ≡ true
-fits-zid P None e = refl
-fits-zid P (Some n) e = and_from _ _ (free-fits P.zid_used ZID_MIN ZID_MAX n (next-found P.zid_used ZID_MIN ZID_MAX P.last_zid n (omega arith) e)) refl
+fits-zid : (P : Pools) (z : Name) (found : Option ℕ) → next_free P.zid_used ZID_MIN ZID_MAX P.last_zid ≡ found → fits_asked P z (A_zid ∷ []) (numbered Zids found) ≡ true
+fits-zid P z None e = refl
+fits-zid P z (Some n) e = and_from _ _ (free-fits P.zid_used ZID_MIN ZID_MAX n (next-found P.zid_used ZID_MIN ZID_MAX P.last_zid n (omega arith) e)) refl
 
-fits-serial : (P : Pools) (room : Bool) → has_room P ≡ room → fits_asked P (A_serial ∷ []) (if room then Number (P.serial + 1) else Denied Store) ≡ true
-fits-serial P true e = and_from _ _ (and_from _ _ (le-leb 1 (P.serial + 1) (omega arith)) e) refl
-fits-serial P false e = refl
+fits-serial : (P : Pools) (z : Name) (room : Bool) → has_room P ≡ room → fits_asked P z (A_serial ∷ []) (if room then Number (P.serial + 1) else Denied Store) ≡ true
+fits-serial P z true e = and_from _ _ (and_from _ _ (le-leb 1 (P.serial + 1) (omega arith)) e) refl
+fits-serial P z false e = refl
 
 -- the pools of a new zone, by whether each of them has room for it
-fits-zone : (P : Pools) (path : List ℕ) (place taken room : Bool) → has_place P ≡ place → has_room P ≡ room
-    → fits_asked P (A_zone ∷ A_path path ∷ A_serial ∷ []) (elim (if place then Yes else Denied Zones) as (λ g. Grant) [
+fits-zone : (P : Pools) (z : Name) (path : List ℕ) (place taken room : Bool) → has_place P ≡ place → has_room P ≡ room
+    → fits_asked P z (A_zone ∷ A_path path ∷ A_serial ∷ []) (elim (if place then Yes else Denied Zones) as (λ g. Grant) [
       | Denied pool ↦ Denied pool
       | g ↦ elim (if taken then Denied Paths else Yes) as (λ g. Grant) [
         | Denied pool ↦ Denied pool
         | g ↦ elim (if room then Number (P.serial + 1) else Denied Store) as (λ g. Grant) [ Denied pool ↦ Denied pool | g ↦ g ]
       ]
     ]) ≡ true
-fits-zone P path false taken room a b = refl
-fits-zone P path true true room a b = refl
-fits-zone P path true false false a b = refl
-fits-zone P path true false true a b = and_from _ _ a (fits-serial P true b)
+fits-zone P z path false taken room a b = refl
+fits-zone P z path true true room a b = refl
+fits-zone P z path true false false a b = refl
+fits-zone P z path true false true a b = and_from _ _ a (fits-serial P z true b)
 
-pub pid-fits : (P : Pools) (z : Name) → 1 ≤ P.last_pid → fits_asked P (A_pid ∷ []) (said_by_all P z (A_pid ∷ []) Nothing) ≡ true
-pid-fits P z last = rw (said_one P z A_pid) (fits-pid P (next_free P.pid_used PID_MIN PID_MAX P.last_pid) refl last)
+pub pid-fits : (P : Pools) (z : Name) → 1 ≤ P.last_pid → fits_asked P z (A_pid ∷ []) (said_by_all P z (A_pid ∷ []) Nothing) ≡ true
+pid-fits P z last = rw (said_one P z A_pid) (fits-pid P z (next_free P.pid_used PID_MIN PID_MAX P.last_pid) refl last)
 
-pub zid-fits : (P : Pools) (z : Name) → fits_asked P (A_zid ∷ []) (said_by_all P z (A_zid ∷ []) Nothing) ≡ true
-zid-fits P z = rw (said_one P z A_zid) (fits-zid P (next_free P.zid_used ZID_MIN ZID_MAX P.last_zid) refl)
+pub zid-fits : (P : Pools) (z : Name) → fits_asked P z (A_zid ∷ []) (said_by_all P z (A_zid ∷ []) Nothing) ≡ true
+zid-fits P z = rw (said_one P z A_zid) (fits-zid P z (next_free P.zid_used ZID_MIN ZID_MAX P.last_zid) refl)
 
-pub serial-fits : (P : Pools) (z : Name) → fits_asked P (A_serial ∷ []) (said_by_all P z (A_serial ∷ []) Nothing) ≡ true
-serial-fits P z = rw (said_one P z A_serial) (fits-serial P (has_room P) refl)
+pub serial-fits : (P : Pools) (z : Name) → fits_asked P z (A_serial ∷ []) (said_by_all P z (A_serial ∷ []) Nothing) ≡ true
+serial-fits P z = rw (said_one P z A_serial) (fits-serial P z (has_room P) refl)
 
-pub zone-fits : (P : Pools) (z : Name) (path : List ℕ) → fits_asked P (A_zone ∷ A_path path ∷ A_serial ∷ []) (said_by_all P z (A_zone ∷ A_path path ∷ A_serial ∷ []) Nothing) ≡ true
-zone-fits P z path = fits-zone P path (has_place P) (P.path_taken z path) (has_room P) refl refl
+pub zone-fits : (P : Pools) (z : Name) (path : List ℕ) → fits_asked P z (A_zone ∷ A_path path ∷ A_serial ∷ []) (said_by_all P z (A_zone ∷ A_path path ∷ A_serial ∷ []) Nothing) ≡ true
+zone-fits P z path = fits-zone P z path (has_place P) (P.path_taken z path) (has_room P) refl refl
+
+-- a record that asks for a path, as a move does
+path_serial : (P : Pools) (z : Name) (path : List ℕ) (taken room : Bool) → has_room P ≡ room
+    → fits_asked P z (A_path path ∷ A_serial ∷ []) (elim (if taken then Denied Paths else Yes) as (λ g. Grant) [
+      | Denied pool ↦ Denied pool
+      | g ↦ elim (if room then Number (P.serial + 1) else Denied Store) as (λ g. Grant) [ Denied pool ↦ Denied pool | g ↦ g ]
+    ]) ≡ true
+path_serial P z path true room b = refl
+path_serial P z path false false b = refl
+path_serial P z path false true b = fits-serial P z true b
+
+pub path-fits : (P : Pools) (z : Name) (path : List ℕ) → fits_asked P z (A_path path ∷ A_serial ∷ []) (said_by_all P z (A_path path ∷ A_serial ∷ []) Nothing) ≡ true
+path-fits P z path = path_serial P z path (P.path_taken z path) (has_room P) refl
+
+fits_item : (P : Pools) (z : Name) (pool : Pool) (item : List ℕ) (b : Bool) → P.may_hold z pool item ≡ b → fits_asked P z (An_item pool item ∷ []) (if b then Yes else Denied pool) ≡ true
+fits_item P z pool item true e = and_from _ _ e refl
+fits_item P z pool item false e = rw ((pool-Decides pool pool).1 refl) refl
+
+pub item-fits : (P : Pools) (z : Name) (pool : Pool) (item : List ℕ) → fits_asked P z (An_item pool item ∷ []) (said_by_all P z (An_item pool item ∷ []) Nothing) ≡ true
+item-fits P z pool item = rw (said_one P z (An_item pool item)) (fits_item P z pool item (P.may_hold z pool item) refl)
+
+fits_source : (P : Pools) (z source : Name) (b : Bool) → fits_asked P z (A_source source ∷ []) (if b then Yes else Denied Source) ≡ true
+fits_source P z source true = refl
+fits_source P z source false = refl
+
+pub source-fits : (P : Pools) (z source : Name) → fits_asked P z (A_source source ∷ []) (said_by_all P z (A_source source ∷ []) Nothing) ≡ true
+source-fits P z source = rw (said_one P z (A_source source)) (fits_source P z source (P.may_clone source))

@@ -2,12 +2,12 @@
 use Rattle.std.specs.Prelude.{ℕ, zero, suc, List, [], ◌∷◌, ◌+◌, ◌-◌, Bool, true, false, not, ◌&&◌, nat_le, nat_lt, Option, Some, None, if◌then◌else◌}
 use Rattle.std.specs.List.{list_all, list_any}
 use Rattle.zn_base.specs.Names.{Name}
-use Rattle.zone_pools.specs.Asked.{A_path, A_pid, A_serial, A_zid, A_zone, Asked, pool_of}
+use Rattle.zone_pools.specs.Asked.{A_path, A_pid, A_serial, A_source, A_zid, A_zone, An_item, Asked, pool_of}
 use Rattle.zone_pools.specs.Same.{same_pool}
 use Rattle.zone_pools.specs.declared.grant.Grant.{Grant}
 use Rattle.zone_pools.specs.declared.grant.Grant.TheVariants.{Nothing, Number, Yes, Denied}
 use Rattle.zone_pools.specs.declared.grant.Pool.{Pool}
-use Rattle.zone_pools.specs.declared.grant.Pool.TheVariants.{Pids, Zids, Zones, Paths, Store}
+use Rattle.zone_pools.specs.declared.grant.Pool.TheVariants.{Pids, Zids, Zones, Paths, Store, Source}
 use Rattle.zone_pools.specs.declared.limits.TheConstants.{PID_MAX, PID_MIN, SERIAL_MAX, ZID_MAX, ZID_MIN, ZONES_MAX}
 
 -- the least number that isn't used among so many from one on
@@ -27,7 +27,8 @@ abbrev pub next_free : (ℕ → Bool) → (low high last : ℕ) → Option ℕ
 next_free used low high last = or_else (first_free used (last + 1) (high - last)) (first_free used low (high + 1 - low))
 
 -- what the pools know: which numbers are used and which was given last, how many zones are stored, whether a zone
--- other than this one has a path, and how many records there are
+-- other than this one has a path, how many records there are, whether a zone may hold an item of a pool, and whether a zone
+-- may be cloned
 pub record Pools : Type 0 where
   pub pid_used : ℕ → Bool
   pub zid_used : ℕ → Bool
@@ -36,6 +37,8 @@ pub record Pools : Type 0 where
   pub zones : ℕ
   pub path_taken : Name → List ℕ → Bool
   pub serial : ℕ
+  pub may_hold : Name → Pool → List ℕ → Bool
+  pub may_clone : Name → Bool
 
 abbrev pub has_place : Pools → Bool
 has_place P = nat_lt P.zones ZONES_MAX
@@ -54,6 +57,8 @@ said_by P z A_zid = numbered Zids (next_free P.zid_used ZID_MIN ZID_MAX P.last_z
 said_by P z A_zone = if has_place P then Yes else Denied Zones
 said_by P z (A_path path) = if P.path_taken z path then Denied Paths else Yes
 said_by P z A_serial = if has_room P then Number (P.serial + 1) else Denied Store
+said_by P z (An_item pool item) = if P.may_hold z pool item then Yes else Denied pool
+said_by P z (A_source source) = if P.may_clone source then Yes else Denied Source
 
 -- the first denial, else what the last pool says
 abbrev pub said_by_all : Pools → Name → List Asked → Grant → Grant
@@ -70,13 +75,22 @@ fits_pool P n A_zid = nat_le ZID_MIN n && nat_le n ZID_MAX && not (P.zid_used n)
 fits_pool P n A_zone = has_place P
 fits_pool P n (A_path path) = true
 fits_pool P n A_serial = nat_le 1 n && has_room P
+fits_pool P n (An_item pool item) = false
+fits_pool P n (A_source source) = false
+
+-- whether a yes may be stated to an event of z: of an item where the pool says it now, of what is cloned always
+abbrev pub fits_yes : Pools → Name → Asked → Bool
+fits_yes P z (An_item pool item) = P.may_hold z pool item
+fits_yes P z (A_source source) = true
+fits_yes P z _ = false
 
 abbrev pub is_pool : Pool → Asked → Bool
 is_pool pool a = same_pool pool (pool_of a)
 
-abbrev pub fits_asked : Pools → List Asked → Grant → Bool
-fits_asked P [] Nothing = true
-fits_asked P [] g = false
-fits_asked P (a ∷ asked) (Number n) = list_all (fits_pool P n) (a ∷ asked)
-fits_asked P (a ∷ asked) (Denied pool) = list_any (is_pool pool) (a ∷ asked)
-fits_asked P (a ∷ asked) g = false
+abbrev pub fits_asked : Pools → Name → List Asked → Grant → Bool
+fits_asked P z [] Nothing = true
+fits_asked P z [] g = false
+fits_asked P z (a ∷ asked) (Number n) = list_all (fits_pool P n) (a ∷ asked)
+fits_asked P z (a ∷ asked) Yes = list_all (fits_yes P z) (a ∷ asked)
+fits_asked P z (a ∷ asked) (Denied pool) = list_any (is_pool pool) (a ∷ asked)
+fits_asked P z (a ∷ asked) g = false

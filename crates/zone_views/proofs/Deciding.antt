@@ -7,7 +7,7 @@ use Rattle.kernel_objects.specs.declared.objects.Signal.{Signal}
 use Rattle.process_calls.specs.declared.call.Call.{Call}
 use Rattle.process_calls.specs.declared.call.Call.TheVariants as call
 use Rattle.process_calls.specs.declared.call.MountCall.{MountCall}
-use Rattle.loopback_mounts.specs.Mounts.{at_dir, hold_answer, mount_answer, mount_at, mounted, release_answer, unmount_answer, unmounted, with_hold}
+use Rattle.loopback_mounts.specs.Mounts.{at_dir, mount_answer, mount_at, mounted, unmount_answer, unmounted, with_hold}
 use Rattle.loopback_mounts.specs.Places.{place_at, special_at}
 use Rattle.loopback_mounts.specs.Types.{may_mount_type}
 use Rattle.loopback_mounts.specs.declared.faults.HoldFault.{HoldFault}
@@ -16,7 +16,8 @@ use Rattle.loopback_mounts.specs.declared.mount.Mount.{Mount}
 use Rattle.loopback_mounts.specs.declared.mount.MountEntry.{MountEntry}
 use Rattle.zone_machine.specs.Calls.{called, calls, calls_if_there, ending, execs, forks, is_by_process, mount_of, mounts, mounts_if_free, mounts_special, signals, tells_place, unmounts, unmounts_if_free}
 use Rattle.std.proofs.Common.{◌≡◌, ◌+◌, ℕ, List, Bool, Option, Some, None, true, false, refl, subst, sym}
-use Rattle.zn_base.specs.Names.{Name}
+use Rattle.zn_base.specs.Names.{Name, name_of}
+use Rattle.zn_base.specs.declared.name.NameFault.{NameFault}
 use Rattle.std.specs.Result.{result_ok}
 use Rattle.zone_config.specs.declared.terms.Contents.{Contents}
 use Rattle.zone_pools.specs.declared.grant.Grant.{Grant}
@@ -28,12 +29,16 @@ use Rattle.zoneadmd_steps.specs.Arrivals.{Arrival}
 use Rattle.zone_machine.specs.State.Decisions.{Act, Effect, act_of, acts_world, after_came_world, done_saying}
 use Rattle.zoneadmd_steps.specs.Desks.{Desk, is_full, with_request}
 use Rattle.zone_machine.specs.State.Edits.{at_session, edits_world}
-use Rattle.zone_machine.specs.Session.Lines.{Blank, Command, Hold, Kill, Line, Make, Release, Request, Unknown, line_of}
+use Rattle.zone_machine.specs.Session.Lines.{Ask as Asks, Blank, Clone, Command, Hold, Kill, Line, Make, Release, Unforced, Unknown, line_of}
 use Rattle.zone_machine.specs.Machine.{decide, session_number}
 use Rattle.zone_machine.specs.State.{Awaiting, Doing}
-use Rattle.zone_machine.specs.Session.Typed.{holding_at, holds, idle_line, made_config, make, make_with, new_record, put_request, typed}
+use Rattle.zone_machine.specs.Session.Typed.{held_answer, holding_at, holds, idle_line, made_config, make, make_unless, make_with, new_record, put_clone, put_request, typed}
 use Rattle.zone_machine.specs.State.Worlds.{World, objects_of, view_of}
-use Rattle.zoneadmd_steps.specs.declared.requests.RequestKind.{RequestKind}
+use Rattle.zoneadmd_steps.specs.declared.requests.Request.{Request}
+use Rattle.zoneadmd_steps.specs.declared.requests.Request.TheVariants as request
+use Rattle.brand_hooks.specs.Brands.{tabled_names}
+use Rattle.config_verify.specs.Flaws.{first, flaws}
+use Rattle.config_verify.specs.declared.flaw.Flaw.{Flaw}
 use Rattle.zone_machine.specs.declared.events.Event.{Event}
 use Rattle.zone_machine.specs.declared.events.Event.TheVariants.{Process as Call_of, Session, System, Turn}
 use Rattle.zone_machine.specs.declared.replies.Head.TheVariants.{Ok}
@@ -56,27 +61,35 @@ pub data Mounted (ms : List MountEntry) : List MountEntry → Type 0 where
 -- it was, or other processes, or other mounts
 module _ (P : World → Type 0) (z : Name) (w : World) (same : P w)
     (made : (config : Contents) (k : ℕ) → w.stored ≡ None → P (record w { stored = Some (new_record z config k) }))
-    (asked : (kind : RequestKind) (sessions : ℕ → Option Doing) → P (record w { desk = with_request w.desk kind; sessions = sessions }))
+    (asked : (r : Request) (sessions : ℕ → Option Doing) → P (record w { desk = with_request w.desk r; sessions = sessions }))
     (others : (ps : List Process) → Called w.processes ps → P (record w { processes = ps }))
     (remounted : (ms : List MountEntry) → Mounted w.mounts ms → P (record w { mounts = ms })) where
   abbrev After : Option ℕ → Option Arrival → Effect → Type 0
   After n c e = P (edits_world n e.edits (after_came_world c w))
 
-  of_config : (n : Option ℕ) (config : Option Contents) → w.stored ≡ None → In (After n) (make_with z config)
+  of_unless : (n : Option ℕ) (config : Contents) (r : Result (Unit {0}) Flaw) → w.stored ≡ None → In (After n) (make_unless z config r)
+  of_unless n config (Err flaw) none = same
+  of_unless n config (Right fine) none = (λ pool. same, λ k. made config k none)
+
+  of_config : (n : Option ℕ) (config : Option Contents) → w.stored ≡ None → In (After n) (make_with z w.brands config)
   of_config n None none = same
-  of_config n (Some config) none = (λ pool. same, λ k. made config k none)
+  of_config n (Some config) none = of_unless n config (first (flaws (tabled_names w.brands) config)) none
 
-  of_make : (n : Option ℕ) (word : List ℕ) (row : Option Record) → w.stored ≡ row → In (After n) (make z row word)
-  of_make n word None is = of_config n (result_ok (made_config word)) is
-  of_make n word (Some row) is = same
+  of_make : (n : Option ℕ) (path brand : List ℕ) (row : Option Record) → w.stored ≡ row → In (After n) (make z w.brands row path brand)
+  of_make n path brand None is = of_config n (result_ok (made_config path brand)) is
+  of_make n path brand (Some row) is = same
 
-  of_request : (n : Option ℕ) (kind : RequestKind) (row : Option Record) → After n None (put_request w.desk kind row)
-  of_request n kind None = same
-  of_request n kind (Some row) = at_test (is_full w.desk) refl
+  of_request : (n : Option ℕ) (r : Request) (row : Option Record) → After n None (put_request w.desk r row)
+  of_request n r None = same
+  of_request n r (Some row) = at_test (is_full w.desk) refl
     where
-      at_test : (b : Bool) → is_full w.desk ≡ b → After n None (put_request w.desk kind (Some row))
+      at_test : (b : Bool) → is_full w.desk ≡ b → After n None (put_request w.desk r (Some row))
       at_test true e = simp e same
-      at_test false e = simp e (asked kind (λ k. at_session n k (Some (Awaiting (w.desk.last + 1))) (w.sessions k)))
+      at_test false e = simp e (asked r (λ k. at_session n k (Some (Awaiting (w.desk.last + 1))) (w.sessions k)))
+
+  of_clone : (n : Option ℕ) (r : Result Name NameFault) → After n None (put_clone w.desk r w.stored)
+  of_clone n (Err fault) = same
+  of_clone n (Right source) = of_request n (request.Clone source) w.stored
 
   of_signal : (n : Option ℕ) (inside : Bool) (signal : Signal) (pid : ℕ) (p : Option Process) → In (After n) (signals inside signal pid p)
   of_signal n inside signal pid None = same
@@ -95,11 +108,13 @@ module _ (P : World → Type 0) (z : Name) (w : World) (same : P w)
   unfolding view_of
   of_line n Blank = same
   of_line n Unknown = same
-  of_line n (Make word) = of_make n word w.stored refl
-  of_line n (Request kind) = of_request n kind w.stored
+  of_line n (Make path brand) = of_make n path brand w.stored refl
+  of_line n (Asks r) = of_request n r w.stored
+  of_line n (Clone word) = of_clone n (name_of word)
+  of_line n Unforced = same
   of_line n (Kill signal pid) = of_signal n false signal pid (with_pid pid w.processes)
-  of_line n (Hold dir) = of_hold n w.stored (hold_answer dir w.mounts) true dir
-  of_line n (Release dir) = of_hold n w.stored (release_answer dir w.mounts) false dir
+  of_line n (Hold dir) = of_hold n w.stored (held_answer true dir w.mounts) true dir
+  of_line n (Release dir) = of_hold n w.stored (held_answer false dir w.mounts) false dir
 
   of_typed : (n : Option ℕ) (d : Option Doing) (line : Line) → In (After n) (typed (view_of z w) d line)
   unfolding typed view_of

@@ -1,15 +1,22 @@
 -- A history of two zones, computed by the definitions.
-use Rattle.std.proofs.Common.{◌≡◌, ◌∷◌, ◌++◌, ◌&&◌, [], ℕ, List, true, false, Some, None, map, refl}
+use Rattle.std.proofs.Common.{◌≡◌, ◌∷◌, ◌++◌, ◌&&◌, [], ℕ, List, true, false, Option, Some, None, map, refl}
 use Rattle.std.specs.Prelude.{codes, drop, not, replicate}
+use Rattle.brand_hooks.specs.Brands.{Tabled}
+use Rattle.brand_hooks.specs.Tables.{proceeding}
+use Rattle.datalink_table.specs.declared.claims.ClaimKind.TheVariants.{Dataset}
+use Rattle.zone_pools.specs.declared.grant.Pool.TheVariants.{Datasets}
 use Rattle.config_terms.specs.Rules.{obeys}
 use Rattle.config_terms.specs.Texts.{setting}
+use Rattle.config_verify.specs.Flaws.{flaws, flaws_of_dataset}
+use Rattle.priv_sets.specs.Limit.{judged, limit_of, named, rule_of, set_of_words, words_from}
 use Rattle.zone_config.specs.Edits.{with_property}
 use Rattle.zone_config.specs.Export.{export_text}
 use Rattle.zone_config.specs.Property.{blank, setting_named}
 use Rattle.zone_pools.specs.Same.{same_grant}
 use Rattle.zone_pools.specs.declared.grant.Grant.{Grant}
-use Rattle.zone_pools.specs.declared.grant.Grant.TheVariants.{Nothing, Number}
-use Rattle.zn_base.specs.declared.state.ZoneState.TheVariants.{Configured, Installed}
+use Rattle.zone_pools.specs.declared.grant.Grant.TheVariants.{Nothing, Number, Yes}
+use Rattle.zn_base.specs.declared.state.ZoneState.TheVariants.{Configured, Incomplete, Installed}
+use Rattle.zn_base.specs.declared.state.ZoneState.{ZoneState}
 use Rattle.zone_machine.specs.State.Edits.{comes, edit}
 use Rattle.zone_machine.specs.Machine.Histories.{after, any_grant, asked, history, is_history, is_legal, only, replies, run}
 use Rattle.zone_machine.specs.Session.Lines.{line_of}
@@ -18,20 +25,20 @@ use Rattle.zone_machine.specs.Machine.Pools.{allowed, fits}
 use Rattle.zone_pools.specs.Pools.{first_free}
 use Rattle.zone_machine.specs.Machine.Same.{same_reply, same_subject}
 use Rattle.zone_machine.specs.State.{State, zone_state}
-use Rattle.zoneadmd_steps.specs.Turns.{turn}
+use Rattle.zoneadmd_steps.specs.Turns.{local_turn, turn}
 use Rattle.zone_machine.specs.Session.Typed.{typed}
 use Rattle.zone_machine.specs.State.Worlds.{view}
-use Rattle.zoneadmd_steps.specs.declared.requests.Outcome.TheVariants.{WrongState}
+use Rattle.zoneadmd_steps.specs.declared.requests.Outcome.TheVariants.{Denied as Was_denied, WrongState}
 use Rattle.zoneadmd_steps.specs.declared.requests.Step.TheVariants.{Unmount}
-use Rattle.zoneadmd_steps.specs.declared.requests.TurnReply.TheVariants.{Finished, Idle, Stepped, Stuck}
+use Rattle.zoneadmd_steps.specs.declared.requests.TurnReply.TheVariants.{Failed, Finished, Idle, Stepped, Stuck}
 use Rattle.zone_machine.specs.declared.events.Entry.{Entry}
 use Rattle.zone_machine.specs.declared.events.Event.{Event}
-use Rattle.zone_machine.specs.declared.events.Declaration.TheVariants.{Device}
+use Rattle.zone_machine.specs.declared.events.Declaration.TheVariants.{Device, Item}
 use Rattle.zone_machine.specs.declared.events.Event.TheVariants.{Process as Call_of, Session, System, Turn}
 use Rattle.zone_machine.specs.declared.events.Subject.TheVariants.{Global, Zone}
 use Rattle.zone_machine.specs.Calls.{called}
 use Rattle.process_calls.specs.declared.call.Call.TheVariants.{Drop, Fork}
-use Rattle.priv_sets.specs.Sets.{all_of, default_set, has, only as the_one, set_of, union, without}
+use Rattle.priv_sets.specs.Sets.{all_of, both as both_of, default_set, has, only as the_one, set_of, union, without}
 use Rattle.priv_sets.specs.Table.{is_of, privileges}
 use Rattle.priv_sets.specs.declared.table.TheConstants.{PROC_EXEC}
 use Rattle.kernel_objects.specs.Processes.{may_exec, may_fork}
@@ -43,6 +50,9 @@ use Rattle.zone_machine.specs.declared.replies.Refusal.TheVariants.{Duplicate}
 use Rattle.zone_views.specs.Numbers.{pids, zids}
 use Rattle.zone_views.specs.Whole.{whole_replies}
 
+abbrev brands : List Tabled
+brands = record { name = codes "ipkg"; table = proceeding } ∷ []
+
 abbrev make : ℕ → List ℕ → Event
 make n zone = Session n (codes "zonecfg -z " ++ zone ++ codes " create -b; set zonepath=/zones/" ++ zone ++ codes "; set brand=ipkg")
 
@@ -50,42 +60,42 @@ abbrev boot_a : Event
 boot_a = Session 1 (codes "zoneadm -z a boot")
 
 abbrev entries : List Entry
-entries = history (opening []) (make 1 (codes "a") ∷ make 2 (codes "b") ∷ Session 3 [] ∷ boot_a ∷ Turn (codes "b") ∷ Turn (codes "a") ∷ [])
+entries = history (opening brands []) (make 1 (codes "a") ∷ make 2 (codes "b") ∷ Session 3 [] ∷ boot_a ∷ Turn (codes "b") ∷ Turn (codes "a") ∷ [])
 
 abbrev told_to : List ℕ → List Head
 told_to zone = map (λ r. r.head) (replies zone entries)
 
 told_to_a : told_to (codes "a") ≡ Ok ∷ Ticket 1 ∷ Turned (Finished 1 (WrongState Configured)) ∷ []
-unfolding line_of typed turn view decide subject one first_free allowed edit comes with_property setting_named obeys setting export_text
+unfolding line_of typed turn local_turn view decide subject one first_free allowed edit comes with_property setting_named obeys setting export_text flaws limit_of judged set_of_words words_from rule_of named default_set all_of both_of has set_of union without is_of privileges
 told_to_a = refl
 
 told_to_b : told_to (codes "b") ≡ Ok ∷ Turned Idle ∷ []
-unfolding line_of typed turn view decide subject one first_free allowed edit comes with_property setting_named obeys setting export_text
+unfolding line_of typed turn local_turn view decide subject one first_free allowed edit comes with_property setting_named obeys setting export_text flaws limit_of judged set_of_words words_from rule_of named default_set all_of both_of has set_of union without is_of privileges
 told_to_b = refl
 
 -- without the other zone's entries and those of none
 purged : asked (only (codes "a") entries) ≡ (make 1 (codes "a"), Number 1) ∷ (boot_a, Nothing) ∷ (Turn (codes "a"), Nothing) ∷ []
-unfolding line_of typed turn view decide subject one first_free allowed edit comes with_property setting_named obeys setting export_text
+unfolding line_of typed turn local_turn view decide subject one first_free allowed edit comes with_property setting_named obeys setting export_text flaws limit_of judged set_of_words words_from rule_of named default_set all_of both_of has set_of union without is_of privileges
 purged = refl
 
-states : map (λ zone. zone_state zone (after (opening []) entries)) (codes "a" ∷ codes "b" ∷ codes "c" ∷ []) ≡ Some Configured ∷ Some Configured ∷ None ∷ []
-unfolding line_of typed turn view decide subject one first_free allowed edit comes with_property setting_named obeys setting export_text
+states : map (λ zone. zone_state zone (after (opening brands []) entries)) (codes "a" ∷ codes "b" ∷ codes "c" ∷ []) ≡ Some Configured ∷ Some Configured ∷ None ∷ []
+unfolding line_of typed turn local_turn view decide subject one first_free allowed edit comes with_property setting_named obeys setting export_text flaws limit_of judged set_of_words words_from rule_of named default_set all_of both_of has set_of union without is_of privileges
 states = refl
 
 -- a stated grant may be another than the pools give, and then the history isn't legal
 abbrev stated : Grant → List Entry
-stated g = run (opening []) ((make 1 (codes "a"), g) ∷ [])
+stated g = run (opening brands []) ((make 1 (codes "a"), g) ∷ [])
 
-legal : map (λ n. is_legal (opening []) (stated (Number n))) (1 ∷ 2 ∷ []) ≡ true ∷ false ∷ []
-unfolding line_of typed turn view decide subject one first_free allowed edit comes same_reply same_subject with_property setting_named obeys setting export_text
+legal : map (λ n. is_legal (opening brands []) (stated (Number n))) (1 ∷ 2 ∷ []) ≡ true ∷ false ∷ []
+unfolding line_of typed turn local_turn view decide subject one first_free allowed edit comes same_reply same_subject with_property setting_named obeys setting export_text flaws limit_of judged set_of_words words_from rule_of named default_set all_of both_of has set_of union without is_of privileges
 legal = refl
 
 -- a reply to another event is no history
 abbrev to_boot : Entry → Entry
 to_boot e = record e { event = boot_a }
 
-told_of_another : is_history any_grant (opening []) (map to_boot (stated (Number 1))) ≡ false
-unfolding line_of typed turn view decide subject one first_free allowed edit comes same_reply same_subject with_property setting_named obeys setting export_text
+told_of_another : is_history any_grant (opening brands []) (map to_boot (stated (Number 1))) ≡ false
+unfolding line_of typed turn local_turn view decide subject one first_free allowed edit comes same_reply same_subject with_property setting_named obeys setting export_text flaws limit_of judged set_of_words words_from rule_of named default_set all_of both_of has set_of union without is_of privileges
 told_of_another = refl
 
 -- two installed zones boot, up to the turn that starts init
@@ -93,7 +103,7 @@ abbrev installed : List ℕ → Commit
 installed zone = record { zone = zone; stored = Some (record { state = Installed; uuid = replicate 16 0; revision = 1; config = record blank { zonepath = Some (codes "/zones/" ++ zone); brand = codes "ipkg" } }) }
 
 abbrev both : State
-both = opening (installed (codes "a") ∷ installed (codes "b") ∷ [])
+both = opening brands (installed (codes "a") ∷ installed (codes "b") ∷ [])
 
 abbrev boot : ℕ → List ℕ → List Event
 boot n zone = Session n (codes "zoneadm -z " ++ zone ++ codes " boot") ∷ replicate 10 (Turn zone)
@@ -102,16 +112,16 @@ abbrev booted : State
 booted = after both (history both (boot 1 (codes "a") ++ boot 2 (codes "b")))
 
 process_numbers : pids booted ≡ 2 ∷ 3 ∷ []
-unfolding line_of typed turn view decide subject one first_free allowed edit comes with_property setting_named obeys setting export_text
+unfolding line_of typed turn local_turn view decide subject one first_free allowed edit comes with_property setting_named obeys setting export_text flaws limit_of judged set_of_words words_from rule_of named default_set all_of both_of has set_of union without is_of privileges
 process_numbers = refl
 
 zone_numbers : zids booted ≡ 1 ∷ 2 ∷ []
-unfolding line_of typed turn view decide subject one first_free allowed edit comes with_property setting_named obeys setting export_text
+unfolding line_of typed turn local_turn view decide subject one first_free allowed edit comes with_property setting_named obeys setting export_text flaws limit_of judged set_of_words words_from rule_of named default_set all_of both_of has set_of union without is_of privileges
 zone_numbers = refl
 
 -- a signal that a session sends is of the zone that has the process
 signal_subjects : map (λ text. subject booted (Session 3 text)) (codes "kill 9 2" ∷ codes "kill 9 3" ∷ codes "kill 9 4" ∷ []) ≡ Zone (codes "a") ∷ Zone (codes "b") ∷ Global ∷ []
-unfolding line_of typed turn view decide subject one first_free allowed edit comes with_property setting_named obeys setting export_text decimal_of
+unfolding line_of typed turn local_turn view decide subject one first_free allowed edit comes with_property setting_named obeys setting export_text flaws limit_of judged set_of_words words_from rule_of named default_set all_of both_of has set_of union without is_of privileges decimal_of
 signal_subjects = refl
 
 -- the first process of a gives up a privilege, forks, and another's signal ends that of b
@@ -119,11 +129,11 @@ abbrev called_on : State
 called_on = after booted (history booted (Call_of (codes "a") 2 (Drop PROC_EXEC) ∷ Call_of (codes "a") 2 (Fork (codes "sh")) ∷ Session 3 (codes "kill 9 3") ∷ []))
 
 processes_left : pids called_on ≡ 2 ∷ 4 ∷ []
-unfolding line_of typed turn view decide subject one first_free allowed edit comes with_property setting_named obeys setting export_text called decimal_of default_set union without the_one all_of set_of has is_of privileges
+unfolding line_of typed turn local_turn view decide subject one first_free allowed edit comes with_property setting_named obeys setting export_text flaws limit_of judged set_of_words words_from rule_of named default_set all_of both_of has set_of union without is_of privileges called decimal_of the_one
 processes_left = refl
 
 may_fork_not_exec : map (λ o. may_fork o.it && not (may_exec o.it)) called_on.processes ≡ true ∷ true ∷ []
-unfolding line_of typed turn view decide subject one first_free allowed edit comes with_property setting_named obeys setting export_text called decimal_of default_set union without the_one all_of set_of has is_of privileges
+unfolding line_of typed turn local_turn view decide subject one first_free allowed edit comes with_property setting_named obeys setting export_text flaws limit_of judged set_of_words words_from rule_of named default_set all_of both_of has set_of union without is_of privileges called decimal_of the_one
 may_fork_not_exec = refl
 
 -- a halts, but for its root, which the global zone holds for a while
@@ -131,7 +141,7 @@ abbrev halts : List Event
 halts = replicate 3 (Turn (codes "a")) ++ Session 3 (codes "fhold -z a /") ∷ Session 3 (codes "zoneadm -z a halt") ∷ replicate 5 (Turn (codes "a")) ++ Session 4 (codes "frelease -z a /") ∷ Turn (codes "a") ∷ []
 
 waits_for_the_hold : map (λ e. e.reply.head) (drop 9 (history booted halts)) ≡ Turned Stuck ∷ Ok ∷ Turned (Stepped (Unmount (Some (codes "/")))) ∷ []
-unfolding line_of typed turn view decide subject one first_free allowed edit comes with_property setting_named obeys setting export_text
+unfolding line_of typed turn local_turn view decide subject one first_free allowed edit comes with_property setting_named obeys setting export_text flaws limit_of judged set_of_words words_from rule_of named default_set all_of both_of has set_of union without is_of privileges
 waits_for_the_hold = refl
 
 -- a device is declared once, whatever zones do in between
@@ -139,7 +149,7 @@ abbrev declare : Event
 declare = System (Device (codes "/dev/zero"))
 
 told_to_all : map (λ r. r.head) (whole_replies (history booted (declare ∷ Turn (codes "a") ∷ declare ∷ []))) ≡ Ok ∷ Refused Duplicate ∷ []
-unfolding line_of typed turn view decide subject one first_free allowed edit comes with_property setting_named obeys setting export_text
+unfolding line_of typed turn local_turn view decide subject one first_free allowed edit comes with_property setting_named obeys setting export_text flaws limit_of judged set_of_words words_from rule_of named default_set all_of both_of has set_of union without is_of privileges
 told_to_all = refl
 
 -- grants that don't fit may give one number twice, and after a process number of 0 the pools give 1, which doesn't fit
@@ -150,10 +160,55 @@ abbrev left_by : List (Event × Grant) → State
 left_by es = after both (run both es)
 
 same_number : pids (left_by (readied 1 (codes "a") ++ readied 2 (codes "b") ++ (Turn (codes "a"), Number 7) ∷ (Turn (codes "b"), Number 7) ∷ [])) ≡ 7 ∷ 7 ∷ []
-unfolding line_of typed turn view decide subject one first_free allowed edit comes with_property setting_named obeys setting export_text
+unfolding line_of typed turn local_turn view decide subject one first_free allowed edit comes with_property setting_named obeys setting export_text flaws limit_of judged set_of_words words_from rule_of named default_set all_of both_of has set_of union without is_of privileges
 same_number = refl
 
 unfit_number : let S = left_by (readied 1 (codes "a") ++ readied 2 (codes "b") ++ (Turn (codes "a"), Number 0) ∷ []) in
     let e = Turn (codes "b") in (same_grant (allowed S e) (Number 1) && not (fits S e (allowed S e))) ≡ true
-unfolding line_of typed turn view decide subject one first_free allowed fits edit comes with_property setting_named obeys setting export_text
+unfolding line_of typed turn local_turn view decide subject one first_free allowed fits edit comes with_property setting_named obeys setting export_text flaws limit_of judged set_of_words words_from rule_of named default_set all_of both_of has set_of union without is_of privileges
 unfit_number = refl
+
+-- two zones want one dataset, which is declared: the first has it, and the other's turn is denied it. Under grants that don't fit
+-- both have it
+abbrev wanting : List ℕ → Commit
+wanting zone = record {
+  zone = zone;
+  stored = Some (record { state = Installed; uuid = replicate 16 0; revision = 1; config = record blank { zonepath = Some (codes "/zones/" ++ zone); brand = codes "ipkg"; dataset = codes "tank" ∷ [] } });
+}
+
+abbrev want : State
+want = opening brands (wanting (codes "a") ∷ wanting (codes "b") ∷ [])
+
+abbrev ready : ℕ → List ℕ → List Event
+ready n zone = Session n (codes "zoneadm -z " ++ zone ++ codes " ready") ∷ replicate 7 (Turn zone)
+
+abbrev asking : List Event
+asking = System (Item Dataset (codes "tank")) ∷ ready 1 (codes "a") ++ ready 2 (codes "b")
+
+abbrev claimed_in : List Entry → List (List ℕ)
+claimed_in h = map (λ o. o.zone) (after want h).claims
+
+one_has_it : claimed_in (history want asking) ≡ codes "a" ∷ []
+unfolding line_of typed turn local_turn view decide subject one first_free allowed edit comes with_property setting_named obeys setting export_text flaws flaws_of_dataset limit_of judged set_of_words words_from rule_of named default_set all_of both_of has set_of union without is_of privileges
+one_has_it = refl
+
+the_other_is_denied : map (λ e. e.reply.head) (drop 16 (history want asking)) ≡ Turned (Failed 6 (Was_denied Datasets)) ∷ []
+unfolding line_of typed turn local_turn view decide subject one first_free allowed edit comes with_property setting_named obeys setting export_text flaws flaws_of_dataset limit_of judged set_of_words words_from rule_of named default_set all_of both_of has set_of union without is_of privileges
+the_other_is_denied = refl
+
+both_have_it : claimed_in (run want (map (λ e. (e, Yes)) asking)) ≡ codes "a" ∷ codes "b" ∷ []
+unfolding line_of typed turn local_turn view decide subject one first_free allowed edit comes with_property setting_named obeys setting export_text flaws flaws_of_dataset limit_of judged set_of_words words_from rule_of named default_set all_of both_of has set_of union without is_of privileges
+both_have_it = refl
+
+-- a zone is detached and attached, and then uninstalled, and its state is what the table says
+abbrev goes_through : State → List Event → List (Option ZoneState)
+goes_through S [] = zone_state (codes "a") S ∷ []
+goes_through S (e ∷ es) = zone_state (codes "a") S ∷ goes_through (one S e (allowed S e)).state es
+
+abbrev asks_a : List ℕ → ℕ → List Event
+asks_a text turns = Session 1 (codes "zoneadm -z a " ++ text) ∷ replicate turns (Turn (codes "a"))
+
+states_on_the_way : goes_through both (asks_a (codes "detach") 5 ++ asks_a (codes "attach") 5 ++ asks_a (codes "uninstall -F") 9)
+    ≡ replicate 4 (Some Installed) ++ replicate 6 (Some Configured) ++ replicate 6 (Some Installed) ++ replicate 5 (Some Incomplete) ++ replicate 2 (Some Configured)
+unfolding line_of typed turn local_turn view decide subject one first_free allowed edit comes with_property setting_named obeys setting export_text flaws limit_of judged set_of_words words_from rule_of named default_set all_of both_of has set_of union without is_of privileges
+states_on_the_way = refl

@@ -5,7 +5,7 @@ use Rattle.zn_base.specs.Names.{Name}
 use Rattle.zone_pools.specs.declared.grant.Grant.{Grant}
 use Rattle.zone_machine.proofs.Own_worlds.{world-one}
 use Rattle.zone_machine.specs.Machine.Histories.{after, after_entry, world_by}
-use Rattle.zone_machine.specs.Machine.{decide, session_number, subject}
+use Rattle.zone_machine.specs.Machine.{decide, session_number, subject, whole_world}
 use Rattle.zone_machine.specs.State.Decisions.{act_of, acts_world}
 use Rattle.zone_machine.specs.State.Worlds.{World, view_of, world}
 use Rattle.zone_machine.specs.State.{State}
@@ -14,10 +14,11 @@ use Rattle.zone_machine.specs.declared.events.Event.{Event}
 use Rattle.zone_machine.specs.declared.events.Subject.{Subject}
 use Rattle.zone_machine.specs.declared.events.Subject.TheVariants.{Zone, Global, Whole}
 
-module _ (P : World → Type 0) (keeps : (z : Name) (w : World) (e : Event) (g : Grant) → P w → P (acts_world (session_number e) (act_of (decide (view_of z w) e) g) w)) where
+module _ (P : World → Type 0) (keeps : (z : Name) (w : World) (e : Event) (g : Grant) → P w → P (acts_world (session_number e) (act_of (decide (view_of z w) e) g) w))
+    (common : (w : World) (e : Event) → P w → P (whole_world e w)) where
   kept-by : (z : Name) (s : Subject) (w : World) (e : Event) (g : Grant) → P w → P (world_by s z w e g)
   kept-by z Global w e g h = h
-  kept-by z Whole w e g h = h
+  kept-by z Whole w e g h = common w e h
   kept-by z (Zone y) w e g h = at_test (bytes_eq z y)
     where
       at_test : (b : Bool) → P (if b then acts_world (session_number e) (act_of (decide (view_of z w) e) g) w else w)

@@ -3,10 +3,9 @@ pub mod Purge
 pub mod Runs
 pub mod Deciding
 pub mod Keeping
+pub mod Nexts
 pub mod Steady
 pub mod Under_way
-pub mod Trails
-pub mod Ending
 pub mod Limits
 pub mod Differing
 pub mod Granting

@@ -1,42 +1,51 @@
 -- Each process's set lies within its zone's limit set. What each zone keeps for that: one that may have processes is active
--- wherever a request ends or fails, and neither a step nor an undo changes its id.
-use Rattle.std.proofs.Common.{◌≡◌, ◌∷◌, [], ◌&&◌, ◌||◌, ◌∙◌, ℕ, List, Bool, true, false, not, filter, Option, Some, None, ap, refl, sym, subst}
-use Rattle.std.specs.Prelude.{codes, is_ok, unwrap_or}
+-- wherever a request ends or fails, and neither a step nor an undo changes its limits.
+use Rattle.std.proofs.Common.{◌≡◌, ◌∷◌, ◌++◌, [], ◌&&◌, ◌||◌, ◌∙◌, append-nil, ℕ, List, Bool, true, false, not, filter, Option, Some, None, Result, Ok as Right, Err, ap, map, refl, sym, subst}
+use Rattle.std.specs.Prelude.{codes, is_ok, unwrap_or, if◌then◌else◌}
 use Rattle.std.proofs.lemmas.Bool.{and_parts, false≢true, not-true, true≢false}
+use Rattle.brand_hooks.specs.Brands.{Tabled, answer_of}
+use Rattle.brand_hooks.specs.declared.table.HookAnswer.{HookAnswer}
+use Rattle.brand_hooks.specs.declared.table.HookAnswer.TheVariants.{Proceed, Refuse}
+use Rattle.config_terms.specs.declared.fault.ConfigFault.{ConfigFault}
+use Rattle.datalink_table.specs.declared.claims.Claim.{Claim}
+use Rattle.loopback_mounts.specs.declared.mount.Mount.{Mount}
+use Rattle.zone_config.specs.declared.terms.Contents.{Contents}
+use Rattle.zone_pools.specs.Decisions.{Just}
 use Rattle.zone_pools.specs.Firsts.{is_nil}
-use Rattle.zone_pools.specs.Owned_lists.{Change, edited}
+use Rattle.zone_pools.specs.Owned_lists.{Change, Go, edited}
 use Rattle.zone_pools.specs.declared.grant.Grant.{Grant}
 use Rattle.zn_base.specs.Names.{Name}
 use Rattle.zn_base.specs.declared.state.ZoneState.{ZoneState}
-use Rattle.zn_base.specs.declared.state.ZoneState.TheVariants.{Configured, Installed, Ready, Running}
-use Rattle.loopback_mounts.specs.Mounts.{last_of, mount_answer}
-use Rattle.loopback_mounts.specs.declared.mount.MountEntry.{MountEntry}
+use Rattle.zn_base.specs.declared.state.ZoneState.TheVariants.{Configured, Incomplete, Installed, Ready, Running}
+use Rattle.loopback_mounts.specs.Mounts.{is_at, is_held, mount_answer, mount_at}
 use Rattle.kernel_objects.proofs.Kept.{at_pid_keeps, within-dropped, within-entered, within-forked, within-gone, within-renamed}
 use Rattle.kernel_objects.specs.declared.objects.Id.{Id}
-use Rattle.kernel_objects.specs.Kernel.{within_limit}
+use Rattle.kernel_objects.specs.Kernel.{with_bootargs, within_limit}
 use Rattle.kernel_objects.specs.Processes.{Process, at_pid, dropping, renamed, with_pid, without_pid}
 use Rattle.zone_machine.specs.Code.Works.{turned_act}
 use Rattle.zone_machine.proofs.Turned_laws.{In, in-act}
 use Rattle.zoneadmd_steps.specs.Arrivals.{Arrival}
-use Rattle.zoneadmd_steps.specs.Desks.{Desk, Job}
-use Rattle.zoneadmd_steps.specs.Plans.{may_begin, plan}
-use Rattle.zoneadmd_steps.specs.Turns.{Turned, active_after, goes_on, is_stuck, next_request, step, turn, turn_at, undo, undo_edits, undone, unmount}
+use Rattle.zoneadmd_steps.specs.Configs.{claims_of, fs_dirs, fs_mount, root_dir, root_mount, with_zonepath}
+use Rattle.zoneadmd_steps.specs.Desks.{Desk, Fails, Goes as Goes_on, Job, Stage}
+use Rattle.zoneadmd_steps.specs.Plans.{boot_part, kind_of, may_begin, plan, ready_part, refusal}
+use Rattle.zoneadmd_steps.specs.Turns.{A_claim_left, A_mount, A_step, Next, Nothing_left, Seen, Turn_decision, Turned, active_after, advance, begin, bootargs_of, hooked, local_job, local_next, local_stage, local_step, local_turn, local_undo, mounting, new_path, next, next_request, or_shared, over, record_config, record_moved, record_state, shared_next, shared_stage, shared_step, shared_turn, started, stuck, turn, undo_edits, undone}
 use Rattle.zone_machine.specs.Machine.Histories.{after}
 use Rattle.zone_machine.specs.Machine.{decide, opening, session_number}
-use Rattle.zoneadmd_steps.specs.Objects.{all_of, keeping_pid, kernel_of}
+use Rattle.zoneadmd_steps.specs.Objects.{Of_mounts, all_of, keeping_pid, keeping_zid, kernel_of}
 use Rattle.zone_machine.specs.State.Decisions.{act_of, acts_world}
-use Rattle.zone_machine.specs.State.Worlds.{World, objects_of, view_of, world}
+use Rattle.zone_machine.specs.State.Worlds.{World, objects_of, seen_of, view_of, world}
 use Rattle.zoneadmd_steps.specs.declared.requests.Outcome.{Outcome}
-use Rattle.zoneadmd_steps.specs.declared.requests.RequestKind.{RequestKind}
-use Rattle.zoneadmd_steps.specs.declared.requests.RequestKind.TheVariants.{Install, Boot, Halt}
+use Rattle.zoneadmd_steps.specs.declared.requests.Request.{Request}
+use Rattle.zoneadmd_steps.specs.declared.requests.Request.TheVariants as request
 use Rattle.zoneadmd_steps.specs.declared.requests.Step.{Step}
-use Rattle.zoneadmd_steps.specs.declared.requests.Step.TheVariants.{Record as Record_step, Zid, Limits, Devices, Root, State as State_step, Init, Kill, Unmount, Clear, ZidBack}
+use Rattle.zoneadmd_steps.specs.declared.requests.Step.TheVariants.{Hook, Record as Record_step, Moved, Source, Zid, Limits, Devices, Root, Mounted, Claimed, State as State_step, Init, Kill, Clear, ZidBack}
 use Rattle.zone_machine.specs.declared.events.Entry.{Entry}
 use Rattle.zone_machine.specs.declared.events.Event.{Event}
 use Rattle.commit_journal.specs.declared.records.Commit.{Commit}
 use Rattle.commit_journal.specs.declared.records.Record.{Record}
 use Rattle.zone_views.proofs.Deciding.{Called, Drops, Forks, Goes, Renames, of_event}
 use Rattle.zone_views.proofs.Keeping.{kept-after}
+use Rattle.zone_views.proofs.Nexts.{Holds_next, begins, holds-next}
 
 abbrev is_up : Option ZoneState → Bool
 is_up None = false
@@ -47,14 +56,19 @@ is_up (Some _) = true
 abbrev stands : (may up clean : Bool) → Bool
 stands may up clean = not may || (up && clean)
 
--- so it is where a step may fail and at the end of a plan, which changes the id only where there are no processes
+-- so it is where a step may fail and at the end of a plan, which changes the limits only where there are no processes
 abbrev plan_stands : (may up clean : Bool) → List Step → Bool
 plan_stands may up clean [] = stands may up true
+plan_stands may up clean (Hook change ∷ rest) = stands may up clean && plan_stands may up clean rest
 plan_stands may up clean (Record_step s ∷ rest) = stands may up clean && plan_stands may up clean rest
+plan_stands may up clean (Moved ∷ rest) = stands may up clean && plan_stands may up clean rest
+plan_stands may up clean (Source z ∷ rest) = stands may up clean && plan_stands may up clean rest
 plan_stands may up clean (Zid id ∷ rest) = not may && plan_stands may up false rest
 plan_stands may up clean (Limits ∷ rest) = not may && plan_stands may up false rest
 plan_stands may up clean (Devices count ∷ rest) = plan_stands may up false rest
 plan_stands may up clean (Root ∷ rest) = plan_stands may up false rest
+plan_stands may up clean (Mounted dir ∷ rest) = plan_stands may up false rest
+plan_stands may up clean (Claimed c ∷ rest) = not may && plan_stands may up false rest
 plan_stands may up clean (State_step Ready ∷ rest) = plan_stands may true true rest
 plan_stands may up clean (State_step s ∷ rest) = plan_stands may (is_up (active_after s)) clean rest
 plan_stands may up clean (Init pid ∷ rest) = stands may up clean && plan_stands true up clean rest
@@ -63,51 +77,90 @@ plan_stands may up clean (Clear ∷ rest) = not may && plan_stands may up clean 
 plan_stands may up clean (ZidBack id ∷ rest) = not may && plan_stands may up clean rest
 plan_stands may up clean (_ ∷ rest) = plan_stands may up clean rest
 
-abbrev job_stands : Bool → Bool → Job → Option Outcome → Bool
-job_stands may up j None = plan_stands may up (is_nil j.undo) j.left
-job_stands may up j (Some outcome) = stands may up (is_nil j.undo)
+abbrev stage_stands : (may up : Bool) → (made : List Step) → Stage → Bool
+stage_stands may up made (Goes_on left) = plan_stands may up (is_nil made) left
+stage_stands may up made (Fails outcome undo) = stands may up (is_nil undo)
 
 abbrev desk_stands : Bool → Bool → Option Job → Bool
 desk_stands may up None = stands may up true
-desk_stands may up (Some j) = job_stands may up j j.ending
+desk_stands may up (Some j) = stage_stands may up j.done.made j.stage
 
 -- what a zone keeps that has these processes and ids and whose desk says this
 record IsLimited (ps : List Process) (is : List Id) (active : Option ZoneState) (job : Option Job) : Type 0 where
   -- whether the zone may have processes
   may : Bool
   none : may ≡ false → ps ≡ []
-  within : within_limit (kernel_of (record { processes = ps; mounts = []; ids = is })) ≡ true
+  within : within_limit (kernel_of (record { processes = ps; mounts = []; claims = []; devices = []; ids = is })) ≡ true
   desk : desk_stands may (is_up active) job ≡ true
 
 abbrev Limited : World → Type 0
 Limited w = IsLimited w.processes w.ids w.desk.active w.desk.job
 
+-- the ready part of a zone without processes, before what comes after it
+module _ (up : Bool) where
+  dirs_stand : (dirs : List (List ℕ)) (rest more : List Step) → plan_stands false up false (rest ++ more) ≡ true → plan_stands false up false ((map Mounted dirs ++ rest) ++ more) ≡ true
+  dirs_stand [] rest more h = h
+  dirs_stand (dir ∷ dirs) rest more h = dirs_stand dirs rest more h
+
+  claims_stand : (cs : List Claim) (rest more : List Step) → plan_stands false up false (rest ++ more) ≡ true → plan_stands false up false ((map Claimed cs ++ rest) ++ more) ≡ true
+  claims_stand [] rest more h = h
+  claims_stand (c ∷ cs) rest more h = claims_stand cs rest more h
+
+  ready_stands : (c : Contents) (more : List Step) → plan_stands false true true more ≡ true → plan_stands false up true (ready_part c ++ more) ≡ true
+  ready_stands c more h = dirs_stand (fs_dirs c) _ more (claims_stand (claims_of c) _ more h)
+
 -- a request that may begin
-fresh_stands : (kind : RequestKind) (s : ZoneState) (up : Bool) → may_begin kind s ≡ true → plan_stands false up true (plan kind s) ≡ true
-fresh_stands Install Configured up m = refl
-fresh_stands Boot Installed up m = refl
-fresh_stands Boot Ready up m = refl
-fresh_stands Halt Ready up m = refl
-fresh_stands Halt Running up m = refl
-fresh_stands kind s up m = absurd (false≢true m)
+fresh_stands : (r : Request) (s : ZoneState) (up : Bool) (c : Contents) → may_begin (kind_of r) s ≡ true → plan_stands false up true (plan r s c) ≡ true
+fresh_stands request.Install Configured up c m = refl
+fresh_stands (request.Clone source) Configured up c m = refl
+fresh_stands request.Attach Configured up c m = refl
+fresh_stands request.Detach Installed up c m = refl
+fresh_stands request.Uninstall Installed up c m = refl
+fresh_stands request.Uninstall Incomplete up c m = refl
+fresh_stands request.Mark Installed up c m = refl
+fresh_stands (request.Move path) Installed up c m = refl
+fresh_stands request.Ready Installed up c m = subst (λ p. plan_stands false up true p ≡ true) (append-nil (ready_part c)) (ready_stands up c [] refl)
+fresh_stands (request.Boot args) Installed up c m = ready_stands up c boot_part refl
+fresh_stands (request.Boot args) Ready up c m = refl
+fresh_stands request.Halt Ready up c m = refl
+fresh_stands request.Halt Running up c m = refl
+fresh_stands (request.Reboot args) Ready up c m = refl
+fresh_stands (request.Reboot args) Running up c m = refl
+fresh_stands r s up c m = absurd (false≢true m)
 
-active_stands : (kind : RequestKind) (a : ZoneState) → may_begin kind a ≡ true → stands true (is_up (Some a)) true ≡ true → plan_stands true (is_up (Some a)) true (plan kind a) ≡ true
-active_stands Install Configured m s = refl
-active_stands Boot Installed m s = absurd (false≢true s)
-active_stands Boot Ready m s = refl
-active_stands Halt Ready m s = refl
-active_stands Halt Running m s = refl
-active_stands kind a m s = absurd (false≢true m)
+active_stands : (r : Request) (a : ZoneState) (c : Contents) → may_begin (kind_of r) a ≡ true → stands true (is_up (Some a)) true ≡ true → plan_stands true (is_up (Some a)) true (plan r a c) ≡ true
+active_stands request.Install Configured c m s = refl
+active_stands (request.Clone source) Configured c m s = refl
+active_stands request.Attach Configured c m s = refl
+active_stands request.Uninstall Incomplete c m s = refl
+active_stands (request.Boot args) Ready c m s = refl
+active_stands request.Halt Ready c m s = refl
+active_stands request.Halt Running c m s = refl
+active_stands (request.Reboot args) Ready c m s = refl
+active_stands (request.Reboot args) Running c m s = refl
+active_stands request.Detach Installed c m s = absurd (false≢true s)
+active_stands request.Uninstall Installed c m s = absurd (false≢true s)
+active_stands request.Mark Installed c m s = absurd (false≢true s)
+active_stands (request.Move path) Installed c m s = absurd (false≢true s)
+active_stands request.Ready Installed c m s = absurd (false≢true s)
+active_stands (request.Boot args) Installed c m s = absurd (false≢true s)
+active_stands r a c m s = absurd (false≢true m)
 
-begin_stands : (kind : RequestKind) (active : Option ZoneState) (s : ZoneState) (may : Bool) → may_begin kind (unwrap_or active s) ≡ true → stands may (is_up active) true ≡ true
-    → plan_stands may (is_up active) true (plan kind (unwrap_or active s)) ≡ true
-begin_stands kind active s false m h = fresh_stands kind (unwrap_or active s) (is_up active) m
-begin_stands kind None s true m h = absurd (false≢true h)
-begin_stands kind (Some a) s true m h = active_stands kind a m h
+begin_stands : (r : Request) (active : Option ZoneState) (s : ZoneState) (c : Contents) (may : Bool) → may_begin (kind_of r) (unwrap_or active s) ≡ true → stands may (is_up active) true ≡ true
+    → plan_stands may (is_up active) true (plan r (unwrap_or active s) c) ≡ true
+begin_stands r active s c false m h = fresh_stands r (unwrap_or active s) (is_up active) c m
+begin_stands r None s c true m h = absurd (false≢true h)
+begin_stands r (Some a) s c true m h = active_stands r a c m h
 
 none_left : (ps : List Process) → filter (λ p. not (all_of p)) ps ≡ []
 none_left [] = refl
 none_left (p ∷ ps) = none_left ps
+
+-- the arguments of a boot leave the limits
+booted : (args : List ℕ) (ps : List Process) (is : List Id) → within_limit (kernel_of (record { processes = ps; mounts = []; claims = []; devices = []; ids = is })) ≡ true
+    → within_limit (kernel_of (record { processes = ps; mounts = []; claims = []; devices = []; ids = edited (Change (keeping_zid (with_bootargs args))) is })) ≡ true
+booted args ps [] h = h
+booted args ps (i ∷ is) h = h
 
 -- an event of a zone with this world
 module _ (w : World) (may : Bool) (none : may ≡ false → w.processes ≡ []) (within : within_limit (kernel_of (objects_of w)) ≡ true) where
@@ -123,81 +176,127 @@ module _ (w : World) (may : Bool) (none : may ≡ false → w.processes ≡ []) 
   abbrev Leaves : Option Arrival → Turned → Type 0
   Leaves c t = Limited (acts_world None (turned_act (record { came = c; effect = t })) w)
 
-  -- the step of a request under way. The desk stays where a mount is held
-  module _ (d : Desk) (j : Job) (row : Record) (still : desk_stands may (is_up d.active) d.job ≡ true) where
-    abbrev Steps : List Step → Type 0
-    Steps left = In Leaves (step (objects_of w) d (record j { ending = None }) row left)
+  leaves_if : (b : Bool) (t u : Turned) → Leaves None t → Leaves None u → Leaves None (if b then t else u)
+  leaves_if true t u h k = h
+  leaves_if false t u h k = k
 
-    limited_step : (left : List Step) → plan_stands may (is_up d.active) (is_nil j.undo) left ≡ true → Steps left
-    limited_step [] h = stay h
-    limited_step (Record_step s ∷ rest) h = let parts = and_parts (stands may (is_up d.active) (is_nil j.undo)) _ h in (λ pool. stay parts.0, λ n. stay parts.1)
-    limited_step (Zid id ∷ rest) h = let parts = and_parts (not may) _ h in (λ pool. stay (rw (not-true may parts.0) refl), λ n. change h)
-    limited_step (Limits ∷ rest) h = change h
-    limited_step (State_step Ready ∷ rest) h = stay h
-    limited_step (State_step s ∷ rest) h = stay h
-    limited_step (Init pid ∷ rest) h =
-        let parts = and_parts (stands may (is_up d.active) (is_nil j.undo)) _ h in (
-          λ pool. stay parts.0,
-          λ n. record { may = true; none = λ e. absurd (true≢false e); within = within-entered (kernel_of (objects_of w)) (codes "init") true n within; desk = parts.1 },
-        )
-    limited_step (Kill count ∷ rest) h = let gone = none_left w.processes in record { may = false; none = λ e. gone; within = rw gone refl; desk = h }
-    limited_step (Root ∷ rest) h = at_test (is_ok (mount_answer (codes "/") w.mounts)) refl
+  -- a turn of the zone
+  module _ (row : Option Record) (still : desk_stands may (is_up w.desk.active) w.desk.job ≡ true) where
+    abbrev d : Desk
+    d = w.desk
+
+    abbrev v : Seen
+    v = record (seen_of w) { stored = row }
+
+    abbrev up : Bool
+    up = is_up d.active
+
+    abbrev LeavesBoth : Turn_decision → Option Turned → Type 0
+    LeavesBoth shared local = In Leaves (or_shared shared local)
+
+    abbrev Stands : Job → List Step → Type 0
+    Stands j left = plan_stands may up (is_nil j.done.made) left ≡ true
+
+    leaves_mounting : (j : Job) (rest : List Step) (m : Mount) (shown : Step) → desk_stands may up (advance d j rest [] shown).desk.job ≡ true → Leaves None (advance d j rest (mounting m w.mounts) shown)
+    leaves_mounting j rest m shown h = at_test (is_ok (mount_answer m.dir w.mounts)) refl
       where
-        at_test : (b : Bool) → is_ok (mount_answer (codes "/") w.mounts) ≡ b → Steps (Root ∷ rest)
+        at_test : (b : Bool) → is_ok (mount_answer m.dir w.mounts) ≡ b → Leaves None (advance d j rest (mounting m w.mounts) shown)
         at_test true e = simp e (stay h)
         at_test false e = simp e (stay h)
-    limited_step (Unmount dir ∷ rest) h = at_mount (last_of w.mounts) (limited_step rest h)
+
+    limited_state : (j : Job) (rest : List Step) (s : ZoneState) (row : Option Record) → Stands j (Record_step s ∷ rest) → In Leaves (record_state d j rest s row)
+    limited_state j rest s None h = stay still
+    limited_state j rest s (Some row) h = let parts = and_parts (stands may up (is_nil j.done.made)) _ h in (λ pool. stay parts.0, λ n. stay parts.1)
+
+    limited_config : (j : Job) (rest : List Step) (path : List ℕ) (row : Record) (r : Result Contents ConfigFault) → Stands j (Moved ∷ rest) → In Leaves (record_config d j rest path row r)
+    limited_config j rest path row (Err fault) h = let parts = and_parts (stands may up (is_nil j.done.made)) _ h in stay parts.0
+    limited_config j rest path row (Right config) h = let parts = and_parts (stands may up (is_nil j.done.made)) _ h in (λ pool. stay parts.0, λ n. stay parts.1)
+
+    limited_moved : (j : Job) (rest : List Step) (path : List ℕ) (row : Option Record) → Stands j (Moved ∷ rest) → In Leaves (record_moved d j rest path row)
+    limited_moved j rest path None h = stay still
+    limited_moved j rest path (Some row) h = limited_config j rest path row (with_zonepath path row.config) h
+
+    limited_step : (j : Job) (rest : List Step) (s : Step) → Stands j (s ∷ rest) → LeavesBoth (shared_step v j rest s) (local_step w.brands (objects_of w) d j rest s)
+    limited_step j rest (Hook change) h = at_answer (answer_of w.brands j.config.brand change) (and_parts (stands may up (is_nil j.done.made)) _ h)
       where
-        at_mount : (m : Option MountEntry) → Steps rest → let k = record j { ending = None } in In Leaves (unmount d k (Unmount dir ∷ rest) (step (objects_of w) d k row rest) m)
-        at_mount None ih = ih
-        at_mount (Some m) ih = at_hold m.held refl
-          where
-            at_hold : (b : Bool) → m.held ≡ b → let k = record j { ending = None } in In Leaves (unmount d k (Unmount dir ∷ rest) (step (objects_of w) d k row rest) (Some m))
-            at_hold true e = rw e (stay still)
-            at_hold false e = rw e (stay h)
-    limited_step (Clear ∷ rest) h = change h
-    limited_step (ZidBack id ∷ rest) h = change h
-    limited_step (_ ∷ rest) h = stay h
+        at_answer : (answer : HookAnswer) → (stands may up (is_nil j.done.made) ≡ true) × (plan_stands may up (is_nil j.done.made) rest ≡ true) → Leaves None (hooked d j rest change answer)
+        at_answer Proceed parts = stay parts.1
+        at_answer (Refuse code) parts = stay parts.0
+    limited_step j rest (Record_step s) h = limited_state j rest s row h
+    limited_step j rest Moved h = limited_moved j rest (new_path j.request) row h
+    limited_step j rest (Source z) h = let parts = and_parts (stands may up (is_nil j.done.made)) _ h in (λ pool. stay parts.0, λ n. stay parts.1)
+    limited_step j rest (Zid id) h = let parts = and_parts (not may) _ h in (λ pool. stay (rw (not-true may parts.0) refl), λ n. change h)
+    limited_step j rest Limits h = change h
+    limited_step j rest Root h = leaves_mounting j rest (root_mount j.config) Root h
+    limited_step j rest (Mounted dir) h = leaves_mounting j rest (fs_mount j.config dir) (Mounted dir) h
+    limited_step j rest (Claimed c) h = let parts = and_parts (not may) _ h in (λ pool. stay (rw (not-true may parts.0) refl), λ n. stay parts.1)
+    limited_step j rest (State_step Ready) h = stay h
+    limited_step j rest (State_step s) h = stay h
+    limited_step j rest (Init pid) h =
+        let parts = and_parts (stands may up (is_nil j.done.made)) _ h in (
+          λ pool. stay parts.0,
+          λ n. record {
+            may = true;
+            none = λ e. absurd (true≢false e);
+            within = booted (bootargs_of j.request j.config) _ w.ids (within-entered (kernel_of (objects_of w)) (codes "init") true n within);
+            desk = parts.1;
+          },
+        )
+    limited_step j rest (Kill count) h = let gone = none_left w.processes in record { may = false; none = λ e. gone; within = rw gone refl; desk = h }
+    limited_step j rest Clear h = change h
+    limited_step j rest (ZidBack id) h = change h
+    limited_step j rest _ h = stay h
 
-    -- a step back
-    limited_undo : (outcome : Outcome) (undone : List Step) → stands may (is_up d.active) (is_nil undone) ≡ true → Leaves None (undo d (record j { ending = Some outcome }) outcome w.mounts undone)
-    limited_undo outcome [] h = stay h
-    limited_undo outcome (s ∷ rest) h = at_test (is_stuck s w.mounts) refl
+    -- a request begins, or ends at once
+    limited_begin : (waiting : List (ℕ × Request)) (t : ℕ) (r : Request) (row : Record) → stands may up true ≡ true → Leaves None (begin w.brands (record d { waiting = waiting }) t r row)
+    limited_begin waiting t r row h = at_outcome (refusal w.brands (kind_of r) (unwrap_or d.active row.state) row.config) refl
       where
-        shut : (may up : Bool) → stands may up false ≡ true → may ≡ false
-        shut false up h = refl
-        shut true true h = absurd (false≢true h)
-        shut true false h = absurd (false≢true h)
+        at_outcome : (outcome : Option Outcome) → refusal w.brands (kind_of r) (unwrap_or d.active row.state) row.config ≡ outcome
+            → Leaves None (started (record d { waiting = waiting }) t r (unwrap_or d.active row.state) row outcome)
+        at_outcome None e = stay (begin_stands r d.active row.state row.config may (begins w.brands (kind_of r) (unwrap_or d.active row.state) row.config e) h)
+        at_outcome (Some outcome) e = stay h
 
-        at_step : (s : Step) → may ≡ false → Leaves None (undone d (record j { ending = Some outcome }) rest (undo_edits s) s)
-        at_step (Zid id) e = change (rw e refl)
-        at_step _ e = change (rw e refl)
+    limited_over : (j : Job) (row : Option Record) (r : Request) → stands may up true ≡ true → In Leaves (over w.brands d j row r)
+    limited_over j (Some row) (request.Reboot args) h = limited_begin d.waiting j.ticket (request.Boot args) row h
+    limited_over j None (request.Reboot args) h = stay h
+    limited_over j row _ h = stay h
 
-        at_test : (b : Bool) → is_stuck s w.mounts ≡ b → Leaves None (undo d (record j { ending = Some outcome }) outcome w.mounts (s ∷ rest))
-        at_test true e = rw e (stay still)
-        at_test false e = rw e (at_step s (shut may (is_up d.active) h))
+    limited_next : (j : Job) (n : Next) → Holds_next (Stands j) (λ dir rest l. l) (λ c rest l. l) (objects_of w) n → LeavesBoth (shared_next v j n) (local_next w.brands (objects_of w) d j n)
+    limited_next j Nothing_left h = limited_over j row j.request h
+    limited_next j (A_step s rest) h = limited_step j rest s h
+    limited_next j (A_mount m left) h = leaves_if m.held (stuck d) _ (stay still) (stay h)
+    limited_next j (A_claim_left c left) h = stay h
 
-    limited_job : (ending : Option Outcome) → job_stands may (is_up d.active) j ending ≡ true → In Leaves (goes_on (objects_of w) d (record j { ending = ending }) row ending)
-    limited_job None h = limited_step j.left h
-    limited_job (Some outcome) h = limited_undo outcome j.undo h
+    -- a step back, of a zone without processes
+    shut : (may is_up : Bool) → stands may is_up false ≡ true → may ≡ false
+    shut false _ h = refl
+    shut true true h = absurd (false≢true h)
+    shut true false h = absurd (false≢true h)
 
-  -- a request begins, or ends at once
-  limited_next : (d : Desk) (row : Record) (waiting : List (ℕ × RequestKind)) → stands may (is_up d.active) true ≡ true → Leaves None (next_request (record d { job = None }) waiting row)
-  limited_next d row [] h = stay h
-  limited_next d row (q ∷ waiting) h = at_test (may_begin q.1 (unwrap_or d.active row.state)) refl
-    where
-      at_test : (b : Bool) → may_begin q.1 (unwrap_or d.active row.state) ≡ b → Leaves None (next_request (record d { job = None }) (q ∷ waiting) row)
-      at_test true m = simp m (stay (begin_stands q.1 d.active row.state may m h))
-      at_test false m = simp m (stay h)
+    limited_undo : (j : Job) (outcome : Outcome) (rest : List Step) (s : Step) → may ≡ false → LeavesBoth (Just (undone d j outcome rest (undo_edits s) s)) (local_undo (objects_of w) d j outcome rest s)
+    limited_undo j outcome rest (Zid id) e = change (rw e refl)
+    limited_undo j outcome rest Root e = leaves_if (is_held (mount_at root_dir w.mounts)) (stuck d) (undone d j outcome rest (Of_mounts (Go (is_at root_dir)) ∷ []) Root) (stay still) (change (rw e refl))
+    limited_undo j outcome rest (Mounted dir) e =
+        leaves_if (is_held (mount_at dir w.mounts)) (stuck d) (undone d j outcome rest (Of_mounts (Go (is_at dir)) ∷ []) (Mounted dir)) (stay still) (change (rw e refl))
+    limited_undo j outcome rest _ e = change (rw e refl)
 
-  limited_turn_at : (d : Desk) (job : Option Job) (row : Record) → desk_stands may (is_up d.active) job ≡ true → In Leaves (turn_at (objects_of w) (record d { job = job }) job row)
-  limited_turn_at d None row h = limited_next d row d.waiting h
-  limited_turn_at d (Some j) row h = limited_job (record d { job = Some j }) j row h j.ending h
+    limited_stage : (j : Job) (stage : Stage) → stage_stands may up j.done.made stage ≡ true → LeavesBoth (shared_stage v j stage) (local_stage w.brands (objects_of w) d j stage)
+    limited_stage j (Goes_on left) h = limited_next j (next (objects_of w) left) (holds-next (Stands j) (λ dir rest l. l) (λ c rest l. l) (objects_of w) left h)
+    limited_stage j (Fails outcome []) h = stay h
+    limited_stage j (Fails outcome (s ∷ rest)) h = limited_undo j outcome rest s (shut may up h)
 
-  limited_turn : (row : Option Record) → desk_stands may (is_up w.desk.active) w.desk.job ≡ true → In Leaves (turn (objects_of w) row w.desk)
-  unfolding turn
-  limited_turn None h = stay h
-  limited_turn (Some row) h = limited_turn_at w.desk w.desk.job row h
+    limited_request : (waiting : List (ℕ × Request)) (row : Option Record) → stands may up true ≡ true → In Leaves (next_request w.brands d waiting row)
+    limited_request (r ∷ rs) (Some row) h = limited_begin rs r.0 r.1 row h
+    limited_request (r ∷ rs) None h = stay still
+    limited_request [] row h = stay still
+
+    limited_job : (job : Option Job) → desk_stands may up job ≡ true → LeavesBoth (shared_turn v job) (local_job w.brands (objects_of w) d job)
+    limited_job None h = limited_request d.waiting row h
+    limited_job (Some j) h = limited_stage j j.stage h
+
+  limited_turn : desk_stands may (is_up w.desk.active) w.desk.job ≡ true → In Leaves (turn (seen_of w))
+  unfolding turn local_turn
+  limited_turn h = limited_job w.stored h w.desk.job h
 
   -- a call or a signal. What keeps its number already is kept whole
   limited_change : (pid : ℕ) (f : Process → Process) → ((p : Process) → (f p).pid ≡ p.pid) → within_limit (kernel_of (objects_of (record w { processes = edited (Change (at_pid pid f)) w.processes }))) ≡ true
@@ -224,9 +323,9 @@ module _ (w : World) (may : Bool) (none : may ≡ false → w.processes ≡ []) 
 
 limited-event : (z : Name) (w : World) (e : Event) (g : Grant) → Limited w → Limited (acts_world (session_number e) (act_of (decide (view_of z w) e) g) w)
 limited-event z w e g is =
-    let turned = in-act (Leaves w is.may is.none is.within) (turn (objects_of w) w.stored w.desk) g (limited_turn w is.may is.none is.within w.stored is.desk) in
-    of_event Limited z w is (λ config k none. is) (λ kind sessions. is) (λ ps called. limited_called w is.may is.none is.within ps called is.desk)
+    let turned = in-act (Leaves w is.may is.none is.within) (turn (seen_of w)) g (limited_turn w is.may is.none is.within is.desk) in
+    of_event Limited z w is (λ config k none. is) (λ r sessions. is) (λ ps called. limited_called w is.may is.none is.within ps called is.desk)
     (λ ms mounted. record { may = is.may; none = is.none; within = is.within; desk = is.desk }) g turned e
 
-pub within-history : (z : Name) (commits : List Commit) (h : List Entry) → within_limit (kernel_of (objects_of (world z (after (opening commits) h)))) ≡ true
-within-history z commits h = (kept-after Limited limited-event (opening commits) h (λ z. record { may = false; none = λ e. refl; within = refl; desk = refl }) z).within
+pub within-history : (z : Name) (brands : List Tabled) (commits : List Commit) (h : List Entry) → within_limit (kernel_of (objects_of (world z (after (opening brands commits) h)))) ≡ true
+within-history z brands commits h = (kept-after Limited limited-event (λ w e h. h) (opening brands commits) h (λ z. record { may = false; none = λ e. refl; within = refl; desk = refl }) z).within

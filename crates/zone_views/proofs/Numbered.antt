@@ -11,7 +11,7 @@ use Rattle.zone_pools.proofs.Owned_laws.{same_true}
 use Rattle.zone_machine.proofs.Common_laws.{any_mine, has_it}
 use Rattle.zone_machine.specs.Machine.Common.{HoldOnce, common}
 use Rattle.zoneadmd_steps.proofs.Of_turns.{is_asked_for}
-use Rattle.zoneadmd_steps.specs.Arrivals.{A_process, A_record, An_id, Comes, arrived}
+use Rattle.zoneadmd_steps.specs.Arrivals.{A_claim, A_process, A_record, An_id, Comes, No_thing, arrived}
 use Rattle.zone_machine.specs.State.Decisions.{Decision, act_of, acts, after_came}
 use Rattle.zone_pools.specs.Asked.{A_pid, A_zid, Asked}
 use Rattle.zone_pools.specs.Decisions.{Ask, Just, asked_of}
@@ -24,13 +24,14 @@ use Rattle.kernel_objects.specs.declared.objects.Id.{Id}
 use Rattle.zone_pools.specs.declared.owned.Owned.{Owned}
 use Rattle.zoneadmd_steps.specs.Objects.{Ids_change, Ids_go, Process_goes, Processes_change, Processes_go, all_of, keeping_pid, keeping_zid}
 use Rattle.zone_machine.specs.Machine.Pools.{allowed, allowed_of, fits, fits_of, pools_of}
-use Rattle.zone_pools.specs.Pools.{fits_asked, fits_pool}
+use Rattle.zone_pools.specs.Pools.{fits_asked, fits_pool, fits_yes}
 use Rattle.zone_machine.specs.State.{State}
 use Rattle.zone_machine.specs.State.Worlds.{view}
 use Rattle.zone_machine.specs.declared.events.Entry.{Entry}
 use Rattle.zone_machine.specs.declared.events.Event.{Event}
 use Rattle.zone_machine.specs.declared.events.Subject.{Subject}
 use Rattle.zone_machine.specs.declared.events.Subject.TheVariants.{Zone, Global, Whole}
+use Rattle.brand_hooks.specs.Brands.{Tabled}
 use Rattle.commit_journal.specs.declared.records.Commit.{Commit}
 use Rattle.zone_views.proofs.Differing.{differs-new, differ-change, differ-come, differ-filter, differ-put, new-filter}
 use Rattle.zone_machine.proofs.Asking.{asks-decide, asks_rightly}
@@ -79,16 +80,28 @@ numbered-comes z (An_id i) (A_zid ∷ []) n S a f h =
     let new = new-filter (λ i. i.zid) n keep S.ids (not-true ((pools_of S).zid_used n) range.1) in
     record { pids = h.pids; zids = differ-come (λ i. i.zid) z (record i { zid = n }) (edit_list z (Go all_of) S.ids) new (differ-filter (λ i. i.zid) keep S.ids h.zids); last = h.last }
 numbered-comes z (A_record row) asked n S a f h = record { pids = h.pids; zids = h.zids; last = h.last }
+numbered-comes z (A_claim c) asked n S a f h = record { pids = h.pids; zids = h.zids; last = h.last }
+numbered-comes z No_thing asked n S a f h = record { pids = h.pids; zids = h.zids; last = h.last }
 numbered-comes z c asked n S a f h = absurd (false≢true a)
 
-numbered-came : (z : Name) (d : Decision) (g : Grant) (S : State) → asks_rightly d ≡ true → fits_asked (pools_of S) (asked_of d) g ≡ true → AreNumbered S → AreNumbered (after_came z (act_of d g).came S)
+-- a yes is said of an item and of a source alone, which have no number
+numbered-yes : (z : Name) (c : Comes) (asked : List Asked) (S : State) → is_asked_for c asked ≡ true → list_all (fits_yes (pools_of S) z) asked ≡ true → AreNumbered S → AreNumbered (comes z (arrived c 0) S)
+unfolding comes
+numbered-yes z (A_claim c) asked S a f h = record { pids = h.pids; zids = h.zids; last = h.last }
+numbered-yes z No_thing asked S a f h = record { pids = h.pids; zids = h.zids; last = h.last }
+numbered-yes z (A_record row) asked S a f h = record { pids = h.pids; zids = h.zids; last = h.last }
+numbered-yes z (A_process p) (A_pid ∷ []) S a f h = absurd (false≢true f)
+numbered-yes z (An_id i) (A_zid ∷ []) S a f h = absurd (false≢true f)
+numbered-yes z c asked S a f h = absurd (false≢true a)
+
+numbered-came : (z : Name) (d : Decision) (g : Grant) (S : State) → asks_rightly d ≡ true → fits_asked (pools_of S) z (asked_of d) g ≡ true → AreNumbered S → AreNumbered (after_came z (act_of d g).came S)
 numbered-came z (Just e) g S a f h = h
 numbered-came z (Ask c (x ∷ asked) denied given) (Number n) S a f h = numbered-comes z c (x ∷ asked) n S a f h
 numbered-came z (Ask c asked denied given) Nothing S a f h = h
 numbered-came z (Ask c asked denied given) (Denied pool) S a f h = h
 numbered-came z (Ask c [] denied given) (Number n) S a f h = absurd (false≢true f)
 numbered-came z (Ask c [] denied given) Yes S a f h = absurd (false≢true f)
-numbered-came z (Ask c (x ∷ asked) denied given) Yes S a f h = absurd (false≢true f)
+numbered-came z (Ask c (x ∷ asked) denied given) Yes S a f h = numbered-yes z c (x ∷ asked) S a f h
 
 numbered-of : (s : Subject) (S : State) (e : Event) (g : Grant) → fits_of s S e g ≡ true → AreNumbered S → AreNumbered (one_of s S e g).state
 numbered-of (Zone z) S e g f h =
@@ -109,12 +122,12 @@ numbered-after S (e ∷ h) is n =
     let parts = and_parts (is_told S e && fits S e.event e.grant) (is_history fits (after_entry S e) h) is in
     numbered-after (after_entry S e) h parts.1 (numbered-one S e.event e.grant (and_parts (is_told S e) (fits S e.event e.grant) parts.0).1 n)
 
-numbered-opening : (commits : List Commit) → AreNumbered (opening commits)
+numbered-opening : (brands : List Tabled) (commits : List Commit) → AreNumbered (opening brands commits)
 unfolding IsDistinct
-numbered-opening commits = record { pids = tt; zids = tt; last = omega arith }
+numbered-opening brands commits = record { pids = tt; zids = tt; last = omega arith }
 
-pub numbered-history : (commits : List Commit) (h : List Entry) → is_history fits (opening commits) h ≡ true → AreNumbered (after (opening commits) h)
-numbered-history commits h is = numbered-after (opening commits) h is (numbered-opening commits)
+pub numbered-history : (brands : List Tabled) (commits : List Commit) (h : List Entry) → is_history fits (opening brands commits) h ≡ true → AreNumbered (after (opening brands commits) h)
+numbered-history brands commits h is = numbered-after (opening brands commits) h is (numbered-opening brands commits)
 
 -- the pools give a grant that fits
 allowed-of : (s : Subject) (S : State) (e : Event) → 1 ≤ S.last_pid → fits_of s S e (allowed_of s S e) ≡ true
@@ -136,8 +149,8 @@ legal-after S (e ∷ h) is n =
     let fit : fits S e.event e.grant ≡ true = subst (λ g. fits S e.event g ≡ true) (sym given) (allowed-fits S e.event n) in
     and_from _ _ (and_from _ _ head.0 fit) (legal-after (after_entry S e) h parts.1 (numbered-one S e.event e.grant fit n))
 
-pub legal-fits : (commits : List Commit) (h : List Entry) → is_legal (opening commits) h ≡ true → is_history fits (opening commits) h ≡ true
-legal-fits commits h is = legal-after (opening commits) h is (numbered-opening commits)
+pub legal-fits : (brands : List Tabled) (commits : List Commit) (h : List Entry) → is_legal (opening brands commits) h ≡ true → is_history fits (opening brands commits) h ≡ true
+legal-fits brands commits h is = legal-after (opening brands commits) h is (numbered-opening brands commits)
 
 -- so one zone at most has a number of a process
 held-once : (n : ℕ) (os : List (Owned Process)) → AllDiffer (map (λ o. o.it.pid) os) → (y z : Name) → has_it n y os ≡ true → has_it n z os ≡ true → y ≡ z
@@ -166,5 +179,5 @@ held-once n (o ∷ os) d y z h k = at_head (held-once n os d.1 y z) (has_pid n o
     at_head ih true e = of_first e y h ∙ sym (of_first e z k)
     at_head ih false e = ih (of_rest e y h) (of_rest e z k)
 
-pub held-once-history : (commits : List Commit) (h : List Entry) → is_history fits (opening commits) h ≡ true → HoldOnce (common (after (opening commits) h)).pids
-held-once-history commits h is = λ y z n. held-once n (after (opening commits) h).processes (numbered-history commits h is).pids y z
+pub held-once-history : (brands : List Tabled) (commits : List Commit) (h : List Entry) → is_history fits (opening brands commits) h ≡ true → HoldOnce (common (after (opening brands commits) h)).pids
+held-once-history brands commits h is = λ y z n. held-once n (after (opening brands commits) h).processes (numbered-history brands commits h is).pids y z

@@ -21,6 +21,7 @@ use Rattle.zone_machine.specs.Session.Lines.{Command, Kill, Line, line_of}
 use Rattle.zone_machine.specs.Machine.{holder, line_subject, one, opening, session_subject, subject}
 use Rattle.zone_machine.specs.Machine.Same.{same_reply, same_subject}
 use Rattle.zone_machine.specs.State.{At, Idle, Session as Session_mode, State, stored}
+use Rattle.zone_machine.specs.State.Declarations.{none_declared}
 use Rattle.zone_machine.specs.State.Worlds.{World, doing, world}
 use Rattle.zone_machine.specs.declared.events.Entry.{Entry}
 use Rattle.zone_machine.specs.declared.events.Event.{Event}
@@ -28,6 +29,7 @@ use Rattle.zone_machine.specs.declared.events.Event.TheVariants.{Process as Call
 use Rattle.zone_machine.specs.declared.events.Subject.{Subject}
 use Rattle.zone_machine.specs.declared.events.Subject.TheVariants.{Zone, Global, Whole}
 use Rattle.zone_machine.specs.declared.replies.Reply.{Reply}
+use Rattle.brand_hooks.specs.Brands.{Tabled}
 use Rattle.commit_journal.specs.declared.records.Commit.{Commit}
 use Rattle.commit_journal.specs.declared.records.Record.{Record}
 
@@ -40,8 +42,8 @@ pub record IsBare (w : World) : Type 0 where
 abbrev pub IsPurged : Name → State → Type 0
 IsPurged z S = (y : Name) → y ≢ z → IsBare (world y S)
 
-pub IsPurged-opening : (z : Name) (commits : List Commit) → IsPurged z (opening commits)
-IsPurged-opening z commits y other = record { sessions = λ n. refl; processes = refl }
+pub IsPurged-opening : (z : Name) (brands : List Tabled) (commits : List Commit) → IsPurged z (opening brands commits)
+IsPurged-opening z brands commits y other = record { sessions = λ n. refl; processes = refl }
 
 IsPurged-one : (z : Name) (S : State) (e : Event) (g : Grant) → concerns z (subject S e) ≡ true → IsPurged z S → IsPurged z (one S e g).state
 IsPurged-one z S e g h is y other = subst IsBare (sym (world-one y S e g)) (at_subject (subject S e) h)
@@ -49,7 +51,7 @@ IsPurged-one z S e g h is y other = subst IsBare (sym (world-one y S e g)) (at_s
     at_subject : (s : Subject) → concerns z s ≡ true → IsBare (world_by s y (world y S) e g)
     at_subject (Zone x) h = rw (other_tag z y x (λ e. other (sym e)) h) (is y other)
     at_subject Global h = absurd (false≢true h)
-    at_subject Whole h = is y other
+    at_subject Whole h = record { sessions = (is y other).sessions; processes = (is y other).processes }
 
 -- a zone that can't be another is z
 zone_is : (y z : Name) → (y ≢ z → ⊥) → y ≡ z
@@ -190,10 +192,10 @@ purge z (e ∷ es) S T a = at_test (λ S T a. purge z es S T a) _ refl
         rw h (told-skip (is_of z) (entry_at S e.0 e.1) left (not_of z (subject S e.0) h) ∙ ih (one S e.0 e.1).state T agree)
 
 -- the openings of two stores that hold the same of z
-pub opening-agree : (z : Name) (commits others : List Commit) → stored z commits ≡ stored z others → Agree z (opening commits) (opening others)
-opening-agree z commits others h = record {
-  world = let f : Option Record → World = λ row. record { processes = []; mounts = []; claims = []; devices = []; ids = []; stored = row; desk = empty_desk; sessions = λ n. None } in ap f h;
-  purged = IsPurged-opening z others;
+pub opening-agree : (z : Name) (brands : List Tabled) (commits others : List Commit) → stored z commits ≡ stored z others → Agree z (opening brands commits) (opening brands others)
+opening-agree z brands commits others h = record {
+  world = let f : Option Record → World = λ row. record { processes = []; mounts = []; claims = []; devices = []; ids = []; stored = row; desk = empty_desk; sessions = λ n. None; declared = none_declared; brands = brands } in ap f h;
+  purged = IsPurged-opening z brands others;
 }
 
 -- a history is the run of its own events

@@ -1,38 +1,45 @@
 -- What each zone keeps, so that its states move along the table: its desk fits what is stored, and the state changes
 -- of the request under way lead along the table from there.
-use Rattle.std.proofs.Common.{◌≡◌, ◌∷◌, ◌++◌, [], ◌&&◌, append-nil, append_assoc, ◌⊎◌, ℕ, List, Bool, true, false, Option, Some, None, inl, inr, ap, refl, subst, sym}
+use Rattle.std.proofs.Common.{◌≡◌, ◌∷◌, ◌++◌, [], ◌&&◌, append-nil, append_assoc, ◌⊎◌, ℕ, List, Bool, true, false, Option, Some, None, Result, Ok as Right, Err, inl, inr, ap, map, refl, subst, sym}
 use Rattle.std.specs.Prelude.{bytes_eq, is_none, unwrap_or, if◌then◌else◌}
 use Rattle.std.proofs.lemmas.Bool.{and_from, and_parts, false≢true}
+use Rattle.brand_hooks.specs.Brands.{Tabled, answer_of}
+use Rattle.brand_hooks.specs.declared.table.HookAnswer.{HookAnswer}
+use Rattle.brand_hooks.specs.declared.table.HookAnswer.TheVariants.{Proceed, Refuse}
+use Rattle.config_terms.specs.declared.fault.ConfigFault.{ConfigFault}
+use Rattle.datalink_table.specs.declared.claims.Claim.{Claim}
+use Rattle.loopback_mounts.specs.Mounts.{is_at, is_held, mount_at}
 use Rattle.zn_base.specs.Moves.{may_move}
 use Rattle.zn_base.specs.Names.{Name}
 use Rattle.zn_base.specs.Same.{same_state}
 use Rattle.zn_base.proofs.Same_laws.{state-Decides}
+use Rattle.zone_pools.specs.Decisions.{Just}
+use Rattle.zone_pools.specs.Owned_lists.{Go}
 use Rattle.zone_pools.specs.declared.grant.Grant.{Grant}
 use Rattle.zn_base.specs.States.{is_stored}
 use Rattle.zn_base.specs.declared.state.ZoneState.{ZoneState}
-use Rattle.zn_base.specs.declared.state.ZoneState.TheVariants.{Configured, Installed, Ready, Running, ShuttingDown, Down}
+use Rattle.zn_base.specs.declared.state.ZoneState.TheVariants.{Configured, Incomplete, Installed, Ready, Running, ShuttingDown, Down}
 use Rattle.zone_pools.proofs.Owned_laws.{same_true}
 use Rattle.zone_machine.proofs.Own_worlds.{world-one}
 use Rattle.zone_machine.proofs.Turned_laws.{In, in-act, stored_after, turn_act}
 use Rattle.zone_machine.specs.State.Decisions.{act_of, acts_world}
-use Rattle.zoneadmd_steps.specs.Desks.{Desk, Job, empty_desk, state_of, with_request}
+use Rattle.zoneadmd_steps.specs.Configs.{claims_of, fs_dirs, root_dir, with_zonepath}
+use Rattle.zoneadmd_steps.specs.Desks.{Desk, Fails, Goes as Goes_on, Job, Stage, empty_desk, state_of, with_request}
 use Rattle.zone_machine.specs.Machine.Histories.{after, world_by}
 use Rattle.zone_machine.specs.Machine.{decide, one, opening, session_number, subject}
-use Rattle.loopback_mounts.specs.Mounts.{last_of}
-use Rattle.loopback_mounts.specs.declared.mount.MountEntry.{MountEntry}
-use Rattle.zoneadmd_steps.specs.Objects.{Objects}
-use Rattle.zoneadmd_steps.specs.Plans.{may_begin, plan}
+use Rattle.zoneadmd_steps.specs.Objects.{Objects, Of_mounts}
+use Rattle.zoneadmd_steps.specs.Plans.{boot_part, kind_of, may_begin, plan, ready_part, refusal}
 use Rattle.zone_machine.proofs.Acts_laws.{stored-append}
 use Rattle.zone_config.specs.declared.terms.Contents.{Contents}
 use Rattle.zone_machine.specs.State.{State, stored}
-use Rattle.zoneadmd_steps.specs.Turns.{Turn_decision, Turned, active_after, goes_on, is_stuck, next_request, step, turn, turn_at, undo, unmount}
+use Rattle.zoneadmd_steps.specs.Turns.{A_claim_left, A_mount, A_step, Next, Nothing_left, Seen, Turn_decision, Turned, active_after, begin, hooked, local_job, local_next, local_stage, local_step, local_turn, local_undo, new_path, next, next_request, or_shared, over, record_config, shared_next, shared_stage, shared_step, shared_turn, started, stuck, turn, undo_edits, undone, with_step}
 use Rattle.zone_machine.specs.Session.Typed.{new_record}
-use Rattle.zone_machine.specs.State.Worlds.{World, objects_of, view_of, world}
+use Rattle.zone_machine.specs.State.Worlds.{World, objects_of, seen_of, view_of, world}
 use Rattle.zoneadmd_steps.specs.declared.requests.Outcome.{Outcome}
-use Rattle.zoneadmd_steps.specs.declared.requests.RequestKind.{RequestKind}
-use Rattle.zoneadmd_steps.specs.declared.requests.RequestKind.TheVariants.{Install, Boot, Halt}
+use Rattle.zoneadmd_steps.specs.declared.requests.Request.{Request}
+use Rattle.zoneadmd_steps.specs.declared.requests.Request.TheVariants as request
 use Rattle.zoneadmd_steps.specs.declared.requests.Step.{Step}
-use Rattle.zoneadmd_steps.specs.declared.requests.Step.TheVariants.{Record as Record_step, Zid, State as State_step, Init, Unmount}
+use Rattle.zoneadmd_steps.specs.declared.requests.Step.TheVariants.{Hook, Record as Record_step, Moved, Source, Zid, Root, Mounted, Claimed, State as State_step, Init}
 use Rattle.zone_machine.specs.declared.events.Entry.{Entry}
 use Rattle.zone_machine.specs.declared.events.Event.{Event}
 use Rattle.zone_machine.specs.declared.events.Subject.{Subject}
@@ -41,6 +48,7 @@ use Rattle.commit_journal.specs.declared.records.Commit.{Commit}
 use Rattle.commit_journal.specs.declared.records.Record.{Record}
 use Rattle.zone_views.proofs.Deciding.{of_event, of_turned}
 use Rattle.zone_views.proofs.Keeping.{kept-after}
+use Rattle.zone_views.proofs.Nexts.{Holds_next, begins, holds-next}
 use Rattle.zone_views.specs.Storable.{are_storable, is_storable}
 
 abbrev is_active_state : ZoneState → Bool
@@ -62,13 +70,13 @@ leads active s (Record_step t ∷ rest) = is_none active && is_stored t && may_m
 leads active s (State_step t ∷ rest) = same_state s Installed && fits_stored (active_after t) s && may_move (Some (unwrap_or active s)) (Some t) && leads (active_after t) s rest
 leads active s (_ ∷ rest) = leads active s rest
 
-abbrev pub job_leads : Option Outcome → Option ZoneState → ZoneState → List Step → Bool
-job_leads None active s left = leads active s left
-job_leads (Some outcome) active s left = true
+abbrev pub stage_leads : Option ZoneState → ZoneState → Stage → Bool
+stage_leads active s (Goes_on left) = leads active s left
+stage_leads active s (Fails outcome made) = true
 
 abbrev pub desk_leads : Option Job → Option ZoneState → ZoneState → Bool
 desk_leads None active s = true
-desk_leads (Some j) active s = job_leads j.ending active s j.left
+desk_leads (Some j) active s = stage_leads active s j.stage
 
 abbrev pub steady : Option Record → Desk → Bool
 steady None d = is_none d.active && is_none d.job
@@ -79,50 +87,112 @@ record Keeps (row : Option Record) (d : Desk) (new : Option Record) (e : Desk) :
   steady : steady new e ≡ true
   moves : (state_of new e ≡ state_of row d) ⊎ (may_move (state_of row d) (state_of new e) ≡ true)
 
+-- the ready part, before what comes after it
+module _ (active : Option ZoneState) (s : ZoneState) where
+  leads-dirs : (dirs : List (List ℕ)) (rest more : List Step) → leads active s (rest ++ more) ≡ true → leads active s ((map Mounted dirs ++ rest) ++ more) ≡ true
+  leads-dirs [] rest more h = h
+  leads-dirs (dir ∷ dirs) rest more h = leads-dirs dirs rest more h
+
+  leads-claims : (cs : List Claim) (rest more : List Step) → leads active s (rest ++ more) ≡ true → leads active s ((map Claimed cs ++ rest) ++ more) ≡ true
+  leads-claims [] rest more h = h
+  leads-claims (c ∷ cs) rest more h = leads-claims cs rest more h
+
+ready_leads : (c : Contents) (more : List Step) → leads (Some Ready) Installed more ≡ true → leads None Installed (ready_part c ++ more) ≡ true
+ready_leads c more h = leads-dirs None Installed (fs_dirs c) _ more (leads-claims None Installed (claims_of c) _ more h)
+
 -- a request that may begin leads along the table
-active_leads : (kind : RequestKind) (a : ZoneState) → is_active_state a ≡ true → may_begin kind a ≡ true → leads (Some a) Installed (plan kind a) ≡ true
-active_leads Boot Ready f m = refl
-active_leads Halt Ready f m = refl
-active_leads Halt Running f m = refl
-active_leads Install Configured f m = absurd (false≢true f)
-active_leads Boot Installed f m = absurd (false≢true f)
-active_leads kind a f m = absurd (false≢true m)
+active_leads : (r : Request) (a : ZoneState) (c : Contents) → is_active_state a ≡ true → may_begin (kind_of r) a ≡ true → leads (Some a) Installed (plan r a c) ≡ true
+active_leads (request.Boot args) Ready c f m = refl
+active_leads request.Halt Ready c f m = refl
+active_leads request.Halt Running c f m = refl
+active_leads (request.Reboot args) Ready c f m = refl
+active_leads (request.Reboot args) Running c f m = refl
+active_leads request.Install Configured c f m = absurd (false≢true f)
+active_leads (request.Clone source) Configured c f m = absurd (false≢true f)
+active_leads request.Attach Configured c f m = absurd (false≢true f)
+active_leads request.Detach Installed c f m = absurd (false≢true f)
+active_leads request.Uninstall Installed c f m = absurd (false≢true f)
+active_leads request.Uninstall Incomplete c f m = absurd (false≢true f)
+active_leads request.Mark Installed c f m = absurd (false≢true f)
+active_leads (request.Move path) Installed c f m = absurd (false≢true f)
+active_leads request.Ready Installed c f m = absurd (false≢true f)
+active_leads (request.Boot args) Installed c f m = absurd (false≢true f)
+active_leads r a c f m = absurd (false≢true m)
 
-stored_leads : (kind : RequestKind) (s : ZoneState) → is_stored s ≡ true → may_begin kind s ≡ true → leads None s (plan kind s) ≡ true
-stored_leads Install Configured f m = refl
-stored_leads Boot Installed f m = refl
-stored_leads Boot Ready f m = absurd (false≢true f)
-stored_leads Halt Ready f m = absurd (false≢true f)
-stored_leads Halt Running f m = absurd (false≢true f)
-stored_leads kind s f m = absurd (false≢true m)
+stored_leads : (r : Request) (s : ZoneState) (c : Contents) → is_stored s ≡ true → may_begin (kind_of r) s ≡ true → leads None s (plan r s c) ≡ true
+stored_leads request.Install Configured c f m = refl
+stored_leads (request.Clone source) Configured c f m = refl
+stored_leads request.Attach Configured c f m = refl
+stored_leads request.Detach Installed c f m = refl
+stored_leads request.Uninstall Installed c f m = refl
+stored_leads request.Uninstall Incomplete c f m = refl
+stored_leads request.Mark Installed c f m = refl
+stored_leads (request.Move path) Installed c f m = refl
+stored_leads request.Ready Installed c f m = subst (λ p. leads None Installed p ≡ true) (append-nil (ready_part c)) (ready_leads c [] refl)
+stored_leads (request.Boot args) Installed c f m = ready_leads c boot_part refl
+stored_leads (request.Boot args) Ready c f m = absurd (false≢true f)
+stored_leads request.Halt Ready c f m = absurd (false≢true f)
+stored_leads request.Halt Running c f m = absurd (false≢true f)
+stored_leads (request.Reboot args) Ready c f m = absurd (false≢true f)
+stored_leads (request.Reboot args) Running c f m = absurd (false≢true f)
+stored_leads r s c f m = absurd (false≢true m)
 
-begin_leads : (kind : RequestKind) (active : Option ZoneState) (s : ZoneState) → fits_stored active s ≡ true → may_begin kind (unwrap_or active s) ≡ true → leads active s (plan kind (unwrap_or active s)) ≡ true
-begin_leads kind None s f m = stored_leads kind s f m
-begin_leads kind (Some a) s f m =
+begin_leads : (r : Request) (active : Option ZoneState) (s : ZoneState) (c : Contents) → fits_stored active s ≡ true → may_begin (kind_of r) (unwrap_or active s) ≡ true
+    → leads active s (plan r (unwrap_or active s) c) ≡ true
+begin_leads r None s c f m = stored_leads r s c f m
+begin_leads r (Some a) s c f m =
     let parts = and_parts (is_active_state a) (same_state s Installed) f in
-    subst (λ t. leads (Some a) t (plan kind a) ≡ true) (sym ((state-Decides s Installed).0 parts.1)) (active_leads kind a parts.0 m)
+    subst (λ t. leads (Some a) t (plan r a c) ≡ true) (sym ((state-Decides s Installed).0 parts.1)) (active_leads r a c parts.0 m)
 
 -- what a turn decides keeps them so
 abbrev KeepsIn : Option Record → Desk → Turn_decision → Type 0
 KeepsIn row d decision = In (λ c (t : Turned). Keeps row d (stored_after c row) t.desk) decision
 
-module _ (o : Objects) (row : Record) where
-  -- the step of a request under way, whose desk stays where a mount is held
-  keeps_step : (d : Desk) (j : Job) (left : List Step) → steady (Some row) d ≡ true → fits_stored d.active row.state ≡ true → leads d.active row.state left ≡ true
-      → KeepsIn (Some row) d (step o d (record j { ending = None }) row left)
-  keeps_step d j [] h f l = record { steady = and_from _ _ f refl; moves = inl refl }
-  keeps_step d j (Record_step s ∷ rest) h f l =
+-- a turn of a stored zone
+module _ (o : Objects) (declared : List (List ℕ)) (brands : List Tabled) (row : Record) (d : Desk) (f : fits_stored d.active row.state ≡ true) (still : steady (Some row) d ≡ true) where
+  abbrev v : Seen
+  v = record { desk = d; objects = o; stored = Some row; declared = declared; brands = brands }
+
+  abbrev Kept : Turned → Type 0
+  Kept t = Keeps (Some row) d (Some row) t.desk
+
+  keeps_if : (b : Bool) (t u : Turned) → Kept t → Kept u → Kept (if b then t else u)
+  keeps_if true t u h k = h
+  keeps_if false t u h k = k
+
+  abbrev KeepsBoth : Turn_decision → Option Turned → Type 0
+  KeepsBoth shared local = KeepsIn (Some row) d (or_shared shared local)
+
+  -- a step
+  keeps_moved : (j : Job) (rest : List Step) (path : List ℕ) (r : Result Contents ConfigFault) → leads d.active row.state rest ≡ true → KeepsIn (Some row) d (record_config d j rest path row r)
+  keeps_moved j rest path (Err fault) l = record { steady = and_from _ _ f refl; moves = inl refl }
+  keeps_moved j rest path (Right config) l = (λ pool. record { steady = and_from _ _ f refl; moves = inl refl }, λ n. record { steady = and_from _ _ f l; moves = inl refl })
+
+  keeps_step : (j : Job) (rest : List Step) (s : Step) → leads d.active row.state (s ∷ rest) ≡ true → KeepsBoth (shared_step v j rest s) (local_step brands o d j rest s)
+  keeps_step j rest (Hook change) l = at_answer (answer_of brands j.config.brand change)
+    where
+      at_answer : (answer : HookAnswer) → Kept (hooked d j rest change answer)
+      at_answer Proceed = record { steady = and_from _ _ f l; moves = inl refl }
+      at_answer (Refuse code) = record { steady = and_from _ _ f refl; moves = inl refl }
+  keeps_step j rest (Record_step s) l =
       let last_part = and_parts (is_none d.active && is_stored s && may_move (Some row.state) (Some s)) (leads d.active s rest) l in
       let mid_part = and_parts (is_none d.active && is_stored s) (may_move (Some row.state) (Some s)) last_part.0 in
       let first_part = and_parts (is_none d.active) (is_stored s) mid_part.0 in
-      at_active d.active first_part.0 first_part.1 mid_part.1 last_part.1 f
+      (λ pool. record { steady = and_from _ _ f refl; moves = inl refl }, λ n. at_active d.active first_part.0 first_part.1 mid_part.1 last_part.1)
     where
-      at_active : (active : Option ZoneState) → is_none active ≡ true → is_stored s ≡ true → may_move (Some row.state) (Some s) ≡ true → leads active s rest ≡ true → fits_stored active row.state ≡ true
-          → let e = record d { active = active } in KeepsIn (Some row) e (step o e (record j { ending = None }) row (Record_step s ∷ rest))
-      at_active None i st m r f = (λ pool. record { steady = and_from _ _ f refl; moves = inl refl }, λ n. record { steady = and_from _ _ st r; moves = inr m })
-      at_active (Some a) i st m r f = absurd (false≢true i)
-  keeps_step d j (Zid _ ∷ rest) h f l = (λ pool. record { steady = and_from _ _ f refl; moves = inl refl }, λ n. record { steady = and_from _ _ f l; moves = inl refl })
-  keeps_step d j (State_step s ∷ rest) h f l =
+      left_at : Option ZoneState → Desk
+      left_at active = record d { active = active; job = Some (record j { done = with_step (Record_step s) j.done; stage = Goes_on rest }) }
+
+      at_active : (active : Option ZoneState) → is_none active ≡ true → is_stored s ≡ true → may_move (Some row.state) (Some s) ≡ true → leads active s rest ≡ true
+          → Keeps (Some row) (record d { active = active }) (Some (record row { state = s })) (left_at active)
+      at_active None i st m r = record { steady = and_from _ _ st r; moves = inr m }
+      at_active (Some a) i st m r = absurd (false≢true i)
+  keeps_step j rest Moved l = keeps_moved j rest (new_path j.request) (with_zonepath (new_path j.request) row.config) l
+  keeps_step j rest (Source z) l = (λ pool. record { steady = and_from _ _ f refl; moves = inl refl }, λ n. record { steady = and_from _ _ f l; moves = inl refl })
+  keeps_step j rest (Zid _) l = (λ pool. record { steady = and_from _ _ f refl; moves = inl refl }, λ n. record { steady = and_from _ _ f l; moves = inl refl })
+  keeps_step j rest (Claimed c) l = (λ pool. record { steady = and_from _ _ f refl; moves = inl refl }, λ n. record { steady = and_from _ _ f l; moves = inl refl })
+  keeps_step j rest (Init _) l = (λ pool. record { steady = and_from _ _ f refl; moves = inl refl }, λ n. record { steady = and_from _ _ f l; moves = inl refl })
+  keeps_step j rest (State_step s) l =
       let last_part = and_parts (same_state row.state Installed && fits_stored (active_after s) row.state && may_move (Some (unwrap_or d.active row.state)) (Some s)) (leads (active_after s) row.state rest) l in
       let mid_part = and_parts (same_state row.state Installed && fits_stored (active_after s) row.state) (may_move (Some (unwrap_or d.active row.state)) (Some s)) last_part.0 in
       let first_part = and_parts (same_state row.state Installed) (fits_stored (active_after s) row.state) mid_part.0 in
@@ -132,54 +202,74 @@ module _ (o : Objects) (row : Record) where
       now_at : (s t : ZoneState) → t ≡ Installed → unwrap_or (active_after s) t ≡ s
       now_at Installed t e = e
       now_at _ t e = refl
-  keeps_step d j (Init _ ∷ rest) h f l = (λ pool. record { steady = and_from _ _ f refl; moves = inl refl }, λ n. record { steady = and_from _ _ f l; moves = inl refl })
-  keeps_step d j (Unmount dir ∷ rest) h f l = at_mount (last_of o.mounts) (keeps_step d j rest h f l)
-    where
-      at_mount : (m : Option MountEntry) → KeepsIn (Some row) d (step o d (record j { ending = None }) row rest)
-          → let k = record j { ending = None } in KeepsIn (Some row) d (unmount d k (Unmount dir ∷ rest) (step o d k row rest) m)
-      at_mount None ih = ih
-      at_mount (Some m) ih = at_hold m.held refl
-        where
-          at_hold : (b : Bool) → m.held ≡ b → let k = record j { ending = None } in KeepsIn (Some row) d (unmount d k (Unmount dir ∷ rest) (step o d k row rest) (Some m))
-          at_hold true e = rw e (record { steady = h; moves = inl refl })
-          at_hold false e = rw e (record { steady = and_from _ _ f l; moves = inl refl })
-  keeps_step d j (_ ∷ rest) h f l = record { steady = and_from _ _ f l; moves = inl refl }
-
-  -- a step back
-  keeps_undo : (d : Desk) (j : Job) (outcome : Outcome) (undone : List Step) → steady (Some row) d ≡ true → fits_stored d.active row.state ≡ true
-      → Keeps (Some row) d (Some row) (undo d (record j { ending = Some outcome }) outcome o.mounts undone).desk
-  keeps_undo d j outcome [] h f = record { steady = and_from _ _ f refl; moves = inl refl }
-  keeps_undo d j outcome (s ∷ rest) h f = at_test (is_stuck s o.mounts) refl
-    where
-      at_test : (b : Bool) → is_stuck s o.mounts ≡ b → Keeps (Some row) d (Some row) (undo d (record j { ending = Some outcome }) outcome o.mounts (s ∷ rest)).desk
-      at_test true e = rw e (record { steady = h; moves = inl refl })
-      at_test false e = rw e (record { steady = and_from _ _ f refl; moves = inl refl })
+  keeps_step j rest _ l = record { steady = and_from _ _ f l; moves = inl refl }
 
   -- a request begins, or ends at once
-  keeps_next : (d : Desk) (waiting : List (ℕ × RequestKind)) → fits_stored d.active row.state ≡ true → let e = record d { job = None } in Keeps (Some row) e (Some row) (next_request e waiting row).desk
-  keeps_next d [] f = record { steady = and_from _ _ f refl; moves = inl refl }
-  keeps_next d (r ∷ waiting) f = at_test (may_begin r.1 (unwrap_or d.active row.state)) refl
+  keeps_begin : (waiting : List (ℕ × Request)) (t : ℕ) (r : Request) → Kept (begin brands (record d { waiting = waiting }) t r row)
+  keeps_begin waiting t r = at_outcome (refusal brands (kind_of r) (unwrap_or d.active row.state) row.config) refl
     where
-      at_test : (b : Bool) → may_begin r.1 (unwrap_or d.active row.state) ≡ b → let e = record d { job = None } in Keeps (Some row) e (Some row) (next_request e (r ∷ waiting) row).desk
-      at_test true m = simp m (record { steady = and_from _ _ f (begin_leads r.1 d.active row.state f m); moves = inl refl })
-      at_test false m = simp m (record { steady = and_from _ _ f refl; moves = inl refl })
+      at_outcome : (outcome : Option Outcome) → refusal brands (kind_of r) (unwrap_or d.active row.state) row.config ≡ outcome → Kept (started (record d { waiting = waiting }) t r (unwrap_or d.active row.state) row outcome)
+      at_outcome None e = record { steady = and_from _ _ f (begin_leads r d.active row.state row.config f (begins brands (kind_of r) (unwrap_or d.active row.state) row.config e)); moves = inl refl }
+      at_outcome (Some outcome) e = record { steady = and_from _ _ f refl; moves = inl refl }
 
-  keeps_job : (d : Desk) (j : Job) (ending : Option Outcome) → steady (Some row) d ≡ true → fits_stored d.active row.state ≡ true → job_leads ending d.active row.state j.left ≡ true
-      → KeepsIn (Some row) d (goes_on o d (record j { ending = ending }) row ending)
-  keeps_job d j None h f l = keeps_step d j j.left h f l
-  keeps_job d j (Some outcome) h f l = keeps_undo d j outcome j.undo h f
+  keeps_over : (j : Job) (r : Request) → KeepsIn (Some row) d (over brands d j (Some row) r)
+  keeps_over j (request.Reboot args) = keeps_begin d.waiting j.ticket (request.Boot args)
+  keeps_over j _ = record { steady = and_from _ _ f refl; moves = inl refl }
 
-  keeps_turn_at : (d : Desk) (job : Option Job) → let e = record d { job = job } in steady (Some row) e ≡ true → KeepsIn (Some row) e (turn_at o e job row)
-  keeps_turn_at d None h = keeps_next d d.waiting (and_parts (fits_stored d.active row.state) true h).0
-  keeps_turn_at d (Some j) h =
-      let parts = and_parts (fits_stored d.active row.state) (job_leads j.ending d.active row.state j.left) h in
-      keeps_job (record d { job = Some j }) j j.ending h parts.0 parts.1
+  abbrev Leads : List Step → Type 0
+  Leads left = leads d.active row.state left ≡ true
+
+  keeps_next : (j : Job) (n : Next) → Holds_next Leads (λ dir rest l. l) (λ c rest l. l) o n → KeepsBoth (shared_next v j n) (local_next brands o d j n)
+  keeps_next j Nothing_left l = keeps_over j j.request
+  keeps_next j (A_step s rest) l = keeps_step j rest s l
+  keeps_next j (A_mount m left) l = keeps_if m.held (stuck d) _ (record { steady = still; moves = inl refl }) (record { steady = and_from _ _ f l; moves = inl refl })
+  keeps_next j (A_claim_left c left) l = record { steady = and_from _ _ f l; moves = inl refl }
+
+  -- a step back
+  keeps_undo : (j : Job) (outcome : Outcome) (rest : List Step) (s : Step) → KeepsBoth (Just (undone d j outcome rest (undo_edits s) s)) (local_undo o d j outcome rest s)
+  keeps_undo j outcome rest Root = keeps_if (is_held (mount_at root_dir o.mounts)) (stuck d) (undone d j outcome rest (Of_mounts (Go (is_at root_dir)) ∷ []) Root) (record { steady = still; moves = inl refl }) (record { steady = and_from _ _ f refl; moves = inl refl })
+  keeps_undo j outcome rest (Mounted dir) = keeps_if (is_held (mount_at dir o.mounts)) (stuck d) (undone d j outcome rest (Of_mounts (Go (is_at dir)) ∷ []) (Mounted dir)) (record { steady = still; moves = inl refl }) (record { steady = and_from _ _ f refl; moves = inl refl })
+  keeps_undo j outcome rest _ = record { steady = and_from _ _ f refl; moves = inl refl }
+
+  keeps_stage : (j : Job) (stage : Stage) → stage_leads d.active row.state stage ≡ true → KeepsBoth (shared_stage v j stage) (local_stage brands o d j stage)
+  keeps_stage j (Goes_on left) l = keeps_next j (next o left) (holds-next Leads (λ dir rest l. l) (λ c rest l. l) o left l)
+  keeps_stage j (Fails outcome []) l = record { steady = and_from _ _ f refl; moves = inl refl }
+  keeps_stage j (Fails outcome (s ∷ rest)) l = keeps_undo j outcome rest s
+
+  keeps_request : (waiting : List (ℕ × Request)) → KeepsIn (Some row) d (next_request brands d waiting (Some row))
+  keeps_request [] = record { steady = still; moves = inl refl }
+  keeps_request (r ∷ rs) = keeps_begin rs r.0 r.1
+
+  keeps_job : (job : Option Job) → desk_leads job d.active row.state ≡ true → KeepsBoth (shared_turn v job) (local_job brands o d job)
+  keeps_job None l = keeps_request d.waiting
+  keeps_job (Some j) l = keeps_stage j j.stage l
+
+-- a zone that isn't stored has none
+keeps_nothing : (o : Objects) (declared : List (List ℕ)) (brands : List Tabled) (d : Desk) → steady None d ≡ true
+    → KeepsIn None d (turn (record { desk = d; objects = o; stored = None; declared = declared; brands = brands }))
+unfolding turn local_turn
+keeps_nothing o declared brands d h = at_job d.job (and_parts (is_none d.active) (is_none d.job) h).1
+  where
+    at_waiting : (waiting : List (ℕ × Request)) → KeepsIn None d (next_request brands d waiting None)
+    at_waiting [] = record { steady = h; moves = inl refl }
+    at_waiting (r ∷ rs) = record { steady = h; moves = inl refl }
+
+    at_job : (job : Option Job) → is_none job ≡ true → KeepsIn None d (or_shared (shared_turn (record { desk = d; objects = o; stored = None; declared = declared; brands = brands }) job) (local_job brands o d job))
+    at_job None e = at_waiting d.waiting
+    at_job (Some j) e = absurd (false≢true e)
+
+keeps_stored : (o : Objects) (declared : List (List ℕ)) (brands : List Tabled) (row : Record) (d : Desk) → steady (Some row) d ≡ true
+    → KeepsIn (Some row) d (turn (record { desk = d; objects = o; stored = Some row; declared = declared; brands = brands }))
+unfolding turn local_turn
+keeps_stored o declared brands row d h =
+    let parts = and_parts (fits_stored d.active row.state) (desk_leads d.job d.active row.state) h in
+    keeps_job o declared brands row d parts.0 h d.job parts.1
 
 -- a turn
-keeps_turn : (o : Objects) (row : Option Record) (d : Desk) → steady row d ≡ true → KeepsIn row d (turn o row d)
-unfolding turn
-keeps_turn o None d h = record { steady = h; moves = inl refl }
-keeps_turn o (Some row) d h = keeps_turn_at o row d d.job h
+keeps_turn : (o : Objects) (declared : List (List ℕ)) (brands : List Tabled) (row : Option Record) (d : Desk) → steady row d ≡ true
+    → KeepsIn row d (turn (record { desk = d; objects = o; stored = row; declared = declared; brands = brands }))
+keeps_turn o declared brands None d h = keeps_nothing o declared brands d h
+keeps_turn o declared brands (Some row) d h = keeps_stored o declared brands row d h
 
 -- a zone that is made has an idle desk
 keeps-made : (row : Option Record) (d : Desk) (z : Name) (config : Contents) (k : ℕ) → row ≡ None → steady row d ≡ true → Keeps row d (Some (new_record z config k)) d
@@ -192,22 +282,22 @@ keeps-made None d z config k e h = at_desk d.active d.job h
 keeps-made (Some row) d z config k e h = cc
 
 -- a request that waits changes nothing of that
-keeps-asked : (row : Option Record) (d : Desk) (kind : RequestKind) → steady row d ≡ true → Keeps row d row (with_request d kind)
-keeps-asked None d kind h = record { steady = h; moves = inl refl }
-keeps-asked (Some row) d kind h = record { steady = h; moves = inl refl }
+keeps-asked : (row : Option Record) (d : Desk) (r : Request) → steady row d ≡ true → Keeps row d row (with_request d r)
+keeps-asked None d r h = record { steady = h; moves = inl refl }
+keeps-asked (Some row) d r h = record { steady = h; moves = inl refl }
 
 -- an event of a zone
 keeps-event : (z : Name) (w : World) (e : Event) (g : Grant) → steady w.stored w.desk ≡ true
     → let v = acts_world (session_number e) (act_of (decide (view_of z w) e) g) w in Keeps w.stored w.desk v.stored v.desk
 keeps-event z w e g h =
-    of_event (λ v. Keeps w.stored w.desk v.stored v.desk) z w stays (λ config k none. keeps-made w.stored w.desk z config k none h) (λ kind sessions. keeps-asked w.stored w.desk kind h) (λ ps called. stays) (λ ms mounted. stays) g
+    of_event (λ v. Keeps w.stored w.desk v.stored v.desk) z w stays (λ config k none. keeps-made w.stored w.desk z config k none h) (λ r sessions. keeps-asked w.stored w.desk r h) (λ ps called. stays) (λ ms mounted. stays) g
     (of_turned (λ row ms d. Keeps w.stored w.desk row d) w g turned) e
   where
     stays : Keeps w.stored w.desk w.stored w.desk
     stays = record { steady = h; moves = inl refl }
 
     turned : let a = turn_act w g in Keeps w.stored w.desk (stored_after a.came w.stored) a.effect.desk
-    turned = in-act (λ c (t : Turned). Keeps w.stored w.desk (stored_after c w.stored) t.desk) (turn (objects_of w) w.stored w.desk) g (keeps_turn (objects_of w) w.stored w.desk h)
+    turned = in-act (λ c (t : Turned). Keeps w.stored w.desk (stored_after c w.stored) t.desk) (turn (seen_of w)) g (keeps_turn (objects_of w) w.declared.devices w.brands w.stored w.desk h)
 
 -- every zone's world is steady
 abbrev pub IsSteady : State → Type 0
@@ -249,12 +339,12 @@ storable-more z before (c ∷ commits) is all =
     at_test true h = h
     at_test false h = is
 
-steady-opening : (commits : List Commit) → are_storable commits ≡ true → IsSteady (opening commits)
-steady-opening commits all z = at_row (stored z commits) (storable-more z [] commits refl all)
+steady-opening : (brands : List Tabled) (commits : List Commit) → are_storable commits ≡ true → IsSteady (opening brands commits)
+steady-opening brands commits all z = at_row (stored z commits) (storable-more z [] commits refl all)
   where
     at_row : (row : Option Record) → is_storable row ≡ true → steady row empty_desk ≡ true
     at_row None h = refl
     at_row (Some row) h = and_from _ _ h refl
 
-pub steady-history : (commits : List Commit) (h : List Entry) → are_storable commits ≡ true → IsSteady (after (opening commits) h)
-steady-history commits h all = kept-after (λ w. steady w.stored w.desk ≡ true) (λ z w e g h. (keeps-event z w e g h).steady) (opening commits) h (steady-opening commits all)
+pub steady-history : (brands : List Tabled) (commits : List Commit) (h : List Entry) → are_storable commits ≡ true → IsSteady (after (opening brands commits) h)
+steady-history brands commits h all = kept-after (λ w. steady w.stored w.desk ≡ true) (λ z w e g h. (keeps-event z w e g h).steady) (λ w e h. h) (opening brands commits) h (steady-opening brands commits all)

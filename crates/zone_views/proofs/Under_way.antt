@@ -5,9 +5,11 @@ use Rattle.std.specs.Option.{is_none}
 use Rattle.std.specs.Prelude.{is_some}
 use Rattle.zn_base.specs.Names.{Name}
 use Rattle.zone_pools.specs.declared.grant.Grant.{Grant}
+use Rattle.brand_hooks.specs.Brands.{Tabled}
 use Rattle.commit_journal.specs.declared.records.Commit.{Commit}
 use Rattle.commit_journal.specs.declared.records.Record.{Record}
-use Rattle.zone_machine.proofs.Local_laws.{local-common, none-under-way, not-local}
+use Rattle.zone_machine.proofs.Local_laws.{local-common, not-local}
+use Rattle.zoneadmd_steps.proofs.Of_turns.{none-under-way}
 use Rattle.zoneadmd_steps.specs.Desks.{Desk, Job}
 use Rattle.zone_machine.specs.Machine.Common.{common}
 use Rattle.zone_machine.specs.Machine.Histories.{after, after_entry}
@@ -34,8 +36,8 @@ served None d h = at_job d.job (and_parts (is_none d.active) (is_none d.job) h).
     at_job None h = refl
     at_job (Some j) h = absurd (false≢true h)
 
-pub served-history : (z : Name) (commits : List Commit) (h : List Entry) → are_storable commits ≡ true → job_has_record (world z (after (opening commits) h)) ≡ true
-served-history z commits h all = let S = after (opening commits) h in served (stored z S.commits) (S.desks z) (steady-history commits h all z)
+pub served-history : (z : Name) (brands : List Tabled) (commits : List Commit) (h : List Entry) → are_storable commits ≡ true → job_has_record (world z (after (opening brands commits) h)) ≡ true
+served-history z brands commits h all = let S = after (opening brands commits) h in served (stored z S.commits) (S.desks z) (steady-history brands commits h all z)
 
 -- where a request of z is under way, an event has come
 abbrev has_begun : Name → State → Bool
@@ -64,9 +66,9 @@ local-leaves z S e begun h = at_start S.started refl begun
     at_start : (b : Bool) → S.started ≡ b → (b || is_none (S.desks z).job) ≡ true → common (one S e.event e.grant).state ≡ common S
     at_start true is idle = local-common z S e h ∙ ap (λ b. record (common S) { started = b }) (sym is)
     at_start false is idle =
-        let far = none-under-way (objects_of (world z S)) (world z S).stored (S.desks z) (none (S.desks z).job idle) in
+        let far = none-under-way S.brands (objects_of (world z S)) (S.desks z) (none (S.desks z).job idle) in
         absurd (false≢true (sym (not-local z (world z S) e far) ∙ h))
 
-pub local-leaves-history : (z : Name) (commits : List Commit) (h : List Entry) (e : Entry) → is_local z (world z (after (opening commits) h)) e ≡ true
-    → (let S = after (opening commits) h in common (one S e.event e.grant).state ≡ common S)
-local-leaves-history z commits h e local = local-leaves z (after (opening commits) h) e (begun-after z (opening commits) h refl) local
+pub local-leaves-history : (z : Name) (brands : List Tabled) (commits : List Commit) (h : List Entry) (e : Entry) → is_local z (world z (after (opening brands commits) h)) e ≡ true
+    → (let S = after (opening brands commits) h in common (one S e.event e.grant).state ≡ common S)
+local-leaves-history z brands commits h e local = local-leaves z (after (opening brands commits) h) e (begun-after z (opening brands commits) h refl) local

@@ -8,7 +8,7 @@ use Rattle.zone_pools.specs.Firsts.{first_of}
 use Rattle.zone_pools.specs.declared.grant.Grant.{Grant}
 use Rattle.zone_pools.specs.declared.owned.Owned.{Owned}
 use Rattle.zone_machine.proofs.Common_laws.{common-one}
-use Rattle.zoneadmd_steps.specs.Arrivals.{Arrival, New_id, New_process, New_record}
+use Rattle.zoneadmd_steps.specs.Arrivals.{Arrival, New_claim, New_id, New_process, New_record, No_new_thing}
 use Rattle.zone_machine.specs.Machine.Common.{Common, came_common}
 use Rattle.zone_machine.specs.Machine.Histories.{asked, concerns, entry_at, only, run}
 use Rattle.zone_machine.specs.Session.Lines.{Command, Kill, Line, line_of}
@@ -70,7 +70,9 @@ came-declared : (z : Name) (a : Option Arrival) (c : Common) → (came_common z 
 came-declared z None c = refl
 came-declared z (Some (New_process p)) c = refl
 came-declared z (Some (New_id i)) c = refl
+came-declared z (Some (New_claim k)) c = refl
 came-declared z (Some (New_record row)) c = refl
+came-declared z (Some No_new_thing) c = refl
 
 pub declared-stays : (S : State) (e : Event) (g : Grant) → is_whole (subject S e) ≡ false → (one S e g).state.declared ≡ S.declared
 unfolding one

@@ -1,29 +1,25 @@
 //! The laws, over every state or every history.
-ghost use Rattle.std.specs.Prelude.{◌<◌, ◌≡◌, ◌≢◌, ◌⊎◌, Bool, List, None, false, true, ℕ};
+ghost use Rattle.std.specs.Prelude.{◌≡◌, ◌⊎◌, Bool, List, None, false, true, ℕ};
 ghost use Rattle.std.specs.List.{list_all};
 ghost use Rattle.zn_base.specs.Moves.{may_move};
 ghost use Rattle.zn_base.specs.Names.{Name};
 ghost use Rattle.zone_pools.specs.declared.grant.Grant.{Grant};
-ghost use Rattle.zone_machine.specs.State.Decisions.{says};
 ghost use Rattle.zone_machine.specs.Machine.Common.{HoldOnce, common};
 ghost use Rattle.zone_machine.specs.Machine.Local.{is_local, job_has_record};
 ghost use Rattle.zone_machine.specs.Machine.Histories.{after, any_grant, asked, concerns, history, is_history, is_legal, only, replay, replies, run};
 ghost use Rattle.zone_machine.specs.Machine.{need, one, opening, subject};
 ghost use Rattle.zone_machine.specs.Machine.Pools.{allowed, fits};
 ghost use Rattle.zone_machine.specs.State.{Idle, State, stored, zone_state};
-ghost use Rattle.zone_machine.specs.Machine.Turns_left.{turns_left};
 ghost use Rattle.zone_machine.specs.State.Worlds.{objects_of, world};
 ghost use Rattle.zoneadmd_steps.specs.Objects.{kernel_of};
 ghost use Rattle.kernel_objects.specs.Kernel.{within_limit};
-ghost use Rattle.zoneadmd_steps.specs.declared.requests.TurnReply.TheVariants.{Idle as Idle_turn, Stuck};
 ghost use Rattle.zone_machine.specs.declared.events.Entry.{Entry};
 ghost use Rattle.zone_machine.specs.declared.events.Event.{Event};
-ghost use Rattle.zone_machine.specs.declared.events.Event.TheVariants.{Turn};
 ghost use Rattle.zone_machine.specs.declared.events.Subject.TheVariants.{Whole, Zone};
 ghost use Rattle.datalink_table.specs.Claims.{holds};
 ghost use Rattle.datalink_table.specs.declared.claims.Claim.{Claim};
+ghost use Rattle.brand_hooks.specs.Brands.{Tabled};
 ghost use Rattle.commit_journal.specs.declared.records.Commit.{Commit};
-ghost use Rattle.zone_machine.specs.declared.replies.Head.TheVariants.{Turned};
 ghost use Rattle.zone_views.specs.Numbers.{AllDiffer, pids, zids};
 ghost use Rattle.zone_views.specs.Storable.{are_storable};
 ghost use Rattle.zone_views.specs.Whole.{is_whole, whole_replies};
@@ -58,14 +54,14 @@ pub fn declarations_are_common()
 /// that concerns the zone in a state with the same world of it. A session that is away from the zone there is
 /// idle in it.
 pub fn subjects_agree()
-    ensures agree { (z : Name) (S : State) (commits : List Commit) (h : List Entry) (e : Event)
-        → is_history any_grant (opening commits) h ≡ true → list_all (λ entry. concerns z entry.subject) h ≡ true
-        → world z S ≡ world z (after (opening commits) h)
-        → concerns z (subject S e) ≡ true → subject (after (opening commits) h) e ≡ subject S e }
-    ensures away { (z : Name) (S : State) (commits : List Commit) (h : List Entry) (n : ℕ)
-        → is_history any_grant (opening commits) h ≡ true → list_all (λ entry. concerns z entry.subject) h ≡ true
-        → world z S ≡ world z (after (opening commits) h)
-        → (world z S).sessions n ≡ None → (after (opening commits) h).sessions n ≡ Idle }
+    ensures agree { (z : Name) (S : State) (brands : List Tabled) (commits : List Commit) (h : List Entry) (e : Event)
+        → is_history any_grant (opening brands commits) h ≡ true → list_all (λ entry. concerns z entry.subject) h ≡ true
+        → world z S ≡ world z (after (opening brands commits) h)
+        → concerns z (subject S e) ≡ true → subject (after (opening brands commits) h) e ≡ subject S e }
+    ensures away { (z : Name) (S : State) (brands : List Tabled) (commits : List Commit) (h : List Entry) (n : ℕ)
+        → is_history any_grant (opening brands commits) h ≡ true → list_all (λ entry. concerns z entry.subject) h ≡ true
+        → world z S ≡ world z (after (opening brands commits) h)
+        → (world z S).sessions n ≡ None → (after (opening brands commits) h).sessions n ≡ Idle }
 {}
 
 /// What the machine makes of any events is a history, under the grants that the pools give and under any that
@@ -77,45 +73,45 @@ pub fn runs_are_histories()
 
 /// After any history whose grants fit, the grant that the pools give fits too.
 pub fn allowed_grants_fit()
-    ensures now { (commits : List Commit) (h : List Entry) (e : Event)
-        → is_history fits (opening commits) h ≡ true → let S = after (opening commits) h in fits S e (allowed S e) ≡ true }
+    ensures now { (brands : List Tabled) (commits : List Commit) (h : List Entry) (e : Event)
+        → is_history fits (opening brands commits) h ≡ true → let S = after (opening brands commits) h in fits S e (allowed S e) ≡ true }
     // So the grants of a legal history fit.
-    ensures legal { (commits : List Commit) (h : List Entry)
-        → is_legal (opening commits) h ≡ true → is_history fits (opening commits) h ≡ true }
+    ensures legal { (brands : List Tabled) (commits : List Commit) (h : List Entry)
+        → is_legal (opening brands commits) h ≡ true → is_history fits (opening brands commits) h ≡ true }
 {}
 
 /// After any history whose grants fit, so after any legal one, no two processes have the same number, whatever
 /// zones they are of, and no two ids the same zone number.
 pub fn numbers_are_held_once()
-    ensures pids { (commits : List Commit) (h : List Entry)
-        → is_history fits (opening commits) h ≡ true → AllDiffer (pids (after (opening commits) h)) }
-    ensures zids { (commits : List Commit) (h : List Entry)
-        → is_history fits (opening commits) h ≡ true → AllDiffer (zids (after (opening commits) h)) }
+    ensures pids { (brands : List Tabled) (commits : List Commit) (h : List Entry)
+        → is_history fits (opening brands commits) h ≡ true → AllDiffer (pids (after (opening brands commits) h)) }
+    ensures zids { (brands : List Tabled) (commits : List Commit) (h : List Entry)
+        → is_history fits (opening brands commits) h ≡ true → AllDiffer (zids (after (opening brands commits) h)) }
 {}
 
 /// After any history whose grants fit, one zone at most has a process of a number. The laws of `zone_machine` ask this
 /// that say whose an event is, and what it is allowed, by what zones share.
 pub fn zones_share_no_process_number()
-    ensures { (commits : List Commit) (h : List Entry) → is_history fits (opening commits) h ≡ true → HoldOnce (common (after (opening commits) h)).pids }
+    ensures { (brands : List Tabled) (commits : List Commit) (h : List Entry) → is_history fits (opening brands commits) h ≡ true → HoldOnce (common (after (opening brands commits) h)).pids }
 {}
 
 /// Removing the entries of all other zones, grants kept, changes no reply of a zone, whatever else is
 /// stored.
 pub fn purging_keeps_replies()
-    ensures histories { (z : Name) (permits : State → Event → Grant → Bool) (commits others : List Commit) (h : List Entry)
-        → is_history permits (opening commits) h ≡ true → stored z commits ≡ stored z others
-        → replies z h ≡ replies z (run (opening others) (asked (only z h))) }
+    ensures histories { (z : Name) (permits : State → Event → Grant → Bool) (brands : List Tabled) (commits others : List Commit) (h : List Entry)
+        → is_history permits (opening brands commits) h ≡ true → stored z commits ≡ stored z others
+        → replies z h ≡ replies z (run (opening brands others) (asked (only z h))) }
     // Two histories with the same entries of the zone give it the same replies.
-    ensures alike { (z : Name) (permits : State → Event → Grant → Bool) (commits others : List Commit) (h k : List Entry)
-        → is_history permits (opening commits) h ≡ true → is_history permits (opening others) k ≡ true
+    ensures alike { (z : Name) (permits : State → Event → Grant → Bool) (brands : List Tabled) (commits others : List Commit) (h k : List Entry)
+        → is_history permits (opening brands commits) h ≡ true → is_history permits (opening brands others) k ≡ true
         → stored z commits ≡ stored z others → asked (only z h) ≡ asked (only z k) → replies z h ≡ replies z k }
     // The same of a run, whose grants may be any.
-    ensures runs { (z : Name) (commits others : List Commit) (es : List (Event × Grant)) → stored z commits ≡ stored z others
-        → replies z (run (opening commits) es) ≡ replies z (run (opening others) (asked (only z (run (opening commits) es)))) }
+    ensures runs { (z : Name) (brands : List Tabled) (commits others : List Commit) (es : List (Event × Grant)) → stored z commits ≡ stored z others
+        → replies z (run (opening brands commits) es) ≡ replies z (run (opening brands others) (asked (only z (run (opening brands commits) es)))) }
     // Nor does it change a reply to an event of the whole system, whatever is stored.
-    ensures whole { (z : Name) (permits : State → Event → Grant → Bool) (commits others : List Commit) (h : List Entry)
-        → is_history permits (opening commits) h ≡ true
-        → whole_replies h ≡ whole_replies (run (opening others) (asked (only z h))) }
+    ensures whole { (z : Name) (permits : State → Event → Grant → Bool) (brands : List Tabled) (commits others : List Commit) (h : List Entry)
+        → is_history permits (opening brands commits) h ≡ true
+        → whole_replies h ≡ whole_replies (run (opening brands others) (asked (only z h))) }
 {}
 
 /// The world of a zone after a history is what its own entries and those of the whole system make of the
@@ -128,42 +124,34 @@ pub fn worlds_are_replayed()
 /// From records whose states are configured, incomplete or installed, after any history, an event leaves the
 /// state of each zone as it was, or the zone is its subject and moves along the transition table.
 pub fn states_move_along_the_table()
-    ensures { (z : Name) (commits : List Commit) (h : List Entry) (e : Event) (g : Grant)
-        → are_storable commits ≡ true → let S = after (opening commits) h in let T = (one S e g).state in
+    ensures { (z : Name) (brands : List Tabled) (commits : List Commit) (h : List Entry) (e : Event) (g : Grant)
+        → are_storable commits ≡ true → let S = after (opening brands commits) h in let T = (one S e g).state in
         (zone_state z T ≡ zone_state z S) ⊎ ((subject S e ≡ Zone z) × (may_move (zone_state z S) (zone_state z T) ≡ true)) }
-{}
-
-/// After any history a turn of a zone leaves its daemon fewer turns than it had, whatever it is granted, unless the turn
-/// is idle or waits for a mount that is held. So turns come to an end where nothing more is asked or mounted and no mount
-/// stays held.
-pub fn turns_come_to_an_end()
-    ensures { (z : Name) (commits : List Commit) (h : List Entry) (g : Grant)
-        → let S = after (opening commits) h in let a = one S (Turn z) g in
-        a.reply ≢ says (Turned Idle_turn) → a.reply ≢ says (Turned Stuck) → turns_left (world z a.state) < turns_left (world z S) }
 {}
 
 /// After any history, whatever was granted, each process's privileges lie within its zone's limit set, as
 /// privileges(7) and zones(7) say.
 pub fn sets_lie_within_limits()
-    ensures { (z : Name) (commits : List Commit) (h : List Entry)
-        → within_limit (kernel_of (objects_of (world z (after (opening commits) h)))) ≡ true }
+    ensures { (z : Name) (brands : List Tabled) (commits : List Commit) (h : List Entry)
+        → within_limit (kernel_of (objects_of (world z (after (opening brands commits) h)))) ≡ true }
 {}
 
 /// After any history that begins with storable records, a request under way is of a stored zone.
 pub fn requests_are_of_stored_zones()
-    ensures { (z : Name) (commits : List Commit) (h : List Entry) → are_storable commits ≡ true
-        → job_has_record (world z (after (opening commits) h)) ≡ true }
+    ensures { (z : Name) (brands : List Tabled) (commits : List Commit) (h : List Entry) → are_storable commits ≡ true
+        → job_has_record (world z (after (opening brands commits) h)) ≡ true }
 {}
 
 /// After any history a local turn leaves what zones share exactly as it was.
 pub fn local_turns_leave_what_is_common()
-    ensures { (z : Name) (commits : List Commit) (h : List Entry) (e : Entry)
-        → let S = after (opening commits) h in
+    ensures { (z : Name) (brands : List Tabled) (commits : List Commit) (h : List Entry) (e : Entry)
+        → let S = after (opening brands commits) h in
         is_local z (world z S) e ≡ true → common (one S e.event e.grant).state ≡ common S }
 {}
 
-/// After any history no item is claimed by two zones.
+/// After any history whose grants fit, so after any legal one, no item is claimed by two zones.
 pub fn each_item_has_one_holder()
-    ensures { (commits : List Commit) (h : List Entry) (y z : Name) (c : Claim) → let S = after (opening commits) h in
+    ensures { (brands : List Tabled) (commits : List Commit) (h : List Entry) (y z : Name) (c : Claim) → is_history fits (opening brands commits) h ≡ true
+        → let S = after (opening brands commits) h in
         holds c (world y S).claims ≡ true → holds c (world z S).claims ≡ true → y ≡ z }
 {}

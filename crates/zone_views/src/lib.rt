@@ -1,9 +1,9 @@
 //! What a zone learns of the others: the laws of the zone machine's definitions. Removing all other zones'
 //! entries, grants kept, changes no reply of a zone and none of the whole system; what is declared changes by
-//! declarations alone, and no item is claimed by two zones; from records that a store may hold, zones move only
-//! along the transition table; the turns of a daemon come to an end where no mount stays held; each process's
-//! privileges lie within its zone's limit set; and where the grants fit, those that the pools give fit too, and
-//! each process and zone number is held once. Each law is the contract of a function that does nothing.
+//! declarations alone; from records that a store may hold, zones move only along the transition table; each
+//! process's privileges lie within its zone's limit set; and where the grants fit, those that the pools give fit
+//! too, each process and zone number is held once, and no item is claimed by two zones. Each law is the contract
+//! of a function that does nothing.
 #![tactic(auto)]
 
 mod laws;
@@ -12,6 +12,6 @@ pub use laws::{
     allowed_grants_fit, declarations_are_common, each_item_has_one_holder,
     local_turns_leave_what_is_common, numbers_are_held_once, others_change_nothing,
     own_world_decides, purging_keeps_replies, requests_are_of_stored_zones, runs_are_histories,
-    sets_lie_within_limits, states_move_along_the_table, subjects_agree, turns_come_to_an_end,
-    worlds_are_replayed, zones_share_no_process_number,
+    sets_lie_within_limits, states_move_along_the_table, subjects_agree, worlds_are_replayed,
+    zones_share_no_process_number,
 };

@@ -1,5 +1,9 @@
-pub mod Of_turns
-pub mod First_process
+pub mod Aheads
+pub mod Goings
+pub mod Kernels
+pub mod Lefts
 pub mod Latest
-pub mod Unmounting
+pub mod Turn_kinds
+pub mod Zonepaths
 pub mod Results
+pub mod Of_turns

@@ -3,3 +3,6 @@ pub mod Desks
 pub mod Cases
 pub mod Rooms
 pub mod Works
+pub mod Ahead
+pub mod Locals
+pub mod Shareds

@@ -1,27 +1,36 @@
 -- A zone's desk: the requests that wait for its daemon, and the one under way.
-use Rattle.std.specs.Prelude.{ℕ, ◌+◌, ◌-◌, ◌^◌, ◌++◌, ◌∷◌, ◌==◌, ◌||◌, Bool, length, min, nat_le, List, [], Option, Some, None, unwrap_or}
+use Rattle.std.specs.Prelude.{ℕ, ◌+◌, ◌^◌, ◌-◌, ◌++◌, ◌∷◌, ◌==◌, ◌||◌, Bool, length, min, nat_le, List, [], Option, Some, None, unwrap_or}
 use Rattle.zn_base.specs.declared.state.ZoneState.{ZoneState}
 use Rattle.zoneadmd_steps.specs.declared.desks.TheConstants.{REQUESTS_MAX, TICKET_MAX}
 use Rattle.zoneadmd_steps.specs.declared.requests.Outcome.{Outcome}
-use Rattle.zoneadmd_steps.specs.declared.requests.RequestKind.{RequestKind}
+use Rattle.zoneadmd_steps.specs.declared.requests.Request.{Request}
 use Rattle.zoneadmd_steps.specs.declared.requests.Step.{Step}
 use Rattle.zone_config.specs.declared.terms.Contents.{Contents}
 use Rattle.commit_journal.specs.declared.records.Record.{Record}
 
--- a request under way: the configuration as it began, the steps left and the number of the next one, the steps that a
--- failure undoes, the latest first, and, once a step failed, how the request will end
+-- where a request under way stands: the steps of its plan that are left; or, once a step failed, how the request will end,
+-- and the steps that are still to be undone, the next one first
+pub data Stage : Type 0 where
+  Goes : List Step → Stage
+  Fails : Outcome → List Step → Stage
+
+-- what was done since a request last began: the number of the next step, and what a failure undoes, the latest first
+pub record Progress : Type 0 where
+  pub place : ℕ
+  pub made : List Step
+
+-- a request under way: the configuration as it last began, and what was done since then
 pub record Job : Type 0 where
   pub ticket : ℕ
+  pub request : Request
   pub config : Contents
-  pub left : List Step
-  pub place : ℕ
-  pub undo : List Step
-  pub ending : Option Outcome
+  pub done : Progress
+  pub stage : Stage
 
 -- the last ticket given, the requests that wait, the one under way, and the zone's state where it is none of the stored ones
 pub record Desk : Type 0 where
   pub last : ℕ
-  pub waiting : List (ℕ × RequestKind)
+  pub waiting : List (ℕ × Request)
   pub job : Option Job
   pub active : Option ZoneState
 
@@ -46,5 +55,5 @@ abbrev pub is_full : Desk → Bool
 is_full d = nat_le REQUESTS_MAX (length d.waiting) || d.last == TICKET_MAX
 
 -- one more request waits, under the next ticket
-abbrev pub with_request : Desk → RequestKind → Desk
-with_request d kind = record d { last = d.last + 1; waiting = d.waiting ++ (d.last + 1, kind) ∷ [] }
+abbrev pub with_request : Desk → Request → Desk
+with_request d request = record d { last = d.last + 1; waiting = d.waiting ++ (d.last + 1, request) ∷ [] }

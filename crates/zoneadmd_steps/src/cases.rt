@@ -2,8 +2,7 @@
 //! needs. What is large and rare in it is boxed, so that it is handed on at little cost.
 use crate::desks::Job;
 use crate::objects::changes::{Came, ObjectEdit};
-use crate::requests::{Outcome, RequestKind, Step};
-use zn_base::ZoneState;
+use crate::requests::{Failure, Outcome, Step};
 
 /// A step that is done: the place of the next one, what becomes of the objects, and the step as it is told.
 #[derive(Drop)]
@@ -20,8 +19,10 @@ pub enum JobCase {
     Finish(Outcome),
     /// A step is done.
     Pass(Pass),
-    /// A step asks a pool for what comes; then the plan goes on at this place.
+    /// A step asks pools for what comes; then the plan goes on at this place.
     Ask(Came, usize),
+    /// A step fails.
+    Fail(Failure),
     /// The latest step that is to be undone is undone.
     Undo(ObjectEdit),
     /// The next unmount is of a mount that is held, and nothing changes.
@@ -34,9 +35,11 @@ pub enum TurnCase {
     /// No request waits or is under way.
     Idle,
     /// The first request that waits begins.
-    Begin(Box<Job>, RequestKind),
-    /// The first request that waits, of this ticket, may not begin in this state.
-    Refuse(u32, ZoneState),
+    Begin(Box<Job>),
+    /// The first request that waits, of this ticket, doesn't begin.
+    Refuse(u32, Outcome),
+    /// A reboot goes on as a boot.
+    Again(Box<Job>),
     /// The request under way goes on.
     GoOn(JobCase),
 }

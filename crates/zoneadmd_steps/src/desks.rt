@@ -1,14 +1,16 @@
 //! A zone's desk: the requests that wait, and the one under way.
-ghost use Rattle.std.specs.Prelude.{◌+◌, ◌<◌, ◌∷◌, ◌≡◌, [], OnOk, Some, drop, false, length, true};
-ghost use Rattle.zoneadmd_steps.specs.Code.Cases.{IsTurnOf, turn_decision_of};
-ghost use Rattle.zoneadmd_steps.specs.Code.Rooms.{HasRequestRoom, HasTurnRoom, HasUndoRoom};
-ghost use Rattle.zoneadmd_steps.specs.Desks.{empty_desk, is_full, next_place, with_request};
-ghost use Rattle.zoneadmd_steps.specs.Code.Desks.{as_desk, as_job};
-ghost use Rattle.zoneadmd_steps.specs.Plans.{undo_after};
+ghost use Rattle.std.specs.Prelude.{◌+◌, ◌-◌, ◌<◌, ◌≤◌, ◌∷◌, ◌≡◌, [], IsSomeAnd, None, OnOk, Some, drop, false, length, reverse, slice_get, true};
+ghost use Rattle.zoneadmd_steps.specs.Code.Cases.{IsInPlan, IsTurnOf, turn_decision_of};
+ghost use Rattle.zoneadmd_steps.specs.Code.Rooms.{HasMadeRoom, HasRequestRoom, HasTurnRoom};
+ghost use Rattle.zoneadmd_steps.specs.Desks.{Fails, Goes, empty_desk, is_full, with_request};
+ghost use Rattle.zoneadmd_steps.specs.Turns.{with_step};
+ghost use Rattle.zoneadmd_steps.specs.Code.Desks.{as_desk, as_job, as_outcome};
+ghost use Rattle.zoneadmd_steps.specs.Plans.{made_after};
 
 use crate::cases::{JobCase, TurnCase};
-use crate::requests::{Outcome, RequestKind, Step};
+use crate::requests::{Failure, Request, Step};
 use std::alloc::{AllocError, Global};
+use std::mem;
 use zn_base::ZoneState;
 use zone_config::ZoneConfig;
 
@@ -22,17 +24,18 @@ pub(crate) const TICKET_MAX: u32 = u32::MAX;
 #[derive(Drop)]
 pub struct Job {
     pub(crate) ticket: u32,
-    /// The configuration as the request began.
+    pub(crate) request: Request,
+    /// The configuration as the request last began.
     pub(crate) config: ZoneConfig,
-    /// The whole plan, and the place of the next step in it.
+    /// The whole plan, and the place of the next step in it. A step that a failure undoes is taken out once it is done.
     pub(crate) steps: Vec<Step>,
     pub(crate) at: usize,
     /// The number of the next step, from 1. It stands still at its type's end.
     pub(crate) place: u32,
     /// What a failure undoes, the latest last.
-    pub(crate) undo: Vec<Step>,
-    /// How the request will end, once a step failed.
-    pub(crate) ending: Option<Outcome>,
+    pub(crate) made: Vec<Step>,
+    /// Why the request will end, once a step failed.
+    pub(crate) failure: Option<Failure>,
 }
 
 /// A zone's desk.
@@ -40,7 +43,7 @@ pub struct Job {
 pub struct Desk {
     /// The last ticket given.
     pub(crate) last: u32,
-    pub(crate) waiting: Vec<(u32, RequestKind)>,
+    pub(crate) waiting: Vec<(u32, Request)>,
     pub(crate) job: Option<Job>,
     /// The zone's state, where it is none of the stored ones.
     pub(crate) active: Option<ZoneState>,
@@ -99,58 +102,85 @@ impl Desk {
     {
         match (case, &mut self.job) {
             (TurnCase::GoOn(JobCase::Pass(_) | JobCase::Ask(_, _)), Some(job)) => {
-                job.undo.reserve(1)
+                job.made.reserve(1)
             }
             _ => Ok(()),
         }
     }
 
     /// One more request waits, under the ticket that is answered.
-    pub fn put(&mut self, kind: RequestKind) -> u32
+    pub fn put(&mut self, request: Request) -> u32
         requires of { is_full (as_desk self.old) ≡ false }
         requires room { HasRequestRoom self.old }
-        ensures desk { as_desk self.new ≡ with_request (as_desk self.old) kind }
+        ensures desk { as_desk self.new ≡ with_request (as_desk self.old) request }
         ensures ticket { result ≡ (as_desk self.old).last + 1 }
     {
         let ticket = self.last + 1;
-        self.waiting.push_reserved((ticket, kind));
+        self.waiting.push_reserved((ticket, request));
         self.last = ticket;
         ticket
     }
 }
 
 impl Job {
-    /// A step is done: the plan goes on at a place, and a failure may have to undo the step.
-    pub(crate) fn pass(&mut self, next: usize, shown: &Step)
-        requires { HasUndoRoom self.old }
-        ensures { as_job self.new ≡ record (as_job self.old) { left = drop next self.old.steps.items; place = next_place self.old.place; undo = undo_after shown.now (as_job self.old).undo } }
+    // The step before a place is taken out of the plan, where nothing looks at it any more.
+    fn take_step(&mut self, next: usize) -> Step
+        requires bound { (0 < next) × (next ≤ length self.old.steps.items) }
+        ensures step { slice_get self.old.steps.items (next - 1) ≡ Some result }
+        ensures rest { drop next self.new.steps.items ≡ drop next self.old.steps.items }
+        ensures same { self.new ≡ record self.old { steps = self.new.steps } }
+    {
+        mem::replace(&mut self.steps[next - 1], Step::Moved)
+    }
+
+    // What a failure undoes of a step that is done.
+    fn keep(&mut self, next: usize, shown: &Step)
+        requires room { HasMadeRoom self.old }
+        requires planned { IsInPlan self.old.steps.items next shown.now }
+        ensures made { reverse self.new.made.items ≡ made_after shown.now (reverse self.old.made.items) }
+        ensures rest { drop next self.new.steps.items ≡ drop next self.old.steps.items }
+        ensures same { self.new ≡ record self.old { steps = self.new.steps; made = self.new.made } }
     {
         match shown {
-            Step::Zid(number) => self.undo.push_reserved(Step::Zid(*number)),
-            Step::Limits => self.undo.push_reserved(Step::Limits),
-            Step::Devices(count) => self.undo.push_reserved(Step::Devices(*count)),
-            Step::Root => self.undo.push_reserved(Step::Root),
-            Step::State(ZoneState::Ready) => self.undo.clear(),
+            Step::Zid(number) => self.made.push_reserved(Step::Zid(*number)),
+            Step::Limits => self.made.push_reserved(Step::Limits),
+            Step::Devices(count) => self.made.push_reserved(Step::Devices(*count)),
+            Step::Root => self.made.push_reserved(Step::Root),
+            Step::Mounted(_) | Step::Claimed(_) => {
+                let done = self.take_step(next);
+                self.made.push_reserved(done);
+            }
+            Step::State(ZoneState::Ready) => self.made.clear(),
             _ => {}
         }
+    }
+
+    /// A step is done: the plan goes on at a place, and a failure may have to undo the step.
+    pub(crate) fn pass(&mut self, next: usize, shown: &Step)
+        requires goes { self.old.failure ≡ None }
+        requires room { HasMadeRoom self.old }
+        requires planned { IsInPlan self.old.steps.items next shown.now }
+        ensures { as_job self.new ≡ record (as_job self.old) { done = with_step shown.now (as_job self.old).done; stage = Goes (drop next self.old.steps.items) } }
+    {
+        self.keep(next, shown);
         self.place = self.place.saturating_add(1);
         self.at = next;
     }
 
     /// A step failed, and the request will end so.
-    pub(crate) fn fail(&mut self, outcome: Outcome)
-        ensures { as_job self.new ≡ record (as_job self.old) { left = []; ending = Some outcome } }
+    pub(crate) fn fail(&mut self, failure: Failure)
+        requires { self.old.failure ≡ None }
+        ensures { as_job self.new ≡ record (as_job self.old) { done = record (as_job self.old).done { made = [] }; stage = Fails (as_outcome failure) (as_job self.old).done.made } }
     {
-        self.at = self.steps.len();
-        self.ending = Some(outcome);
+        self.failure = Some(failure);
     }
 
     /// The latest step that is to be undone is taken off.
-    pub(crate) fn take_undo(&mut self) -> Step
-        requires { 0 < length self.old.undo.items }
-        ensures undo { (as_job self.old).undo ≡ result ∷ (as_job self.new).undo }
-        ensures rest { as_job self.new ≡ record (as_job self.old) { undo = (as_job self.new).undo } }
+    pub(crate) fn take_made(&mut self) -> Step
+        requires { IsSomeAnd self.old.failure (λ f. 0 < length self.old.made.items) }
+        ensures { IsSomeAnd self.old.failure (λ f. ((as_job self.old).stage ≡ Fails (as_outcome f) (result ∷ reverse self.new.made.items))
+            × (as_job self.new ≡ record (as_job self.old) { stage = Fails (as_outcome f) (reverse self.new.made.items) })) }
     {
-        self.undo.take_last()
+        self.made.take_last()
     }
 }

@@ -1,7 +1,9 @@
-//! The objects of the kernel that zones own.
+//! The objects of the kernel that zones own, and what a daemon finds on the system.
 pub(crate) mod changes;
 
-use kernel_objects::KernelCell;
+use brand_hooks::BrandTables;
+use datalink_table::ClaimCell;
+use kernel_objects::{KernelCell, KernelShared};
 use loopback_mounts::MountCell;
 
 /// The objects of one zone.
@@ -9,4 +11,12 @@ use loopback_mounts::MountCell;
 pub struct Objects<'z> {
     pub kernel: &'z KernelCell,
     pub mounts: &'z MountCell,
+    pub claims: &'z ClaimCell,
+}
+
+/// What a daemon finds on the system: the declared devices, and the brands without their hooks.
+#[derive(Clone, Copy)]
+pub struct System<'s> {
+    pub kernel: &'s KernelShared,
+    pub brands: &'s BrandTables,
 }

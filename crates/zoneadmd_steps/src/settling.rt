@@ -1,19 +1,22 @@
 //! How a turn is settled: the desk changes, and what else is to be done is told. No memory is taken, and nothing fails.
-ghost use Rattle.std.specs.Prelude.{◌<◌, ◌≡◌, IfSome, None, Option, Some, drop, length, ℕ};
+ghost use Rattle.std.specs.Prelude.{◌<◌, ◌≡◌, IfSome, None, Option, Some, drop, length, true, ℕ};
 ghost use Rattle.zn_base.specs.Names.{Name};
 ghost use Rattle.zone_pools.specs.Decisions as decisions;
 ghost use Rattle.zoneadmd_steps.specs.Arrivals.{arrived, in_store};
-ghost use Rattle.zoneadmd_steps.specs.Code.Cases.{IsJobCase, IsNamedCame, IsNamedJobCase, IsNamedTurn, IsTurnOf, active_with, comes_of, job_objects, job_turn, shown_under, turn_decision_of, turn_objects};
+ghost use Rattle.zoneadmd_steps.specs.Code.Cases.{IsJobCase, IsNamedCame, IsNamedJobCase, IsNamedTurn, IsTurnOf, active_with, comes_of, edits_under, job_active, job_objects, job_turn, mount_in, object_edits, shown_under, turn_active, turn_decision_of, turn_objects};
 ghost use Rattle.zoneadmd_steps.specs.Code.Desks.{as_desk, as_job};
-ghost use Rattle.zoneadmd_steps.specs.Code.Rooms.{HasJobRoom, HasTurnRoom, HasUndoRoom};
+ghost use Rattle.zoneadmd_steps.specs.Code.Rooms.{HasJobRoom, HasMadeRoom, HasTurnRoom};
 ghost use Rattle.zoneadmd_steps.specs.Code.Works.{arrival_of, rest_of_turn, turn_work, unless_ended};
 ghost use Rattle.zoneadmd_steps.specs.Desks as desks;
+ghost use Rattle.std.specs.List.{list_all};
+ghost use Rattle.zoneadmd_steps.specs.Local.{is_of_own};
+ghost use Rattle.zoneadmd_steps.specs.Plans.{kind_of};
 ghost use Rattle.zoneadmd_steps.specs.Turns.{active_after};
 
 use crate::cases::{JobCase, TurnCase};
 use crate::desks::{Desk, Job};
 use crate::objects::changes::{Came, ObjectEdit};
-use crate::requests::{Outcome, RequestKind, Step, TurnReply};
+use crate::requests::{Failure, Outcome, Request, Step, TurnReply};
 use commit_journal::Record;
 use zn_base::{ZoneName, ZoneState};
 use zone_pools::{Grant, number_in};
@@ -80,48 +83,66 @@ fn active_with(shown: &Step, active: Option<ZoneState>) -> Option<ZoneState>
     }
 }
 
-// The step that asked for what comes, as it is told under the number.
-fn shown_under(it: &Came, number: u32) -> Step
-    ensures { result ≡ shown_under it.now number }
+// The step that asked for what comes, as it is told under the number, what it does beside, and what is stored. A process, an id
+// and a claim have come to the kernel already.
+fn given(it: Came, number: u32) -> (Step, ObjectEdit, Option<Stored>)
+    ensures shown { result.0 ≡ shown_under it number }
+    ensures edits { object_edits result.1 ≡ edits_under it }
+    ensures mounts { mount_in result.1 ≡ None }
+    ensures own { list_all is_of_own (object_edits result.1) ≡ true }
+    ensures stored { arrival_of result.2 ≡ in_store (Some (arrived (comes_of it) number)) }
+    ensures named { (z : Name) → IsNamedCame z it → IfSome result.2 (λ s. s.owner ≡ z) }
 {
     match it {
-        Came::Process(_) => Step::Init(Some(number)),
-        Came::Id => Step::Zid(Some(number)),
-        Came::Record(row, _) => Step::Record(row.state),
+        Came::Process(_, args) => (
+            Step::Init(Some(number)),
+            ObjectEdit::SetBootargs(args),
+            None,
+        ),
+        Came::Id => (Step::Zid(Some(number)), ObjectEdit::Nothing, None),
+        Came::Claim(claim) => (Step::Claimed(claim), ObjectEdit::Nothing, None),
+        Came::Record(row, owner) => (
+            Step::Record(row.state),
+            ObjectEdit::Nothing,
+            Some(Stored { row, owner }),
+        ),
+        Came::Moved(mut row, owner, _) => {
+            row.revision = number;
+            (
+                Step::Moved,
+                ObjectEdit::Nothing,
+                Some(Stored { row, owner }),
+            )
+        }
+        Came::Source(source) => (Step::Source(source), ObjectEdit::Nothing, None),
     }
 }
 
-// What comes is stored, where it is a record. A process and an id have come to the kernel already.
-fn record_of(it: Came) -> Option<Stored>
-    ensures stored { (n : ℕ) → arrival_of result ≡ in_store (Some (arrived (comes_of it) n)) }
-    ensures named { (z : Name) → IsNamedCame z it → IfSome result (λ s. s.owner ≡ z) }
-{
-    match it {
-        Came::Record(row, owner) => Some(Stored { row, owner }),
-        Came::Process(_) | Came::Id => None,
-    }
-}
-
-// A step asks a pool for what comes.
+// A step asks pools for what comes.
 fn ask(job: &mut Job, it: Came, next: usize, grant: Grant) -> TurnWork
-    requires { HasUndoRoom job.old }
+    requires of { IsJobCase job.old (JobCase.Ask it next) }
+    requires room { HasMadeRoom job.old }
     ensures act { (d : desks.Desk) → rest_of_turn (decisions.act_of arrived (job_turn d job.old (JobCase.Ask it next)) grant) ≡ turn_work result (record d { job = unless_ended result.ended (as_job job.new) }) }
-    ensures objects { result.objects ≡ ObjectEdit.Nothing }
+    ensures mounts { mount_in result.objects ≡ None }
+    ensures own { list_all is_of_own (object_edits result.objects) ≡ true }
     ensures named { (z : Name) → IsNamedCame z it → IfSome result.stored (λ s. s.owner ≡ z) }
 {
     match number_in(grant) {
         Ok(number) => {
-            let shown = shown_under(&it, number);
+            let (shown, objects, stored) = given(it, number);
             job.pass(next, &shown);
             TurnWork {
-                stored: record_of(it),
-                ..TurnWork::turned(ObjectEdit::Nothing, TurnReply::Stepped(shown))
+                stored,
+                ..TurnWork::turned(objects, TurnReply::Stepped(shown))
             }
         }
         Err(pool) => {
-            let outcome = Outcome::Denied(pool);
-            job.fail(outcome);
-            TurnWork::turned(ObjectEdit::Nothing, TurnReply::Failed(job.place, outcome))
+            let failure = Failure::Denied(pool);
+            job.fail(failure);
+            TurnWork::turned(
+                ObjectEdit::Nothing,
+                TurnReply::Failed(job.place, failure.outcome()),
+            )
         }
     }
 }
@@ -136,7 +157,9 @@ fn settle_job(
     requires of { IsJobCase job.old case }
     requires room { HasJobRoom job.old case }
     ensures act { (d : desks.Desk) → d.job ≡ Some (as_job job.old) → d.active ≡ active.old → rest_of_turn (decisions.act_of arrived (job_turn d job.old case) grant) ≡ turn_work result (record d { job = unless_ended result.ended (as_job job.new); active = active.new }) }
-    ensures objects { result.objects ≡ job_objects case }
+    ensures mounts { mount_in result.objects ≡ mount_in (job_objects case) }
+    ensures own { list_all is_of_own (object_edits (job_objects case)) ≡ true → list_all is_of_own (object_edits result.objects) ≡ true }
+    ensures active { active.new ≡ job_active case active.old }
     ensures named { (z : Name) → IsNamedJobCase z case → IfSome result.stored (λ s. s.owner ≡ z) }
 {
     match case {
@@ -147,27 +170,38 @@ fn settle_job(
             TurnWork::turned(pass.objects, TurnReply::Stepped(pass.shown))
         }
         JobCase::Ask(it, next) => ask(job, it, next, grant),
+        JobCase::Fail(failure) => {
+            job.fail(failure);
+            TurnWork::turned(
+                ObjectEdit::Nothing,
+                TurnReply::Failed(job.place, failure.outcome()),
+            )
+        }
         JobCase::Undo(objects) => {
-            let shown = job.take_undo();
+            let shown = job.take_made();
             TurnWork::turned(objects, TurnReply::Undone(shown))
         }
         JobCase::Stuck => TurnWork::turned(ObjectEdit::Nothing, TurnReply::Stuck),
     }
 }
 
-fn drop_first(waiting: &mut Vec<(u32, RequestKind)>)
+fn drop_first(waiting: &mut Vec<(u32, Request)>)
     requires { 0 < length waiting.old.items }
     ensures { waiting.new.items ≡ drop 1 waiting.old.items }
 {
     waiting.remove(0);
 }
 
-// A request is under way from now on.
+// A request is under way from now on: what is told.
 #[inline(never)]
-fn put_job(desk: &mut Desk, job: Box<Job>)
-    ensures { desk.new ≡ record desk.old { job = Some job.value } }
+fn put_job(desk: &mut Desk, job: Box<Job>) -> TurnWork
+    ensures desk { desk.new ≡ record desk.old { job = Some job.value } }
+    ensures work { result ≡ record { stored = None; objects = ObjectEdit.Nothing; ended = None; reply = TurnReply.Began job.value.ticket (kind_of job.value.request) } }
 {
+    let ticket = job.ticket;
+    let kind = job.request.kind();
     desk.job = Some(Box::into_inner(job));
+    TurnWork::turned(ObjectEdit::Nothing, TurnReply::Began(ticket, kind))
 }
 
 // No request is under way any more.
@@ -183,22 +217,23 @@ pub fn settle_turn(desk: &mut Desk, case: TurnCase, grant: Grant) -> TurnWork
     requires of { IsTurnOf desk.old case }
     requires room { HasTurnRoom desk.old case }
     ensures act { rest_of_turn (decisions.act_of arrived (turn_decision_of desk.old case) grant) ≡ turn_work result (as_desk desk.new) }
-    ensures objects { result.objects ≡ turn_objects case }
+    ensures mounts { mount_in result.objects ≡ mount_in (turn_objects case) }
+    ensures own { list_all is_of_own (object_edits (turn_objects case)) ≡ true → list_all is_of_own (object_edits result.objects) ≡ true }
+    ensures active { desk.new.active ≡ turn_active case desk.old.active }
     ensures named { (z : Name) → IsNamedTurn z case → IfSome result.stored (λ s. s.owner ≡ z) }
 {
     match case {
         TurnCase::Idle => TurnWork::turned(ObjectEdit::Nothing, TurnReply::Idle),
-        TurnCase::Begin(job, kind) => {
-            let ticket = job.ticket;
+        TurnCase::Begin(job) => {
             drop_first(&mut desk.waiting);
-            put_job(desk, job);
-            TurnWork::turned(ObjectEdit::Nothing, TurnReply::Began(ticket, kind))
+            put_job(desk, job)
         }
-        TurnCase::Refuse(ticket, state) => {
+        TurnCase::Refuse(ticket, outcome) => {
             drop_first(&mut desk.waiting);
             end_job(desk);
-            TurnWork::finished(ticket, Outcome::WrongState(state))
+            TurnWork::finished(ticket, outcome)
         }
+        TurnCase::Again(job) => put_job(desk, job),
         TurnCase::GoOn(case) => match &mut desk.job {
             Some(job) => {
                 let work = settle_job(job, &mut desk.active, case, grant);

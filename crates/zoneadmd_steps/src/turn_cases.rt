@@ -1,231 +1,295 @@
 //! What the next turn of a zone's daemon comes to.
-ghost use Rattle.std.specs.Prelude.{◌<◌, ◌∷◌, ◌≡◌, [], IfOk, List, MatchOption, None, codes, drop, length, true, ◌-◌};
-ghost use Rattle.std.specs.List.{list_all};
+ghost use Rattle.std.specs.Prelude.{◌≡◌, ◌∷◌, [], IfOk, IfSome, List, MatchOption, None, Option, Some, drop, true};
 ghost use Rattle.std.specs.Option.{option_map};
-ghost use Rattle.zn_base.specs.Names.{Name};
-ghost use Rattle.loopback_mounts.specs.Mounts.{is_held, mount_at};
 ghost use Rattle.loopback_mounts.specs.declared.mount.MountEntry as entries;
+ghost use Rattle.zn_base.specs.Names.{Name};
 ghost use Rattle.zone_pools.specs.Decisions.{Just};
-ghost use Rattle.zoneadmd_steps.specs.Code.Cases.{IsFreeFor, IsJobCase, IsNamedJobCase, IsNamedTurn, IsTurnOf, job_turn, job_objects, object_edits, as_objects, turn_decision_of, turn_objects};
-ghost use Rattle.zoneadmd_steps.specs.Desks as desks;
-ghost use Rattle.zoneadmd_steps.specs.Objects.{ids_of};
+ghost use Rattle.zoneadmd_steps.specs.Code.Cases.{IsFreeFor, IsJobCase, IsNamedJobCase, IsNamedTurn, IsTurnOf, as_objects, job_objects, job_turn, next_answer, object_edits, turn_decision_of, turn_objects};
 ghost use Rattle.zoneadmd_steps.specs.Code.Desks.{as_desk, as_job};
-ghost use Rattle.zoneadmd_steps.specs.Plans.{plan};
-ghost use Rattle.zoneadmd_steps.specs.Turns.{goes_on, is_stuck, next_request, turn, turn_at, undo, undo_edits};
-ghost use Rattle.zoneadmd_steps.specs.Local.{is_local_turn, is_local_undo, is_of_own};
+ghost use Rattle.zoneadmd_steps.specs.Code.Shareds.{begun_or, case_turn, is_apart, seen_by};
+ghost use Rattle.zoneadmd_steps.specs.Desks as desks;
+ghost use Rattle.zoneadmd_steps.specs.Desks.{Goes};
+ghost use Rattle.zoneadmd_steps.specs.Plans.{kind_of, plan, refusal};
+ghost use Rattle.zoneadmd_steps.specs.Turns as turns;
+ghost use Rattle.zoneadmd_steps.specs.Turns.{begin, local_turn, next, next_request, no_progress, over, shared_next, shared_stage, shared_turn, started, turn, undo_edits};
+ghost use Rattle.zoneadmd_steps.specs.declared.desks.Desk as desk_types;
 ghost use Rattle.zoneadmd_steps.specs.declared.desks.Job as job_types;
 
+use crate::ahead::{Ahead, find_ahead};
 use crate::cases::{JobCase, TurnCase};
+use crate::checks::refusal;
 use crate::desks::{Desk, Job};
-use crate::objects::Objects;
+use crate::local_cases::{latest, local_case};
 use crate::objects::changes::ObjectEdit;
-use crate::plan_cases::{plan_case, root_dir};
-use crate::plans::{may_begin, plan};
-use crate::requests::{Outcome, RequestKind, Step};
+use crate::objects::{Objects, System};
+use crate::plans::plan;
+use crate::requests::{Failure, Outcome, Request, Step};
+use crate::shared_cases::{copy_config, release, step_case};
+use brand_hooks::{BrandTables, HookAnswer};
 use commit_journal::Record;
-use kernel_objects::KernelCell;
-use loopback_mounts::MountCell;
 use std::alloc::{AllocError, Global};
-use zn_base::{ZoneName, ZoneState};
-use zone_config::ZoneConfig;
-
-// What undoes a step.
-fn undoing(alloc: Global, shown: &Step) -> Result<ObjectEdit, AllocError>
-    ensures edits { IfOk result (λ objects. object_edits objects ≡ undo_edits shown.now) }
-    ensures free { IfOk result (λ objects. (ms : List entries.MountEntry) → IsFreeFor objects ms) }
-{
-    match shown {
-        Step::Zid(_) => Ok(ObjectEdit::EndIds),
-        Step::Limits => Ok(ObjectEdit::ClearLimits),
-        Step::Root => Ok(ObjectEdit::Unmount(root_dir(alloc)?)),
-        _ => Ok(ObjectEdit::Nothing),
-    }
-}
-
-// Whether the mount at the root is held.
-fn is_root_held(alloc: Global, mounts: &MountCell) -> Result<bool, AllocError>
-    ensures { IfOk result (λ held. held ≡ is_held (mount_at (codes "/") mounts.now.list)) }
-{
-    let root = root_dir(alloc)?;
-    match mounts.find(&root) {
-        Some(entry) => Ok(entry.held),
-        None => Ok(false),
-    }
-}
-
-// Whether undoing a step would unmount a root that is held.
-fn is_stuck(alloc: Global, shown: &Step, mounts: &MountCell) -> Result<bool, AllocError>
-    ensures { IfOk result (λ stuck. stuck ≡ is_stuck shown.now mounts.now.list) }
-{
-    match shown {
-        Step::Root => is_root_held(alloc, mounts),
-        _ => Ok(false),
-    }
-}
-
-/// A step is undone, unless that would unmount a root that is held.
-pub(crate) fn undo_step(
-    alloc: Global,
-    shown: &Step,
-    mounts: &MountCell,
-) -> Result<JobCase, AllocError>
-    ensures decides { IfOk result (λ c. (d : desks.Desk) (j : job_types.Job) (e : Outcome) (rest : List Step) → (as_job j).undo ≡ shown.now ∷ rest
-        → Just (undo d (as_job j) e mounts.now.list (as_job j).undo) ≡ job_turn d j c) }
-    ensures local { IfOk result (λ c. (d : desks.Desk) (j : job_types.Job) (rest : List Step) → (as_job j).undo ≡ shown.now ∷ rest
-        → is_local_undo shown.now ≡ true → is_local_turn (job_turn d j c) ≡ true) }
-    ensures own { IfOk result (λ c. is_local_undo shown.now ≡ true → list_all is_of_own (object_edits (job_objects c)) ≡ true) }
-    ensures of { IfOk result (λ c. (j : job_types.Job) → 0 < length j.undo.items → IsJobCase j c) }
-    ensures free { IfOk result (λ c. (ms : List entries.MountEntry) → IsFreeFor (job_objects c) ms) }
-    ensures named { IfOk result (λ c. (z : Name) → IsNamedJobCase z c) }
-{
-    if is_stuck(alloc, shown, mounts)? {
-        return Ok(JobCase::Stuck);
-    }
-    let objects = undoing(alloc, shown)?;
-    Ok(JobCase::Undo(objects))
-}
-
-// One step back, or the end of the request where none is left.
-#[inline(never)]
-fn undo_case(
-    alloc: Global,
-    job: &Job,
-    outcome: Outcome,
-    mounts: &MountCell,
-) -> Result<JobCase, AllocError>
-    ensures decides { IfOk result (λ c. (d : desks.Desk) → Just (undo d (as_job job.now) outcome mounts.now.list (as_job job.now).undo) ≡ job_turn d job.now c) }
-    ensures of { IfOk result (IsJobCase job.now) }
-    ensures free { IfOk result (λ c. (ms : List entries.MountEntry) → IsFreeFor (job_objects c) ms) }
-    ensures named { IfOk result (λ c. (z : Name) → IsNamedJobCase z c) }
-{
-    match job.undo.split_last() {
-        Some((shown, _)) => undo_step(alloc, shown, mounts),
-        None => Ok(JobCase::Finish(outcome)),
-    }
-}
-
-// The request under way goes on.
-fn job_case(
-    alloc: Global,
-    zone: &ZoneName,
-    job: &Job,
-    row: &Record,
-    objects: Objects<'_>,
-) -> Result<JobCase, AllocError>
-    ensures decides { IfOk result (λ c. (d : desks.Desk) → goes_on (as_objects objects.entry) d (as_job job.now) row.now (as_job job.now).ending ≡ job_turn d job.now c) }
-    ensures of { IfOk result (IsJobCase job.now) }
-    ensures free { IfOk result (λ c. IsFreeFor (job_objects c) objects.entry.mounts.now.list) }
-    ensures named { IfOk result (IsNamedJobCase zone.now) }
-{
-    match job.ending {
-        Some(outcome) => undo_case(alloc, job, outcome, objects.mounts),
-        None => plan_case(alloc, zone, job, job.at, row, objects),
-    }
-}
-
-fn copy_config(alloc: Global, config: &ZoneConfig) -> Result<ZoneConfig, AllocError>
-    ensures { IfOk result (λ copy. copy ≡ config.now) }
-{
-    match config.copy(alloc) {
-        Ok(copy) => Ok(copy),
-        Err(_) => Err(AllocError),
-    }
-}
+use zn_base::{Text, ZoneName, ZoneState};
 
 // The request that begins in a state.
 #[inline(never)]
 fn new_job(
     alloc: Global,
     ticket: u32,
-    kind: RequestKind,
+    request: Request,
     state: ZoneState,
     row: &Record,
 ) -> Result<Box<Job>, AllocError>
-    ensures { IfOk result (λ job. as_job job.value ≡ record { ticket = ticket; config = row.now.config; left = plan kind state; place = 1; undo = []; ending = None }) }
+    ensures { IfOk result (λ job. as_job job.value ≡ record { ticket = ticket; request = request; config = row.now.config; done = no_progress; stage = Goes (plan request state row.now.config) }) }
 {
     let config = copy_config(alloc, &row.config)?;
+    let steps = plan(alloc, &request, state, &config)?;
     let job = Job {
         ticket,
+        request,
         config,
-        steps: plan(alloc, kind, state)?,
+        steps,
         at: 0,
         place: 1,
-        undo: Vec::new(alloc),
-        ending: None,
+        made: Vec::new(alloc),
+        failure: None,
     };
     Ok(Box::new(alloc, job)?)
 }
 
-fn first_waiting(waiting: &[(u32, RequestKind)]) -> Option<(u32, RequestKind)>
-    ensures { MatchOption result (waiting.now ≡ []) (λ w. waiting.now ≡ w ∷ drop 1 waiting.now) }
+// A request begins in a state, or why it doesn't.
+fn begin(
+    alloc: Global,
+    brands: &BrandTables,
+    ticket: u32,
+    request: Request,
+    state: ZoneState,
+    row: &Record,
+) -> Result<Result<Box<Job>, Outcome>, AllocError>
+    ensures { IfOk result (λ r. (d : desks.Desk) → started d ticket request state row.now (refusal brands.now (kind_of request) state row.now.config) ≡ begun_or d ticket r) }
 {
-    if waiting.is_empty() {
-        None
-    } else {
-        Some(waiting[0])
+    match refusal(alloc, brands, request.kind(), state, &row.config)? {
+        Some(outcome) => Ok(Err(outcome)),
+        None => Ok(Ok(new_job(alloc, ticket, request, state, row)?)),
     }
 }
 
-// The first request that waits begins, or may not begin in the zone's state.
+fn first_waiting(waiting: &[(u32, Request)]) -> Option<(u32, &Request)>
+    ensures { MatchOption result (waiting.now ≡ []) (λ w. waiting.now ≡ (w.0, w.1.now) ∷ drop 1 waiting.now) }
+{
+    match waiting {
+        [] => None,
+        [first, ..] => Some((first.0, &first.1)),
+    }
+}
+
+// The first request that waits begins, or doesn't.
 #[inline(never)]
-fn first_case(alloc: Global, desk: &Desk, row: &Record) -> Result<TurnCase, AllocError>
-    ensures decides { IfOk result (λ c. Just (next_request (as_desk desk.now) (as_desk desk.now).waiting row.now) ≡ turn_decision_of desk.now c) }
+fn first_case(
+    alloc: Global,
+    desk: &Desk,
+    row: &Record,
+    brands: &BrandTables,
+) -> Result<TurnCase, AllocError>
+    ensures decides { IfOk result (λ c. next_request brands.now (as_desk desk.now) (as_desk desk.now).waiting (Some row.now) ≡ turn_decision_of desk.now c) }
     ensures of { IfOk result (IsTurnOf desk.now) }
     ensures free { IfOk result (λ c. (ms : List entries.MountEntry) → IsFreeFor (turn_objects c) ms) }
     ensures named { IfOk result (λ c. (z : Name) → IsNamedTurn z c) }
 {
-    let Some((ticket, kind)) = first_waiting(&desk.waiting) else {
+    let Some((ticket, request)) = first_waiting(&desk.waiting) else {
         return Ok(TurnCase::Idle);
     };
+    let request = request.copy(alloc)?;
     let state = desk.active.unwrap_or(row.state);
-    if may_begin(kind, state) {
-        let job = new_job(alloc, ticket, kind, state, row)?;
-        Ok(TurnCase::Begin(job, kind))
-    } else {
-        Ok(TurnCase::Refuse(ticket, state))
+    match begin(alloc, brands, ticket, request, state, row)? {
+        Ok(job) => Ok(TurnCase::Begin(job)),
+        Err(outcome) => Ok(TurnCase::Refuse(ticket, outcome)),
     }
 }
 
-// A turn in a zone that is stored.
-fn stored_case(
+// A reboot goes on as a boot of the zone as it is stored then, or ends.
+#[inline(never)]
+#[tactic(auto, using(crate::proofs::Goings::on_it))]
+fn again(
+    alloc: Global,
+    desk: &Desk,
+    job: &Job,
+    args: &Text,
+    row: &Record,
+    brands: &BrandTables,
+) -> Result<TurnCase, AllocError>
+    requires { desk.now.job ≡ Some job.now }
+    ensures decides { IfOk result (λ c. Just (begin brands.now (as_desk desk.now) job.now.ticket (Request.Boot args.now) row.now) ≡ turn_decision_of desk.now c) }
+    ensures of { IfOk result (IsTurnOf desk.now) }
+    ensures free { IfOk result (λ c. (ms : List entries.MountEntry) → IsFreeFor (turn_objects c) ms) }
+    ensures named { IfOk result (λ c. (z : Name) → IsNamedTurn z c) }
+{
+    let request = Request::Boot(args.copy(alloc)?);
+    let state = desk.active.unwrap_or(row.state);
+    match begin(alloc, brands, job.ticket, request, state, row)? {
+        Ok(job) => Ok(TurnCase::Again(job)),
+        Err(outcome) => Ok(TurnCase::GoOn(JobCase::Finish(outcome))),
+    }
+}
+
+// A plan is over: a reboot goes on as a boot, and any other request ends.
+#[tactic(auto, using(crate::proofs::Goings::on_it))]
+fn over_case(
+    alloc: Global,
+    desk: &Desk,
+    job: &Job,
+    row: Option<&Record>,
+    brands: &BrandTables,
+) -> Result<TurnCase, AllocError>
+    requires { desk.now.job ≡ Some job.now }
+    ensures decides { IfOk result (λ c. over brands.now (as_desk desk.now) (as_job job.now) (option_map (λ r. r.now) row.entry) job.now.request ≡ turn_decision_of desk.now c) }
+    ensures of { IfOk result (IsTurnOf desk.now) }
+    ensures free { IfOk result (λ c. (ms : List entries.MountEntry) → IsFreeFor (turn_objects c) ms) }
+    ensures named { IfOk result (λ c. (z : Name) → IsNamedTurn z c) }
+{
+    if let (Request::Reboot(args), Some(row)) = (&job.request, row) {
+        return again(alloc, desk, job, args, row, brands);
+    }
+    Ok(TurnCase::GoOn(JobCase::Finish(Outcome::Done)))
+}
+
+// The request under way goes on; without a case there is no work.
+fn go_on(case: Option<JobCase>) -> TurnCase
+    ensures decides { (d : desk_types.Desk) (j : job_types.Job) → d.job ≡ Some j → case_turn (as_desk d) j case ≡ turn_decision_of d result }
+    ensures of { (d : desk_types.Desk) (j : job_types.Job) → d.job ≡ Some j → IfSome case (IsJobCase j) → IsTurnOf d result }
+    ensures free { (ms : List entries.MountEntry) → IfSome case (λ c. IsFreeFor (job_objects c) ms) → IsFreeFor (turn_objects result) ms }
+    ensures named { (z : Name) → IfSome case (IsNamedJobCase z) → IsNamedTurn z result }
+{
+    match case {
+        Some(case) => TurnCase::GoOn(case),
+        None => TurnCase::Idle,
+    }
+}
+
+// What the plan of a request comes to, where that is no local turn.
+fn plan_turn(
     alloc: Global,
     zone: &ZoneName,
     desk: &Desk,
-    row: &Record,
+    job: &Job,
+    row: Option<&Record>,
     objects: Objects<'_>,
+    system: System<'_>,
 ) -> Result<TurnCase, AllocError>
-    ensures decides { IfOk result (λ c. turn_at (as_objects objects.entry) (as_desk desk.now) (as_desk desk.now).job row.now ≡ turn_decision_of desk.now c) }
+    requires job { desk.now.job ≡ Some job.now }
+    requires goes { job.now.failure ≡ None }
+    requires apart { is_apart (next (as_objects objects) (drop job.now.at job.now.steps.items)) ≡ true }
+    ensures decides { IfOk result (λ c. shared_next (seen_by desk.now (option_map (λ r. r.now) row.entry) objects.entry system.entry) (as_job job.now) (next (as_objects objects.entry) (drop job.now.at job.now.steps.items)) ≡ turn_decision_of desk.now c) }
     ensures of { IfOk result (IsTurnOf desk.now) }
-    ensures free { IfOk result (λ c. IsFreeFor (turn_objects c) objects.entry.mounts.now.list) }
+    ensures free { IfOk result (λ c. (ms : List entries.MountEntry) → IsFreeFor (turn_objects c) ms) }
     ensures named { IfOk result (IsNamedTurn zone.now) }
 {
-    match &desk.job {
-        Some(job) => {
-            let case = job_case(alloc, zone, job, row, objects)?;
-            Ok(TurnCase::GoOn(case))
+    match find_ahead(&job.steps, job.at, objects.mounts, objects.claims) {
+        Ahead::Nothing => over_case(alloc, desk, job, row, system.brands),
+        Ahead::Step(planned, next) => {
+            let case = step_case(alloc, zone, job, planned, next, row, objects, system)?;
+            Ok(go_on(case))
         }
-        None => first_case(alloc, desk, row),
+        Ahead::Claim(claim, at) => {
+            let case = release(alloc, at, claim)?;
+            Ok(go_on(Some(case)))
+        }
+        Ahead::Mount(_, _) => unreachable!(),
     }
 }
 
-/// What the next turn of a zone's daemon comes to, by the zone's stored record and its objects.
-#[tactic(auto, unfolding(crate::specs::Turns::turn))]
+// What undoes a step that is no local undo.
+fn undo_edit(shown: &Step) -> ObjectEdit
+    ensures edits { object_edits result ≡ undo_edits shown.now }
+    ensures free { (ms : List entries.MountEntry) → IsFreeFor result ms }
+{
+    match shown {
+        Step::Zid(_) => ObjectEdit::EndIds,
+        Step::Claimed(_) => ObjectEdit::EndClaim,
+        _ => ObjectEdit::Nothing,
+    }
+}
+
+// One step back, or the end of the request where none is left.
+fn undo_turn(job: &Job, failure: Failure) -> JobCase
+    requires { job.now.failure ≡ Some failure }
+    ensures decides { (v : turns.Seen) → shared_stage v (as_job job.now) (as_job job.now).stage ≡ job_turn v.desk job.now result }
+    ensures of { IsJobCase job.now result }
+    ensures free { (ms : List entries.MountEntry) → IsFreeFor (job_objects result) ms }
+    ensures named { (z : Name) → IsNamedJobCase z result }
+{
+    match latest(job) {
+        Some(shown) => JobCase::Undo(undo_edit(shown)),
+        None => JobCase::Finish(failure.outcome()),
+    }
+}
+
+// The request under way goes on, where that is no local turn.
+fn job_turn(
+    alloc: Global,
+    zone: &ZoneName,
+    desk: &Desk,
+    job: &Job,
+    row: Option<&Record>,
+    objects: Objects<'_>,
+    system: System<'_>,
+) -> Result<TurnCase, AllocError>
+    requires job { desk.now.job ≡ Some job.now }
+    requires apart { job.now.failure ≡ None → is_apart (next (as_objects objects) (drop job.now.at job.now.steps.items)) ≡ true }
+    ensures decides { IfOk result (λ c. shared_stage (seen_by desk.now (option_map (λ r. r.now) row.entry) objects.entry system.entry) (as_job job.now) (as_job job.now).stage ≡ turn_decision_of desk.now c) }
+    ensures of { IfOk result (IsTurnOf desk.now) }
+    ensures free { IfOk result (λ c. (ms : List entries.MountEntry) → IsFreeFor (turn_objects c) ms) }
+    ensures named { IfOk result (IsNamedTurn zone.now) }
+{
+    match job.failure {
+        None => plan_turn(alloc, zone, desk, job, row, objects, system),
+        Some(failure) => Ok(go_on(Some(undo_turn(job, failure)))),
+    }
+}
+
+// A turn that is not local.
+#[tactic(auto, using(crate::proofs::Turn_kinds::nothing_stored))]
+fn shared_case(
+    alloc: Global,
+    zone: &ZoneName,
+    desk: &Desk,
+    row: Option<&Record>,
+    objects: Objects<'_>,
+    system: System<'_>,
+) -> Result<TurnCase, AllocError>
+    requires { local_turn system.brands.now (as_objects objects) (as_desk desk.now) ≡ None }
+    ensures decides { IfOk result (λ c. shared_turn (seen_by desk.now (option_map (λ r. r.now) row.entry) objects.entry system.entry) (as_desk desk.now).job ≡ turn_decision_of desk.now c) }
+    ensures of { IfOk result (IsTurnOf desk.now) }
+    ensures free { IfOk result (λ c. (ms : List entries.MountEntry) → IsFreeFor (turn_objects c) ms) }
+    ensures named { IfOk result (IsNamedTurn zone.now) }
+{
+    if let Some(job) = &desk.job {
+        return job_turn(alloc, zone, desk, job, row, objects, system);
+    }
+    match row {
+        Some(row) => first_case(alloc, desk, row, system.brands),
+        None => Ok(TurnCase::Idle),
+    }
+}
+
+/// What the next turn of a zone's daemon comes to, by the zone's desk and objects, what is stored of it, and what its daemon
+/// finds on the system. The brand of the request under way answers `answer` where it is asked.
 pub fn decide_turn(
     alloc: Global,
     zone: &ZoneName,
     desk: &Desk,
     row: Option<&Record>,
-    kernel: &KernelCell,
-    mounts: &MountCell,
+    objects: Objects<'_>,
+    system: System<'_>,
+    answer: HookAnswer,
 ) -> Result<TurnCase, AllocError>
-    ensures decides { IfOk result (λ c. turn (record { processes = kernel.now.processes; mounts = mounts.now.list; ids = ids_of kernel.now.id }) (option_map (λ r. r.now) row.entry) (as_desk desk.now) ≡ turn_decision_of desk.now c) }
+    requires { answer ≡ next_answer system.brands.now (as_objects objects) (as_desk desk.now) }
+    ensures decides { IfOk result (λ c. turn (record { desk = as_desk desk.now; objects = as_objects objects.entry; stored = option_map (λ r. r.now) row.entry; declared = system.entry.kernel.now.devices; brands = system.entry.brands.now }) ≡ turn_decision_of desk.now c) }
     ensures of { IfOk result (IsTurnOf desk.now) }
-    ensures free { IfOk result (λ c. IsFreeFor (turn_objects c) mounts.now.list) }
+    ensures free { IfOk result (λ c. IsFreeFor (turn_objects c) objects.entry.mounts.now.list) }
     ensures named { IfOk result (IsNamedTurn zone.now) }
 {
-    let objects = Objects { kernel, mounts };
-    match row {
-        Some(row) => stored_case(alloc, zone, desk, row, objects),
-        None => Ok(TurnCase::Idle),
+    match local_case(alloc, desk, objects.mounts, objects.claims, answer)? {
+        Some(case) => Ok(case),
+        None => shared_case(alloc, zone, desk, row, objects, system),
     }
 }

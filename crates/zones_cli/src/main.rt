@@ -1,12 +1,83 @@
-//! The program `zones`: its words and its standard streams, handed to `zones_run`, whose answer is the exit status.
+//! The program `zones`: its words, its two brands and its standard streams, handed to `zones_run`, whose answer is the
+//! exit status.
 #![tactic(auto)]
 
-use std::alloc::AllocError;
+ghost use Rattle.std.specs.Prelude.{◌≡◌, ◌∷◌, [], IfOk, IsOkUnless, Ok, codes, true};
+ghost use Rattle.zn_base.specs.Answers.{AnswersUnless};
+ghost use Rattle.brand_hooks.specs.Hooks.{AllFollow, AnswersTable};
+ghost use Rattle.brand_hooks.specs.Tables.{answer_at, proceeding, with_answer};
+ghost use Rattle.brand_hooks.specs.declared.change.ChangeKind.TheVariants.{Clone};
+ghost use Rattle.brand_hooks.specs.declared.table.HookAnswer.TheVariants.{Proceed, Refuse};
+
+use brand_hooks::{Brand, BrandFault, Brands, Change, ChangeKind, HookAnswer, HookTable};
+use std::alloc::{AllocError, Global};
 use std::env;
 use std::io::ErrorKind;
 use std::process::ExitCode;
 use zn_io::{StdSink, StdSource};
 use zones_run::{RunFault, fail, run_zones};
+
+type Hook = fn(&Change) -> HookAnswer;
+
+const BEFORE_CLONE: Change = Change {
+    before: true,
+    kind: ChangeKind::Clone,
+};
+
+// The hook of the brand `ipkg`: each change proceeds.
+fn proceeds(_change: &Change) -> HookAnswer
+    ensures { result ≡ Proceed }
+{
+    HookAnswer::Proceed
+}
+
+// The hook of the brand `lx`: no zone is made as a copy of another, by code 7, and each other change proceeds.
+fn refuses_clones(change: &Change) -> HookAnswer
+    ensures { result ≡ answer_at change.now (with_answer (record { before = true; kind = Clone }) (Refuse 7) proceeding) }
+{
+    match change {
+        Change {
+            before: true,
+            kind: ChangeKind::Clone,
+        } => HookAnswer::Refuse(7),
+        _ => HookAnswer::Proceed,
+    }
+}
+
+// A list of two brands.
+fn pair<F: Fn(&Change) -> HookAnswer>(
+    alloc: Global,
+    first: Brand<F>,
+    second: Brand<F>,
+) -> Result<Vec<Brand<F>>, BrandFault>
+    ensures list { IfOk result (λ list. list.items ≡ first ∷ second ∷ []) }
+    ensures memory { IsOkUnless result BrandFault.Memory }
+{
+    let mut list = Vec::new(alloc);
+    if list.push(first).is_err() || list.push(second).is_err() {
+        return Err(BrandFault::Memory);
+    }
+    Ok(list)
+}
+
+// The brands that there are, `ipkg` and `lx`, of their hooks.
+fn make_brands<F: Fn(&Change) -> HookAnswer>(
+    alloc: Global,
+    ipkg: F,
+    lx: F,
+) -> Result<Brands<F>, BrandFault>
+    requires ipkg { AnswersTable F.Fn ipkg proceeding }
+    requires lx { AnswersTable F.Fn lx (with_answer (record { before = true; kind = Clone }) (Refuse 7) proceeding) }
+    ensures follow { IfOk result (AllFollow F.Fn) }
+    ensures made { AnswersUnless BrandFault.Memory (Ok (record { name = codes "ipkg"; table = proceeding; hook = ipkg }
+        ∷ record { name = codes "lx"; table = with_answer (record { before = true; kind = Clone }) (Refuse 7) proceeding; hook = lx } ∷ [])) result }
+{
+    let clones = HookTable::proceed().with(&BEFORE_CLONE, HookAnswer::Refuse(7));
+    let ipkg = Brand::new(alloc, b"ipkg", HookTable::proceed(), ipkg)?;
+    let lx = Brand::new(alloc, b"lx", clones, lx)?;
+    let list = pair(alloc, ipkg, lx)?;
+    Brands::new(alloc, list)
+}
 
 // The words after the program's name. Words that can't be read, as those that are no UTF-8, are none.
 fn read_words(rt: &HostRuntime) -> Result<Vec<String>, AllocError> {
@@ -30,5 +101,10 @@ fn main(rt: HostRuntime) -> ExitCode {
     let Ok(words) = read_words(&rt) else {
         return ExitCode::from(fail(&mut err, RunFault::Memory));
     };
-    ExitCode::from(run_zones(rt.alloc(), &words, &mut source, &mut out, &mut err))
+    let ipkg: Hook = proceeds;
+    let lx: Hook = refuses_clones;
+    let Ok(brands) = make_brands(rt.alloc(), ipkg, lx) else {
+        return ExitCode::from(fail(&mut err, RunFault::Memory));
+    };
+    ExitCode::from(run_zones(rt.alloc(), &brands, &words, &mut source, &mut out, &mut err))
 }

@@ -161,8 +161,12 @@ fn name_runs() -> &'static [Run] {
 
 const ROOT_PATH: &str = "S 1 zonecfg -z a create -b; set zonepath=/; set brand=ipkg\n";
 
+const MADE_FLAWED: &str = "S 1 zonecfg -z a create -b; set zonepath=/a; set brand=lx9\n";
+
 const MADE_TWICE: &str = "S 1 zonecfg -z a create -b; set zonepath=/a; set brand=ipkg
 S 1 zonecfg -z a create -b; set zonepath=/a; set brand=ipkg\n";
+
+const UNKNOWN_BRAND: &str = "S 1 zonecfg -z a create -b; set zonepath=/a; set brand=lx9\n";
 
 const SAME_PATH: &str = "S 1 zonecfg -z a create -b; set zonepath=/a; set brand=ipkg
 S 1 zonecfg -z b create -b; set zonepath=/a; set brand=ipkg\n";
@@ -181,7 +185,11 @@ fn reply_runs() -> &'static [Run] {
     runs_of!(Refusal:
         Refusal::BadName(_) => [],
         Refusal::BadValue => [("trace", ROOT_PATH, "23 BadValue")],
-        Refusal::NeedForce => [("trace", MADE_TWICE, "34 NeedForce")],
+        Refusal::Flawed(_) => [("trace", UNKNOWN_BRAND, "46 UnknownBrand")],
+        Refusal::NeedForce => [
+            ("trace", MADE_TWICE, "34 NeedForce"),
+            ("trace", "S 1 zoneadm -z a uninstall\n", "34 NeedForce")
+        ],
         Refusal::Denied(_) => [("trace", SAME_PATH, "82 Denied")],
         Refusal::NoZone => [("trace", "S 1 zoneadm -z a boot\n", "90 NoZone")],
         Refusal::Waiting(_) => [("trace", ASKED_TWICE, "91 Waiting")],
@@ -254,12 +262,24 @@ const HALTED_TOO_EARLY: &str = "S 1 zonecfg -z a create -b; set zonepath=/a; set
 S 1 zoneadm -z a halt
 D a\n";
 
-// `82 Denied` is printed by a line too; a step that is denied wants a trace that uses up the numbers of processes.
+const CLONED_FROM_NONE: &str = "S 1 zonecfg -z a create -b; set zonepath=/a; set brand=ipkg
+S 1 zoneadm -z a clone b
+D a\nD a\nD a\n";
+
+const CLONED_BY_LX: &str = "S 1 zonecfg -z a create -b; set zonepath=/a; set brand=lx
+S 1 zoneadm -z a clone b
+D a\nD a\n";
+
+// No line sets anything of a configuration but a path and a brand, so none has a flaw, a wrong limit set or too long a text.
 fn outcome_runs() -> &'static [Run] {
     runs_of!(Outcome:
         Outcome::Done => [],
         Outcome::WrongState(_) => [("trace", HALTED_TOO_EARLY, "81 WrongState")],
-        Outcome::Denied(_) => [],
+        Outcome::Denied(_) => [("trace", CLONED_FROM_NONE, "82 Denied")],
+        Outcome::HookRefused(_) => [("trace", CLONED_BY_LX, "83 HookRefused")],
+        Outcome::Privilege(_) => [],
+        Outcome::NotVerified(_) => [],
+        Outcome::TooLarge(_) => [],
     )
 }
 

@@ -70,6 +70,13 @@ const EXAMPLES: &[Example] = &[
         out: Some("examples/mounts.replies"),
         err: Some("examples/mounts.message"),
     },
+    Example {
+        command: "trace",
+        input: "examples/requests.trace",
+        status: 1,
+        out: Some("examples/requests.replies"),
+        err: Some("examples/requests.message"),
+    },
 ];
 
 fn text_of(rt: &(impl Files + AllocGlobal), file: Option<&str>) -> io::Result<Vec<u8>> {

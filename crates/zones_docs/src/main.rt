@@ -3,6 +3,7 @@
 //! `data/`, where a program that the gate runs may read them; `tools/same_docs.py` makes and compares these.
 #![tactic(auto)]
 
+mod brands;
 mod codes;
 mod examples;
 mod runs;

@@ -1,4 +1,5 @@
 //! Runs of the whole program over an input in memory.
+use crate::brands::{Hook, make_brands, proceeds, refuses_clones};
 use std::alloc::{AllocError, Global};
 use zn_io::{MemSink, MemSource};
 use zones_run::run_zones;
@@ -24,6 +25,11 @@ pub fn run(alloc: Global, command: &str, input: Vec<u8>) -> Result<Ended, AllocE
     let mut source = MemSource::new(input, PIECE, Vec::new(alloc));
     let mut out = MemSink::new(alloc, ROOM, Vec::new(alloc))?;
     let mut err = MemSink::new(alloc, ROOM, Vec::new(alloc))?;
-    let status = run_zones(alloc, &words, &mut source, &mut out, &mut err);
+    let ipkg: Hook = proceeds;
+    let lx: Hook = refuses_clones;
+    let Ok(brands) = make_brands(alloc, ipkg, lx) else {
+        return Err(AllocError);
+    };
+    let status = run_zones(alloc, &brands, &words, &mut source, &mut out, &mut err);
     Ok(Ended { status, out, err })
 }

@@ -1,6 +1,7 @@
 -- How `export` ends with a complaint.
 use Rattle.std.proofs.Common.{◌≡◌, ◌≤◌, ◌⊎◌, ℕ, List, Option, Some, None, IfSome, ap, sym, inl, inr, ◌∙◌, arith}
 use Rattle.zn_io.specs.Streams.{after_known}
+use Rattle.brand_hooks.specs.Brands.{Tabled}
 use Rattle.zones_run.specs.Complaints.{complaint_output, complaint_status, complaint_text}
 use Rattle.zones_run.specs.Exporting.{exported}
 use Rattle.zones_run.specs.Program.{output_for}
@@ -21,10 +22,10 @@ status_told status complaint (inl same) decided = same
 status_told status complaint (inr (inl failed)) decided = absurd (grind (arith, decided, failed))
 status_told status complaint (inr (inr failed)) decided = absurd (grind (arith, decided, failed))
 
-pub complaint_decides : (status : ℕ) (complaint : Complaint) (command : Option Command) (input held : Option (List ℕ)) → Complained status complaint → command ≡ Some Export → IfSome input (λ bytes. complaint_output complaint ≡ exported bytes)
-    → IsDecided status → IfSome (output_for command input) (λ o. Agrees o status held held)
-complaint_decides status complaint command None held told is whole decided = rw is tt
-complaint_decides status complaint command (Some bytes) held told is whole decided = rw is (record {
+pub complaint_decides : (brands : List Tabled) (status : ℕ) (complaint : Complaint) (command : Option Command) (input held : Option (List ℕ)) → Complained status complaint → command ≡ Some Export → IfSome input (λ bytes. complaint_output complaint ≡ exported bytes)
+    → IsDecided status → IfSome (output_for brands command input) (λ o. Agrees o status held held)
+complaint_decides brands status complaint command None held told is whole decided = rw is tt
+complaint_decides brands status complaint command (Some bytes) held told is whole decided = rw is (record {
   status_is = status_told status complaint told decided ∙ ap (λ o. o.status) whole;
   taken = sym (after_known-nil held) ∙ ap (λ o. after_known held o.out) whole;
 })
@@ -41,7 +42,7 @@ refused_told status complaint (inl same) low = omega (arith, same, low, some_sta
 refused_told status complaint (inr (inl failed)) low = absurd (omega (arith, failed, low))
 refused_told status complaint (inr (inr failed)) low = absurd (omega (arith, failed, low))
 
-pub complaint_line : (status : ℕ) (complaint : Complaint) (command : Option Command) (input held holds : Option (List ℕ)) → Complained status complaint → (status ≡ status_refused → holds ≡ after_known held (complaint_text complaint))
-    → command ≡ Some Export → IfSome input (λ bytes. complaint_output complaint ≡ exported bytes) → status ≤ status_refused → IfSome (output_for command input) (λ o. holds ≡ after_known held o.err)
-complaint_line status complaint command None held holds told line is whole low = rw is tt
-complaint_line status complaint command (Some bytes) held holds told line is whole low = rw is (line (refused_told status complaint told low) ∙ ap (λ o. after_known held o.err) whole)
+pub complaint_line : (brands : List Tabled) (status : ℕ) (complaint : Complaint) (command : Option Command) (input held holds : Option (List ℕ)) → Complained status complaint → (status ≡ status_refused → holds ≡ after_known held (complaint_text complaint))
+    → command ≡ Some Export → IfSome input (λ bytes. complaint_output complaint ≡ exported bytes) → status ≤ status_refused → IfSome (output_for brands command input) (λ o. holds ≡ after_known held o.err)
+complaint_line brands status complaint command None held holds told line is whole low = rw is tt
+complaint_line brands status complaint command (Some bytes) held holds told line is whole low = rw is (line (refused_told status complaint told low) ∙ ap (λ o. after_known held o.err) whole)

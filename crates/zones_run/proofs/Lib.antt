@@ -1,3 +1,4 @@
+pub mod Answered
 pub mod Cuts
 pub mod Parts
 pub mod Runs
@@ -8,6 +9,7 @@ pub mod Traces
 pub mod TraceRuns
 pub mod Begins
 pub mod TraceEnds
+pub mod TraceStarts
 pub mod Denoting
 pub mod Refusing
 pub mod Obeying

@@ -8,6 +8,7 @@ use Rattle.std.proofs.lemmas.Grind.{flat_map-append}
 use Rattle.std.proofs.lemmas.List.{append-nil, append_cancel_left, take-append-drop, take-append-le, take_all}
 use Rattle.std.proofs.Math.Seq.{take-append-add, take-append_seam, take-length}
 use Rattle.zn_io.specs.Streams.{after_known, before_known}
+use Rattle.brand_hooks.specs.Brands.{Tabled}
 use Rattle.trace_text.specs.Lines.{Said, event_of}
 use Rattle.trace_text.specs.declared.fault.LineFault.{LineFault}
 use Rattle.zone_machine.specs.Machine.{opening}
@@ -54,14 +55,14 @@ abbrev EndsSo : (started : Bool) → ℕ → Ending → Option (List ℕ) → Ty
 EndsSo started n ending bytes = IfSome bytes (λ bs. script_from started n (lines_of bs) ≡ ends ending)
 
 -- the run has ended so
-pub tells_ending : (stands : State → Type 0) (refused : Option ℕ) (n : ℕ) (held holds bytes input : Option (List ℕ)) (ending : Ending) (complaint : Option Complaint)
-    → RunsOn stands refused n held holds bytes input → ((S : State) → stands S → EndsSo S.started n ending bytes) → ((done : List Entry) → left_to_tell complaint ≡ record (told (ended_run done refused ending)) { out = [] })
-    → IfSome input (λ bs. Tells complaint held holds (traced bs))
-tells_ending stands refused n held holds bytes None ending complaint run ended is = tt
-tells_ending stands refused n held holds bytes (Some input) ending complaint run ended is =
+pub tells_ending : (brands : List Tabled) (stands : State → Type 0) (refused : Option ℕ) (n : ℕ) (held holds bytes input : Option (List ℕ)) (ending : Ending) (complaint : Option Complaint)
+    → RunsOn brands stands refused n held holds bytes input → ((S : State) → stands S → EndsSo S.started n ending bytes) → ((done : List Entry) → left_to_tell complaint ≡ record (told (ended_run done refused ending)) { out = [] })
+    → IfSome input (λ bs. Tells complaint held holds (traced brands bs))
+tells_ending brands stands refused n held holds bytes None ending complaint run ended is = tt
+tells_ending brands stands refused n held holds bytes (Some input) ending complaint run ended is =
     let known = run.known in
     let here : script_from run.state.started n (lines_of known.to_come) ≡ ends ending = subst (EndsSo run.state.started n ending) known.here (ended run.state run.stood) in
-    let whole : run_of input ≡ ended_run run.done refused ending = known_run refused n run.state run.done bytes input known ∙ no_more run.done refused n run.state (lines_of known.to_come) ending here in
+    let whole : run_of brands input ≡ ended_run run.done refused ending = known_run brands refused n run.state run.done bytes input known ∙ no_more run.done refused n run.state (lines_of known.to_come) ending here in
     subst (λ r. Tells complaint held holds (told r)) (sym whole) (record {
       rest = is run.done;
       taken = run.text ∙ ap (after_known held) (sym (told-out run.done refused ending));
@@ -106,82 +107,82 @@ at_last started (b ∷ ahead) None some = tt
 at_last started (b ∷ ahead) (Some left) some = past_last started b (ahead ++ left)
 
 -- before the input has ended, some whole replies were written
-pub has_replies : (stands : State → Type 0) (refused : Option ℕ) (n : ℕ) (held holds bytes input : Option (List ℕ)) → RunsOn stands refused n held holds bytes input → IfSome input (λ bs. HasReplies held holds (run_of bs))
-has_replies stands refused n held holds bytes None run = tt
-has_replies stands refused n held holds bytes (Some input) run =
-    let is = known_run refused n run.state run.done bytes input run.known in
+pub has_replies : (brands : List Tabled) (stands : State → Type 0) (refused : Option ℕ) (n : ℕ) (held holds bytes input : Option (List ℕ)) → RunsOn brands stands refused n held holds bytes input → IfSome input (λ bs. HasReplies held holds (run_of brands bs))
+has_replies brands stands refused n held holds bytes None run = tt
+has_replies brands stands refused n held holds bytes (Some input) run =
+    let is = known_run brands refused n run.state run.done bytes input run.known in
     subst (HasReplies held holds) (sym is) (record {
       count = length run.done;
       taken = run.text ∙ ap (λ entries. after_known held (replies_text entries)) (sym (take-append_seam run.done _));
     })
 
 -- the run over the lines taken has come to its entries, and goes on
-so_far : (refused : Option ℕ) (n : ℕ) (S : State) (done : List Entry) (bytes : Option (List ℕ)) (input : List ℕ) (known : Knows refused n S done bytes input) → run_of known.past ≡ run_on done refused n S []
-so_far refused n S done bytes input known =
-    from_first_line known.past ∙ ap (run_on [] None 1 (opening [])) (sym (append-nil (lines_of known.past))) ∙ known.leads []
+so_far : (brands : List Tabled) (refused : Option ℕ) (n : ℕ) (S : State) (done : List Entry) (bytes : Option (List ℕ)) (input : List ℕ) (known : Knows brands refused n S done bytes input) → run_of brands known.past ≡ run_on done refused n S []
+so_far brands refused n S done bytes input known =
+    from_first_line brands known.past ∙ ap (run_on [] None 1 (opening brands [])) (sym (append-nil (lines_of known.past))) ∙ known.leads []
 
 -- lines were taken, the beginning of one more, and a piece
-abbrev takes : (refused : Option ℕ) (n : ℕ) (S : State) (done : List Entry) (bytes left : Option (List ℕ)) (input : List ℕ) → Knows refused n S done bytes input → TakesPiece bytes left → RunsLines (Some input) left
-takes refused n S done bytes left input known piece = record {
+abbrev takes : (brands : List Tabled) (refused : Option ℕ) (n : ℕ) (S : State) (done : List Entry) (bytes left : Option (List ℕ)) (input : List ℕ) → Knows brands refused n S done bytes input → TakesPiece bytes left → RunsLines (Some input) left
+takes brands refused n S done bytes left input known piece = record {
   lines = known.past;
   to_come = known.to_come;
   whole = known.fresh;
-  going = ap (λ r. r.ending) (so_far refused n S done bytes input known);
+  going = ap (λ r. r.ending) (so_far brands refused n S done bytes input known);
   all = ap Some known.all;
   taken = takes_known bytes left known.to_come known.here piece;
 }
 
-pub runs_lines : (stands : State → Type 0) (refused : Option ℕ) (n : ℕ) (held holds bytes left input : Option (List ℕ)) → RunsOn stands refused n held holds bytes input → TakesPiece bytes left → IfSome input (λ _. RunsLines input left)
-runs_lines stands refused n held holds bytes left None run piece = tt
-runs_lines stands refused n held holds bytes left (Some input) run piece = takes refused n run.state run.done bytes left input run.known piece
+pub runs_lines : (brands : List Tabled) (stands : State → Type 0) (refused : Option ℕ) (n : ℕ) (held holds bytes left input : Option (List ℕ)) → RunsOn brands stands refused n held holds bytes input → TakesPiece bytes left → IfSome input (λ _. RunsLines input left)
+runs_lines brands stands refused n held holds bytes left None run piece = tt
+runs_lines brands stands refused n held holds bytes left (Some input) run piece = takes brands refused n run.state run.done bytes left input run.known piece
 
 -- and the lines were answered
-abbrev answers : (stands : State → Type 0) (refused : Option ℕ) (n : ℕ) (held holds bytes left : Option (List ℕ)) (input : List ℕ) → RunsOn stands refused n held holds bytes (Some input) → TakesPiece bytes left → AnswersLines (Some input) left held holds
-answers stands refused n held holds bytes left input run piece =
+abbrev answers : (brands : List Tabled) (stands : State → Type 0) (refused : Option ℕ) (n : ℕ) (held holds bytes left : Option (List ℕ)) (input : List ℕ) → RunsOn brands stands refused n held holds bytes (Some input) → TakesPiece bytes left → AnswersLines brands (Some input) left held holds
+answers brands stands refused n held holds bytes left input run piece =
     let known = run.known in
-    let entries : (run_of known.past).entries ≡ run.done = ap (λ r. r.entries) (so_far refused n run.state run.done bytes input known) ∙ append-nil run.done in
+    let entries : (run_of brands known.past).entries ≡ run.done = ap (λ r. r.entries) (so_far brands refused n run.state run.done bytes input known) ∙ append-nil run.done in
     record {
-      runs = takes refused n run.state run.done bytes left input known piece;
+      runs = takes brands refused n run.state run.done bytes left input known piece;
       text = run.text ∙ ap (λ entries. after_known held (replies_text entries)) (sym entries);
     }
 
-pub answers_lines : (stands : State → Type 0) (refused : Option ℕ) (n : ℕ) (held holds bytes left input : Option (List ℕ)) → RunsOn stands refused n held holds bytes input → TakesPiece bytes left → IfSome input (λ _. AnswersLines input left held holds)
-answers_lines stands refused n held holds bytes left None run piece = tt
-answers_lines stands refused n held holds bytes left (Some input) run piece = answers stands refused n held holds bytes left input run piece
+pub answers_lines : (brands : List Tabled) (stands : State → Type 0) (refused : Option ℕ) (n : ℕ) (held holds bytes left input : Option (List ℕ)) → RunsOn brands stands refused n held holds bytes input → TakesPiece bytes left → IfSome input (λ _. AnswersLines brands input left held holds)
+answers_lines brands stands refused n held holds bytes left None run piece = tt
+answers_lines brands stands refused n held holds bytes left (Some input) run piece = answers brands stands refused n held holds bytes left input run piece
 
 -- where the source failed
-pub answers_read : (stands : State → Type 0) (refused : Option ℕ) (n : ℕ) (held holds bytes left input : Option (List ℕ)) → RunsOn stands refused n held holds bytes input → BeginsLine bytes left → IfSome input (λ _. AnswersRead input left held holds)
-answers_read stands refused n held holds bytes left None run begins = tt
-answers_read stands refused n held holds bytes left (Some input) run begins =
-    (answers stands refused n held holds bytes left input run begins.0, begins.1)
+pub answers_read : (brands : List Tabled) (stands : State → Type 0) (refused : Option ℕ) (n : ℕ) (held holds bytes left input : Option (List ℕ)) → RunsOn brands stands refused n held holds bytes input → BeginsLine bytes left → IfSome input (λ _. AnswersRead brands input left held holds)
+answers_read brands stands refused n held holds bytes left None run begins = tt
+answers_read brands stands refused n held holds bytes left (Some input) run begins =
+    (answers brands stands refused n held holds bytes left input run begins.0, begins.1)
 
 -- how a trace ended, where a call before it did
-pub ended_writing : (r : Result (Option Complaint) RunFault) (held holds left input : Option (List ℕ)) → r ≡ Err Write → IfSome input (λ _. RunsLines input left) → IfSome input (λ _. AnswersAs r input left held holds)
-ended_writing r held holds left input is runs = rw is runs
+pub ended_writing : (brands : List Tabled) (r : Result (Option Complaint) RunFault) (held holds left input : Option (List ℕ)) → r ≡ Err Write → IfSome input (λ _. RunsLines input left) → IfSome input (λ _. AnswersAs brands r input left held holds)
+ended_writing brands r held holds left input is runs = rw is runs
 
-pub ended_reading : (r : Result (Option Complaint) RunFault) (fault : ReadFault) (held holds left input : Option (List ℕ)) → IsErrAnd r (λ e. e ≡ run_fault_of fault) → IfSome input (λ _. AnswersLines input left held holds)
-    → (fault ≡ Failed → IfSome input (λ _. AnswersRead input left held holds)) → IfSome input (λ _. AnswersAs r input left held holds)
-ended_reading (Ok x) fault held holds left input is lines read = absurd is
-ended_reading (Err e) Failed held holds left input is lines read = rw is (read refl)
-ended_reading (Err e) No_memory held holds left input is lines read = rw is lines
+pub ended_reading : (brands : List Tabled) (r : Result (Option Complaint) RunFault) (fault : ReadFault) (held holds left input : Option (List ℕ)) → IsErrAnd r (λ e. e ≡ run_fault_of fault) → IfSome input (λ _. AnswersLines brands input left held holds)
+    → (fault ≡ Failed → IfSome input (λ _. AnswersRead brands input left held holds)) → IfSome input (λ _. AnswersAs brands r input left held holds)
+ended_reading brands (Ok x) fault held holds left input is lines read = absurd is
+ended_reading brands (Err e) Failed held holds left input is lines read = rw is (read refl)
+ended_reading brands (Err e) No_memory held holds left input is lines read = rw is lines
 
 -- what was taken, however a trace ended
-pub lines_run : (held holds left input : Option (List ℕ)) → IfSome input (λ _. AnswersLines input left held holds) → IfSome input (λ _. RunsLines input left)
-lines_run held holds left None answers = tt
-lines_run held holds left (Some input) answers = answers.runs
+pub lines_run : (brands : List Tabled) (held holds left input : Option (List ℕ)) → IfSome input (λ _. AnswersLines brands input left held holds) → IfSome input (λ _. RunsLines input left)
+lines_run brands held holds left None answered = tt
+lines_run brands held holds left (Some input) answered = answered.runs
 
-pub runs_anyway : (r : Result (Option Complaint) RunFault) (held holds left input : Option (List ℕ)) → IfSome input (λ _. AnswersAs r input left held holds) → IfSome input (λ _. RunsLines input left)
-runs_anyway r held holds left None ended = tt
-runs_anyway (Ok x) held holds left (Some input) ended = ended.runs
-runs_anyway (Err Write) held holds left (Some input) ended = ended
-runs_anyway (Err Read) held holds left (Some input) ended = ended.0.runs
-runs_anyway (Err Memory) held holds left (Some input) ended = ended.runs
+pub runs_anyway : (brands : List Tabled) (r : Result (Option Complaint) RunFault) (held holds left input : Option (List ℕ)) → IfSome input (λ _. AnswersAs brands r input left held holds) → IfSome input (λ _. RunsLines input left)
+runs_anyway brands r held holds left None ended = tt
+runs_anyway brands (Ok x) held holds left (Some input) ended = ended.runs
+runs_anyway brands (Err Write) held holds left (Some input) ended = ended
+runs_anyway brands (Err Read) held holds left (Some input) ended = ended.0.runs
+runs_anyway brands (Err Memory) held holds left (Some input) ended = ended.runs
 
-pub read_ended : (fault : RunFault) (held holds left input : Option (List ℕ)) → fault ≡ Read → IfSome input (λ _. AnswersAs (Err fault) input left held holds) → IfSome input (λ _. AnswersRead input left held holds)
-read_ended fault held holds left input is ended = subst (λ fault. IfSome input (λ _. AnswersAs (Err fault) input left held holds)) is ended
+pub read_ended : (brands : List Tabled) (fault : RunFault) (held holds left input : Option (List ℕ)) → fault ≡ Read → IfSome input (λ _. AnswersAs brands (Err fault) input left held holds) → IfSome input (λ _. AnswersRead brands input left held holds)
+read_ended brands fault held holds left input is ended = subst (λ fault. IfSome input (λ _. AnswersAs brands (Err fault) input left held holds)) is ended
 
-pub memory_ended : (fault : RunFault) (held holds left input : Option (List ℕ)) → fault ≡ Memory → IfSome input (λ _. AnswersAs (Err fault) input left held holds) → IfSome input (λ _. AnswersLines input left held holds)
-memory_ended fault held holds left input is ended = subst (λ fault. IfSome input (λ _. AnswersAs (Err fault) input left held holds)) is ended
+pub memory_ended : (brands : List Tabled) (fault : RunFault) (held holds left input : Option (List ℕ)) → fault ≡ Memory → IfSome input (λ _. AnswersAs brands (Err fault) input left held holds) → IfSome input (λ _. AnswersLines brands input left held holds)
+memory_ended brands fault held holds left input is ended = subst (λ fault. IfSome input (λ _. AnswersAs brands (Err fault) input left held holds)) is ended
 
 -- a front of a text in the midst of a longer one
 front_within : (held between holds : Option (List ℕ)) (before text more : List ℕ) (count : ℕ) → between ≡ after_known held before → holds ≡ after_known between (take count text) → HasFront held holds (before ++ (text ++ more))
@@ -201,17 +202,17 @@ front_within held between holds before text more count b t =
     ] refl
 
 -- what waited was not written whole: a front of the whole text was taken
-pub flushed_front : (held holds now input : Option (List ℕ)) (waiting : List ℕ) → HasWritten held holds → IfSome input (λ bs. HasReplies held (after_known holds waiting) (run_of bs)) → HasFront holds now waiting
-    → IfSome input (λ bs. HasFront held now (traced bs).out)
-flushed_front held holds now None waiting written replies front = tt
-flushed_front None holds now (Some bytes) waiting written replies front =
+pub flushed_front : (brands : List Tabled) (held holds now input : Option (List ℕ)) (waiting : List ℕ) → HasWritten held holds → IfSome input (λ bs. HasReplies held (after_known holds waiting) (run_of brands bs)) → HasFront holds now waiting
+    → IfSome input (λ bs. HasFront held now (traced brands bs).out)
+flushed_front brands held holds now None waiting written replies front = tt
+flushed_front brands None holds now (Some bytes) waiting written replies front =
     record { count = 0; taken = front.taken ∙ ap (λ known. after_known known (take front.count waiting)) written.1 }
-flushed_front (Some begun) holds now (Some bytes) waiting written replies front =
-    let run = run_of bytes in
+flushed_front brands (Some begun) holds now (Some bytes) waiting written replies front =
+    let run = run_of brands bytes in
     let more = replies_text (drop replies.count run.entries) in
     let known : Some ((begun ++ written.0) ++ waiting) ≡ Some (begun ++ replies_text (take replies.count run.entries)) = sym (ap (λ known. after_known known waiting) written.1) ∙ replies.taken in
     let joined : written.0 ++ waiting ≡ replies_text (take replies.count run.entries) = append_cancel_left begun _ _ (sym (append_assoc begun written.0 waiting) ∙ cc) in
-    let whole : (traced bytes).out ≡ written.0 ++ (waiting ++ more) =
+    let whole : (traced brands bytes).out ≡ written.0 ++ (waiting ++ more) =
     told-out run.entries run.refused run.ending ∙ ap replies_text (sym (take-append-drop replies.count run.entries))
     ∙ flat_map-append entry_text (take replies.count run.entries) (drop replies.count run.entries) ∙ ap (λ text. text ++ more) (sym joined) ∙ append_assoc written.0 waiting more in
     subst (HasFront (Some begun) now) (sym whole) (front_within (Some begun) holds now written.0 waiting more front.count written.1 front.taken)
@@ -231,76 +232,76 @@ pub nothing_waits : (known : Option (List ℕ)) (waiting : List ℕ) → waiting
 nothing_waits known waiting none = rw none (after_known-nil known)
 
 -- a byte ahead, after all the lines that there may be
-pub tells_last : (stands : State → Type 0) (refused : Option ℕ) (n : ℕ) (held holds bytes : Option (List ℕ)) (ahead : List ℕ) (left input : Option (List ℕ))
-    → RunsOn stands refused n held holds bytes input → n ≡ 200001 → bytes ≡ before_known ahead left → 0 < length ahead → IfSome input (λ bs. Tells (Some (Limit 200001)) held holds (traced bs))
-tells_last stands refused n held holds bytes ahead left input run last same some =
-    let here : RunsOn stands refused 200001 held holds bytes input = subst (λ m. RunsOn stands refused m held holds bytes input) last run in
-    tells_ending stands refused 200001 held holds bytes input (Past_limit 200001) (Some (Limit 200001)) here
+pub tells_last : (brands : List Tabled) (stands : State → Type 0) (refused : Option ℕ) (n : ℕ) (held holds bytes : Option (List ℕ)) (ahead : List ℕ) (left input : Option (List ℕ))
+    → RunsOn brands stands refused n held holds bytes input → n ≡ 200001 → bytes ≡ before_known ahead left → 0 < length ahead → IfSome input (λ bs. Tells (Some (Limit 200001)) held holds (traced brands bs))
+tells_last brands stands refused n held holds bytes ahead left input run last same some =
+    let here : RunsOn brands stands refused 200001 held holds bytes input = subst (λ m. RunsOn brands stands refused m held holds bytes input) last run in
+    tells_ending brands stands refused 200001 held holds bytes input (Past_limit 200001) (Some (Limit 200001)) here
     (λ S _. subst (EndsSo S.started 200001 (Past_limit 200001)) (sym same) (at_last S.started ahead left some)) (λ done. refl)
 
 -- at an ending all replies were written, and the whole text
-pub whole_replies : (complaint : Option Complaint) (held holds : Option (List ℕ)) (input : Option (List ℕ)) → IfSome input (λ bytes. Tells complaint held holds (traced bytes)) → IfSome input (λ bytes. HasReplies held holds (run_of bytes))
-whole_replies complaint held holds None tells = tt
-whole_replies complaint held holds (Some bytes) tells =
-    let run = run_of bytes in
+pub whole_replies : (brands : List Tabled) (complaint : Option Complaint) (held holds : Option (List ℕ)) (input : Option (List ℕ)) → IfSome input (λ bytes. Tells complaint held holds (traced brands bytes)) → IfSome input (λ bytes. HasReplies held holds (run_of brands bytes))
+whole_replies brands complaint held holds None tells = tt
+whole_replies brands complaint held holds (Some bytes) tells =
+    let run = run_of brands bytes in
     record {
       count = length run.entries;
       taken = tells.taken ∙ ap (after_known held) (told-out run.entries run.refused run.ending) ∙ ap (λ entries. after_known held (replies_text entries)) (sym (take-length run.entries));
     }
 
-pub whole_front : (complaint : Option Complaint) (held holds : Option (List ℕ)) (input : Option (List ℕ)) → IfSome input (λ bytes. Tells complaint held holds (traced bytes)) → IfSome input (λ bytes. HasFront held holds (traced bytes).out)
-whole_front complaint held holds None tells = tt
-whole_front complaint held holds (Some bytes) tells =
-    record { count = length (traced bytes).out; taken = tells.taken ∙ ap (after_known held) (sym (take-length (traced bytes).out)) }
+pub whole_front : (brands : List Tabled) (complaint : Option Complaint) (held holds : Option (List ℕ)) (input : Option (List ℕ)) → IfSome input (λ bytes. Tells complaint held holds (traced brands bytes)) → IfSome input (λ bytes. HasFront held holds (traced brands bytes).out)
+whole_front brands complaint held holds None tells = tt
+whole_front brands complaint held holds (Some bytes) tells =
+    record { count = length (traced brands bytes).out; taken = tells.taken ∙ ap (after_known held) (sym (take-length (traced brands bytes).out)) }
 
 -- what holds of the line of a complaint holds of the line that the definition has
-pub told_line : (complaint : Complaint) (ended : Option Complaint) (held holds : Option (List ℕ)) (input : Option (List ℕ)) (P : List ℕ → Type 0) → ended ≡ Some complaint
-    → IfSome input (λ bytes. Tells ended held holds (traced bytes)) → P (complaint_text complaint) → IfSome input (λ bytes. P (traced bytes).err)
-told_line complaint ended held holds None P is tells line = tt
-told_line complaint ended held holds (Some bytes) P is tells line = subst P (ap (λ (o : Output). o.err) (sym (ap left_to_tell is) ∙ tells.rest)) line
+pub told_line : (brands : List Tabled) (complaint : Complaint) (ended : Option Complaint) (held holds : Option (List ℕ)) (input : Option (List ℕ)) (P : List ℕ → Type 0) → ended ≡ Some complaint
+    → IfSome input (λ bytes. Tells ended held holds (traced brands bytes)) → P (complaint_text complaint) → IfSome input (λ bytes. P (traced brands bytes).err)
+told_line brands complaint ended held holds None P is tells line = tt
+told_line brands complaint ended held holds (Some bytes) P is tells line = subst P (ap (λ (o : Output). o.err) (sym (ap left_to_tell is) ∙ tells.rest)) line
 
 refusal_alone : (text : List ℕ) (refused : Option ℕ) → record (told_refusal [] refused) { out = [] } ≡ record (told_refusal text refused) { out = [] }
 refusal_alone text None = refl
 refusal_alone text (Some n) = refl
 
 -- the end of the input
-pub tells_end : (stands : State → Type 0) (refused : Option ℕ) (n : ℕ) (held holds bytes input : Option (List ℕ)) (complaint : Option Complaint)
-    → RunsOn stands refused n held holds bytes input → IfSome (option_map lines_of bytes) (λ ls. ls ≡ []) → left_to_tell complaint ≡ record (told_refusal [] refused) { out = [] } → IfSome input (λ bs. Tells complaint held holds (traced bs))
-tells_end stands refused n held holds bytes input complaint run none is =
-    tells_ending stands refused n held holds bytes input At_end complaint run (λ S _. at_end S.started n bytes none) (λ done. is ∙ refusal_alone (replies_text done) refused)
+pub tells_end : (brands : List Tabled) (stands : State → Type 0) (refused : Option ℕ) (n : ℕ) (held holds bytes input : Option (List ℕ)) (complaint : Option Complaint)
+    → RunsOn brands stands refused n held holds bytes input → IfSome (option_map lines_of bytes) (λ ls. ls ≡ []) → left_to_tell complaint ≡ record (told_refusal [] refused) { out = [] } → IfSome input (λ bs. Tells complaint held holds (traced brands bs))
+tells_end brands stands refused n held holds bytes input complaint run none is =
+    tells_ending brands stands refused n held holds bytes input At_end complaint run (λ S _. at_end S.started n bytes none) (λ done. is ∙ refusal_alone (replies_text done) refused)
 
 nothing_ahead : (ahead : List ℕ) (left : Option (List ℕ)) → ahead ≡ [] → IsAtEnd left → IfSome (option_map lines_of (before_known ahead left)) (λ ls. ls ≡ [])
 nothing_ahead ahead None none end = tt
 nothing_ahead ahead (Some bs) none end = rw (none, end) refl
 
 -- nothing is ahead, after all the lines that there may be
-pub tells_last_end : (stands : State → Type 0) (refused : Option ℕ) (n : ℕ) (held holds bytes : Option (List ℕ)) (ahead : List ℕ) (left input : Option (List ℕ)) (complaint : Option Complaint)
-    → RunsOn stands refused n held holds bytes input → bytes ≡ before_known ahead left → ahead ≡ [] → IsAtEnd left → left_to_tell complaint ≡ record (told_refusal [] refused) { out = [] } → IfSome input (λ bs. Tells complaint held holds (traced bs))
-tells_last_end stands refused n held holds bytes ahead left input complaint run same none end is =
-    tells_end stands refused n held holds bytes input complaint run (subst (λ known. IfSome (option_map lines_of known) (λ ls. ls ≡ [])) (sym same) (nothing_ahead ahead left none end)) is
+pub tells_last_end : (brands : List Tabled) (stands : State → Type 0) (refused : Option ℕ) (n : ℕ) (held holds bytes : Option (List ℕ)) (ahead : List ℕ) (left input : Option (List ℕ)) (complaint : Option Complaint)
+    → RunsOn brands stands refused n held holds bytes input → bytes ≡ before_known ahead left → ahead ≡ [] → IsAtEnd left → left_to_tell complaint ≡ record (told_refusal [] refused) { out = [] } → IfSome input (λ bs. Tells complaint held holds (traced brands bs))
+tells_last_end brands stands refused n held holds bytes ahead left input complaint run same none end is =
+    tells_end brands stands refused n held holds bytes input complaint run (subst (λ known. IfSome (option_map lines_of known) (λ ls. ls ≡ [])) (sym same) (nothing_ahead ahead left none end)) is
 
 -- a line that is too long
-pub tells_long : (stands : State → Type 0) (refused : Option ℕ) (n : ℕ) (held holds bytes input : Option (List ℕ)) → RunsOn stands refused n held holds bytes input → IfSome (option_map lines_of bytes) FirstIsLong → IfSome input (λ bs. Tells (Some (Limit n)) held holds (traced bs))
-tells_long stands refused n held holds bytes input run long = tells_ending stands refused n held holds bytes input (Past_limit n) (Some (Limit n)) run (λ S _. at_long S.started n bytes long) (λ done. refl)
+pub tells_long : (brands : List Tabled) (stands : State → Type 0) (refused : Option ℕ) (n : ℕ) (held holds bytes input : Option (List ℕ)) → RunsOn brands stands refused n held holds bytes input → IfSome (option_map lines_of bytes) FirstIsLong → IfSome input (λ bs. Tells (Some (Limit n)) held holds (traced brands bs))
+tells_long brands stands refused n held holds bytes input run long = tells_ending brands stands refused n held holds bytes input (Past_limit n) (Some (Limit n)) run (λ S _. at_long S.started n bytes long) (λ done. refl)
 
 -- a line outside the grammar
-pub tells_fault : (stands : State → Type 0) (refused : Option ℕ) (n : ℕ) (held holds : Option (List ℕ)) (line : List ℕ) (fault : LineFault) (bytes : Option (List ℕ)) (new : Option (List (List ℕ))) (input : Option (List ℕ))
-    → RunsOn stands refused n held holds bytes input → option_map lines_of bytes ≡ option_map (λ ls. line ∷ ls) new → n ≤ 200000 → length line ≤ 4096 → ((S : State) → stands S → event_of S.started line ≡ Err fault)
-    → IfSome input (λ bs. Tells (Some (Bad_line n fault)) held holds (traced bs))
-tells_fault stands refused n held holds line fault bytes new input run is h k says =
-    tells_ending stands refused n held holds bytes input (At_fault n fault) (Some (Bad_line n fault)) run (λ S stood. at_fault S.started n line fault bytes new is h k (says S stood)) (λ done. refl)
+pub tells_fault : (brands : List Tabled) (stands : State → Type 0) (refused : Option ℕ) (n : ℕ) (held holds : Option (List ℕ)) (line : List ℕ) (fault : LineFault) (bytes : Option (List ℕ)) (new : Option (List (List ℕ))) (input : Option (List ℕ))
+    → RunsOn brands stands refused n held holds bytes input → option_map lines_of bytes ≡ option_map (λ ls. line ∷ ls) new → n ≤ 200000 → length line ≤ 4096 → ((S : State) → stands S → event_of S.started line ≡ Err fault)
+    → IfSome input (λ bs. Tells (Some (Bad_line n fault)) held holds (traced brands bs))
+tells_fault brands stands refused n held holds line fault bytes new input run is h k says =
+    tells_ending brands stands refused n held holds bytes input (At_fault n fault) (Some (Bad_line n fault)) run (λ S stood. at_fault S.started n line fault bytes new is h k (says S stood)) (λ done. refl)
 
 -- a run ended, and what waited then was not written whole
-pub ended_front : (result : Result (Option Complaint) RunFault) (held holds now input : Option (List ℕ)) (waiting : List ℕ)
-    → IfOk result (λ complaint. IfSome input (λ bs. Tells complaint held (after_known holds waiting) (traced bs))) → (IsErrOf result Read ⊎ IsErrOf result Memory → IfSome input (λ bs. HasReplies held (after_known holds waiting) (run_of bs)))
-    → (IsErrOf result Write → IfSome input (λ bs. HasFront held holds (traced bs).out)) → (IsErrOf result Write → waiting ≡ []) → HasWritten held holds → HasFront holds now waiting → IfSome input (λ bs. HasFront held now (traced bs).out)
-ended_front (Ok complaint) held holds now input waiting tells answered front none written stopped = flushed_front held holds now input waiting written (whole_replies complaint held (after_known holds waiting) input tells) stopped
-ended_front (Err Read) held holds now input waiting tells answered front none written stopped = flushed_front held holds now input waiting written (answered (inl refl)) stopped
-ended_front (Err Memory) held holds now input waiting tells answered front none written stopped = flushed_front held holds now input waiting written (answered (inr refl)) stopped
-ended_front (Err Write) held holds now input waiting tells answered front none written stopped =
+pub ended_front : (brands : List Tabled) (result : Result (Option Complaint) RunFault) (held holds now input : Option (List ℕ)) (waiting : List ℕ)
+    → IfOk result (λ complaint. IfSome input (λ bs. Tells complaint held (after_known holds waiting) (traced brands bs))) → (IsErrOf result Read ⊎ IsErrOf result Memory → IfSome input (λ bs. HasReplies held (after_known holds waiting) (run_of brands bs)))
+    → (IsErrOf result Write → IfSome input (λ bs. HasFront held holds (traced brands bs).out)) → (IsErrOf result Write → waiting ≡ []) → HasWritten held holds → HasFront holds now waiting → IfSome input (λ bs. HasFront held now (traced brands bs).out)
+ended_front brands (Ok complaint) held holds now input waiting tells answered front none written stopped = flushed_front brands held holds now input waiting written (whole_replies brands complaint held (after_known holds waiting) input tells) stopped
+ended_front brands (Err Read) held holds now input waiting tells answered front none written stopped = flushed_front brands held holds now input waiting written (answered (inl refl)) stopped
+ended_front brands (Err Memory) held holds now input waiting tells answered front none written stopped = flushed_front brands held holds now input waiting written (answered (inr refl)) stopped
+ended_front brands (Err Write) held holds now input waiting tells answered front none written stopped =
     let text : take stopped.count waiting ≡ [] = rw (none refl) (take_nil stopped.count) in
     let same : now ≡ holds = stopped.taken ∙ ap (after_known holds) text ∙ after_known-nil holds in
-    subst (λ known. IfSome input (λ bs. HasFront held known (traced bs).out)) (sym same) (front refl)
+    subst (λ known. IfSome input (λ bs. HasFront held known (traced brands bs).out)) (sym same) (front refl)
   where
     take_nil : (n : ℕ) → take {A = ℕ} n [] ≡ []
     take_nil zero = refl

@@ -3,6 +3,7 @@ use Rattle.std.proofs.Common.{◌≡◌, ◌+◌, ◌≤◌, ◌<◌, ◌++◌, 
 use Rattle.std.specs.Io.KnownBytes.{IsAtEnd}
 use Rattle.std.proofs.lemmas.List.{append-nil}
 use Rattle.zn_io.specs.Streams.{after_known, before_known}
+use Rattle.brand_hooks.specs.Brands.{Tabled}
 use Rattle.trace_text.specs.Lines.{Said, event_of}
 use Rattle.zone_machine.specs.Machine.Histories.{after_entry, entry_at}
 use Rattle.zone_machine.specs.Machine.{opening}
@@ -21,39 +22,39 @@ use Rattle.zones_run.proofs.Traces.{answers_line, from_first_line, or_else-None,
 
 -- of a known input: what was taken as lines, and what is to come. Whatever lines follow those taken, the run over them
 -- all is the run that has come so far and goes on with them
-pub record Knows (refused : Option ℕ) (number : ℕ) (state : State) (done : List Entry) (bytes : Option (List ℕ)) (input : List ℕ) : Type 0 where
+pub record Knows (brands : List Tabled) (refused : Option ℕ) (number : ℕ) (state : State) (done : List Entry) (bytes : Option (List ℕ)) (input : List ℕ) : Type 0 where
   pub past : List ℕ
   pub to_come : List ℕ
   pub here : bytes ≡ Some to_come
   pub all : input ≡ past ++ to_come
   pub fresh : AreWhole past ⊎ (to_come ≡ [])
-  pub leads : (lines : List (List ℕ)) → run_on [] None 1 (opening []) (lines_of past ++ lines) ≡ run_on done refused number state lines
+  pub leads : (lines : List (List ℕ)) → run_on [] None 1 (opening brands []) (lines_of past ++ lines) ≡ run_on done refused number state lines
 
 -- a machine that stands for a state after some entries, whose replies were written, with the bytes to come
-pub record RunsOn (stands : State → Type 0) (refused : Option ℕ) (number : ℕ) (held holds bytes input : Option (List ℕ)) : Type 0 where
+pub record RunsOn (brands : List Tabled) (stands : State → Type 0) (refused : Option ℕ) (number : ℕ) (held holds bytes input : Option (List ℕ)) : Type 0 where
   pub state : State
   pub stood : stands state
   pub done : List Entry
   pub text : holds ≡ after_known held (replies_text done)
-  pub known : IfSome input (Knows refused number state done bytes)
+  pub known : IfSome input (Knows brands refused number state done bytes)
 
 -- at the start
-pub runs_from_start : (stands : State → Type 0) (held input : Option (List ℕ)) → stands (opening []) → RunsOn stands None 1 held held (before_known [] input) input
-runs_from_start stands held input stood = record {
-  state = opening [];
+pub runs_from_start : (brands : List Tabled) (stands : State → Type 0) (held input : Option (List ℕ)) → stands (opening brands []) → RunsOn brands stands None 1 held held (before_known [] input) input
+runs_from_start brands stands held input stood = record {
+  state = opening brands [];
   stood = stood;
   done = [];
   text = sym (after_known-nil held);
   known = at_input input;
 }
   where
-    at_input : (input : Option (List ℕ)) → IfSome input (Knows None 1 (opening []) [] (before_known [] input))
+    at_input : (input : Option (List ℕ)) → IfSome input (Knows brands None 1 (opening brands []) [] (before_known [] input))
     at_input None = tt
     at_input (Some bytes) = record { past = []; to_come = bytes; here = refl; all = refl; fresh = inl (inl refl); leads = λ lines. refl }
 
 -- what was reported in another way
-pub runs_told : (stands : State → Type 0) (refused : Option ℕ) (n : ℕ) (held holds now_holds bytes input : Option (List ℕ)) → now_holds ≡ holds → RunsOn stands refused n held holds bytes input → RunsOn stands refused n held now_holds bytes input
-runs_told stands refused n held holds now_holds bytes input same run = subst (λ known. RunsOn stands refused n held known bytes input) (sym same) run
+pub runs_told : (brands : List Tabled) (stands : State → Type 0) (refused : Option ℕ) (n : ℕ) (held holds now_holds bytes input : Option (List ℕ)) → now_holds ≡ holds → RunsOn brands stands refused n held holds bytes input → RunsOn brands stands refused n held now_holds bytes input
+runs_told brands stands refused n held holds now_holds bytes input same run = subst (λ known. RunsOn brands stands refused n held known bytes input) (sym same) run
 
 -- lines that end in a newline are followed by those of the bytes after them
 lines_of-onto : (front bytes : List ℕ) → lines_of ((front ++ 10 ∷ []) ++ bytes) ≡ lines_of (front ++ 10 ∷ []) ++ lines_of bytes
@@ -138,9 +139,9 @@ takes past line to_come new (inr none) took = elim took.ended as (λ _. Taken pa
 ]
 
 -- a line is taken, and the run goes on after it
-one_line : (done now_done : List Entry) (refused now : Option ℕ) (n : ℕ) (S T : State) (line : List ℕ) (old new : Option (List ℕ)) (input : List ℕ)
-    → ((lines : List (List ℕ)) → run_on done refused n S (line ∷ lines) ≡ run_on now_done now (n + 1) T lines) → Knows refused n S done old input → TakesLine line old new → Knows now (n + 1) T now_done new input
-one_line done now_done refused now n S T line old new input step known took =
+one_line : (brands : List Tabled) (done now_done : List Entry) (refused now : Option ℕ) (n : ℕ) (S T : State) (line : List ℕ) (old new : Option (List ℕ)) (input : List ℕ)
+    → ((lines : List (List ℕ)) → run_on done refused n S (line ∷ lines) ≡ run_on now_done now (n + 1) T lines) → Knows brands refused n S done old input → TakesLine line old new → Knows brands now (n + 1) T now_done new input
+one_line brands done now_done refused now n S T line old new input step known took =
     let taken = takes known.past line known.to_come new known.fresh (subst (λ bytes. TakesLine line bytes new) known.here took) in
     record {
       past = taken.now_past;
@@ -148,24 +149,24 @@ one_line done now_done refused now n S T line old new input step known took =
       here = taken.here;
       all = known.all ∙ taken.all;
       fresh = taken.fresh;
-      leads = λ lines. ap (λ front. run_on [] None 1 (opening []) (front ++ lines)) taken.lines
-          ∙ ap (run_on [] None 1 (opening [])) (append_assoc (lines_of known.past) (line ∷ []) lines) ∙ known.leads (line ∷ lines) ∙ step lines;
+      leads = λ lines. ap (λ front. run_on [] None 1 (opening brands []) (front ++ lines)) taken.lines
+          ∙ ap (run_on [] None 1 (opening brands [])) (append_assoc (lines_of known.past) (line ∷ []) lines) ∙ known.leads (line ∷ lines) ∙ step lines;
     }
 
-for_input : (done now_done : List Entry) (refused now : Option ℕ) (n : ℕ) (S T : State) (line : List ℕ) (old new input : Option (List ℕ))
-    → ((lines : List (List ℕ)) → run_on done refused n S (line ∷ lines) ≡ run_on now_done now (n + 1) T lines) → TakesLine line old new → IfSome input (Knows refused n S done old) → IfSome input (Knows now (n + 1) T now_done new)
-for_input done now_done refused now n S T line old new None step took known = tt
-for_input done now_done refused now n S T line old new (Some input) step took known = one_line done now_done refused now n S T line old new input step known took
+for_input : (brands : List Tabled) (done now_done : List Entry) (refused now : Option ℕ) (n : ℕ) (S T : State) (line : List ℕ) (old new input : Option (List ℕ))
+    → ((lines : List (List ℕ)) → run_on done refused n S (line ∷ lines) ≡ run_on now_done now (n + 1) T lines) → TakesLine line old new → IfSome input (Knows brands refused n S done old) → IfSome input (Knows brands now (n + 1) T now_done new)
+for_input brands done now_done refused now n S T line old new None step took known = tt
+for_input brands done now_done refused now n S T line old new (Some input) step took known = one_line brands done now_done refused now n S T line old new input step known took
 
 -- a line that is no event
-runs_past : (stands : State → Type 0) (refused : Option ℕ) (n : ℕ) (held holds : Option (List ℕ)) (line : List ℕ) (old new input : Option (List ℕ))
-    → (run : RunsOn stands refused n held holds old input) → TakesLine line old new → n ≤ 200000 → length line ≤ 4096 → event_of run.state.started line ≡ Ok None → RunsOn stands refused (n + 1) held holds new input
-runs_past stands refused n held holds line old new input run took h k e = record {
+runs_past : (brands : List Tabled) (stands : State → Type 0) (refused : Option ℕ) (n : ℕ) (held holds : Option (List ℕ)) (line : List ℕ) (old new input : Option (List ℕ))
+    → (run : RunsOn brands stands refused n held holds old input) → TakesLine line old new → n ≤ 200000 → length line ≤ 4096 → event_of run.state.started line ≡ Ok None → RunsOn brands stands refused (n + 1) held holds new input
+runs_past brands stands refused n held holds line old new input run took h k e = record {
   state = run.state;
   stood = run.stood;
   done = run.done;
   text = run.text;
-  known = for_input run.done run.done refused refused n run.state run.state line old new input (λ lines. skips_line run.done refused n run.state line lines h k e) took run.known;
+  known = for_input brands run.done run.done refused refused n run.state run.state line old new input (λ lines. skips_line run.done refused n run.state line lines h k e) took run.known;
 }
 
 replies_text-push : (done : List Entry) (entry : Entry) → replies_text (done ++ entry ∷ []) ≡ replies_text done ++ entry_text entry
@@ -177,10 +178,10 @@ refused_as refused n refusal true e = rw e refl
 refused_as refused n refusal false e = rw e (or_else-None refused)
 
 -- a line that is an event
-runs_through : (stands now_stands : State → Type 0) (refused now : Option ℕ) (n : ℕ) (held holds now_holds : Option (List ℕ)) (e : Event) (refusal : Bool) (line : List ℕ) (old new input : Option (List ℕ))
-    → (run : RunsOn stands refused n held holds old input) → IsAnswered stands now_stands e refusal holds now_holds → TakesLine line old new → n ≤ 200000 → length line ≤ 4096 → event_of run.state.started line ≡ Ok (Some e)
-    → now ≡ cond refusal (or_else refused (Some n)) refused → RunsOn now_stands now (n + 1) held now_holds new input
-runs_through stands now_stands refused now n held holds now_holds e refusal line old new input run answered took h k says so =
+runs_through : (brands : List Tabled) (stands now_stands : State → Type 0) (refused now : Option ℕ) (n : ℕ) (held holds now_holds : Option (List ℕ)) (e : Event) (refusal : Bool) (line : List ℕ) (old new input : Option (List ℕ))
+    → (run : RunsOn brands stands refused n held holds old input) → IsAnswered stands now_stands e refusal holds now_holds → TakesLine line old new → n ≤ 200000 → length line ≤ 4096 → event_of run.state.started line ≡ Ok (Some e)
+    → now ≡ cond refusal (or_else refused (Some n)) refused → RunsOn brands now_stands now (n + 1) held now_holds new input
+runs_through brands stands now_stands refused now n held holds now_holds e refusal line old new input run answered took h k says so =
     let S = run.state in
     let entry : Entry = entry_at S e (allowed S e) in
     let told : or_else refused (refused_at_line n entry) ≡ now = refused_as refused n refusal (is_refusal entry.reply.head) (answered.refused S run.stood) ∙ sym so in
@@ -190,33 +191,33 @@ runs_through stands now_stands refused now n held holds now_holds e refusal line
       done = run.done ++ entry ∷ [];
       text = answered.text S run.stood ∙ ap (λ known. after_known known (entry_text entry)) run.text ∙ after_known-append held (replies_text run.done) (entry_text entry)
           ∙ ap (after_known held) (sym (replies_text-push run.done entry));
-      known = for_input run.done (run.done ++ entry ∷ []) refused now n S (after_entry S entry) line old new input
+      known = for_input brands run.done (run.done ++ entry ∷ []) refused now n S (after_entry S entry) line old new input
           (λ lines. answers_line run.done refused n S e line lines h k says ∙ ap (λ r. run_on (run.done ++ entry ∷ []) r (n + 1) (after_entry S entry) lines) told) took run.known;
     }
 
 -- a line that was taken, whatever it says
-pub runs_said : (stands now_stands : State → Type 0) (refused now : Option ℕ) (n : ℕ) (held holds now_holds : Option (List ℕ)) (line : List ℕ) (old new input : Option (List ℕ)) (run : RunsOn stands refused n held holds old input) (said : Said)
-    → event_of run.state.started line ≡ said → TakesEvent stands now_stands said n refused now holds now_holds → TakesLine line old new → n ≤ 200000 → length line ≤ 4096 → RunsOn now_stands now (n + 1) held now_holds new input
-runs_said stands now_stands refused now n held holds now_holds line old new input run (Ok None) says took line_took h k =
-    let past = runs_past stands refused n held holds line old new input run line_took h k says in
-    subst (λ r. RunsOn now_stands r (n + 1) held now_holds new input) (sym took.1)
-    (subst (λ known. RunsOn now_stands refused (n + 1) held known new input) (sym took.2) (record {
+pub runs_said : (brands : List Tabled) (stands now_stands : State → Type 0) (refused now : Option ℕ) (n : ℕ) (held holds now_holds : Option (List ℕ)) (line : List ℕ) (old new input : Option (List ℕ)) (run : RunsOn brands stands refused n held holds old input) (said : Said)
+    → event_of run.state.started line ≡ said → TakesEvent stands now_stands said n refused now holds now_holds → TakesLine line old new → n ≤ 200000 → length line ≤ 4096 → RunsOn brands now_stands now (n + 1) held now_holds new input
+runs_said brands stands now_stands refused now n held holds now_holds line old new input run (Ok None) says took line_took h k =
+    let past = runs_past brands stands refused n held holds line old new input run line_took h k says in
+    subst (λ r. RunsOn brands now_stands r (n + 1) held now_holds new input) (sym took.1)
+    (subst (λ known. RunsOn brands now_stands refused (n + 1) held known new input) (sym took.2) (record {
       state = past.state;
       stood = took.0 past.state past.stood;
       done = past.done;
       text = past.text;
       known = past.known;
     }))
-runs_said stands now_stands refused now n held holds now_holds line old new input run (Ok (Some e)) says took line_took h k =
-    runs_through stands now_stands refused now n held holds now_holds e took.0 line old new input run took.1 line_took h k says took.2
-runs_said stands now_stands refused now n held holds now_holds line old new input run (Err fault) says took line_took h k = absurd took
+runs_said brands stands now_stands refused now n held holds now_holds line old new input run (Ok (Some e)) says took line_took h k =
+    runs_through brands stands now_stands refused now n held holds now_holds e took.0 line old new input run took.1 line_took h k says took.2
+runs_said brands stands now_stands refused now n held holds now_holds line old new input run (Err fault) says took line_took h k = absurd took
 
 -- what it says depends on whether an event has come, which the machine's state tells
-pub runs_line : (stands now_stands : State → Type 0) (refused now : Option ℕ) (n : ℕ) (held holds now_holds : Option (List ℕ)) (line : List ℕ) (old new input : Option (List ℕ))
-    → RunsOn stands refused n held holds old input → ((S : State) → stands S → TakesEvent stands now_stands (event_of S.started line) n refused now holds now_holds) → TakesLine line old new → n ≤ 200000 → length line ≤ 4096
-    → RunsOn now_stands now (n + 1) held now_holds new input
-runs_line stands now_stands refused now n held holds now_holds line old new input run took line_took h k =
-    runs_said stands now_stands refused now n held holds now_holds line old new input run (event_of run.state.started line) refl (took run.state run.stood) line_took h k
+pub runs_line : (brands : List Tabled) (stands now_stands : State → Type 0) (refused now : Option ℕ) (n : ℕ) (held holds now_holds : Option (List ℕ)) (line : List ℕ) (old new input : Option (List ℕ))
+    → RunsOn brands stands refused n held holds old input → ((S : State) → stands S → TakesEvent stands now_stands (event_of S.started line) n refused now holds now_holds) → TakesLine line old new → n ≤ 200000 → length line ≤ 4096
+    → RunsOn brands now_stands now (n + 1) held now_holds new input
+runs_line brands stands now_stands refused now n held holds now_holds line old new input run took line_took h k =
+    runs_said brands stands now_stands refused now n held holds now_holds line old new input run (event_of run.state.started line) refl (took run.state run.stood) line_took h k
 
 -- the event that a line was read as is answered, in whatever state the machine stood for
 pub takes_answered : (stands now_stands : State → Type 0) (started : Bool) (S : State) (line : List ℕ) (e : Event) (refusal : Bool) (n : ℕ) (refused now : Option ℕ) (holds now_holds : Option (List ℕ))
@@ -225,9 +226,9 @@ takes_answered stands now_stands started S line e refusal n refused now holds no
     subst (λ said. TakesEvent stands now_stands said n refused now holds now_holds) (sym says ∙ ap (λ b. event_of b line) is) (refusal, answered, so)
 
 -- the run of the input is the run over the bytes to come, from here on
-pub known_run : (refused : Option ℕ) (n : ℕ) (S : State) (done : List Entry) (bytes : Option (List ℕ)) (input : List ℕ) (known : Knows refused n S done bytes input) → run_of input ≡ run_on done refused n S (lines_of known.to_come)
-known_run refused n S done bytes input known =
-    from_first_line input ∙ ap (λ bytes. run_on [] None 1 (opening []) (lines_of bytes)) known.all ∙ ap (run_on [] None 1 (opening [])) (joined known.fresh) ∙ known.leads (lines_of known.to_come)
+pub known_run : (brands : List Tabled) (refused : Option ℕ) (n : ℕ) (S : State) (done : List Entry) (bytes : Option (List ℕ)) (input : List ℕ) (known : Knows brands refused n S done bytes input) → run_of brands input ≡ run_on done refused n S (lines_of known.to_come)
+known_run brands refused n S done bytes input known =
+    from_first_line brands input ∙ ap (λ bytes. run_on [] None 1 (opening brands []) (lines_of bytes)) known.all ∙ ap (run_on [] None 1 (opening brands [])) (joined known.fresh) ∙ known.leads (lines_of known.to_come)
   where
     joined : AreWhole known.past ⊎ (known.to_come ≡ []) → lines_of (known.past ++ known.to_come) ≡ lines_of known.past ++ lines_of known.to_come
     joined (inl whole) = lines_of-append known.past known.to_come whole

@@ -1,14 +1,13 @@
 -- The order in which a trace declares.
 use Rattle.std.specs.Prelude.{◌≡◌, ◌++◌, ℕ, List, ◌∷◌, map, All, false}
-use Rattle.zn_base.specs.Lines.{lines_of}
 use Rattle.zone_machine.specs.declared.events.Declaration.{Declaration}
 use Rattle.zone_machine.specs.declared.events.Event.{Event}
 use Rattle.zone_machine.specs.declared.events.Event.TheVariants.{System}
-use Rattle.zones_run.specs.Tracing.{counts_event, script_from}
+use Rattle.zones_run.specs.Tracing.{counts_event, script_of}
 
 -- the events of a whole input, in order
 abbrev pub events_of : List ℕ → List Event
-events_of bytes = map (λ e. e.1) (script_from false 1 (lines_of bytes)).events
+events_of bytes = map (λ e. e.1) (script_of bytes).events
 
 -- a law: only declarations stand before a declaration
 abbrev pub DeclaresFirst : Type 0

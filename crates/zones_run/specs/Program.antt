@@ -1,6 +1,7 @@
--- What the program writes for its words and its whole input, as far as the input is known.
+-- What the program writes for its words and its whole input, as far as the input is known, with the brands that there are.
 use Rattle.std.specs.Prelude.{◌≡◌, ℕ, List, [], Option, Some, None, IfSome}
 use Rattle.std.specs.Option.{option_map}
+use Rattle.brand_hooks.specs.Brands.{Tabled}
 use Rattle.zones_run.specs.Statuses.{status_usage}
 use Rattle.zones_run.specs.declared.words.Command.{Command}
 use Rattle.zones_run.specs.declared.words.Command.TheVariants.{Export, Trace, Help, Version}
@@ -11,16 +12,16 @@ use Rattle.zones_run.specs.Output.{Output, written}
 use Rattle.zones_run.specs.Tracing.{AnswersLines, AnswersRead, HasReplies, RunsLines, run_of, traced}
 use Rattle.zones_run.specs.Words.{command_of}
 
-abbrev pub output_for : Option Command → Option (List ℕ) → Option Output
-output_for (Some Export) input = option_map exported input
-output_for (Some Trace) input = option_map traced input
-output_for (Some Help) input = Some (written help_text)
-output_for (Some Version) input = Some (written version_text)
-output_for None input = Some (record { status = status_usage; out = []; err = usage_text })
+abbrev pub output_for : List Tabled → Option Command → Option (List ℕ) → Option Output
+output_for brands (Some Export) input = option_map exported input
+output_for brands (Some Trace) input = option_map (traced brands) input
+output_for brands (Some Help) input = Some (written help_text)
+output_for brands (Some Version) input = Some (written version_text)
+output_for brands None input = Some (record { status = status_usage; out = []; err = usage_text })
 
--- the output for some words, as far as the input is known
-abbrev pub output_of : List (List ℕ) → Option (List ℕ) → Option Output
-output_of words input = output_for (command_of words) input
+-- the output for some brands and words, as far as the input is known
+abbrev pub output_of : List Tabled → List (List ℕ) → Option (List ℕ) → Option Output
+output_of brands words input = output_for brands (command_of words) input
 
 -- words that ask for no input: the help, the version, and what is no form of the command line
 abbrev pub ReadsNothing : Option Command → Type 0
@@ -35,14 +36,14 @@ HasTaken (Some Trace) input left = IfSome input (λ _. RunsLines input left)
 HasTaken command input left = input ≡ left
 
 -- where memory ran out, a trace has written the replies of the lines taken, and every other command nothing
-abbrev pub HasAnswered : Option Command → (input left held holds : Option (List ℕ)) → Type 0
-HasAnswered (Some Trace) input left held holds =
-    IfSome input (λ bytes. HasReplies held holds (run_of bytes)) × IfSome input (λ _. AnswersLines input left held holds)
-HasAnswered command input left held holds = holds ≡ held
+abbrev pub HasAnswered : List Tabled → Option Command → (input left held holds : Option (List ℕ)) → Type 0
+HasAnswered brands (Some Trace) input left held holds =
+    IfSome input (λ bytes. HasReplies held holds (run_of brands bytes)) × IfSome input (λ _. AnswersLines brands input left held holds)
+HasAnswered brands command input left held holds = holds ≡ held
 
 -- the same where the source failed, and `export` has obeyed the lines taken
-abbrev pub HasAnsweredRead : Option Command → (input left held holds : Option (List ℕ)) → Type 0
-HasAnsweredRead (Some Trace) input left held holds =
-    IfSome input (λ bytes. HasReplies held holds (run_of bytes)) × IfSome input (λ _. AnswersRead input left held holds)
-HasAnsweredRead (Some Export) input left held holds = (holds ≡ held) × IfSome input (λ _. ObeysRead input left)
-HasAnsweredRead command input left held holds = holds ≡ held
+abbrev pub HasAnsweredRead : List Tabled → Option Command → (input left held holds : Option (List ℕ)) → Type 0
+HasAnsweredRead brands (Some Trace) input left held holds =
+    IfSome input (λ bytes. HasReplies held holds (run_of brands bytes)) × IfSome input (λ _. AnswersRead brands input left held holds)
+HasAnsweredRead brands (Some Export) input left held holds = (holds ≡ held) × IfSome input (λ _. ObeysRead input left)
+HasAnsweredRead brands command input left held holds = holds ≡ held

@@ -1,17 +1,15 @@
 -- Why `export` refuses a line or the end of its input, as standard error reports it: the code, the name, and what it
 -- is about.
-use Rattle.std.specs.Prelude.{ℕ, List, ◌++◌, unwrap_or, codes}
+use Rattle.std.specs.Prelude.{ℕ, List, ◌++◌, codes}
 use Rattle.std.specs.Fmt.{decimal}
 use Rattle.zonecfg_lex.specs.declared.fault.LexFault.{LexFault}
 use Rattle.zonecfg_lex.specs.declared.fault.LexFault.TheVariants as lex
 use Rattle.config_terms.specs.declared.fault.ConfigFault.{ConfigFault}
 use Rattle.config_terms.specs.declared.fault.ConfigFault.TheVariants as config
-use Rattle.config_terms.specs.declared.fields.Named.{Named}
-use Rattle.config_terms.specs.declared.fields.Named.TheVariants.{One, Many}
-use Rattle.config_terms.specs.declared.terms.Kind.{Kind}
-use Rattle.config_terms.specs.Fields.{field_name, kind_name, list_name}
+use Rattle.config_terms.specs.Fields.{kind_name}
 use Rattle.config_verify.specs.declared.flaw.Flaw.{Flaw}
 use Rattle.config_verify.specs.declared.flaw.Flaw.TheVariants as flaw
+use Rattle.trace_text.specs.Flaws.{flaw_text}
 use Rattle.zonecfg_scopes.specs.declared.fault.EditFault.{EditFault}
 use Rattle.zonecfg_scopes.specs.declared.fault.EditFault.TheVariants as edit
 use Rattle.zonecfg_scopes.specs.declared.fault.Scope.{Scope}
@@ -61,21 +59,6 @@ edit_text edit.NothingOpen = codes "33 NothingOpen"
 edit_text (edit.WrongScope scope) = codes "32 WrongScope " ++ scope_text scope
 edit_text edit.NeedForce = codes "34 NeedForce"
 edit_text (edit.Config fault) = config_text fault
-
--- a property of a kind
-abbrev pub property_text : Kind → Named → List ℕ
-property_text kind (One field) = field_name field
-property_text kind Many = unwrap_or (list_name kind) (codes "value")
-
-abbrev pub flaw_text : Flaw → List ℕ
-flaw_text flaw.Memory = codes "no memory"
-flaw_text flaw.NoZonepath = codes "41 NoZonepath"
-flaw_text (flaw.MissingProperty kind name) = codes "42 MissingProperty " ++ (kind_name kind ++ (codes " " ++ property_text kind name))
-flaw_text (flaw.NetForm place) = codes "43 NetForm " ++ decimal place
-flaw_text (flaw.BadAddress text) = codes "44 BadAddress " ++ text
-flaw_text (flaw.SameDir dir) = codes "45 SameDir " ++ dir
-flaw_text (flaw.UnknownBrand brand) = codes "46 UnknownBrand " ++ brand
-flaw_text (flaw.AttrForm name) = codes "50 AttrForm " ++ name
 
 unfoldable pub refusal_text : Refusal → List ℕ
 refusal_text Memory = codes "no memory"

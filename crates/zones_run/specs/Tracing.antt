@@ -1,8 +1,9 @@
 -- What `trace` writes for the whole of its input: its lines are read, their events make a history of the zone machine
--- from no record on, and the history's replies are printed.
+-- from no record on, with the brands that there are, and the history's replies are printed.
 use Rattle.std.specs.Prelude.{ℕ, List, [], ◌∷◌, ◌+◌, ◌≡◌, map, take, Bool, true, false, ◌||◌, Option, Some, None, Result, Ok, Err, if◌then◌else◌}
 use Rattle.std.specs.List.{flat_map}
 use Rattle.zn_io.specs.Streams.{after_known}
+use Rattle.brand_hooks.specs.Brands.{Tabled}
 use Rattle.trace_text.specs.Lines.{Said, event_of}
 use Rattle.trace_text.specs.Replies.{reply_text}
 use Rattle.trace_text.specs.declared.fault.LineFault.{LineFault}
@@ -100,13 +101,17 @@ pub record Run : Type 0 where
 abbrev pub run_by : Script → List Entry → Run
 run_by script entries = record { entries = entries; refused = first_refused script.events entries; ending = script.ending }
 
--- the entries are the history of the events, from a machine with nothing stored
-abbrev pub script_run : Script → Run
-script_run script = run_by script (history (opening []) (map (λ e. e.1) script.events))
+-- the entries are the history of the events, from a machine of some brands with nothing stored
+abbrev pub script_run : List Tabled → Script → Run
+script_run brands script = run_by script (history (opening brands []) (map (λ e. e.1) script.events))
+
+-- the script of a whole input
+abbrev pub script_of : List ℕ → Script
+script_of bytes = script_from false 1 (lines_of bytes)
 
 -- the run of a whole input
-abbrev pub run_of : List ℕ → Run
-run_of bytes = script_run (script_from false 1 (lines_of bytes))
+abbrev pub run_of : List Tabled → List ℕ → Run
+run_of brands bytes = script_run brands (script_of bytes)
 
 -- the text of an entry's reply, and of those of several
 abbrev pub entry_text : Entry → List ℕ
@@ -130,8 +135,8 @@ abbrev pub told : Run → Output
 told run = told_ending (replies_text run.entries) run.refused run.ending
 
 -- `trace` over the whole input
-abbrev pub traced : List ℕ → Output
-traced bytes = told (run_of bytes)
+abbrev pub traced : List Tabled → List ℕ → Output
+traced brands bytes = told (run_of brands bytes)
 
 -- what a trace still has to report at its end
 abbrev pub left_to_tell : Option Complaint → Output
@@ -150,22 +155,22 @@ pub record HasReplies (held holds : Option (List ℕ)) (run : Run) : Type 0 wher
 
 -- `trace` has taken lines that don't end it, the beginning of one more, and at most one piece
 abbrev pub RunsLines : (input left : Option (List ℕ)) → Type 0
-RunsLines input left = TakesLines (λ bytes. (run_of bytes).ending ≡ At_end) input left
+RunsLines input left = TakesLines (λ bytes. (script_of bytes).ending ≡ At_end) input left
 
 -- and has written the replies of just those lines
-pub record AnswersLines (input left held holds : Option (List ℕ)) : Type 0 where
+pub record AnswersLines (brands : List Tabled) (input left held holds : Option (List ℕ)) : Type 0 where
   pub runs : RunsLines input left
-  pub text : holds ≡ after_known held (replies_text (run_of runs.lines).entries)
+  pub text : holds ≡ after_known held (replies_text (run_of brands runs.lines).entries)
 
 -- the same where the source failed
-abbrev pub AnswersRead : (input left held holds : Option (List ℕ)) → Type 0
-AnswersRead input left held holds = (answers : AnswersLines input left held holds) × TakesNoMore answers.runs
+abbrev pub AnswersRead : List Tabled → (input left held holds : Option (List ℕ)) → Type 0
+AnswersRead brands input left held holds = (answers : AnswersLines brands input left held holds) × TakesNoMore answers.runs
 
 -- what a trace has taken and answered, by how it ended
-abbrev pub AnswersAs : Result (Option Complaint) RunFault → (input left held holds : Option (List ℕ)) → Type 0
-AnswersAs (Err Write) input left held holds = RunsLines input left
-AnswersAs (Err Read) input left held holds = AnswersRead input left held holds
-AnswersAs ended input left held holds = AnswersLines input left held holds
+abbrev pub AnswersAs : List Tabled → Result (Option Complaint) RunFault → (input left held holds : Option (List ℕ)) → Type 0
+AnswersAs brands (Err Write) input left held holds = RunsLines input left
+AnswersAs brands (Err Read) input left held holds = AnswersRead brands input left held holds
+AnswersAs brands ended input left held holds = AnswersLines brands input left held holds
 
 -- what an event was answered, in the state that the machine stood for
 pub record IsAnswered (stands new_stands : State → Type 0) (e : Event) (refusal : Bool) (holds new_holds : Option (List ℕ)) : Type 0 where

@@ -1,11 +1,10 @@
 //! Why `export` refuses a line or the end of its input, and how standard error reports it.
 ghost use Rattle.std.specs.Prelude.{◌≡◌, ◌++◌, OnOk};
-ghost use Rattle.config_verify.specs.declared.flaw.Flaw.TheVariants.{MissingProperty};
-ghost use Rattle.zones_run.specs.Refusals.{config_text, edit_text, flaw_text, lex_text, property_text, refusal_text, scope_text};
+ghost use Rattle.zones_run.specs.Refusals.{config_text, edit_text, lex_text, refusal_text, scope_text};
 
-use config_terms::{Kind, Named};
 use config_verify::Flaw;
 use std::alloc::AllocError;
+use trace_text::push_flaw;
 use zn_base::{push_both, push_numbered};
 use zone_config::ConfigFault;
 use zonecfg_lex::LexFault;
@@ -99,40 +98,6 @@ fn push_edit(out: &mut Vec<u8>, fault: EditFault) -> Result<(), AllocError>
         EditFault::Usage => out.extend_from_slice(b"35 Usage"),
         EditFault::NotHere => out.extend_from_slice(b"36 NotHere"),
         EditFault::Config(fault) => push_config(out, fault),
-    }
-}
-
-fn property_text(kind: Kind, name: Named) -> &'static [u8]
-    ensures { result.now ≡ property_text kind name }
-{
-    match name {
-        Named::One(field) => field.name(),
-        Named::Many => match kind.list_name() {
-            Some(list) => list,
-            None => b"value",
-        },
-    }
-}
-
-fn push_property(out: &mut Vec<u8>, kind: Kind, name: Named) -> Result<(), AllocError>
-    ensures { OnOk result (out.new.items ≡ out.old.items ++ flaw_text (MissingProperty kind name)) }
-{
-    push_both(out, b"42 MissingProperty ", kind.name())?;
-    push_both(out, b" ", property_text(kind, name))
-}
-
-fn push_flaw(out: &mut Vec<u8>, flaw: &Flaw) -> Result<(), AllocError>
-    ensures { OnOk result (out.new.items ≡ out.old.items ++ flaw_text flaw.now) }
-{
-    match flaw {
-        Flaw::Memory => out.extend_from_slice(b"no memory"),
-        Flaw::NoZonepath => out.extend_from_slice(b"41 NoZonepath"),
-        Flaw::MissingProperty(kind, name) => push_property(out, *kind, *name),
-        Flaw::NetForm(place) => push_numbered(out, b"43 NetForm ", *place as u64),
-        Flaw::BadAddress(text) => push_both(out, b"44 BadAddress ", text.bytes()),
-        Flaw::SameDir(dir) => push_both(out, b"45 SameDir ", dir.bytes()),
-        Flaw::UnknownBrand(brand) => push_both(out, b"46 UnknownBrand ", brand.bytes()),
-        Flaw::AttrForm(name) => push_both(out, b"50 AttrForm ", name.bytes()),
     }
 }
 

@@ -6,6 +6,9 @@ ghost use Rattle.zn_io.specs.Streams.{Rose, after_known};
 ghost use Rattle.zone_machine.specs.Machine.{opening};
 ghost use Rattle.zone_machine.specs.State.{State};
 ghost use Rattle.zone_machine.specs.Code.Cells.{Stands};
+ghost use Rattle.zone_machine.specs.Code.Decided.{AsksBrands};
+ghost use Rattle.brand_hooks.specs.Brands.{tables_of};
+ghost use Rattle.brand_hooks.specs.Hooks.{AllFollow};
 ghost use Rattle.trace_text.specs.Lines.{event_of};
 ghost use Rattle.zones_run.specs.Run.{HasFront};
 ghost use Rattle.zones_run.specs.Tracing.{AnswersAs, HasReplies, HasWritten, IsAnswered, Stops, TakesEvent, Tells, is_refusal, is_refused_outcome, is_refused_turn, left_to_tell, run_of, told_refusal, traced};
@@ -13,6 +16,7 @@ ghost use Rattle.zones_run.specs.Tracing.{AnswersAs, HasReplies, HasWritten, IsA
 use crate::fault::RunFault;
 use crate::lines::{Ahead, Got, LINES_MAX, next_line};
 use crate::outcome::Complaint;
+use brand_hooks::{Brands, Change, HookAnswer};
 use std::alloc::{AllocError, Global};
 use trace_text::{LineFault, push_answer, read_line};
 use zn_io::{Sink, Source, write_all};
@@ -50,15 +54,17 @@ fn ended(refused: Option<u64>) -> Option<Complaint>
 }
 
 // One event: its reply waits to be written, and the answer is whether it is a refusal. `text` is room for the reply.
-fn answer(
+fn answer<F: Fn(&Change) -> HookAnswer>(
     alloc: Global,
-    machine: &mut Machine,
+    machine: &mut Machine<'_, F>,
     event: &Event,
     text: &mut Vec<u8>,
     waiting: &mut Vec<u8>,
 ) -> Result<bool, AllocError>
-    ensures answered { IfOk result (λ refusal. (held : Option (List ℕ)) → IsAnswered (λ S. Stands S machine.old) (λ S. Stands S machine.new) event.now refusal (after_known held waiting.old.items) (after_known held waiting.new.items)) }
+    requires asks { AsksBrands F.Fn machine.old }
+    ensures answered { IfOk result (λ refusal. (held : Option (List ℕ)) → IsAnswered (λ S. Stands S machine.old.parts) (λ S. Stands S machine.new.parts) event.now refusal (after_known held waiting.old.items) (after_known held waiting.new.items)) }
     ensures same { OnErr result (waiting.new.items ≡ waiting.old.items) }
+    ensures asks { AsksBrands F.Fn machine.new }
 {
     let answer = match machine.answer(alloc, event) {
         Ok(answer) => answer,
@@ -78,19 +84,21 @@ enum Stop {
 }
 
 // One line: its event, if it is one, is answered, and the number of the first refused line is reported.
-fn take_line(
+fn take_line<F: Fn(&Change) -> HookAnswer>(
     alloc: Global,
-    machine: &mut Machine,
+    machine: &mut Machine<'_, F>,
     line: &[u8],
     number: u64,
     refused: Option<u64>,
     text: &mut Vec<u8>,
     waiting: &mut Vec<u8>,
 ) -> Result<Option<u64>, Stop>
-    requires { length line.now ≤ 4096 }
-    ensures taken { IfOk result (λ now. (S : State) → Stands S machine.old → (held : Option (List ℕ)) → TakesEvent (λ S. Stands S machine.old) (λ S. Stands S machine.new) (event_of S.started line.now) number refused now (after_known held waiting.old.items) (after_known held waiting.new.items)) }
-    ensures stopped { IfErr result (λ stop. (S : State) → Stands S machine.old → Stops stop (event_of S.started line.now)) }
+    requires short { length line.now ≤ 4096 }
+    requires asks { AsksBrands F.Fn machine.old }
+    ensures taken { IfOk result (λ now. (S : State) → Stands S machine.old.parts → (held : Option (List ℕ)) → TakesEvent (λ S. Stands S machine.old.parts) (λ S. Stands S machine.new.parts) (event_of S.started line.now) number refused now (after_known held waiting.old.items) (after_known held waiting.new.items)) }
+    ensures stopped { IfErr result (λ stop. (S : State) → Stands S machine.old.parts → Stops stop (event_of S.started line.now)) }
     ensures same { OnErr result (waiting.new.items ≡ waiting.old.items) }
+    ensures asks { AsksBrands F.Fn machine.new }
 {
     match read_line(alloc, line, machine.started()) {
         Ok(None) => Ok(refused),
@@ -139,22 +147,23 @@ fn write_some<K: Sink>(ahead: &Ahead, waiting: &mut Vec<u8>, out: &mut K) -> Res
 // Takes all lines, one at a time, up to the first that is outside the grammar or past a limit. What is
 // left to report is answered, and the last replies wait to be written. Nothing waits while the first byte of a
 // line is read, so whoever types whole lines gets each reply before the next line is read.
-fn take_lines<S: Source, K: Sink>(
+fn take_lines<F: Fn(&Change) -> HookAnswer, S: Source, K: Sink>(
     alloc: Global,
-    machine: &mut Machine,
+    machine: &mut Machine<'_, F>,
     source: &mut S,
     text: &mut Vec<u8>,
     waiting: &mut Vec<u8>,
     out: &mut K,
 ) -> Result<Option<Complaint>, RunFault>
-    requires stands { Stands (opening []) machine.old }
+    requires stands { Stands (opening machine.old.parts.shared.brands []) machine.old.parts }
+    requires asks { AsksBrands F.Fn machine.old }
     requires none { waiting.old.items ≡ [] }
-    ensures told { IfOk result (λ complaint. IfSome (S.left source.old) (λ bytes. Tells complaint (K.holds out.old) (after_known (K.holds out.new) waiting.new.items) (traced bytes))) }
+    ensures told { IfOk result (λ complaint. IfSome (S.left source.old) (λ bytes. Tells complaint (K.holds out.old) (after_known (K.holds out.new) waiting.new.items) (traced machine.old.parts.shared.brands bytes))) }
     ensures read { IsErrOf result RunFault.Read → Rose (S.faults source.old) (S.faults source.new) }
     ensures write { IsErrOf result RunFault.Write → Rose (K.faults out.old) (K.faults out.new) }
-    ensures front { IsErrOf result RunFault.Write → IfSome (S.left source.old) (λ bytes. HasFront (K.holds out.old) (K.holds out.new) (traced bytes).out) }
-    ensures answered { IsErrOf result RunFault.Read ⊎ IsErrOf result RunFault.Memory → IfSome (S.left source.old) (λ bytes. HasReplies (K.holds out.old) (after_known (K.holds out.new) waiting.new.items) (run_of bytes)) }
-    ensures taken { IfSome (S.left source.old) (λ _. AnswersAs result (S.left source.old) (S.left source.new) (K.holds out.old) (after_known (K.holds out.new) waiting.new.items)) }
+    ensures front { IsErrOf result RunFault.Write → IfSome (S.left source.old) (λ bytes. HasFront (K.holds out.old) (K.holds out.new) (traced machine.old.parts.shared.brands bytes).out) }
+    ensures answered { IsErrOf result RunFault.Read ⊎ IsErrOf result RunFault.Memory → IfSome (S.left source.old) (λ bytes. HasReplies (K.holds out.old) (after_known (K.holds out.new) waiting.new.items) (run_of machine.old.parts.shared.brands bytes)) }
+    ensures taken { IfSome (S.left source.old) (λ _. AnswersAs machine.old.parts.shared.brands result (S.left source.old) (S.left source.new) (K.holds out.old) (after_known (K.holds out.new) waiting.new.items)) }
     ensures written { HasWritten (K.holds out.old) (K.holds out.new) }
     ensures none { IsErrOf result RunFault.Write → waiting.new.items ≡ [] }
     ensures read_later { S.faults source.old ≤ S.faults source.new }
@@ -183,21 +192,21 @@ fn take_lines<S: Source, K: Sink>(
     Ok(ended(refused))
 }
 
-/// Runs all lines, one at a time, up to the first that is outside the grammar or past a limit. What is
-/// left to report is answered.
-pub fn trace_all<S: Source, K: Sink>(
+// The same, and the last replies are written.
+fn trace_from<F: Fn(&Change) -> HookAnswer, S: Source, K: Sink>(
     alloc: Global,
-    machine: &mut Machine,
+    machine: &mut Machine<'_, F>,
     source: &mut S,
     out: &mut K,
 ) -> Result<Option<Complaint>, RunFault>
-    requires { Stands (opening []) machine.old }
-    ensures told { IfOk result (λ complaint. IfSome (S.left source.old) (λ bytes. Tells complaint (K.holds out.old) (K.holds out.new) (traced bytes))) }
+    requires stands { Stands (opening machine.old.parts.shared.brands []) machine.old.parts }
+    requires asks { AsksBrands F.Fn machine.old }
+    ensures told { IfOk result (λ complaint. IfSome (S.left source.old) (λ bytes. Tells complaint (K.holds out.old) (K.holds out.new) (traced machine.old.parts.shared.brands bytes))) }
     ensures read { IsErrOf result RunFault.Read → Rose (S.faults source.old) (S.faults source.new) }
     ensures write { IsErrOf result RunFault.Write → Rose (K.faults out.old) (K.faults out.new) }
-    ensures front { IsErrOf result RunFault.Write → IfSome (S.left source.old) (λ bytes. HasFront (K.holds out.old) (K.holds out.new) (traced bytes).out) }
-    ensures answered { IsErrOf result RunFault.Read ⊎ IsErrOf result RunFault.Memory → IfSome (S.left source.old) (λ bytes. HasReplies (K.holds out.old) (K.holds out.new) (run_of bytes)) }
-    ensures taken { IfSome (S.left source.old) (λ _. AnswersAs result (S.left source.old) (S.left source.new) (K.holds out.old) (K.holds out.new)) }
+    ensures front { IsErrOf result RunFault.Write → IfSome (S.left source.old) (λ bytes. HasFront (K.holds out.old) (K.holds out.new) (traced machine.old.parts.shared.brands bytes).out) }
+    ensures answered { IsErrOf result RunFault.Read ⊎ IsErrOf result RunFault.Memory → IfSome (S.left source.old) (λ bytes. HasReplies (K.holds out.old) (K.holds out.new) (run_of machine.old.parts.shared.brands bytes)) }
+    ensures taken { IfSome (S.left source.old) (λ _. AnswersAs machine.old.parts.shared.brands result (S.left source.old) (S.left source.new) (K.holds out.old) (K.holds out.new)) }
     ensures later { S.faults source.old ≤ S.faults source.new }
 {
     let mut text = Vec::new(alloc);
@@ -205,4 +214,27 @@ pub fn trace_all<S: Source, K: Sink>(
     let ended = take_lines(alloc, machine, source, &mut text, &mut waiting, out);
     write_waiting(&mut waiting, out)?;
     ended
+}
+
+/// Runs all lines, one at a time, up to the first that is outside the grammar or past a limit. What is
+/// left to report is answered. The machine asks the brands that are handed in.
+pub fn trace_all<F: Fn(&Change) -> HookAnswer, S: Source, K: Sink>(
+    alloc: Global,
+    brands: &Brands<F>,
+    source: &mut S,
+    out: &mut K,
+) -> Result<Option<Complaint>, RunFault>
+    requires { AllFollow F.Fn brands.now }
+    ensures told { IfOk result (λ complaint. IfSome (S.left source.old) (λ bytes. Tells complaint (K.holds out.old) (K.holds out.new) (traced (tables_of brands.now) bytes))) }
+    ensures read { IsErrOf result RunFault.Read → Rose (S.faults source.old) (S.faults source.new) }
+    ensures write { IsErrOf result RunFault.Write → Rose (K.faults out.old) (K.faults out.new) }
+    ensures front { IsErrOf result RunFault.Write → IfSome (S.left source.old) (λ bytes. HasFront (K.holds out.old) (K.holds out.new) (traced (tables_of brands.now) bytes).out) }
+    ensures answered { IsErrOf result RunFault.Read ⊎ IsErrOf result RunFault.Memory → IfSome (S.left source.old) (λ bytes. HasReplies (K.holds out.old) (K.holds out.new) (run_of (tables_of brands.now) bytes)) }
+    ensures taken { IfSome (S.left source.old) (λ _. AnswersAs (tables_of brands.now) result (S.left source.old) (S.left source.new) (K.holds out.old) (K.holds out.new)) }
+    ensures later { S.faults source.old ≤ S.faults source.new }
+{
+    let Ok(mut machine) = Machine::new(alloc, brands) else {
+        return Err(RunFault::Memory);
+    };
+    trace_from(alloc, &mut machine, source, out)
 }

@@ -1,4 +1,6 @@
 //! Each call on a zone's cell and on what zones share once, where memory is there.
+use crate::brands::{Hook, make_brands, proceeds, refuses_clones};
+use brand_hooks::{BrandFault, BrandTables, HookAnswer};
 use std::alloc::{AllocError, Global};
 use std::process::Abort;
 use std::test::Fail;
@@ -74,22 +76,44 @@ impl Drop for Zone {
     }
 }
 
+fn tables(alloc: Global) -> Result<BrandTables, BrandFault> {
+    let ipkg: Hook = proceeds;
+    let lx: Hook = refuses_clones;
+    let brands = make_brands(alloc, ipkg, lx)?;
+    Ok(brands.tables(alloc)?)
+}
+
 impl Zone {
     fn new(alloc: Global) -> Result<Box<Zone>, Fail> {
         let name = ZoneName::read(alloc, b"a")?;
         let zone = Zone {
             name,
             cell: Cell::new(alloc),
-            shared: Shared::new(alloc),
+            shared: Shared::new(alloc, tables(alloc)?),
         };
         Ok(Box::new(alloc, zone)?)
     }
 
+    // An event, of which no brand is asked.
     fn step(&mut self, alloc: Global, event: Event) -> Result<Came, StepFault> {
-        answered(cell_step(alloc, &self.name, &mut self.cell, &mut self.shared, event))
+        if self.cell.next_hook().is_some() {
+            return Ok(Came::Else);
+        }
+        let hook = HookAnswer::Proceed;
+        answered(cell_step(
+            alloc,
+            &self.name,
+            &mut self.cell,
+            &mut self.shared,
+            event,
+            hook,
+        ))
     }
 
     fn step_given(&mut self, alloc: Global, event: Event, grant: Grant) -> Result<Came, StepFault> {
+        if self.cell.next_hook().is_some() {
+            return Ok(Came::Else);
+        }
         answered(cell_step_given(
             alloc,
             &self.name,
@@ -97,15 +121,18 @@ impl Zone {
             &mut self.shared,
             event,
             grant,
+            HookAnswer::Proceed,
         ))
     }
 
     // The next turn, where it is local.
     fn turn_alone(&mut self, alloc: Global) -> Result<Came, AllocError> {
-        Ok(match local_turn(alloc, &self.name, &mut self.cell)? {
-            Some(entry) => told(&entry),
-            None => Came::NotLocal,
-        })
+        Ok(
+            match local_turn(alloc, &self.name, &mut self.cell, HookAnswer::Proceed)? {
+                Some(entry) => told(&entry),
+                None => Came::NotLocal,
+            },
+        )
     }
 
     fn turn(&self, alloc: Global) -> Result<Event, AllocError> {

@@ -4,6 +4,8 @@
 #![tactic(auto)]
 
 #[cfg(test)]
+mod brands;
+#[cfg(test)]
 mod cells;
 #[cfg(test)]
 mod declarations;
@@ -23,6 +25,8 @@ mod mounts;
 mod processes;
 #[cfg(test)]
 mod replies;
+#[cfg(test)]
+mod requests;
 #[cfg(test)]
 mod runs;
 #[cfg(test)]

@@ -1,6 +1,10 @@
 //! The replies of one zone's way through install, boot and halt, refusals, failures and bodies.
+use brand_hooks::{Change, ChangeKind};
+use config_verify::Flaw;
+use datalink_table::{Claim, ClaimKind};
 use kernel_objects::{Errno, ProcRow};
 use loopback_mounts::Mount;
+use priv_sets::PrivFault;
 use std::alloc::Global;
 use std::process::Abort;
 use std::test::Fail;
@@ -8,21 +12,85 @@ use trace_text::{LineFault, print_reply};
 use zn_base::{AbsPath, Bytes, Listing, NameFault, Text, ZoneName, ZoneState};
 use zone_machine::{Body, Head, Refusal, Reply, Subject};
 use zone_pools::Pool;
-use zoneadmd_steps::{Change, ChangeKind, Outcome, RequestKind, Step, TurnReply};
+use zoneadmd_steps::{Outcome, RequestKind, Step, TurnReply};
 
-// The head of a reply, but for a mount that goes.
+// A refusal, but for one with texts.
+#[derive(Clone, Copy)]
+enum Why {
+    BadName(NameFault),
+    BadValue,
+    NeedForce,
+    Denied(Pool),
+    NoZone,
+    Waiting(u32),
+    DeskFull,
+    Usage,
+    NoProcess,
+    Duplicate,
+    TooMany(usize),
+    TooManyMounts,
+    HoldState,
+    NoMount,
+    Errno(Errno),
+}
+
+fn refusal(why: Why) -> Refusal {
+    match why {
+        Why::BadName(fault) => Refusal::BadName(fault),
+        Why::BadValue => Refusal::BadValue,
+        Why::NeedForce => Refusal::NeedForce,
+        Why::Denied(pool) => Refusal::Denied(pool),
+        Why::NoZone => Refusal::NoZone,
+        Why::Waiting(ticket) => Refusal::Waiting(ticket),
+        Why::DeskFull => Refusal::DeskFull,
+        Why::Usage => Refusal::Usage,
+        Why::NoProcess => Refusal::NoProcess,
+        Why::Duplicate => Refusal::Duplicate,
+        Why::TooMany(most) => Refusal::TooMany(most),
+        Why::TooManyMounts => Refusal::TooManyMounts,
+        Why::HoldState => Refusal::HoldState,
+        Why::NoMount => Refusal::NoMount,
+        Why::Errno(errno) => Refusal::Errno(errno),
+    }
+}
+
+// An outcome, but for one with texts.
+#[derive(Clone, Copy)]
+enum End {
+    Done,
+    WrongState(ZoneState),
+    Denied(Pool),
+    HookRefused(u8),
+    Privilege(PrivFault),
+    TooLarge(u32),
+}
+
+fn outcome(end: End) -> Outcome {
+    match end {
+        End::Done => Outcome::Done,
+        End::WrongState(state) => Outcome::WrongState(state),
+        End::Denied(pool) => Outcome::Denied(pool),
+        End::HookRefused(code) => Outcome::HookRefused(code),
+        End::Privilege(fault) => Outcome::Privilege(fault),
+        End::TooLarge(size) => Outcome::TooLarge(size),
+    }
+}
+
+// The head of a reply, but for one with texts.
 #[derive(Clone, Copy)]
 enum Told {
     Ok,
     Ticket(u32),
-    Refused(Refusal),
+    Refused(Why),
     Idle,
     Began(u32, RequestKind),
-    Finished(u32, Outcome),
-    Failed(u32, Outcome),
+    Finished(u32, End),
+    Failed(u32, End),
     Hook(bool, ChangeKind),
     Record(ZoneState),
+    Moved,
     Copy(u8),
+    Erase(u8),
     State(ZoneState),
     Zid(Option<u32>),
     ZidBack(Option<u32>),
@@ -41,7 +109,9 @@ fn step(told: Told) -> Step {
     match told {
         Told::Hook(before, kind) => Step::Hook(Change { before, kind }),
         Told::Record(state) => Step::Record(state),
+        Told::Moved => Step::Moved,
         Told::Copy(number) => Step::Copy(number),
+        Told::Erase(number) => Step::Erase(number),
         Told::State(state) => Step::State(state),
         Told::Zid(zid) | Told::UndoneZid(zid) => Step::Zid(zid),
         Told::ZidBack(zid) | Told::UndoneZidBack(zid) => Step::ZidBack(zid),
@@ -58,11 +128,11 @@ fn head(told: Told) -> Head {
     match told {
         Told::Ok => Head::Ok,
         Told::Ticket(ticket) => Head::Ticket(ticket),
-        Told::Refused(refusal) => Head::Refused(refusal),
+        Told::Refused(why) => Head::Refused(refusal(why)),
         Told::Idle => Head::Turned(TurnReply::Idle),
         Told::Began(ticket, kind) => Head::Turned(TurnReply::Began(ticket, kind)),
-        Told::Finished(ticket, outcome) => Head::Turned(TurnReply::Finished(ticket, outcome)),
-        Told::Failed(number, outcome) => Head::Turned(TurnReply::Failed(number, outcome)),
+        Told::Finished(ticket, end) => Head::Turned(TurnReply::Finished(ticket, outcome(end))),
+        Told::Failed(number, end) => Head::Turned(TurnReply::Failed(number, outcome(end))),
         Told::Stuck => Head::Turned(TurnReply::Stuck),
         Told::UndoneZid(_) | Told::UndoneZidBack(_) => Head::Turned(TurnReply::Undone(step(told))),
         _ => Head::Turned(TurnReply::Stepped(step(told))),
@@ -131,7 +201,7 @@ const INSTALLED: &[Row] = &[
         Told::Hook(false, ChangeKind::Install),
         "a step hook after install\n",
     ),
-    (Told::Finished(1, Outcome::Done), "a finished 1 ok\n"),
+    (Told::Finished(1, End::Done), "a finished 1 ok\n"),
 ];
 
 const BOOTED: &[Row] = &[
@@ -160,7 +230,7 @@ const BOOTED: &[Row] = &[
         Told::Hook(false, ChangeKind::Boot),
         "a step hook after boot\n",
     ),
-    (Told::Finished(2, Outcome::Done), "a finished 2 ok\n"),
+    (Told::Finished(2, End::Done), "a finished 2 ok\n"),
 ];
 
 const HALTED: &[Row] = &[
@@ -186,97 +256,85 @@ const HALTED: &[Row] = &[
         Told::Hook(false, ChangeKind::Halt),
         "a step hook after halt\n",
     ),
-    (Told::Finished(3, Outcome::Done), "a finished 3 ok\n"),
+    (Told::Finished(3, End::Done), "a finished 3 ok\n"),
 ];
 
 const REFUSALS: &[Row] = &[
     (
-        Told::Refused(Refusal::BadName(NameFault::Empty)),
+        Told::Refused(Why::BadName(NameFault::Empty)),
         "global err 1 Empty\n",
     ),
     (
-        Told::Refused(Refusal::BadName(NameFault::TooLong)),
+        Told::Refused(Why::BadName(NameFault::TooLong)),
         "global err 2 TooLong\n",
     ),
     (
-        Told::Refused(Refusal::BadName(NameFault::BadByte(0))),
+        Told::Refused(Why::BadName(NameFault::BadByte(0))),
         "global err 3 BadByte 0\n",
     ),
     (
-        Told::Refused(Refusal::BadName(NameFault::Reserved)),
+        Told::Refused(Why::BadName(NameFault::Reserved)),
         "global err 4 Reserved\n",
     ),
-    (Told::Refused(Refusal::BadValue), "global err 23 BadValue\n"),
+    (Told::Refused(Why::BadValue), "global err 23 BadValue\n"),
+    (Told::Refused(Why::Duplicate), "global err 24 Duplicate\n"),
     (
-        Told::Refused(Refusal::Duplicate),
-        "global err 24 Duplicate\n",
-    ),
-    (
-        Told::Refused(Refusal::TooMany(1024)),
+        Told::Refused(Why::TooMany(1024)),
         "global err 27 TooMany 1024\n",
     ),
+    (Told::Refused(Why::NeedForce), "global err 34 NeedForce\n"),
     (
-        Told::Refused(Refusal::NeedForce),
-        "global err 34 NeedForce\n",
-    ),
-    (
-        Told::Refused(Refusal::TooManyMounts),
+        Told::Refused(Why::TooManyMounts),
         "global err 71 TooManyMounts\n",
     ),
     (
-        Told::Refused(Refusal::Denied(Pool::Zones)),
+        Told::Refused(Why::Denied(Pool::Zones)),
         "global err 82 Denied zones\n",
     ),
     (
-        Told::Refused(Refusal::Denied(Pool::Paths)),
+        Told::Refused(Why::Denied(Pool::Paths)),
         "global err 82 Denied paths\n",
     ),
-    (Told::Refused(Refusal::NoZone), "global err 90 NoZone\n"),
+    (Told::Refused(Why::NoZone), "global err 90 NoZone\n"),
     (
-        Told::Refused(Refusal::Waiting(4294967295)),
+        Told::Refused(Why::Waiting(4294967295)),
         "global err 91 Waiting 4294967295\n",
     ),
-    (Told::Refused(Refusal::DeskFull), "global err 92 DeskFull\n"),
-    (Told::Refused(Refusal::Usage), "global err 93 Usage\n"),
+    (Told::Refused(Why::DeskFull), "global err 92 DeskFull\n"),
+    (Told::Refused(Why::Usage), "global err 93 Usage\n"),
+    (Told::Refused(Why::HoldState), "global err 96 HoldState\n"),
+    (Told::Refused(Why::NoProcess), "global err 98 NoProcess\n"),
+    (Told::Refused(Why::NoMount), "global err 99 NoMount\n"),
     (
-        Told::Refused(Refusal::HoldState),
-        "global err 96 HoldState\n",
-    ),
-    (
-        Told::Refused(Refusal::NoProcess),
-        "global err 98 NoProcess\n",
-    ),
-    (Told::Refused(Refusal::NoMount), "global err 99 NoMount\n"),
-    (
-        Told::Refused(Refusal::Errno(Errno::ESRCH)),
+        Told::Refused(Why::Errno(Errno::ESRCH)),
         "global err ESRCH\n",
     ),
     (
-        Told::Refused(Refusal::Errno(Errno::EPERM)),
+        Told::Refused(Why::Errno(Errno::EPERM)),
         "global err EPERM\n",
     ),
     (
-        Told::Refused(Refusal::Errno(Errno::EAGAIN)),
+        Told::Refused(Why::Errno(Errno::EAGAIN)),
         "global err EAGAIN\n",
     ),
     (
-        Told::Refused(Refusal::Errno(Errno::EINVAL)),
+        Told::Refused(Why::Errno(Errno::EINVAL)),
         "global err EINVAL\n",
     ),
     (
-        Told::Refused(Refusal::Errno(Errno::ENOENT)),
+        Told::Refused(Why::Errno(Errno::ENOENT)),
         "global err ENOENT\n",
     ),
     (
-        Told::Refused(Refusal::Errno(Errno::EROFS)),
+        Told::Refused(Why::Errno(Errno::EROFS)),
         "global err EROFS\n",
     ),
     (
-        Told::Refused(Refusal::Errno(Errno::EBUSY)),
+        Told::Refused(Why::Errno(Errno::EBUSY)),
         "global err EBUSY\n",
     ),
     (
-        Told::Refused(Refusal::Errno(Errno::ENAMETOOLONG)),
+        Told::Refused(Why::Errno(Errno::ENAMETOOLONG)),
         "global err ENAMETOOLONG\n",
     ),
 ];
@@ -284,28 +342,65 @@ const REFUSALS: &[Row] = &[
 const FAILURES: &[Row] = &[
     (Told::Idle, "* idle\n"),
     (
-        Told::Failed(9, Outcome::Denied(Pool::Pids)),
+        Told::Failed(9, End::Denied(Pool::Pids)),
         "* failed 9: 82 Denied pids\n",
     ),
     (
-        Told::Failed(2, Outcome::Denied(Pool::Zids)),
+        Told::Failed(2, End::Denied(Pool::Zids)),
         "* failed 2: 82 Denied zids\n",
     ),
     (
-        Told::Failed(1, Outcome::Denied(Pool::Store)),
+        Told::Failed(1, End::Denied(Pool::Store)),
         "* failed 1: 82 Denied store\n",
     ),
     (Told::Stuck, "* stuck unmount\n"),
     (Told::UndoneZidBack(None), "* undone zidback\n"),
     (Told::UndoneZid(Some(1)), "* undone zid 1\n"),
     (
-        Told::Finished(1, Outcome::WrongState(ZoneState::Configured)),
+        Told::Finished(1, End::WrongState(ZoneState::Configured)),
         "* finished 1 err 81 WrongState configured\n",
     ),
     (
-        Told::Finished(2, Outcome::Denied(Pool::Source)),
+        Told::Finished(2, End::Denied(Pool::Source)),
         "* finished 2 err 82 Denied source\n",
     ),
+    (
+        Told::Failed(1, End::HookRefused(7)),
+        "* failed 1: 83 HookRefused 7\n",
+    ),
+    (
+        Told::Finished(1, End::HookRefused(255)),
+        "* finished 1 err 83 HookRefused 255\n",
+    ),
+    (
+        Told::Failed(1, End::TooLarge(32769)),
+        "* failed 1: 29 TooLarge 32769\n",
+    ),
+    (
+        Told::Finished(3, End::Privilege(PrivFault::PrivWord(8))),
+        "* finished 3 err 84 Privilege 47 PrivWord 8\n",
+    ),
+    (
+        Told::Finished(3, End::Privilege(PrivFault::PrivRequired(26))),
+        "* finished 3 err 84 Privilege 48 PrivRequired proc_fork\n",
+    ),
+    (
+        Told::Finished(3, End::Privilege(PrivFault::PrivProhibited(4))),
+        "* finished 3 err 84 Privilege 49 PrivProhibited dtrace_kernel\n",
+    ),
+    (Told::Moved, "* step record moved\n"),
+    (Told::Erase(4), "* step erase 4\n"),
+    (
+        Told::Began(9, RequestKind::Uninstall),
+        "* began 9 uninstall\n",
+    ),
+    (Told::Began(9, RequestKind::Clone), "* began 9 clone\n"),
+    (Told::Began(9, RequestKind::Attach), "* began 9 attach\n"),
+    (Told::Began(9, RequestKind::Detach), "* began 9 detach\n"),
+    (Told::Began(9, RequestKind::Mark), "* began 9 mark\n"),
+    (Told::Began(9, RequestKind::Move), "* began 9 move\n"),
+    (Told::Began(9, RequestKind::Ready), "* began 9 ready\n"),
+    (Told::Began(9, RequestKind::Reboot), "* began 9 reboot\n"),
 ];
 
 #[test]
@@ -322,6 +417,59 @@ fn a_mount_goes(rt: HostRuntime) -> Result<(), Fail> {
     let root = Step::Unmount(Some(AbsPath::read(rt.alloc(), b"/")?));
     let stepped = Head::Turned(TurnReply::Stepped(root));
     assert!(rt; is_printed(rt.alloc(), &zone, stepped, "a step unmount /\n")?);
+    Ok(())
+}
+
+fn stepped(step: Step) -> Head {
+    Head::Turned(TurnReply::Stepped(step))
+}
+
+fn link(alloc: Global) -> Result<Claim, Fail> {
+    Ok(Claim {
+        kind: ClaimKind::Link,
+        item: Text::read(alloc, b"net0")?,
+    })
+}
+
+fn is_step(alloc: Global, step: Step, wanted: &str) -> Result<bool, Fail> {
+    let zone = Subject::Zone(ZoneName::read(alloc, b"a")?);
+    Ok(is_printed(alloc, &zone, stepped(step), wanted)?)
+}
+
+#[test]
+fn a_claim_comes_and_goes(rt: HostRuntime) -> Result<(), Fail> {
+    let claimed = Step::Claimed(link(rt.alloc())?);
+    assert!(rt; is_step(rt.alloc(), claimed, "a step link net0\n")?);
+    let released = Step::Release(Some(link(rt.alloc())?));
+    assert!(rt; is_step(rt.alloc(), released, "a step release link net0\n")?);
+    Ok(())
+}
+
+#[test]
+fn a_source_and_a_mount_are_named(rt: HostRuntime) -> Result<(), Fail> {
+    let source = Step::Source(ZoneName::read(rt.alloc(), b"web")?);
+    assert!(rt; is_step(rt.alloc(), source, "a step source web\n")?);
+    let mounted = Step::Mounted(AbsPath::read(rt.alloc(), b"/usr")?);
+    assert!(rt; is_step(rt.alloc(), mounted, "a step mount /usr\n")?);
+    Ok(())
+}
+
+fn unknown(alloc: Global) -> Result<Flaw, Fail> {
+    Ok(Flaw::UnknownBrand(Text::read(alloc, b"lx9")?))
+}
+
+fn is_head(alloc: Global, head: Head, wanted: &str) -> Result<bool, Fail> {
+    Ok(is_printed(alloc, &Subject::Whole, head, wanted)?)
+}
+
+#[test]
+fn a_flaw_follows_its_code(rt: HostRuntime) -> Result<(), Fail> {
+    let refused = Head::Refused(Refusal::Flawed(unknown(rt.alloc())?));
+    assert!(rt; is_head(rt.alloc(), refused, "* err 46 UnknownBrand lx9\n")?);
+    let outcome = Outcome::NotVerified(unknown(rt.alloc())?);
+    let finished = Head::Turned(TurnReply::Finished(2, outcome));
+    let wanted = "* finished 2 err 85 NotVerified 46 UnknownBrand lx9\n";
+    assert!(rt; is_head(rt.alloc(), finished, wanted)?);
     Ok(())
 }
 

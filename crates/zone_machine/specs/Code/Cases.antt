@@ -1,5 +1,5 @@
 -- What the code's cases decide, as the definitions have it.
-use Rattle.std.specs.Prelude.{◌≡◌, ◌+◌, [], ◌∷◌, map, false, Some}
+use Rattle.std.specs.Prelude.{◌≡◌, ◌+◌, [], ◌∷◌, map, false, Option, Some}
 use Rattle.zn_base.specs.Names.{Name}
 use Rattle.zone_pools.specs.Asked.{A_path, A_pid, A_serial, A_zone}
 use Rattle.zone_pools.specs.Decisions as decisions
@@ -14,6 +14,8 @@ use Rattle.zone_machine.specs.State.{Awaiting}
 use Rattle.zoneadmd_steps.specs.Desks.{is_full, with_request}
 use Rattle.zone_machine.specs.declared.cases.Case.{Case}
 use Rattle.zone_machine.specs.declared.cases.Case.TheVariants.{Change, Fork, Says, Make, Put, Tells, Turn}
+use Rattle.zn_base.specs.declared.state.ZoneState.{ZoneState}
+use Rattle.zoneadmd_steps.specs.Code.Cases.{turn_active}
 use Rattle.zoneadmd_steps.specs.declared.desks.Desk.{Desk}
 use Rattle.commit_journal.specs.Uuids.{uuid_of}
 use Rattle.commit_journal.specs.declared.records.Record as records
@@ -34,17 +36,22 @@ decision_of d (Tells body) = decisions.Just (tells body)
 decision_of d (Change edit) = decisions.Just (done_saying (map Of_objects (object_edits edit)) Ok)
 decision_of d (Fork p) = decisions.Ask (A_process (process_of (0, p.value))) (A_pid ∷ []) (λ pool. refused (Denied pool)) (λ n. tells (Child n))
 decision_of d (Make row owner) = made owner row.value
-decision_of d (Put kind owner) =
-    decisions.Just (done_saying (Set_desk (with_request (as_desk d) kind) ∷ Here (Some (Awaiting (d.last + 1))) ∷ []) (Ticket (d.last + 1)))
+decision_of d (Put request owner) =
+    decisions.Just (done_saying (Set_desk (with_request (as_desk d) request) ∷ Here (Some (Awaiting (d.last + 1))) ∷ []) (Ticket (d.last + 1)))
 decision_of d (Turn c) = effects turned (turn_decision_of d c)
 
 abbrev pub IsCaseOf : Desk → Case → Type 0
-IsCaseOf d (Put kind owner) = is_full (as_desk d) ≡ false
+IsCaseOf d (Put request owner) = is_full (as_desk d) ≡ false
 IsCaseOf d (Turn c) = IsTurnOf d c
 IsCaseOf d _ = Unit {0}
 
 abbrev pub IsNamedCase : Name → Case → Type 0
 IsNamedCase z (Make row owner) = owner ≡ z
-IsNamedCase z (Put kind owner) = owner ≡ z
+IsNamedCase z (Put request owner) = owner ≡ z
 IsNamedCase z (Turn c) = IsNamedTurn z c
 IsNamedCase z _ = Unit {0}
+
+-- the zone's state on its desk after a case
+abbrev pub case_active : Case → Option ZoneState → Option ZoneState
+case_active (Turn c) active = turn_active c active
+case_active _ active = active

@@ -1,12 +1,12 @@
 -- The machine's cells and its shared part, as the definitions have them.
 use Rattle.indexmap.specs.IndexMap.{get, get_by}
-use Rattle.std.specs.Prelude.{◌≡◌, ℕ, [], Option, Some, None, bytes_eq, nat_eq, is_some, if◌then◌else◌}
+use Rattle.std.specs.Prelude.{◌≡◌, ℕ, List, [], Option, Some, None, Bool, false, bytes_eq, nat_eq, is_some, unwrap_or, if◌then◌else◌}
 use Rattle.std.specs.Option.{option_map}
 use Rattle.std.specs.List.{list_any}
 use Rattle.zn_base.specs.Names.{Name}
 use Rattle.zone_pools.specs.Owners.{held_by, is_owner, owner}
 use Rattle.commit_journal.specs.Zones.{rows_of}
-use Rattle.zone_machine.specs.Machine.Common.{Common, common, holding}
+use Rattle.zone_machine.specs.Machine.Common.{Common, common, holding, standing}
 use Rattle.zoneadmd_steps.specs.Code.Desks.{as_desk}
 use Rattle.zone_machine.specs.State.{Awaiting, State, stored}
 use Rattle.zone_machine.specs.State.Worlds.{View, World, objects_of, world}
@@ -14,60 +14,110 @@ use Rattle.zone_machine.specs.declared.machine.cell.Cell.{Cell}
 use Rattle.zone_machine.specs.declared.machine.parts.Parts.{Parts}
 use Rattle.commit_journal.specs.declared.records.Record.{Record}
 use Rattle.zone_machine.specs.declared.machine.shared.Shared.{Shared}
+use Rattle.brand_hooks.specs.Brands.{Tabled}
+use Rattle.brand_hooks.specs.declared.table.HookAnswer.{HookAnswer}
+use Rattle.datalink_table.specs.Claims.{holds}
+use Rattle.datalink_table.specs.Shared.{holder}
+use Rattle.datalink_table.specs.declared.claims.Claim.{Claim}
 use Rattle.kernel_objects.specs.Processes.{has_pid, with_pid}
+use Rattle.zone_machine.specs.State.Declarations.{Declared}
+use Rattle.zoneadmd_steps.specs.Code.Cases.{next_answer}
+use Rattle.zoneadmd_steps.specs.Objects.{Objects}
 use Rattle.kernel_objects.specs.Shared.{pid_owner, zid_owner}
 use Rattle.zoneadmd_steps.specs.Objects.{has_zid, kernel_of, ids_of}
 use Rattle.zoneadmd_steps.specs.Desks.{empty_desk}
 
--- the world that a cell has, with what is stored of its zone
-abbrev pub cell_world : Option Record → Cell → World
-cell_world row c = record {
+-- what a zone's world has that its cell hasn't
+pub record Outside : Type 0 where
+  pub stored : Option Record
+  pub declared : Declared
+  pub brands : List Tabled
+
+abbrev pub outside_of : World → Outside
+outside_of w = record { stored = w.stored; declared = w.declared; brands = w.brands }
+
+-- the world that a cell has, with that
+abbrev pub cell_world : Outside → Cell → World
+cell_world out c = record {
   processes = c.kernel.processes;
   mounts = c.mounts.list;
   claims = c.claims.claims;
   devices = c.kernel.devices;
   ids = ids_of c.kernel.id;
-  stored = row;
+  stored = out.stored;
   desk = as_desk c.desk;
   sessions = λ n. option_map Awaiting (get nat_eq c.waits n);
+  declared = out.declared;
+  brands = out.brands;
 }
 
 -- a zone without a cell has nothing
-abbrev pub empty_world : Option Record → World
-empty_world row = record { processes = []; mounts = []; claims = []; devices = []; ids = []; stored = row; desk = empty_desk; sessions = λ n. None }
+abbrev pub empty_world : Outside → World
+empty_world out = record {
+  processes = [];
+  mounts = [];
+  claims = [];
+  devices = [];
+  ids = [];
+  stored = out.stored;
+  desk = empty_desk;
+  sessions = λ n. None;
+  declared = out.declared;
+  brands = out.brands;
+}
 
-abbrev pub world_or_empty : Option Record → Option Cell → World
-world_or_empty row None = empty_world row
-world_or_empty row (Some c) = cell_world row c
+abbrev pub world_or_empty : Outside → Option Cell → World
+world_or_empty out None = empty_world out
+world_or_empty out (Some c) = cell_world out c
 
 abbrev pub row_in : Name → Shared → Option Record
 row_in z s = get_by (bytes_eq z) s.rows
+
+abbrev pub declared_in : Shared → Declared
+declared_in s = record { items = s.claims.declared; devices = s.kernel.devices }
+
+abbrev pub outside_in : Name → Shared → Outside
+outside_in z s = record { stored = row_in z s; declared = declared_in s; brands = s.brands }
+
+-- whether a zone's state is none of the stored ones
+abbrev pub is_up_in : Shared → Name → Bool
+is_up_in s z = unwrap_or (get_by (bytes_eq z) s.ups) false
 
 abbrev pub common_in : Shared → Common
 common_in s = record {
   pids = held_by (pid_owner s.kernel);
   zids = held_by (zid_owner s.kernel);
+  claims = held_by (λ k. holder k s.claims);
   sessions = held_by (owner nat_eq s.sessions);
+  up = is_up_in s;
   rows = rows_of s.rows.entries;
   serial = s.serial;
   last_pid = s.kernel.last_pid;
   last_zid = s.kernel.last_zid;
-  declared = record { items = s.claims.declared; devices = s.kernel.devices };
+  declared = declared_in s;
+  brands = s.brands;
   started = s.started;
 }
 
 -- a view of z shows what the zone has in its cell
 pub record Shows (v : View) (z : Name) (c : Cell) : Type 0 where
   pub zone : v.zone ≡ z
-  pub kernel : kernel_of (objects_of v.world) ≡ record c.kernel { devices = [] }
+  pub kernel : kernel_of (objects_of v.world) ≡ c.kernel
   pub process : (n : ℕ) → v.process n ≡ with_pid n c.kernel.processes
   pub mounts : v.world.mounts ≡ c.mounts.list
   pub claims : v.world.claims ≡ c.claims.claims
   pub devices : v.world.devices ≡ c.kernel.devices
 
--- a cell has a world, but for what is stored
+-- a cell has a world, but for what it hasn't
 abbrev pub CellOf : Cell → World → Type 0
-CellOf c w = w ≡ cell_world w.stored c
+CellOf c w = w ≡ cell_world (outside_of w) c
+
+abbrev pub cell_objects : Cell → Objects
+cell_objects c = record { processes = c.kernel.processes; mounts = c.mounts.list; claims = c.claims.claims; devices = c.kernel.devices; ids = ids_of c.kernel.id }
+
+-- what the brand answers to the next step of a cell's daemon
+abbrev pub IsHeardIn : List Tabled → Cell → HookAnswer → Type 0
+IsHeardIn brands c answer = answer ≡ next_answer brands (cell_objects c) (as_desk c.desk)
 
 -- the shared part has what is common
 abbrev pub SharedOf : Shared → Common → Type 0
@@ -78,24 +128,30 @@ cell_at z p = get_by (bytes_eq z) p.cells
 
 -- the parts stand for the state S: each cell has its zone's world, each zone without one has nothing
 pub record Stands (S : State) (p : Parts) : Type 0 where
-  pub worlds : (z : Name) → world z S ≡ world_or_empty (stored z S.commits) (cell_at z p)
+  pub worlds : (z : Name) → world z S ≡ world_or_empty (record { stored = stored z S.commits; declared = S.declared; brands = S.brands }) (cell_at z p)
   pub shared : SharedOf p.shared (common S)
 
 -- z has what a cell has from now on, and each other zone what it had
 abbrev pub Keeps : Name → Cell → (Name → Option Cell) → (Name → Option Cell) → Type 0
-Keeps z d old new = (row : Option Record) (y : Name) → world_or_empty row (new y) ≡ (if bytes_eq z y then cell_world row d else world_or_empty row (old y))
+Keeps z d old new = (out : Outside) (y : Name) → world_or_empty out (new y) ≡ (if bytes_eq z y then cell_world out d else world_or_empty out (old y))
 
 -- the shared part names for z exactly what its cell has
 pub record Agree (z : Name) (c : Cell) (s : Shared) : Type 0 where
   pub pids : (n : ℕ) → list_any (has_pid n) c.kernel.processes ≡ is_owner z (pid_owner s.kernel n)
   pub zids : (n : ℕ) → list_any (has_zid n) (ids_of c.kernel.id) ≡ is_owner z (zid_owner s.kernel n)
+  pub claims : (k : Claim) → holds k c.claims.claims ≡ is_owner z (holder k s.claims)
   pub sessions : (n : ℕ) → is_some (get nat_eq c.waits n) ≡ is_owner z (owner nat_eq s.sessions n)
 
 -- where the shared part names what the cell has, z's world was changed so and what is common so: z holds what it has then, and
 -- the other zones hold what they held
 pub record Does (z : Name) (f : World → World) (g : Common → Common) (c : Cell) (s : Shared) (d : Cell) (t : Shared) : Type 0 where
-  pub world : Agree z c s → cell_world (row_in z t) d ≡ f (cell_world (row_in z s) c)
-  pub common : Agree z c s → common_in t ≡ holding z (f (cell_world (row_in z s) c)) (g (common_in s))
+  pub world : Agree z c s → cell_world (outside_in z t) d ≡ f (cell_world (outside_in z s) c)
+  pub common : Agree z c s → common_in t ≡ holding z (f (cell_world (outside_in z s) c)) (g (common_in s))
+
+-- the same, and the shared part, which said whether z was up, says whether it is from now on
+pub record Acts (z : Name) (f : World → World) (g : Common → Common) (c : Cell) (s : Shared) (d : Cell) (t : Shared) : Type 0 where
+  pub world : Agree z c s → cell_world (outside_in z t) d ≡ f (cell_world (outside_in z s) c)
+  pub common : Agree z c s → is_up_in s z ≡ is_some c.desk.active → common_in t ≡ standing z (f (cell_world (outside_in z s) c)) (holding z (f (cell_world (outside_in z s) c)) (g (common_in s)))
 
 abbrev pub kept : Common → Common
 kept c = c

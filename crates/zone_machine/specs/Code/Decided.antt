@@ -1,10 +1,12 @@
 -- What is known of an event that was decided, and how it is answered.
-use Rattle.std.specs.Prelude.{◌≡◌, ℕ, bytes_eq, slice_get, Option, Some}
+use Rattle.std.specs.Prelude.{◌≡◌, ℕ, List, bytes_eq, slice_get, Option, Some}
+use Rattle.std.specs.Fn.{Shared}
+use denote.Ref.{Bor}
 use Rattle.indexmap.specs.IndexMap.{IsUnique, index_of_by, values}
 use Rattle.zn_base.specs.Names.{Name}
 use Rattle.zone_machine.specs.Code.Cases.{IsCaseOf, IsNamedCase, decision_of}
 use Rattle.zone_machine.specs.Code.Works.{IsFreeCase}
-use Rattle.zone_machine.specs.Code.Cells.{cell_at, cell_world}
+use Rattle.zone_machine.specs.Code.Cells.{IsHeardIn, Outside, cell_at, cell_objects, cell_world}
 use Rattle.zone_machine.specs.State.Decisions.{Decision}
 use Rattle.zone_machine.specs.State.Worlds.{View, view_of}
 use Rattle.zone_machine.specs.declared.cases.Case.{Case}
@@ -18,13 +20,19 @@ use Rattle.zone_machine.specs.declared.events.Subject.TheVariants.{Global, Whole
 use Rattle.zone_machine.specs.declared.events.Whose.{Whose}
 use Rattle.zone_machine.specs.declared.events.Whose.TheVariants.{Found, Own}
 use Rattle.zone_machine.specs.declared.machine.parts.Parts.{Parts}
-use Rattle.commit_journal.specs.declared.records.Record.{Record}
+use Rattle.brand_hooks.specs.Brands.{tables_of}
+use Rattle.brand_hooks.specs.Hooks.{AllFollow}
+use Rattle.brand_hooks.specs.declared.change.Change.{Change}
+use Rattle.brand_hooks.specs.declared.table.HookAnswer.{HookAnswer}
+use Rattle.zone_machine.specs.declared.machine.Machine.{Machine}
+use Rattle.zoneadmd_steps.specs.Code.Cases.{next_hook}
+use Rattle.zoneadmd_steps.specs.Code.Desks.{as_desk}
 use Rattle.zone_machine.specs.declared.replies.Reply.{Reply}
 use Rattle.zone_pools.specs.declared.grant.Grant.{Grant}
 
 -- a case of z's cell, of what is decided in its view
-pub record IsCaseIn (z : Name) (row : Option Record) (c : Cell) (decides : View → Decision) (case : Case) : Type 0 where
-  pub decided : decides (view_of z (cell_world row c)) ≡ decision_of c.desk case
+pub record IsCaseIn (z : Name) (out : Outside) (c : Cell) (decides : View → Decision) (case : Case) : Type 0 where
+  pub decided : decides (view_of z (cell_world out c)) ≡ decision_of c.desk case
   pub of : IsCaseOf c.desk case
   pub named : IsNamedCase z case
   pub free : IsFreeCase case c.mounts.list
@@ -54,3 +62,17 @@ subject_by e (Found s) = s
 -- the entry that an event and its answer are
 abbrev pub entry_by : Event → Answer → Entry
 entry_by e a = entry_of (subject_by e a.whose) e a.grant a.reply
+
+-- what the brand of a turn's zone answers to the next step of its daemon
+abbrev pub IsHeard : Parts → Event → HookAnswer → Type 0
+IsHeard t (Turn z) answer = (c : Cell) → cell_at z t ≡ Some c → IsHeardIn t.shared.brands c answer
+IsHeard t _ answer = Unit {0}
+
+-- of which change the brand of a turn's zone is asked at the next step of its daemon
+abbrev pub IsNextHook : Parts → Event → Option (List ℕ × Change) → Type 0
+IsNextHook t (Turn z) asked = (c : Cell) → cell_at z t ≡ Some c → asked ≡ next_hook (cell_objects c) (as_desk c.desk).job
+IsNextHook t _ asked = Unit {0}
+
+-- the machine asks brands whose hooks follow their tables, and its parts know these
+abbrev pub AsksBrands : {F : Type 0} → Shared F (Bor Change × Unit {0}) HookAnswer → Machine F → Type 0
+AsksBrands g m = AllFollow g m.brands.now × (m.parts.shared.brands ≡ tables_of m.brands.now)

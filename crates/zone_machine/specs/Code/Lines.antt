@@ -1,11 +1,15 @@
 -- What the code's readers of words give, as the definitions have it.
 use Rattle.std.specs.Prelude.{◌≡◌, ℕ, List, [], ◌∷◌, Option, Some, None, ◌<◌, length, get_or, take, drop, false, ◌≤◌}
+use Rattle.std.specs.Bool.{IsTrue}
 use Rattle.std.specs.Borrow.{Bor}
 use Rattle.std.specs.Option.{option_map}
+use Rattle.zn_base.specs.Path.{is_path}
+use Rattle.zn_base.specs.Text.{is_text}
 use Rattle.zone_machine.specs.Session.Lines as lines
 use Rattle.zone_machine.specs.Session.Lines.{is_space, words}
 use Rattle.zone_machine.specs.declared.session.lines.Command.{Command}
-use Rattle.zone_machine.specs.declared.session.lines.Command.TheVariants.{Blank, Hold, Kill, Make, Release, Request, Unknown}
+use Rattle.zone_machine.specs.declared.session.lines.Command.TheVariants.{Blank, Boot, Clone, Hold, Kill, Make, Move, Reboot, Release, Request, Unforced, Unknown}
+use Rattle.zoneadmd_steps.specs.declared.requests.Request.TheVariants as request
 use Rattle.zone_machine.specs.declared.session.lines.Line.{Line}
 
 -- a text begins with a word
@@ -38,12 +42,24 @@ as_word o = option_map (λ word. word.now) o
 
 abbrev pub as_command : Command → lines.Command
 as_command Blank = lines.Blank
-as_command (Make word) = lines.Make word.now
-as_command (Request kind) = lines.Request kind
+as_command (Make path brand) = lines.Make path.now brand.now
+as_command (Request kind) = lines.asks kind
+as_command (Boot args) = lines.Ask (request.Boot (lines.joined (words args.now)))
+as_command (Reboot args) = lines.Ask (request.Reboot (lines.joined (words args.now)))
+as_command (Move path) = lines.Ask (request.Move path.now)
+as_command (Clone source) = lines.Clone source.now
+as_command Unforced = lines.Unforced
 as_command (Kill signal pid) = lines.Kill signal pid
 as_command (Hold dir) = lines.Hold dir.now
 as_command (Release dir) = lines.Release dir.now
 as_command Unknown = lines.Unknown
+
+-- the contents of a request that a command asks for are such contents
+abbrev pub IsRight : lines.Command → Type 0
+IsRight (lines.Ask (request.Boot args)) = IsTrue (is_text args)
+IsRight (lines.Ask (request.Reboot args)) = IsTrue (is_text args)
+IsRight (lines.Ask (request.Move path)) = IsTrue (is_path path)
+IsRight _ = Unit {0}
 
 abbrev pub as_line : Line → lines.Line
 as_line l = record { zone = as_word l.zone; command = as_command l.command }

@@ -1,13 +1,16 @@
 -- What the code's needs ask, and what the pools know by the shared part, as the definitions have it.
 use Rattle.std.specs.Prelude.{List, [], ◌∷◌, ℕ, length, Bool, false, Option, Some, None, bytes_eq, not, ◌&&◌}
-use Rattle.zone_pools.specs.Asked.{A_path, A_pid, A_serial, A_zid, A_zone, Asked}
+use Rattle.datalink_table.specs.Claims.{pool_of}
+use Rattle.datalink_table.specs.Shared.{allows}
+use Rattle.zone_machine.specs.Code.Cells.{is_up_in, row_in}
+use Rattle.zone_pools.specs.Asked.{A_path, A_pid, A_serial, A_source, A_zid, A_zone, An_item, Asked}
 use Rattle.zone_machine.specs.declared.machine.needs.Need.{Need}
-use Rattle.zone_machine.specs.declared.machine.needs.Need.TheVariants.{Nothing, Pid, Zid, Record, NewZone}
+use Rattle.zone_machine.specs.declared.machine.needs.Need.TheVariants.{Item, Moved, Nothing, Pid, Zid, Record, NewZone, Source}
 use Rattle.zn_base.specs.Names.{Name}
 use Rattle.kernel_objects.specs.Shared.{pid_used, zid_used}
 use Rattle.zone_pools.specs.Pools.{Pools}
 use Rattle.commit_journal.specs.Zones.{rows_of}
-use Rattle.zone_machine.specs.Machine.Pools.{is_path, path_taken}
+use Rattle.zone_machine.specs.Machine.Pools.{is_installed, is_path, kind_of, of_kind, path_taken}
 use Rattle.commit_journal.specs.declared.records.Record as records
 use Rattle.zone_machine.specs.declared.machine.shared.Shared.{Shared}
 
@@ -16,7 +19,10 @@ asked_by Nothing = []
 asked_by Pid = A_pid ∷ []
 asked_by Zid = A_zid ∷ []
 asked_by Record = A_serial ∷ []
+asked_by (Moved path) = A_path path.now ∷ A_serial ∷ []
 asked_by (NewZone path) = A_zone ∷ A_path path.now ∷ A_serial ∷ []
+asked_by (Item c) = An_item (pool_of c.now.kind) c.now.item ∷ []
+asked_by (Source z) = A_source z.now ∷ []
 
 -- a stored zone other than z has the path
 abbrev pub takes_path : Name → List ℕ → Option (Name × records.Record) → Bool
@@ -33,4 +39,6 @@ pools_in s = record {
   zones = length (rows_of s.rows.entries);
   path_taken = path_taken (rows_of s.rows.entries);
   serial = s.serial;
+  may_hold = λ z pool item. of_kind (λ c. allows z c s.claims) (kind_of pool) item;
+  may_clone = λ z. is_installed (row_in z s) && not (is_up_in s z);
 }

@@ -1,12 +1,11 @@
 -- An event as the code reads it once, as the definitions have it.
-use Rattle.std.specs.Prelude.{ℕ, List, [], Option, Some, None, nat_eq}
+use Rattle.std.specs.Prelude.{ℕ, List, [], Bool, true, false, Option, Some, None, nat_eq}
 use Rattle.kernel_objects.specs.Shared.{Shared as Kernel, pid_owner}
 use Rattle.zone_machine.specs.Calls.{called}
 use Rattle.zn_base.specs.Names.{Name}
 use Rattle.zone_pools.specs.Decisions.{Just}
 use Rattle.zone_machine.specs.State.Decisions.{Decision, done_saying, says}
 use Rattle.zone_machine.specs.declared.replies.Head.TheVariants.{Ok}
-use Rattle.commit_journal.specs.declared.records.Record.{Record}
 use Rattle.zone_pools.specs.Owners.{owner}
 use Rattle.zone_machine.specs.Session.Lines.{Command, Kill, Line, line_of}
 use Rattle.zone_machine.specs.Machine.{decide, named_subject, turn}
@@ -21,8 +20,8 @@ use Rattle.zone_machine.specs.declared.replies.Reply.{Reply}
 use Rattle.zone_machine.specs.declared.machine.reads.Read.TheVariants as read
 use Rattle.zone_machine.specs.declared.machine.reads.Read.{Read}
 use Rattle.zone_machine.specs.Session.Typed.{global_line, typed}
-use Rattle.zone_machine.specs.Code.Lines.{as_line}
-use Rattle.zone_machine.specs.Code.Cells.{cell_world}
+use Rattle.zone_machine.specs.Code.Lines.{IsRight, as_command, as_line}
+use Rattle.zone_machine.specs.Code.Cells.{Outside, cell_world}
 
 -- whose an event is, by the shared part
 abbrev pub held_subject : Option Name → Subject
@@ -69,6 +68,26 @@ global_read (read.Turn z) = says Ok
 global_read (read.Process z pid c) = says Ok
 global_read (read.System what) = says Ok
 
--- the case of an event of z, by its cell and what is stored of it
-abbrev pub decide_in : Name → Option Record → Cell → Event → Decision
-decide_in z row c e = decide (view_of z (cell_world row c)) e
+-- the case of an event of z, by its cell and what that hasn't
+abbrev pub decide_in : Name → Outside → Cell → Event → Decision
+decide_in z out c e = decide (view_of z (cell_world out c)) e
+
+-- whether an event is a turn
+abbrev pub is_turn : Event → Bool
+is_turn (event.Session n text) = false
+is_turn (event.Turn z) = true
+is_turn (event.Process z pid c) = false
+is_turn (event.System what) = false
+
+abbrev pub is_turn_read : Read → Bool
+is_turn_read (read.Line n line) = false
+is_turn_read (read.Turn z) = true
+is_turn_read (read.Process z pid c) = false
+is_turn_read (read.System what) = false
+
+-- what a line asks for is such
+abbrev pub IsRightRead : Read → Type 0
+IsRightRead (read.Line n line) = IsRight (as_command line.command)
+IsRightRead (read.Turn z) = Unit {0}
+IsRightRead (read.Process z pid c) = Unit {0}
+IsRightRead (read.System what) = Unit {0}

@@ -1,38 +1,38 @@
 -- Room that is taken before anything is changed, and that nothing is changed by taking it.
-use Rattle.std.specs.Prelude.{◌≡◌, ◌⊎◌, ◌<◌, List, [], ◌∷◌, Option, Some, None, false, true, Ok}
+use Rattle.std.specs.Prelude.{◌≡◌, ◌⊎◌, ◌<◌, List, [], ◌∷◌, Option, Some, None, IfSome, bytes_eq, is_some, false, true, Ok}
+use Rattle.datalink_table.specs.Claims.{pool_of}
 use Rattle.loopback_mounts.specs.Mounts.{mount_answer}
-use Rattle.indexmap.specs.IndexMap.{spare}
+use Rattle.indexmap.specs.IndexMap.{get_by, spare}
 use Rattle.zn_base.specs.Names.{Name}
-use Rattle.zone_pools.specs.Asked.{A_pid, A_zid, Asked}
+use Rattle.zone_pools.specs.Asked.{A_pid, A_source, A_zid, An_item, Asked}
 use Rattle.zone_pools.specs.Decisions.{asked_of}
 use Rattle.zone_pools.specs.Owners.{owner}
 use Rattle.zone_pools.specs.Pools.{Pools, has_room}
-use Rattle.zoneadmd_steps.specs.Arrivals.{Arrival, New_id, New_process, New_record}
-use Rattle.zone_machine.specs.Code.Cases.{decision_of}
+use Rattle.zoneadmd_steps.specs.Arrivals.{Arrival, New_claim, New_id, New_process, New_record, No_new_thing}
+use Rattle.zone_machine.specs.Code.Cases.{case_active, decision_of}
+use Rattle.zoneadmd_steps.specs.Code.Cases.{mount_in}
 use Rattle.zoneadmd_steps.specs.Code.Rooms.{HasRequestRoom, HasTurnRoom}
 use Rattle.zone_machine.specs.Code.Works.{objects_of}
-use Rattle.zone_machine.specs.Code.Cells.{cell_world, common_in}
+use Rattle.zone_machine.specs.Code.Cells.{Outside, cell_world, common_in}
 use Rattle.zone_machine.specs.Code.Needs.{pools_in}
 use Rattle.zone_machine.specs.declared.cases.Case.{Case}
 use Rattle.zone_machine.specs.declared.cases.Case.TheVariants as cases
 use Rattle.zone_machine.specs.declared.machine.cell.Cell.{Cell}
-use Rattle.commit_journal.specs.declared.records.Record.{Record}
 use Rattle.zone_machine.specs.declared.machine.shared.Shared.{Shared}
 use Rattle.zoneadmd_steps.specs.declared.objects.changes.ObjectEdit.{ObjectEdit}
-use Rattle.zoneadmd_steps.specs.declared.objects.changes.ObjectEdit.TheVariants.{Mount}
 use Rattle.zone_machine.specs.declared.cases.Case.TheVariants.{Put, Turn}
 use Rattle.zoneadmd_steps.specs.declared.desks.Desk.{Desk}
 
 -- a cell and a shared part are as they were, but for room
 pub record Alike (c : Cell) (s : Shared) (d : Cell) (t : Shared) : Type 0 where
-  pub world : (row : Option Record) → cell_world row d ≡ cell_world row c
+  pub world : (out : Outside) → cell_world out d ≡ cell_world out c
   pub rows : t.rows.entries ≡ s.rows.entries
   pub common : common_in t ≡ common_in s
   pub pools : pools_in t ≡ pools_in s
 
 -- room for what the case puts on the desk
 abbrev pub HasRoomFor : Desk → Case → Type 0
-HasRoomFor d (Put kind owner) = HasRequestRoom d
+HasRoomFor d (Put request owner) = HasRequestRoom d
 HasRoomFor d (Turn c) = HasTurnRoom d c
 HasRoomFor d _ = Unit {0}
 
@@ -41,6 +41,8 @@ abbrev pub HasRoomToStore : List Asked → Shared → Type 0
 HasRoomToStore [] s = Unit {0}
 HasRoomToStore (A_pid ∷ asked) s = Unit {0}
 HasRoomToStore (A_zid ∷ asked) s = Unit {0}
+HasRoomToStore (An_item pool item ∷ asked) s = Unit {0}
+HasRoomToStore (A_source z ∷ asked) s = Unit {0}
 HasRoomToStore (a ∷ asked) s = 0 < spare s.rows
 
 -- the same of what came
@@ -48,31 +50,37 @@ abbrev pub HasRoomOf : Option Arrival → Shared → Type 0
 HasRoomOf (Some (New_record row)) s = 0 < spare s.rows
 HasRoomOf _ s = Unit {0}
 
--- no zone holds the number of what came, and a record can be counted
-abbrev pub IsFreeOf : Option Arrival → Pools → Type 0
-IsFreeOf None P = Unit {0}
-IsFreeOf (Some (New_process p)) P = P.pid_used p.pid ≡ false
-IsFreeOf (Some (New_id i)) P = P.zid_used i.zid ≡ false
-IsFreeOf (Some (New_record row)) P = has_room P ≡ true
+-- no zone holds the number of what came to z, z may hold the item, and a record can be counted
+abbrev pub IsFreeOf : Name → Option Arrival → Pools → Type 0
+IsFreeOf z None P = Unit {0}
+IsFreeOf z (Some (New_process p)) P = P.pid_used p.pid ≡ false
+IsFreeOf z (Some (New_id i)) P = P.zid_used i.zid ≡ false
+IsFreeOf z (Some (New_claim c)) P = P.may_hold z (pool_of c.kind) c.item ≡ true
+IsFreeOf z (Some (New_record row)) P = has_room P ≡ true
+IsFreeOf z (Some No_new_thing) P = Unit {0}
 
 -- room for what becomes of the zone's objects, where nothing refuses a mount
 abbrev pub HasRoomToChange : ObjectEdit → Cell → Type 0
-HasRoomToChange (Mount m) c = (0 < c.mounts.room) × (mount_answer m.value.dir c.mounts.list ≡ Ok tt)
-HasRoomToChange _ c = Unit {0}
+HasRoomToChange e c = IfSome (mount_in e) (λ m. (0 < c.mounts.room) × (mount_answer m.dir c.mounts.list ≡ Ok tt))
+
+-- a zone whose state becomes none of the stored ones has its place among those that may be up
+abbrev pub HasRoomToRise : Name → Case → Cell → Shared → Type 0
+HasRoomToRise z case c s = is_some c.desk.active ≡ false → is_some (case_active case c.desk.active) ≡ true → is_some (get_by (bytes_eq z) s.ups) ≡ true
 
 -- room for a session that waits
 abbrev pub HasRoomToSit : Cell → Shared → Type 0
 HasRoomToSit c s = (0 < spare c.waits) × (0 < s.sessions.room)
 
 abbrev pub HasRoomIfSits : Case → Cell → Shared → Type 0
-HasRoomIfSits (cases.Put kind owner) c s = HasRoomToSit c s
+HasRoomIfSits (cases.Put request owner) c s = HasRoomToSit c s
 HasRoomIfSits _ c s = Unit {0}
 
 -- room for all that a case does
-pub record HasRoom (case : Case) (c : Cell) (s : Shared) : Type 0 where
+pub record HasRoom (z : Name) (case : Case) (c : Cell) (s : Shared) : Type 0 where
   pub stored : HasRoomToStore (asked_of (decision_of c.desk case)) s
   pub objects : HasRoomToChange (objects_of case) c
   pub sits : HasRoomIfSits case c s
+  pub rises : HasRoomToRise z case c s
   pub desk : HasRoomFor c.desk case
 
 -- a session is nobody's or the zone's

@@ -87,9 +87,9 @@ Leaves BadGrant stated t e u = IsMisfitUnder stated t e u
 -- the grant that a case takes: what the pools say, or the stated one, which fits what it asks
 abbrev pub IsGrantFor : Name → Pools → List Asked → Option Grant → Grant → Type 0
 IsGrantFor z P asked None g = g ≡ said_by_all P z asked Nothing
-IsGrantFor z P asked (Some stated) g = (g ≡ stated) × (fits_asked P asked stated ≡ true)
+IsGrantFor z P asked (Some stated) g = (g ≡ stated) × (fits_asked P z asked stated ≡ true)
 
 -- a stated grant doesn't fit it
-abbrev pub IsUnfit : Pools → List Asked → Option Grant → Type 0
-IsUnfit P asked None = ⊥
-IsUnfit P asked (Some stated) = fits_asked P asked stated ≡ false
+abbrev pub IsUnfit : Name → Pools → List Asked → Option Grant → Type 0
+IsUnfit z P asked None = ⊥
+IsUnfit z P asked (Some stated) = fits_asked P z asked stated ≡ false

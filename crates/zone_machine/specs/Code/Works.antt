@@ -39,7 +39,7 @@ MountsNothing c = (ms : List MountEntry) → IsFreeCase c ms
 
 -- who sits down
 abbrev pub sitting_of : Desk → Case → Option Sitting
-sitting_of d (Put kind owner) = Some (record { ticket = d.last + 1; owner = owner })
+sitting_of d (Put request owner) = Some (record { ticket = d.last + 1; owner = owner })
 sitting_of d _ = None
 
 -- an act without what comes to the kernel

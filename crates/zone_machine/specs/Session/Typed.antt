@@ -18,10 +18,15 @@ use Rattle.zone_pools.specs.Owned_lists.{Change}
 use Rattle.zoneadmd_steps.specs.Objects.{Object_edit, Of_mounts}
 use Rattle.zone_machine.specs.Calls.{changes, signals}
 use Rattle.kernel_objects.specs.declared.faults.Errno.TheVariants.{ESRCH}
-use Rattle.zone_machine.specs.Session.Lines.{Blank, Command, Hold, Kill, Line, Make, Release, Request, Unknown}
+use Rattle.brand_hooks.specs.Brands.{Tabled, tabled_names}
+use Rattle.config_verify.specs.Flaws.{first, flaws}
+use Rattle.config_verify.specs.declared.flaw.Flaw.{Flaw}
+use Rattle.zn_base.specs.declared.name.NameFault.{NameFault}
+use Rattle.zone_machine.specs.Session.Lines.{Ask as Asks, Blank, Clone, Command, Hold, Kill, Line, Make, Release, Unforced, Unknown}
 use Rattle.zone_machine.specs.State.{Awaiting, Doing}
 use Rattle.zone_machine.specs.State.Worlds.{View}
-use Rattle.zoneadmd_steps.specs.declared.requests.RequestKind.{RequestKind}
+use Rattle.zoneadmd_steps.specs.declared.requests.Request.{Request}
+use Rattle.zoneadmd_steps.specs.declared.requests.Request.TheVariants as request
 use Rattle.config_terms.specs.Fields.{path_text}
 use Rattle.config_terms.specs.declared.fault.ConfigFault.{ConfigFault}
 use Rattle.zone_config.specs.Edits.{with_property}
@@ -31,7 +36,7 @@ use Rattle.commit_journal.specs.Uuids.{uuid_of}
 use Rattle.commit_journal.specs.declared.records.Record.{Record}
 use Rattle.zone_machine.specs.declared.replies.Head.TheVariants.{Ok, Ticket, Refused}
 use Rattle.zone_machine.specs.declared.replies.Refusal.{Refusal}
-use Rattle.zone_machine.specs.declared.replies.Refusal.TheVariants.{BadName, BadValue, NeedForce, NoZone, Waiting, DeskFull, Usage, Denied, HoldState, NoMount, Errno as Of_errno}
+use Rattle.zone_machine.specs.declared.replies.Refusal.TheVariants.{BadName, BadValue, Flawed, NeedForce, NoZone, Waiting, DeskFull, Usage, Denied, HoldState, NoMount, Errno as Of_errno}
 use Rattle.zone_machine.specs.declared.replies.Reply.{Reply}
 
 -- a property is set, where nothing was refused before
@@ -39,31 +44,41 @@ abbrev pub then_set : List ℕ → List ℕ → Result Contents ConfigFault → 
 then_set name value (Err fault) = Err fault
 then_set name value (Right config) = with_property name (Simple value) config
 
--- what `create -b; set zonepath=WORD; set brand=ipkg` makes (zonecfg(8)), or the first refusal
-abbrev pub made_config : List ℕ → Result Contents ConfigFault
-made_config word = then_set (codes "brand") (codes "ipkg") (then_set (codes "zonepath") word (Right blank))
+-- what `create -b; set zonepath=PATH; set brand=BRAND` makes (zonecfg(8)), or the first refusal
+abbrev pub made_config : (path brand : List ℕ) → Result Contents ConfigFault
+made_config path brand = then_set (codes "brand") brand (then_set (codes "zonepath") path (Right blank))
 
 -- a zone is made
 abbrev pub new_record : Name → Contents → ℕ → Record
 new_record z config n = record { state = Configured; uuid = uuid_of z n; revision = n; config = config }
 
-abbrev pub make_with : Name → Option Contents → Decision
-make_with z None = Just (refused BadValue)
-make_with z (Some config) =
+abbrev pub make_unless : Name → Contents → Result (Unit {0}) Flaw → Decision
+make_unless z config (Err flaw) = Just (refused (Flawed flaw))
+make_unless z config (Right fine) =
     Ask (A_record (λ n. Some (new_record z config n))) (A_zone ∷ A_path (path_text config.zonepath) ∷ A_serial ∷ [])
     (λ pool. refused (Denied pool)) (λ n. done_saying [] Ok)
 
-abbrev pub make : Name → Option Record → List ℕ → Decision
-make z (Some row) word = Just (refused NeedForce)
-make z None word = make_with z (result_ok (made_config word))
+-- what is committed has no flaw
+abbrev pub make_with : Name → List Tabled → Option Contents → Decision
+make_with z brands None = Just (refused BadValue)
+make_with z brands (Some config) = make_unless z config (first (flaws (tabled_names brands) config))
+
+abbrev pub make : Name → List Tabled → Option Record → (path brand : List ℕ) → Decision
+make z brands (Some row) path brand = Just (refused NeedForce)
+make z brands None path brand = make_with z brands (result_ok (made_config path brand))
 
 -- a request is put on the zone's desk, and the session waits for its ticket
-abbrev pub put_request : Desk → RequestKind → Option Record → Effect
-put_request d kind None = refused NoZone
-put_request d kind (Some row) =
+abbrev pub put_request : Desk → Request → Option Record → Effect
+put_request d request None = refused NoZone
+put_request d request (Some row) =
     if is_full d then refused DeskFull
-    else done_saying (Set_desk (with_request d kind) ∷ Here (Some (Awaiting (d.last + 1))) ∷ [])
+    else done_saying (Set_desk (with_request d request) ∷ Here (Some (Awaiting (d.last + 1))) ∷ [])
     (Ticket (d.last + 1))
+
+-- the source of a clone is looked at for its name alone
+abbrev pub put_clone : Desk → Result Name NameFault → Option Record → Effect
+put_clone d (Err fault) stored = refused (BadName fault)
+put_clone d (Right source) stored = put_request d (request.Clone source) stored
 
 -- whether a mount may be held, or released
 abbrev pub held_answer : Bool → List ℕ → List MountEntry → Result (Unit {0}) HoldFault
@@ -88,8 +103,10 @@ holding_at held dir = Of_mounts (Change (at_dir dir (with_hold held)))
 
 abbrev pub idle_line : View → Command → Decision
 idle_line v Blank = Just (done_saying [] Ok)
-idle_line v (Make word) = make v.zone v.world.stored word
-idle_line v (Request kind) = Just (put_request v.world.desk kind v.world.stored)
+idle_line v (Make path brand) = make v.zone v.world.brands v.world.stored path brand
+idle_line v (Asks request) = Just (put_request v.world.desk request v.world.stored)
+idle_line v (Clone word) = Just (put_clone v.world.desk (name_of word) v.world.stored)
+idle_line v Unforced = Just (refused NeedForce)
 idle_line v (Kill signal pid) = signals false signal pid (v.process pid)
 idle_line v (Hold dir) = holds v.world.stored (held_answer true dir v.world.mounts) (holding_at true dir)
 idle_line v (Release dir) = holds v.world.stored (held_answer false dir v.world.mounts) (holding_at false dir)

@@ -2,11 +2,13 @@
 use Rattle.std.specs.Prelude.{ℕ, List, [], ◌∷◌, ◌++◌, Option, Some, None, bytes_eq, nat_eq, if◌then◌else◌}
 use Rattle.zn_base.specs.Names.{Name}
 use Rattle.kernel_objects.specs.Processes.{Process, adopted, below, has_pid, heir, without_pid}
-use Rattle.zone_pools.specs.Owned_lists.{Change, Come, Go, Put, edit_list, edited, mine}
+use Rattle.datalink_table.specs.Claims.{claiming, holds}
+use Rattle.datalink_table.specs.declared.claims.Claim.{Claim}
+use Rattle.zone_pools.specs.Owned_lists.{Become, Change, Come, Go, Last_goes, Put, edit_list, edited, mine}
 use Rattle.zone_pools.specs.declared.owned.Owned.{Owned}
-use Rattle.zoneadmd_steps.specs.Arrivals.{Arrival, New_id, New_process, New_record}
+use Rattle.zoneadmd_steps.specs.Arrivals.{Arrival, New_claim, New_id, New_process, New_record, No_new_thing}
 use Rattle.zoneadmd_steps.specs.Desks.{Desk}
-use Rattle.zoneadmd_steps.specs.Objects.{Ids_change, Ids_go, Object_edit, Of_mounts, Process_goes, Processes_change, Processes_go, all_of, keeping_pid, keeping_zid}
+use Rattle.zoneadmd_steps.specs.Objects.{Devices_are, Ids_change, Ids_go, Last_claim_goes, Object_edit, Of_mounts, Process_goes, Processes_change, Processes_go, all_of, keeping_pid, keeping_zid}
 use Rattle.zone_machine.specs.State.{At, Doing, Idle, Session, State}
 use Rattle.zone_machine.specs.State.Worlds.{World}
 
@@ -39,6 +41,8 @@ edit z n (Of_objects (Processes_go p)) S = record S { processes = edit_list z (G
 edit z n (Of_objects (Process_goes pid)) S = record S { processes = adopt_list z pid (edit_list z (Go (has_pid pid)) S.processes) }
 edit z n (Of_objects (Processes_change f)) S = record S { processes = edit_list z (Change (keeping_pid f)) S.processes }
 edit z n (Of_objects (Of_mounts e)) S = record S { mounts = edit_list z e S.mounts }
+edit z n (Of_objects Last_claim_goes) S = record S { claims = edit_list z Last_goes S.claims }
+edit z n (Of_objects (Devices_are ds)) S = record S { devices = edit_list z (Become ds) S.devices }
 edit z n (Of_objects (Ids_go p)) S = record S { ids = edit_list z (Go p) S.ids }
 edit z n (Of_objects (Ids_change f)) S = record S { ids = edit_list z (Change (keeping_zid f)) S.ids }
 edit z n (Set_desk d) S = record S { desks = λ y. if bytes_eq z y then d else S.desks y }
@@ -59,6 +63,8 @@ edit_world n (Of_objects (Processes_go p)) w = record w { processes = edited (Go
 edit_world n (Of_objects (Process_goes pid)) w = record w { processes = without_pid pid w.processes }
 edit_world n (Of_objects (Processes_change f)) w = record w { processes = edited (Change (keeping_pid f)) w.processes }
 edit_world n (Of_objects (Of_mounts e)) w = record w { mounts = edited e w.mounts }
+edit_world n (Of_objects Last_claim_goes) w = record w { claims = edited Last_goes w.claims }
+edit_world n (Of_objects (Devices_are ds)) w = record w { devices = edited (Become ds) w.devices }
 edit_world n (Of_objects (Ids_go p)) w = record w { ids = edited (Go p) w.ids }
 edit_world n (Of_objects (Ids_change f)) w = record w { ids = edited (Change (keeping_zid f)) w.ids }
 edit_world n (Set_desk d) w = record w { desk = d }
@@ -69,13 +75,21 @@ abbrev pub edits_world : Option ℕ → List Edit → World → World
 edits_world n [] w = w
 edits_world n (e ∷ es) w = edits_world n es (edit_world n e w)
 
+-- a claim comes last, unless the zone holds the item already
+abbrev pub claim_list : Name → Claim → List (Owned Claim) → List (Owned Claim)
+claim_list z c os = if holds c (mine z os) then os else edit_list z (Come c) os
+
 -- what comes. An id comes in place of the one that the zone had, if any
 unfoldable pub comes : Name → Arrival → State → State
 comes z (New_process p) S = record S { processes = edit_list z (Put (below p.pid) p) S.processes; last_pid = p.pid }
 comes z (New_id i) S = record S { ids = edit_list z (Come i) (edit_list z (Go all_of) S.ids); last_zid = i.zid }
+comes z (New_claim c) S = record S { claims = claim_list z c S.claims }
 comes z (New_record row) S = record S { commits = S.commits ++ record { zone = z; stored = row } ∷ [] }
+comes z No_new_thing S = S
 
 abbrev pub comes_world : Arrival → World → World
 comes_world (New_process p) w = record w { processes = edited (Put (below p.pid) p) w.processes }
 comes_world (New_id i) w = record w { ids = i ∷ [] }
+comes_world (New_claim c) w = record w { claims = claiming (holds c w.claims) c w.claims }
 comes_world (New_record row) w = record w { stored = row }
+comes_world No_new_thing w = w

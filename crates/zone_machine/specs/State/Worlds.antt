@@ -1,5 +1,6 @@
 -- What belongs to one zone, and what an event of the zone may look at.
 use Rattle.std.specs.Prelude.{ℕ, List, Option, Some, None, bytes_eq, filter, if◌then◌else◌}
+use Rattle.brand_hooks.specs.Brands.{Tabled}
 use Rattle.zn_base.specs.Names.{Name}
 use Rattle.zone_pools.specs.Owned_lists.{mine}
 use Rattle.zone_pools.specs.Firsts.{first_of}
@@ -7,6 +8,8 @@ use Rattle.zone_pools.specs.declared.owned.Owned.{Owned}
 use Rattle.zoneadmd_steps.specs.Desks.{Desk}
 use Rattle.kernel_objects.specs.Processes.{has_pid, with_pid, Process}
 use Rattle.zoneadmd_steps.specs.Objects.{Objects}
+use Rattle.zoneadmd_steps.specs.Turns.{Seen}
+use Rattle.zone_machine.specs.State.Declarations.{Declared}
 use Rattle.zone_machine.specs.State.{At, Doing, Idle, Session, State, stored}
 use Rattle.kernel_objects.specs.declared.objects.Id.{Id}
 use Rattle.loopback_mounts.specs.declared.mount.MountEntry.{MountEntry}
@@ -18,7 +21,8 @@ abbrev pub doing : Name → Session → Option Doing
 doing z Idle = None
 doing z (At y d) = if bytes_eq z y then Some d else None
 
--- a zone's world: its objects, its stored record, its desk, and what each session does in it
+-- a zone's world: its objects, its stored record, its desk, what each session does in it, and, of the system, what is declared
+-- and which brands there are
 pub record World : Type 0 where
   pub processes : List Process
   pub mounts : List MountEntry
@@ -28,10 +32,15 @@ pub record World : Type 0 where
   pub stored : Option Record
   pub desk : Desk
   pub sessions : ℕ → Option Doing
+  pub declared : Declared
+  pub brands : List Tabled
 
--- what a turn of the zone's daemon sees of it
 abbrev pub objects_of : World → Objects
-objects_of w = record { processes = w.processes; mounts = w.mounts; ids = w.ids }
+objects_of w = record { processes = w.processes; mounts = w.mounts; claims = w.claims; devices = w.devices; ids = w.ids }
+
+-- what a turn of the zone's daemon finds
+abbrev pub seen_of : World → Seen
+seen_of w = record { desk = w.desk; objects = objects_of w; stored = w.stored; declared = w.declared.devices; brands = w.brands }
 
 abbrev pub world : Name → State → World
 world z S = record {
@@ -43,6 +52,8 @@ world z S = record {
   stored = stored z S.commits;
   desk = S.desks z;
   sessions = λ n. doing z (S.sessions n);
+  declared = S.declared;
+  brands = S.brands;
 }
 
 -- the process with this number, looked for among all zones' processes, where its tag is then z

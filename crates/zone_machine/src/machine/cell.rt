@@ -1,9 +1,11 @@
 //! A zone's cell: everything that one zone has, but for its name and what is stored of it.
-ghost use Rattle.std.specs.Prelude.{◌≡◌, Option, true};
-ghost use Rattle.zone_machine.specs.Code.Cells.{cell_world, empty_world};
-ghost use Rattle.commit_journal.specs.declared.records.Record as record_types;
+ghost use Rattle.std.specs.Prelude.{◌≡◌, option_map, true};
+ghost use Rattle.zone_machine.specs.Code.Cells.{Outside, cell_objects, cell_world, empty_world};
+ghost use Rattle.zoneadmd_steps.specs.Code.Cases.{next_hook};
+ghost use Rattle.zoneadmd_steps.specs.Code.Desks.{as_desk};
 
 use crate::session::waits::Waits;
+use brand_hooks::Change;
 use datalink_table::ClaimCell;
 use indexmap::IndexMap;
 use kernel_objects::KernelCell;
@@ -35,7 +37,7 @@ impl Drop for Cell {
 impl Cell {
     /// A zone that has nothing.
     pub fn new(alloc: Global) -> Self
-        ensures { (row : Option record_types.Record) → cell_world row result ≡ empty_world row }
+        ensures { (out : Outside) → cell_world out result ≡ empty_world out }
     {
         Self {
             kernel: KernelCell::new(alloc),
@@ -48,12 +50,19 @@ impl Cell {
 
     /// Whether the zone has nothing.
     pub fn is_empty(&self) -> bool
-        ensures { result ≡ true → (row : Option record_types.Record) → cell_world row self.now ≡ empty_world row }
+        ensures { result ≡ true → (out : Outside) → cell_world out self.now ≡ empty_world out }
     {
         self.kernel.is_empty()
             && self.mounts.entries().is_empty()
             && self.claims.is_empty()
             && self.desk.is_new()
             && self.waits.is_empty()
+    }
+
+    /// The name of the brand and the change of which it is asked at the next step of the zone's daemon, if it is.
+    pub fn next_hook(&self) -> Option<(&[u8], Change)>
+        ensures { option_map (λ asked. (asked.0.now, asked.1)) result ≡ next_hook (cell_objects self.now) (as_desk self.now.desk).job }
+    {
+        self.desk.next_hook(&self.mounts, &self.claims)
     }
 }

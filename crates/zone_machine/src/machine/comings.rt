@@ -1,11 +1,12 @@
-//! What comes to the kernel with a grant: a process, or the zone's id. It takes its memory as it comes, so it is the first
+//! What comes to the kernel with a grant: a process, the zone's id, or an item that it claims. It takes its memory as it comes, so it is the first
 //! thing that an event does.
-ghost use Rattle.std.specs.Prelude.{◌≡◌, ℕ, Ok, OnErr, OnOk, Some, false};
+ghost use Rattle.std.specs.Prelude.{◌≡◌, ℕ, Ok, OnErr, OnOk, Some, false, true};
 ghost use Rattle.kernel_objects.specs.Kernel.{new_id};
 ghost use Rattle.kernel_objects.specs.Processes.{process_of};
 ghost use Rattle.zone_pools.specs.Decisions.{number_in};
 ghost use Rattle.zone_pools.specs.declared.grant.Grant as grant_types;
-ghost use Rattle.zoneadmd_steps.specs.Arrivals.{New_id, New_process, arrived, in_kernel};
+ghost use Rattle.zoneadmd_steps.specs.Arrivals.{New_claim, New_id, New_process, arrived, in_kernel};
+ghost use Rattle.datalink_table.specs.Shared.{allows};
 ghost use Rattle.zone_machine.specs.Code.Cases.{IsCaseOf, decision_of};
 ghost use Rattle.zoneadmd_steps.specs.Code.Cases.{IsTurnOf, comes_of, job_turn, turn_decision_of};
 ghost use Rattle.zone_machine.specs.Code.Cells.{Does};
@@ -22,6 +23,7 @@ ghost use Rattle.zoneadmd_steps.specs.declared.desks.Job as job_types;
 use crate::cases::Case;
 use crate::machine::cell::Cell;
 use crate::machine::shared::Shared;
+use datalink_table::Claim;
 use kernel_objects::Running;
 use std::alloc::{AllocError, Global};
 use zn_base::ZoneName;
@@ -34,15 +36,17 @@ pub(crate) enum Newcomer<'c> {
     Nothing,
     Process(&'c Running),
     Id,
+    Claim(&'c Claim),
 }
 
 fn came_newcomer(it: &Came) -> Newcomer<'_>
     ensures { (n : ℕ) → in_kernel (Some (arrived (comes_of it.now) n)) ≡ newcome result (Ok n) }
 {
     match it {
-        Came::Process(running) => Newcomer::Process(running),
+        Came::Process(running, _) => Newcomer::Process(running),
         Came::Id => Newcomer::Id,
-        Came::Record(_, _) => Newcomer::Nothing,
+        Came::Claim(claim) => Newcomer::Claim(claim),
+        Came::Record(_, _) | Came::Moved(_, _, _) | Came::Source(_) => Newcomer::Nothing,
     }
 }
 
@@ -51,8 +55,11 @@ fn job_newcomer(case: &JobCase) -> Newcomer<'_>
 {
     match case {
         JobCase::Ask(it, _) => came_newcomer(it),
-        JobCase::Finish(_) | JobCase::Pass(_) | JobCase::Stuck | JobCase::Undo(_) =>
-            Newcomer::Nothing,
+        JobCase::Finish(_)
+        | JobCase::Pass(_)
+        | JobCase::Fail(_)
+        | JobCase::Stuck
+        | JobCase::Undo(_) => Newcomer::Nothing,
     }
 }
 
@@ -61,7 +68,8 @@ fn turn_newcomer(case: &TurnCase) -> Newcomer<'_>
 {
     match case {
         TurnCase::GoOn(case) => job_newcomer(case),
-        TurnCase::Idle | TurnCase::Begin(_, _) | TurnCase::Refuse(_, _) => Newcomer::Nothing,
+        TurnCase::Idle | TurnCase::Begin(_) | TurnCase::Refuse(_, _) | TurnCase::Again(_) =>
+            Newcomer::Nothing,
     }
 }
 
@@ -117,6 +125,31 @@ fn give_id(
     }
 }
 
+// The zone claims an item that it may hold.
+#[inline(never)]
+fn claim_item(
+    alloc: Global,
+    cell: &mut Cell,
+    shared: &mut Shared,
+    zone: &ZoneName,
+    claim: &Claim,
+) -> Result<(), AllocError>
+    requires { allows zone.now claim.now shared.old.claims ≡ true }
+    ensures does { OnOk result (Does zone.now (comes_world (New_claim claim.now)) (came_common zone.now (Some (New_claim claim.now))) cell.old shared.old cell.new shared.new) }
+    ensures alike { OnErr result (Alike cell.old shared.old cell.new shared.new) }
+    ensures cell { cell.new ≡ record cell.old { claims = cell.new.claims } }
+    ensures shared { shared.new ≡ record shared.old { claims = shared.new.claims } }
+{
+    let item = claim.item.copy(alloc)?;
+    match cell
+        .claims
+        .claim(alloc, &mut shared.claims, claim.kind, item, zone)
+    {
+        Ok(()) => Ok(()),
+        Err(_) => Err(AllocError),
+    }
+}
+
 fn let_in(
     alloc: Global,
     cell: &mut Cell,
@@ -125,15 +158,16 @@ fn let_in(
     newcomer: Newcomer<'_>,
     number: Result<u32, Pool>,
 ) -> Result<(), AllocError>
-    requires { IsFreeOf (newcome newcomer number) (pools_in shared.old) }
+    requires { IsFreeOf zone.now (newcome newcomer number) (pools_in shared.old) }
     ensures does { OnOk result (Does zone.now (after_came_world (newcome newcomer.entry number)) (came_common zone.now (newcome newcomer.entry number)) cell.old shared.old cell.new shared.new) }
     ensures alike { OnErr result (Alike cell.old shared.old cell.new shared.new) }
-    ensures cell { cell.new ≡ record cell.old { kernel = cell.new.kernel } }
-    ensures shared { shared.new ≡ record shared.old { kernel = shared.new.kernel } }
+    ensures cell { cell.new ≡ record cell.old { kernel = cell.new.kernel; claims = cell.new.claims } }
+    ensures shared { shared.new ≡ record shared.old { kernel = shared.new.kernel; claims = shared.new.claims } }
 {
     match (newcomer, number) {
         (Newcomer::Process(running), Ok(pid)) => begin(alloc, cell, shared, zone, pid, running),
         (Newcomer::Id, Ok(zid)) => give_id(alloc, cell, shared, zone, zid),
+        (Newcomer::Claim(claim), Ok(_)) => claim_item(alloc, cell, shared, zone, claim),
         _ => Ok(()),
     }
 }
@@ -148,11 +182,11 @@ pub(crate) fn come(
     grant: Grant,
 ) -> Result<(), AllocError>
     requires of { IsCaseOf cell.old.desk case.now }
-    requires free { IsFreeOf (act_of (decision_of cell.old.desk case.now) grant).came (pools_in shared.old) }
+    requires free { IsFreeOf zone.now (act_of (decision_of cell.old.desk case.now) grant).came (pools_in shared.old) }
     ensures does { OnOk result (Does zone.now (after_came_world (in_kernel (act_of (decision_of cell.old.desk case.now) grant).came)) (came_common zone.now (in_kernel (act_of (decision_of cell.old.desk case.now) grant).came)) cell.old shared.old cell.new shared.new) }
     ensures alike { OnErr result (Alike cell.old shared.old cell.new shared.new) }
-    ensures cell { cell.new ≡ record cell.old { kernel = cell.new.kernel } }
-    ensures shared { shared.new ≡ record shared.old { kernel = shared.new.kernel } }
+    ensures cell { cell.new ≡ record cell.old { kernel = cell.new.kernel; claims = cell.new.claims } }
+    ensures shared { shared.new ≡ record shared.old { kernel = shared.new.kernel; claims = shared.new.claims } }
 {
     let_in(
         alloc,

@@ -10,10 +10,11 @@ ghost use Rattle.zoneadmd_steps.specs.Code.Cases.{object_edits};
 ghost use Rattle.zone_machine.specs.Code.Works.{IsNamedWork, rest_of, sits, work_world};
 ghost use Rattle.zoneadmd_steps.specs.Code.Works.{arrival_of};
 ghost use Rattle.zoneadmd_steps.specs.Arrivals.{in_store, New_record};
-ghost use Rattle.kernel_objects.specs.Kernel.{with_id};
-ghost use Rattle.zoneadmd_steps.specs.Turns.{default_limits};
+ghost use Rattle.zoneadmd_steps.specs.Code.Cases.{mount_in};
+ghost use Rattle.indexmap.specs.IndexMap.{get_by};
+ghost use Rattle.zone_machine.specs.Code.Cells.{is_up_in};
 ghost use Rattle.zone_machine.specs.declared.machine.shared.Shared as shared_types;
-ghost use Rattle.zone_machine.specs.Code.Cells.{Does, kept};
+ghost use Rattle.zone_machine.specs.Code.Cells.{Acts, Does, kept};
 ghost use Rattle.zone_machine.specs.Code.Needs.{pools_in};
 ghost use Rattle.zone_machine.specs.Machine.Common.{came_common};
 ghost use Rattle.zone_machine.specs.State.Decisions.{act_of, acts_world, after_came_world, sweeps};
@@ -24,17 +25,16 @@ use crate::cases::Case;
 use crate::machine::cell::Cell;
 use crate::machine::settling::settle;
 use crate::machine::shared::Shared;
+use crate::machine::ups::mark;
 use crate::machine::work::{Sitting, Work};
 use crate::maps::put;
 use crate::replies::Reply;
 use crate::session::waits::{end_waits, wait};
-use kernel_objects::KernelCell;
 use loopback_mounts::Mount;
-use priv_sets::PrivSet;
 use std::alloc::Global;
-use zn_base::{AbsPath, Text};
+use zn_base::{AbsPath, Listing, Text, ZoneName};
 use zone_pools::Grant;
-use zoneadmd_steps::{ObjectEdit, Stored};
+use zoneadmd_steps::{Limits, ObjectEdit, Stored};
 
 // What is stored of the zone from now on.
 #[inline(never)]
@@ -43,6 +43,8 @@ fn store(cell: &Cell, shared: &mut Shared, stored: Stored)
     requires room { 0 < spare shared.old.rows }
     ensures does { Does stored.owner (comes_world (New_record (Some stored.row.value))) (came_common stored.owner (Some (New_record (Some stored.row.value)))) cell.now shared.old cell.now shared.new }
     ensures sessions { shared.new.sessions ≡ shared.old.sessions }
+    ensures ups { shared.new.ups ≡ shared.old.ups }
+    ensures brands { shared.new.brands ≡ shared.old.brands }
 {
     put(&mut shared.rows, stored.owner, Box::into_inner(stored.row));
     shared.serial += 1;
@@ -50,10 +52,12 @@ fn store(cell: &Cell, shared: &mut Shared, stored: Stored)
 
 // What is stored of the zone, if that changes.
 fn store_some(cell: &Cell, shared: &mut Shared, stored: Option<Stored>)
-    requires free { IsFreeOf (arrival_of stored) (pools_in shared.old) }
+    requires free { (z : Name) → IsFreeOf z (arrival_of stored) (pools_in shared.old) }
     requires room { HasRoomOf (arrival_of stored) shared.old }
     ensures does { (z : Name) → IfSome stored (λ s. s.owner ≡ z) → Does z (after_came_world (arrival_of stored)) (came_common z (arrival_of stored)) cell.now shared.old cell.now shared.new }
     ensures sessions { shared.new.sessions ≡ shared.old.sessions }
+    ensures ups { shared.new.ups ≡ shared.old.ups }
+    ensures brands { shared.new.brands ≡ shared.old.brands }
 {
     match stored {
         Some(stored) => store(cell, shared, stored),
@@ -67,6 +71,9 @@ fn end_processes(cell: &mut Cell, shared: &mut Shared)
     ensures does { (z : Name) (n : Option ℕ) → Does z (edits_world n (map Of_objects (object_edits ObjectEdit.EndProcesses))) kept cell.old shared.old cell.new shared.new }
     ensures waits { cell.new.waits ≡ cell.old.waits }
     ensures sessions { shared.new.sessions ≡ shared.old.sessions }
+    ensures ups { shared.new.ups ≡ shared.old.ups }
+    ensures brands { shared.new.brands ≡ shared.old.brands }
+    ensures desk { cell.new.desk ≡ cell.old.desk }
 {
     cell.kernel.kill_all(&mut shared.kernel);
 }
@@ -77,6 +84,9 @@ fn end_ids(cell: &mut Cell, shared: &mut Shared)
     ensures does { (z : Name) (n : Option ℕ) → Does z (edits_world n (map Of_objects (object_edits ObjectEdit.EndIds))) kept cell.old shared.old cell.new shared.new }
     ensures waits { cell.new.waits ≡ cell.old.waits }
     ensures sessions { shared.new.sessions ≡ shared.old.sessions }
+    ensures ups { shared.new.ups ≡ shared.old.ups }
+    ensures brands { shared.new.brands ≡ shared.old.brands }
+    ensures desk { cell.new.desk ≡ cell.old.desk }
 {
     cell.kernel.give_up_id(&mut shared.kernel);
 }
@@ -87,6 +97,9 @@ fn end_process(cell: &mut Cell, shared: &mut Shared, pid: u32)
     ensures does { (z : Name) (n : Option ℕ) → Does z (edits_world n (map Of_objects (object_edits (ObjectEdit.EndProcess pid)))) kept cell.old shared.old cell.new shared.new }
     ensures waits { cell.new.waits ≡ cell.old.waits }
     ensures sessions { shared.new.sessions ≡ shared.old.sessions }
+    ensures ups { shared.new.ups ≡ shared.old.ups }
+    ensures brands { shared.new.brands ≡ shared.old.brands }
+    ensures desk { cell.new.desk ≡ cell.old.desk }
 {
     cell.kernel.end(&mut shared.kernel, pid);
 }
@@ -96,6 +109,7 @@ fn end_process(cell: &mut Cell, shared: &mut Shared, pid: u32)
 fn rename(cell: &mut Cell, pid: u32, name: Text)
     ensures does { (z : Name) (n : Option ℕ) (s : shared_types.Shared) → Does z (edits_world n (map Of_objects (object_edits (ObjectEdit.Rename pid name)))) kept cell.old s cell.new s }
     ensures waits { cell.new.waits ≡ cell.old.waits }
+    ensures desk { cell.new.desk ≡ cell.old.desk }
 {
     cell.kernel.set_name(pid, name);
 }
@@ -105,6 +119,7 @@ fn rename(cell: &mut Cell, pid: u32, name: Text)
 fn give_up(cell: &mut Cell, pid: u32, number: u8)
     ensures does { (z : Name) (n : Option ℕ) (s : shared_types.Shared) → Does z (edits_world n (map Of_objects (object_edits (ObjectEdit.GiveUp pid number)))) kept cell.old s cell.new s }
     ensures waits { cell.new.waits ≡ cell.old.waits }
+    ensures desk { cell.new.desk ≡ cell.old.desk }
 {
     cell.kernel.give_up(pid, number);
 }
@@ -115,6 +130,7 @@ fn mount_at(cell: &mut Cell, mount: Box<Mount>)
     requires { HasRoomToChange (ObjectEdit.Mount mount) cell.old }
     ensures does { (z : Name) (n : Option ℕ) (s : shared_types.Shared) → Does z (edits_world n (map Of_objects (object_edits (ObjectEdit.Mount mount)))) kept cell.old s cell.new s }
     ensures waits { cell.new.waits ≡ cell.old.waits }
+    ensures desk { cell.new.desk ≡ cell.old.desk }
 {
     cell.mounts.put_reserved(Box::into_inner(mount));
 }
@@ -124,6 +140,7 @@ fn mount_at(cell: &mut Cell, mount: Box<Mount>)
 fn unmount(cell: &mut Cell, dir: &AbsPath)
     ensures does { (z : Name) (n : Option ℕ) (s : shared_types.Shared) → Does z (edits_world n (map Of_objects (object_edits (ObjectEdit.Unmount dir.now)))) kept cell.old s cell.new s }
     ensures waits { cell.new.waits ≡ cell.old.waits }
+    ensures desk { cell.new.desk ≡ cell.old.desk }
 {
     cell.mounts.take_out(dir);
 }
@@ -133,6 +150,7 @@ fn unmount(cell: &mut Cell, dir: &AbsPath)
 fn hold(cell: &mut Cell, dir: &AbsPath)
     ensures does { (z : Name) (n : Option ℕ) (s : shared_types.Shared) → Does z (edits_world n (map Of_objects (object_edits (ObjectEdit.Hold dir.now)))) kept cell.old s cell.new s }
     ensures waits { cell.new.waits ≡ cell.old.waits }
+    ensures desk { cell.new.desk ≡ cell.old.desk }
 {
     cell.mounts.put_hold(dir);
 }
@@ -142,16 +160,84 @@ fn hold(cell: &mut Cell, dir: &AbsPath)
 fn release(cell: &mut Cell, dir: &AbsPath)
     ensures does { (z : Name) (n : Option ℕ) (s : shared_types.Shared) → Does z (edits_world n (map Of_objects (object_edits (ObjectEdit.Release dir.now)))) kept cell.old s cell.new s }
     ensures waits { cell.new.waits ≡ cell.old.waits }
+    ensures desk { cell.new.desk ≡ cell.old.desk }
 {
     cell.mounts.lift_hold(dir);
 }
 
-/// The zone's limits are set.
+// The latest claim ends.
 #[inline(never)]
-pub(crate) fn set_limits(alloc: Global, kernel: &mut KernelCell)
-    ensures { kernel.new ≡ with_id default_limits kernel.old }
+fn end_claim(cell: &mut Cell, shared: &mut Shared)
+    ensures does { (z : Name) (n : Option ℕ) → Does z (edits_world n (map Of_objects (object_edits ObjectEdit.EndClaim))) kept cell.old shared.old cell.new shared.new }
+    ensures waits { cell.new.waits ≡ cell.old.waits }
+    ensures sessions { shared.new.sessions ≡ shared.old.sessions }
+    ensures ups { shared.new.ups ≡ shared.old.ups }
+    ensures brands { shared.new.brands ≡ shared.old.brands }
+    ensures desk { cell.new.desk ≡ cell.old.desk }
 {
-    kernel.set_limits(PrivSet::default_set(), None, Text::empty(alloc));
+    cell.claims.release_last(&mut shared.claims);
+}
+
+// The zone has these devices.
+#[inline(never)]
+fn set_devices(cell: &mut Cell, devices: Listing<AbsPath>)
+    ensures does { (z : Name) (n : Option ℕ) (s : shared_types.Shared) → Does z (edits_world n (map Of_objects (object_edits (ObjectEdit.SetDevices devices)))) kept cell.old s cell.new s }
+    ensures waits { cell.new.waits ≡ cell.old.waits }
+    ensures desk { cell.new.desk ≡ cell.old.desk }
+{
+    cell.kernel.set_devices(devices.into_vec());
+}
+
+// The zone has no devices.
+#[inline(never)]
+fn drop_devices(cell: &mut Cell)
+    ensures does { (z : Name) (n : Option ℕ) (s : shared_types.Shared) → Does z (edits_world n (map Of_objects (object_edits ObjectEdit.DropDevices))) kept cell.old s cell.new s }
+    ensures waits { cell.new.waits ≡ cell.old.waits }
+    ensures desk { cell.new.desk ≡ cell.old.desk }
+{
+    cell.kernel.drop_devices();
+}
+
+// The zone's limits are set.
+#[inline(never)]
+fn set_limits(cell: &mut Cell, limits: Box<Limits>)
+    ensures does { (z : Name) (n : Option ℕ) (s : shared_types.Shared) → Does z (edits_world n (map Of_objects (object_edits (ObjectEdit.SetLimits limits)))) kept cell.old s cell.new s }
+    ensures waits { cell.new.waits ≡ cell.old.waits }
+    ensures desk { cell.new.desk ≡ cell.old.desk }
+{
+    let limits = Box::into_inner(limits);
+    cell.kernel
+        .set_limits(limits.set, limits.most, limits.fs_allowed);
+}
+
+// The arguments of the zone's boot are set.
+#[inline(never)]
+fn set_bootargs(cell: &mut Cell, args: Text)
+    ensures does { (z : Name) (n : Option ℕ) (s : shared_types.Shared) → Does z (edits_world n (map Of_objects (object_edits (ObjectEdit.SetBootargs args)))) kept cell.old s cell.new s }
+    ensures waits { cell.new.waits ≡ cell.old.waits }
+    ensures desk { cell.new.desk ≡ cell.old.desk }
+{
+    cell.kernel.set_bootargs(args);
+}
+
+// The limits are given up.
+#[inline(never)]
+fn clear_limits(alloc: Global, cell: &mut Cell)
+    ensures does { (z : Name) (n : Option ℕ) (s : shared_types.Shared) → Does z (edits_world n (map Of_objects (object_edits ObjectEdit.ClearLimits))) kept cell.old s cell.new s }
+    ensures waits { cell.new.waits ≡ cell.old.waits }
+    ensures desk { cell.new.desk ≡ cell.old.desk }
+{
+    cell.kernel.clear_limits(alloc);
+}
+
+// The limits and the devices are given up.
+#[inline(never)]
+fn clear(alloc: Global, cell: &mut Cell)
+    ensures does { (z : Name) (n : Option ℕ) (s : shared_types.Shared) → Does z (edits_world n (map Of_objects (object_edits ObjectEdit.Clear))) kept cell.old s cell.new s }
+    ensures waits { cell.new.waits ≡ cell.old.waits }
+    ensures desk { cell.new.desk ≡ cell.old.desk }
+{
+    cell.kernel.clear(alloc);
 }
 
 fn edit_objects(alloc: Global, cell: &mut Cell, shared: &mut Shared, edit: ObjectEdit)
@@ -159,6 +245,9 @@ fn edit_objects(alloc: Global, cell: &mut Cell, shared: &mut Shared, edit: Objec
     ensures does { (z : Name) (n : Option ℕ) → Does z (edits_world n (map Of_objects (object_edits edit))) kept cell.old shared.old cell.new shared.new }
     ensures waits { cell.new.waits ≡ cell.old.waits }
     ensures sessions { shared.new.sessions ≡ shared.old.sessions }
+    ensures ups { shared.new.ups ≡ shared.old.ups }
+    ensures brands { shared.new.brands ≡ shared.old.brands }
+    ensures desk { cell.new.desk ≡ cell.old.desk }
 {
     match edit {
         ObjectEdit::Nothing => {}
@@ -170,9 +259,14 @@ fn edit_objects(alloc: Global, cell: &mut Cell, shared: &mut Shared, edit: Objec
         ObjectEdit::Unmount(dir) => unmount(cell, &dir),
         ObjectEdit::Hold(dir) => hold(cell, &dir),
         ObjectEdit::Release(dir) => release(cell, &dir),
+        ObjectEdit::EndClaim => end_claim(cell, shared),
+        ObjectEdit::SetDevices(devices) => set_devices(cell, devices),
+        ObjectEdit::DropDevices => drop_devices(cell),
         ObjectEdit::EndIds => end_ids(cell, shared),
-        ObjectEdit::SetLimits => set_limits(alloc, &mut cell.kernel),
-        ObjectEdit::ClearLimits => cell.kernel.clear_limits(alloc),
+        ObjectEdit::SetLimits(limits) => set_limits(cell, limits),
+        ObjectEdit::SetBootargs(args) => set_bootargs(cell, args),
+        ObjectEdit::ClearLimits => clear_limits(alloc, cell),
+        ObjectEdit::Clear => clear(alloc, cell),
     }
 }
 
@@ -180,7 +274,10 @@ fn edit_objects(alloc: Global, cell: &mut Cell, shared: &mut Shared, edit: Objec
 #[inline(never)]
 fn sit(cell: &mut Cell, shared: &mut Shared, number: u8, sitting: Sitting)
     requires room { HasRoomToSit cell.old shared.old }
-    ensures { IsOpenTo sitting.owner (owner nat_eq shared.old.sessions number) → Does sitting.owner (edits_world (Some number) (sits (Some sitting))) kept cell.old shared.old cell.new shared.new }
+    ensures does { IsOpenTo sitting.owner (owner nat_eq shared.old.sessions number) → Does sitting.owner (edits_world (Some number) (sits (Some sitting))) kept cell.old shared.old cell.new shared.new }
+    ensures ups { shared.new.ups ≡ shared.old.ups }
+    ensures brands { shared.new.brands ≡ shared.old.brands }
+    ensures desk { cell.new.desk ≡ cell.old.desk }
 {
     shared.sessions.give_back(&number);
     shared.sessions.take_reserved(number, sitting.owner);
@@ -190,7 +287,10 @@ fn sit(cell: &mut Cell, shared: &mut Shared, number: u8, sitting: Sitting)
 // The event's session waits from now on, if it does.
 fn sit_down(cell: &mut Cell, shared: &mut Shared, number: Option<u8>, sitting: Option<Sitting>)
     requires room { IfSome sitting (λ s. HasRoomToSit cell.old shared.old) }
-    ensures { (z : Name) → IfSome sitting (λ s. s.owner ≡ z) → IfSome number (λ n. IsOpenTo z (owner nat_eq shared.old.sessions n)) → Does z (edits_world number (sits sitting)) kept cell.old shared.old cell.new shared.new }
+    ensures does { (z : Name) → IfSome sitting (λ s. s.owner ≡ z) → IfSome number (λ n. IsOpenTo z (owner nat_eq shared.old.sessions n)) → Does z (edits_world number (sits sitting)) kept cell.old shared.old cell.new shared.new }
+    ensures ups { shared.new.ups ≡ shared.old.ups }
+    ensures brands { shared.new.brands ≡ shared.old.brands }
+    ensures desk { cell.new.desk ≡ cell.old.desk }
 {
     match (number, sitting) {
         (Some(number), Some(sitting)) => sit(cell, shared, number, sitting),
@@ -200,7 +300,10 @@ fn sit_down(cell: &mut Cell, shared: &mut Shared, number: Option<u8>, sitting: O
 
 // Whoever waits for a ticket that ended is idle again.
 fn end_ticket(cell: &mut Cell, shared: &mut Shared, ended: Option<u32>)
-    ensures { (z : Name) (n : Option ℕ) → Does z (edits_world n (sweeps ended)) kept cell.old shared.old cell.new shared.new }
+    ensures does { (z : Name) (n : Option ℕ) → Does z (edits_world n (sweeps ended)) kept cell.old shared.old cell.new shared.new }
+    ensures ups { shared.new.ups ≡ shared.old.ups }
+    ensures brands { shared.new.brands ≡ shared.old.brands }
+    ensures desk { cell.new.desk ≡ cell.old.desk }
 {
     if let Some(ticket) = ended {
         end_waits(&mut cell.waits, &mut shared.sessions, ticket);
@@ -215,12 +318,15 @@ fn carry_out(
     number: Option<u8>,
     work: Work,
 ) -> Reply
-    requires free { IsFreeOf (arrival_of work.stored) (pools_in shared.old) }
+    requires free { (z : Name) → IsFreeOf z (arrival_of work.stored) (pools_in shared.old) }
     requires stored { HasRoomOf (arrival_of work.stored) shared.old }
     requires objects { HasRoomToChange work.objects cell.old }
     requires sits { IfSome work.sits (λ s. HasRoomToSit cell.old shared.old) }
     ensures reply { result ≡ work.reply }
     ensures does { (z : Name) → IsNamedWork z work → IfSome number (λ n. IsOpenTo z (owner nat_eq shared.old.sessions n)) → Does z (work_world number work) (came_common z (arrival_of work.stored)) cell.old shared.old cell.new shared.new }
+    ensures ups { shared.new.ups ≡ shared.old.ups }
+    ensures brands { shared.new.brands ≡ shared.old.brands }
+    ensures desk { cell.new.desk ≡ cell.old.desk }
 {
     store_some(cell, shared, work.stored);
     edit_objects(alloc, cell, shared, work.objects);
@@ -234,17 +340,23 @@ pub(crate) fn perform(
     alloc: Global,
     cell: &mut Cell,
     shared: &mut Shared,
+    zone: &ZoneName,
     number: Option<u8>,
     case: Case,
     grant: Grant,
 ) -> Reply
     requires of { IsCaseOf cell.old.desk case }
-    requires room { HasRoom case cell.old shared.old }
-    requires free { IsFreeOf (in_store (act_of (decision_of cell.old.desk case) grant).came) (pools_in shared.old) }
+    requires room { HasRoom zone.now case cell.old shared.old }
+    requires free { IsFreeOf zone.now (in_store (act_of (decision_of cell.old.desk case) grant).came) (pools_in shared.old) }
     ensures reply { result ≡ (act_of (decision_of cell.old.desk case) grant).effect.reply }
-    ensures does { (z : Name) → IsNamedCase z case → IfSome number (λ n. IsOpenTo z (owner nat_eq shared.old.sessions n))
-        → Does z (acts_world number (rest_of (act_of (decision_of cell.old.desk case) grant))) (came_common z (in_store (act_of (decision_of cell.old.desk case) grant).came)) cell.old shared.old cell.new shared.new }
+    ensures does { IsNamedCase zone.now case → IfSome number (λ n. IsOpenTo zone.now (owner nat_eq shared.old.sessions n))
+        → Acts zone.now (acts_world number (rest_of (act_of (decision_of cell.old.desk case) grant))) (came_common zone.now (in_store (act_of (decision_of cell.old.desk case) grant).came)) cell.old shared.old cell.new shared.new }
+    ensures brands { shared.new.brands ≡ shared.old.brands }
 {
+    let was = cell.desk.active().is_some();
     let work = settle(&mut cell.desk, case, grant);
-    carry_out(alloc, cell, shared, number, work)
+    let is = cell.desk.active().is_some();
+    let reply = carry_out(alloc, cell, shared, number, work);
+    mark(&mut shared.ups, zone, was, is);
+    reply
 }

@@ -1,54 +1,51 @@
 //! Turns of a zone's daemon that touch nothing which other zones may ask, on the zone's cell alone.
-ghost use Rattle.std.specs.Prelude.{◌≡◌, IfOk, IfSome, None, false, OnErr, OnOk, Some, true, is_some};
+ghost use Rattle.std.specs.Prelude.{◌≡◌, IfOk, IfSome, IsSomeAnd, None, OnErr, OnOk, true};
 ghost use Rattle.std.specs.List.{list_all};
 ghost use Rattle.zone_pools.specs.Decisions.{Just};
 ghost use Rattle.zone_machine.specs.Code.Cases.{IsCaseOf, decision_of};
 ghost use Rattle.zoneadmd_steps.specs.Code.Cases.{IsFreeFor, IsTurnOf, object_edits, turn_decision_of, turn_objects};
 ghost use Rattle.zone_machine.specs.Code.Rooms.{HasRoomFor, HasRoomToChange};
 ghost use Rattle.zone_machine.specs.Code.Works.{objects_of};
-ghost use Rattle.zoneadmd_steps.specs.Objects.{ids_of, ids_after, mounts_after};
+ghost use Rattle.zoneadmd_steps.specs.Objects.{devices_after, ids_of, ids_after, mounts_after};
 ghost use Rattle.zone_machine.specs.State.Decisions.{act_of, effects, turned};
-ghost use Rattle.zoneadmd_steps.specs.Local.{is_of_own, is_local_turn};
-ghost use Rattle.zone_machine.specs.Code.Local_turns.{After, IsAsItWas, IsLocalTurn, IsNotLocal, IsNext};
-ghost use Rattle.zoneadmd_steps.specs.Turns.{Turned, turn};
-ghost use Rattle.zone_machine.specs.State.Worlds as worlds;
-ghost use Rattle.zone_machine.specs.Code.Cells.{cell_world};
+ghost use Rattle.zoneadmd_steps.specs.Local.{is_of_own};
+ghost use Rattle.zone_machine.specs.Code.Local_turns.{After, HasNoNext, IsAsItWas, IsLocalTurn, IsNotLocal};
+ghost use Rattle.zoneadmd_steps.specs.Turns.{Turned, local_turn};
+ghost use Rattle.zone_machine.specs.Code.Cells.{IsHeardIn, Outside, cell_objects};
 ghost use Rattle.zoneadmd_steps.specs.Code.Desks.{as_desk};
-ghost use Rattle.commit_journal.specs.declared.records.Record as records;
 
 use crate::cases::Case;
 use crate::events::{Entry, Event, Subject};
 use crate::machine::cell::Cell;
-use crate::machine::effects::set_limits;
 use crate::machine::rooms::{room_for_objects, room_on_desk};
 use crate::machine::settling::settle;
 use crate::replies::Reply;
+use brand_hooks::HookAnswer;
 use std::alloc::{AllocError, Global};
 use zn_base::ZoneName;
 use zone_pools::Grant;
 use zoneadmd_steps::{ObjectEdit, TurnCase, local_case};
 
-// What the next turn comes to, where that is local.
-fn next_local(alloc: Global, cell: &Cell) -> Result<Option<TurnCase>, AllocError>
-    ensures some { IfOk result (λ o. IfSome o (λ c. IsNext cell.now (turn_decision_of cell.now.desk c))) }
-    ensures local { IfOk result (λ o. IfSome o (λ c. is_local_turn (turn_decision_of cell.now.desk c) ≡ true)) }
+// What the next turn comes to, where that is local. The brand answers `hook` where it is asked.
+fn next_local(alloc: Global, cell: &Cell, hook: HookAnswer) -> Result<Option<TurnCase>, AllocError>
+    ensures some { IfOk result (λ o. IfSome o (λ c. (out : Outside) → IsHeardIn out.brands cell.now hook
+        → IsSomeAnd (local_turn out.brands (cell_objects cell.now) (as_desk cell.now.desk)) (λ t. Just t ≡ turn_decision_of cell.now.desk c))) }
+    ensures none { IfOk result (λ o. o ≡ None → HasNoNext cell.now hook) }
     ensures of { IfOk result (λ o. IfSome o (IsTurnOf cell.now.desk)) }
     ensures own { IfOk result (λ o. IfSome o (λ c. list_all is_of_own (object_edits (turn_objects c)) ≡ true)) }
     ensures free { IfOk result (λ o. IfSome o (λ c. IsFreeFor (turn_objects c) cell.now.mounts.list)) }
-    ensures job { IfOk result (λ o. IfSome o (λ c. is_some cell.now.desk.job ≡ true)) }
-    ensures none { IfOk result (λ o. o ≡ None → (row : records.Record) → is_local_turn (turn (worlds.objects_of (cell_world (Some row) cell.now)) (Some row) (as_desk cell.now.desk)) ≡ false) }
 {
-    local_case(alloc, &cell.desk, &cell.mounts)
+    local_case(alloc, &cell.desk, &cell.mounts, &cell.claims, hook)
 }
 
-// What becomes of the zone's mounts and limits.
+// What becomes of the zone's mounts, devices and limits.
 fn edit_own(alloc: Global, cell: &mut Cell, edit: ObjectEdit)
     requires own { list_all is_of_own (object_edits edit) ≡ true }
     requires room { HasRoomToChange edit cell.old }
     ensures mounts { cell.new.mounts.list ≡ mounts_after (object_edits edit) cell.old.mounts.list }
+    ensures devices { cell.new.kernel.devices ≡ devices_after (object_edits edit) cell.old.kernel.devices }
     ensures ids { ids_of cell.new.kernel.id ≡ ids_after (object_edits edit) (ids_of cell.old.kernel.id) }
     ensures processes { cell.new.kernel.processes ≡ cell.old.kernel.processes }
-    ensures devices { cell.new.kernel.devices ≡ cell.old.kernel.devices }
     ensures same { cell.new ≡ record cell.old { kernel = cell.new.kernel; mounts = cell.new.mounts } }
 {
     match edit {
@@ -59,12 +56,24 @@ fn edit_own(alloc: Global, cell: &mut Cell, edit: ObjectEdit)
         }
         ObjectEdit::Hold(dir) => cell.mounts.put_hold(&dir),
         ObjectEdit::Release(dir) => cell.mounts.lift_hold(&dir),
-        ObjectEdit::SetLimits => set_limits(alloc, &mut cell.kernel),
+        ObjectEdit::SetDevices(devices) => cell.kernel.set_devices(devices.into_vec()),
+        ObjectEdit::DropDevices => cell.kernel.drop_devices(),
+        ObjectEdit::SetLimits(limits) => {
+            let limits = Box::into_inner(limits);
+            cell.kernel
+                .set_limits(limits.set, limits.most, limits.fs_allowed);
+        }
+        ObjectEdit::SetBootargs(args) => cell.kernel.set_bootargs(args),
         ObjectEdit::ClearLimits => cell.kernel.clear_limits(alloc),
+        ObjectEdit::Clear => {
+            cell.kernel.clear_limits(alloc);
+            cell.kernel.drop_devices();
+        }
         ObjectEdit::EndProcesses
         | ObjectEdit::EndProcess(_)
         | ObjectEdit::Rename(_, _)
         | ObjectEdit::GiveUp(_, _)
+        | ObjectEdit::EndClaim
         | ObjectEdit::EndIds => unreachable!(),
     }
 }
@@ -99,21 +108,22 @@ fn do_local(alloc: Global, cell: &mut Cell, case: TurnCase) -> Result<Reply, All
     Ok(work.reply)
 }
 
-/// The next turn of a zone's daemon is done on the zone's cell, where it is local: it steps through a hook, through
-/// the zone's files, limits and mounts, undoes such a step, or waits for a held mount, and nothing that other zones may
-/// ask is touched. Else nothing is done, and it is to be a step of the cell with what zones share. Where memory runs
-/// out, the cell is as it was.
+/// The next turn of a zone's daemon is done on the zone's cell, where it is local: it steps through a hook, whose answer
+/// `hook` is, through the zone's files, limits and mounts, undoes such a step, or waits for a held mount, and nothing that
+/// other zones may ask is touched. Else nothing is done, and it is to be a step of the cell with what zones share. Where
+/// memory runs out, the cell is as it was.
 pub fn local_turn(
     alloc: Global,
     zone: &ZoneName,
     cell: &mut Cell,
+    hook: HookAnswer,
 ) -> Result<Option<Entry>, AllocError>
-    ensures some { IfOk result (λ o. IfSome o (λ entry. IsLocalTurn zone.now cell.old entry cell.new)) }
-    ensures none { IfOk result (λ o. o ≡ None → IsNotLocal zone.now cell.old) }
+    ensures some { IfOk result (λ o. IfSome o (λ entry. IsLocalTurn zone.now cell.old hook entry cell.new)) }
+    ensures none { IfOk result (λ o. o ≡ None → IsNotLocal zone.now cell.old hook) }
     ensures same { IfOk result (λ o. o ≡ None → IsAsItWas cell.old cell.new) }
     ensures memory { OnErr result (IsAsItWas cell.old cell.new) }
 {
-    let Some(case) = next_local(alloc, cell)? else {
+    let Some(case) = next_local(alloc, cell, hook)? else {
         return Ok(None);
     };
     let event = Event::Turn {

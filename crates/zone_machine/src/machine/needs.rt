@@ -9,6 +9,8 @@ ghost use Rattle.zoneadmd_steps.specs.declared.desks.Desk as desk_types;
 ghost use Rattle.zoneadmd_steps.specs.declared.desks.Job as job_types;
 
 use crate::cases::Case;
+use datalink_table::Claim;
+use zn_base::ZoneName;
 use zone_config::Property;
 use zoneadmd_steps::{Came, JobCase, TurnCase};
 
@@ -20,17 +22,26 @@ pub(crate) enum Need<'c> {
     Zid,
     /// A record of a zone that is stored.
     Record,
+    /// A record of a zone that is stored, with a path that is new to it.
+    Moved(&'c [u8]),
     /// A record of a new zone, with its path.
     NewZone(&'c [u8]),
+    /// An item that a zone would hold.
+    Item(&'c Claim),
+    /// A zone that would be cloned.
+    Source(&'c ZoneName),
 }
 
 fn came_need(it: &Came) -> Need<'_>
-    ensures { asked_by result ≡ asked_for it.now ∷ [] }
+    ensures { asked_by result ≡ asked_for it.now }
 {
     match it {
-        Came::Process(_) => Need::Pid,
+        Came::Process(_, _) => Need::Pid,
         Came::Id => Need::Zid,
-        Came::Record(_, _) => Need::Record,
+        Came::Claim(claim) => Need::Item(claim),
+        Came::Record(_, _) | Came::Moved(_, _, false) => Need::Record,
+        Came::Moved(row, _, true) => Need::Moved(row.config.shown(Property::Zonepath)),
+        Came::Source(source) => Need::Source(source),
     }
 }
 
@@ -41,6 +52,7 @@ fn job_need(case: &JobCase) -> Need<'_>
         JobCase::Ask(it, _) => came_need(it),
         JobCase::Finish(_) => Need::Nothing,
         JobCase::Pass(_) => Need::Nothing,
+        JobCase::Fail(_) => Need::Nothing,
         JobCase::Stuck => Need::Nothing,
         JobCase::Undo(_) => Need::Nothing,
     }
@@ -52,7 +64,8 @@ fn turn_need(case: &TurnCase) -> Need<'_>
     match case {
         TurnCase::GoOn(case) => job_need(case),
         TurnCase::Idle => Need::Nothing,
-        TurnCase::Begin(_, _) => Need::Nothing,
+        TurnCase::Begin(_) => Need::Nothing,
+        TurnCase::Again(_) => Need::Nothing,
         TurnCase::Refuse(_, _) => Need::Nothing,
     }
 }

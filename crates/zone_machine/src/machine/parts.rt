@@ -1,14 +1,14 @@
 //! The parts of the machine: a cell for each zone that has something, and what zones share. An event is decided before
 //! anything is changed.
-ghost use Rattle.std.specs.Prelude.{◌≡◌, ◌<◌, [], IfErr, IfOk, IsOkUnless, Err, None, OnErr, OnOk, Option, Some, bytes_eq};
+ghost use Rattle.std.specs.Prelude.{◌≡◌, ◌<◌, [], IfErr, IfOk, IsOkUnless, Err, None, OnErr, OnOk, Some, bytes_eq, option_map};
 ghost use Rattle.indexmap.specs.IndexMap.{get_by, spare};
 ghost use Rattle.zn_base.specs.Names.{Name};
 ghost use Rattle.zone_pools.specs.Pools.{Pools};
 ghost use Rattle.zone_machine.specs.Code.Cases.{decision_of};
-ghost use Rattle.zone_machine.specs.Code.Cells.{Keeps, Stands, cell_at, cell_world, empty_world, row_in, world_or_empty};
+ghost use Rattle.zone_machine.specs.Code.Cells.{IsHeardIn, Keeps, Outside, Stands, cell_at, cell_world, empty_world, outside_in, row_in, world_or_empty};
 ghost use Rattle.zone_machine.specs.Code.Needs.{pools_in};
-ghost use Rattle.zone_machine.specs.Code.Reads.{decide_read, global_read, subject_in};
-ghost use Rattle.zone_machine.specs.Code.Decided.{IsCaseIn, IsCellAt, entry_by, entry_of, own_subject};
+ghost use Rattle.zone_machine.specs.Code.Reads.{IsRightRead, decide_read, global_read, is_turn, is_turn_read, subject_in};
+ghost use Rattle.zone_machine.specs.Code.Decided.{IsCaseIn, IsCellAt, IsHeard, IsNextHook, entry_by, entry_of, own_subject};
 ghost use Rattle.zone_machine.specs.Code.Rooms.{IsFreeOf};
 ghost use Rattle.zone_machine.specs.Code.Steps.{AsItWas, IsAllowed, IsGrantFor, IsStep, IsStepUnder, IsTaken, IsUnfit, Leaves};
 ghost use Rattle.zoneadmd_steps.specs.Desks.{state_of};
@@ -20,7 +20,6 @@ ghost use Rattle.zone_machine.specs.declared.events.Event.TheVariants as events;
 ghost use Rattle.zone_machine.specs.declared.events.Subject.TheVariants as subject_variants;
 ghost use Rattle.zone_machine.specs.declared.events.Subject.TheVariants.{Zone};
 ghost use Rattle.zone_machine.specs.declared.machine.cell.Cell as cell_types;
-ghost use Rattle.commit_journal.specs.declared.records.Record as record_types;
 
 use crate::cases::Case;
 use crate::events::{Answer, Declaration, Entry, Event, Subject, Whose};
@@ -32,6 +31,7 @@ use crate::machine::shared::Shared;
 use crate::machine::steps::{cell_grant, granted_case, perform_case};
 use crate::maps::put;
 use crate::replies::{Body, Head, Refusal, Reply};
+use brand_hooks::{BrandTables, Change, HookAnswer};
 use indexmap::IndexMap;
 use std::alloc::{AllocError, Global};
 use zn_base::{ZoneName, ZoneState};
@@ -73,7 +73,7 @@ fn room_for_cell(
 // The grant of an event that asks nothing.
 fn nothing_of(stated: Option<Grant>) -> Result<Grant, StepFault>
     ensures takes { IfOk result (λ grant. (P : Pools) (z : Name) → IsGrantFor z P [] stated grant) }
-    ensures misfit { OnErr result ((result ≡ Err StepFault.BadGrant) × ((P : Pools) → IsUnfit P [] stated)) }
+    ensures misfit { OnErr result ((result ≡ Err StepFault.BadGrant) × ((P : Pools) (z : Name) → IsUnfit z P [] stated)) }
 {
     match stated {
         None | Some(Grant::Nothing) => Ok(Grant::Nothing),
@@ -96,13 +96,28 @@ fn answer_reply(refusal: Option<Refusal>) -> Reply
 }
 
 impl Parts {
-    /// Where no zone is stored yet. It takes no memory.
-    pub(crate) fn empty(alloc: Global) -> Self
-        ensures { Stands (opening []) result }
+    /// Where no zone is stored yet, and there are these brands. It takes no memory.
+    pub(crate) fn empty(alloc: Global, brands: BrandTables) -> Self
+        ensures stands { Stands (opening brands []) result }
+        ensures brands { result.shared.brands ≡ brands }
     {
         Self {
             cells: IndexMap::new(alloc),
-            shared: Shared::new(alloc),
+            shared: Shared::new(alloc, brands),
+        }
+    }
+
+    /// The name of the brand and the change of which it is asked before an event: at the next step of the daemon of a turn's
+    /// zone, if it is.
+    pub(crate) fn next_hook(&self, event: &Event) -> Option<(&[u8], Change)>
+        ensures { IsNextHook self.now event.now (option_map (λ asked. (asked.0.now, asked.1)) result) }
+    {
+        match event {
+            Event::Turn { zone } => match self.cells.get(zone) {
+                Some(cell) => cell.next_hook(),
+                None => None,
+            },
+            Event::Session { .. } | Event::Process { .. } | Event::System(_) => None,
         }
     }
 
@@ -113,26 +128,39 @@ impl Parts {
         event: &Event,
         read: Read<'_>,
         zone: &ZoneName,
+        hook: HookAnswer,
     ) -> Result<Grant, StepFault>
         requires of { subject_in self.now.shared event.now ≡ Zone zone.now }
         requires decides { (v : View) → decide_read v read ≡ decide v event.now }
+        requires turn { is_turn_read read ≡ is_turn event.now }
+        requires right { IsRightRead read }
+        requires hook { IsHeard self.now event.now hook }
         ensures ok { IfOk result (IsTaken self.now None event.now) }
         ensures err { IsOkUnless result StepFault.Memory }
     {
         match self.cells.get(zone) {
-            Some(cell) => cell_grant(alloc, zone, cell, &self.shared, read),
-            None => cell_grant(alloc, zone, &Cell::new(alloc), &self.shared, read),
+            Some(cell) => cell_grant(alloc, zone, cell, &self.shared, read, hook),
+            None => {
+                let cell = Cell::new(alloc);
+                cell_grant(alloc, zone, &cell, &self.shared, read, HookAnswer::Proceed)
+            }
         }
     }
 
     /// The grant that the pools give an event.
-    pub(crate) fn allowed(&self, alloc: Global, event: &Event) -> Result<Grant, StepFault>
+    pub(crate) fn allowed(
+        &self,
+        alloc: Global,
+        event: &Event,
+        hook: HookAnswer,
+    ) -> Result<Grant, StepFault>
+        requires hook { IsHeard self.now event.now hook }
         ensures ok { IfOk result (IsAllowed self.now event.now) }
         ensures err { IsOkUnless result StepFault.Memory }
     {
         let read = read_event(event);
         match subject(&self.shared, alloc, read)? {
-            Subject::Zone(zone) => self.zone_grant(alloc, event, read, &zone),
+            Subject::Zone(zone) => self.zone_grant(alloc, event, read, &zone, hook),
             Subject::Global => Ok(Grant::Nothing),
             Subject::Whole => Ok(Grant::Nothing),
         }
@@ -150,10 +178,11 @@ impl Parts {
     ) -> Result<Reply, AllocError>
         requires of { subject_in self.old.shared event.now ≡ Zone zone.now }
         requires at { IsCellAt self.old at zone.now }
-        requires case { (c : cell_types.Cell) → cell_at zone.now self.old ≡ Some c → IsCaseIn zone.now (row_in zone.now self.old.shared) c (λ v. decide v event.now) case }
-        requires free { (c : cell_types.Cell) → cell_at zone.now self.old ≡ Some c → IsFreeOf (act_of (decision_of c.desk case) grant).came (pools_in self.old.shared) }
+        requires case { (c : cell_types.Cell) → cell_at zone.now self.old ≡ Some c → IsCaseIn zone.now (outside_in zone.now self.old.shared) c (λ v. decide v event.now) case }
+        requires free { (c : cell_types.Cell) → cell_at zone.now self.old ≡ Some c → IsFreeOf zone.now (act_of (decision_of c.desk case) grant).came (pools_in self.old.shared) }
         ensures step { IfOk result (λ reply. IsStep self.old event.now grant (entry_of (Zone zone.now) event.now grant reply) self.new) }
         ensures memory { OnErr result (AsItWas self.old self.new) }
+        ensures brands { self.new.shared.brands ≡ self.old.shared.brands }
     {
         perform_case(
             alloc,
@@ -175,14 +204,20 @@ impl Parts {
         zone: &ZoneName,
         at: usize,
         stated: Option<Grant>,
+        hook: HookAnswer,
     ) -> Result<(Grant, Reply), StepFault>
         requires of { subject_in self.old.shared event.now ≡ Zone zone.now }
         requires decides { (v : View) → decide_read v read ≡ decide v event.now }
+        requires turn { is_turn_read read ≡ is_turn event.now }
+        requires right { IsRightRead read }
+        requires hook { IsHeard self.old event.now hook }
         requires at { IsCellAt self.old at zone.now }
         ensures ok { IfOk result (λ r. IsStepUnder stated self.old event.now (entry_of (Zone zone.now) event.now r.0 r.1) self.new) }
         ensures fault { IfErr result (λ fault. Leaves fault stated self.old event.now self.new) }
+        ensures brands { self.new.shared.brands ≡ self.old.shared.brands }
     {
-        let (case, grant) = granted_case(alloc, zone, &self.cells[at], &self.shared, read, stated)?;
+        let cell = &self.cells[at];
+        let (case, grant) = granted_case(alloc, zone, cell, &self.shared, read, stated, hook)?;
         let reply = self.do_at(alloc, event, zone, at, case, grant)?;
         Ok((grant, reply))
     }
@@ -199,11 +234,12 @@ impl Parts {
     ) -> Result<Reply, AllocError>
         requires of { subject_in self.old.shared event.now ≡ Zone zone.now }
         requires none { cell_at zone.now self.old ≡ None }
-        requires nothing { (row : Option record_types.Record) → cell_world row cell.value ≡ empty_world row }
-        requires case { IsCaseIn zone.now (row_in zone.now self.old.shared) cell.value (λ v. decide v event.now) case }
-        requires free { IsFreeOf (act_of (decision_of cell.value.desk case) grant).came (pools_in self.old.shared) }
+        requires nothing { (out : Outside) → cell_world out cell.value ≡ empty_world out }
+        requires case { IsCaseIn zone.now (outside_in zone.now self.old.shared) cell.value (λ v. decide v event.now) case }
+        requires free { IsFreeOf zone.now (act_of (decision_of cell.value.desk case) grant).came (pools_in self.old.shared) }
         ensures step { IfOk result (λ reply. IsStep self.old event.now grant (entry_of (Zone zone.now) event.now grant reply) self.new) }
         ensures memory { OnErr result (AsItWas self.old self.new) }
+        ensures brands { self.new.shared.brands ≡ self.old.shared.brands }
     {
         let key = room_for_cell(&mut self.cells, alloc, zone)?;
         let mut cell = Box::into_inner(cell);
@@ -224,12 +260,15 @@ impl Parts {
     ) -> Result<(Grant, Reply), StepFault>
         requires of { subject_in self.old.shared event.now ≡ Zone zone.now }
         requires decides { (v : View) → decide_read v read ≡ decide v event.now }
+        requires right { IsRightRead read }
         requires none { cell_at zone.now self.old ≡ None }
         ensures ok { IfOk result (λ r. IsStepUnder stated self.old event.now (entry_of (Zone zone.now) event.now r.0 r.1) self.new) }
         ensures fault { IfErr result (λ fault. Leaves fault stated self.old event.now self.new) }
+        ensures brands { self.new.shared.brands ≡ self.old.shared.brands }
     {
         let cell = Box::new(alloc, Cell::new(alloc))?;
-        let (case, grant) = granted_case(alloc, zone, &cell, &self.shared, read, stated)?;
+        let hook = HookAnswer::Proceed;
+        let (case, grant) = granted_case(alloc, zone, &cell, &self.shared, read, stated, hook)?;
         let reply = self.do_new(alloc, event, zone, cell, case, grant)?;
         Ok((grant, reply))
     }
@@ -242,14 +281,19 @@ impl Parts {
         read: Read<'_>,
         zone: &ZoneName,
         stated: Option<Grant>,
+        hook: HookAnswer,
     ) -> Result<(Grant, Reply), StepFault>
         requires of { subject_in self.old.shared event.now ≡ Zone zone.now }
         requires decides { (v : View) → decide_read v read ≡ decide v event.now }
+        requires turn { is_turn_read read ≡ is_turn event.now }
+        requires right { IsRightRead read }
+        requires hook { IsHeard self.old event.now hook }
         ensures ok { IfOk result (λ r. IsStepUnder stated self.old event.now (entry_of (Zone zone.now) event.now r.0 r.1) self.new) }
         ensures fault { IfErr result (λ fault. Leaves fault stated self.old event.now self.new) }
+        ensures brands { self.new.shared.brands ≡ self.old.shared.brands }
     {
         match self.cells.get_index_of(zone) {
-            Some(at) => self.answer_at(alloc, event, read, zone, at, stated),
+            Some(at) => self.answer_at(alloc, event, read, zone, at, stated, hook),
             None => self.answer_new(alloc, event, read, zone, stated),
         }
     }
@@ -267,6 +311,7 @@ impl Parts {
         requires global { (S : State) → global_read read ≡ global_reply S event.now }
         ensures ok { IfOk result (λ r. IsStepUnder stated self.old event.now (entry_of subject_variants.Global event.now r.0 r.1) self.new) }
         ensures fault { IfErr result (λ fault. Leaves fault stated self.old event.now self.new) }
+        ensures brands { self.new.shared.brands ≡ self.old.shared.brands }
     {
         let refusal = global_refusal(alloc, read)?;
         let grant = nothing_of(stated)?;
@@ -283,6 +328,7 @@ impl Parts {
     ) -> Result<(Grant, Reply), StepFault>
         ensures ok { IfOk result (λ r. IsStepUnder stated self.old (events.System what.now) (entry_of subject_variants.Whole (events.System what.now) r.0 r.1) self.new) }
         ensures fault { IfErr result (λ fault. Leaves fault stated self.old (events.System what.now) self.new) }
+        ensures brands { self.new.shared.brands ≡ self.old.shared.brands }
     {
         let grant = nothing_of(stated)?;
         let refusal = declare(alloc, &mut self.shared, what)?;
@@ -300,6 +346,7 @@ impl Parts {
         requires { subject_in self.old.shared event.now ≡ subject_variants.Whole }
         ensures ok { IfOk result (λ r. IsStepUnder stated self.old event.now (entry_of subject_variants.Whole event.now r.0 r.1) self.new) }
         ensures fault { IfErr result (λ fault. Leaves fault stated self.old event.now self.new) }
+        ensures brands { self.new.shared.brands ≡ self.old.shared.brands }
     {
         match event {
             Event::System(what) => self.answer_declaration(alloc, what, stated),
@@ -315,28 +362,40 @@ impl Parts {
         read: Read<'_>,
         subject: &Subject,
         stated: Option<Grant>,
+        hook: HookAnswer,
     ) -> Result<(Grant, Reply), StepFault>
         requires of { subject_in self.old.shared event.now ≡ subject.now }
         requires decides { (v : View) → decide_read v read ≡ decide v event.now }
+        requires turn { is_turn_read read ≡ is_turn event.now }
+        requires right { IsRightRead read }
+        requires hook { IsHeard self.old event.now hook }
         requires global { (S : State) → global_read read ≡ global_reply S event.now }
         ensures ok { IfOk result (λ r. IsStepUnder stated self.old event.now (entry_of subject.now event.now r.0 r.1) self.new) }
         ensures fault { IfErr result (λ fault. Leaves fault stated self.old event.now self.new) }
+        ensures brands { self.new.shared.brands ≡ self.old.shared.brands }
     {
         match subject {
-            Subject::Zone(zone) => self.answer_zone(alloc, event, read, zone, stated),
+            Subject::Zone(zone) => self.answer_zone(alloc, event, read, zone, stated, hook),
             Subject::Global => self.answer_global(alloc, event, read, stated),
             Subject::Whole => self.answer_whole(alloc, event, stated),
         }
     }
 
     // What a session types is answered.
-    fn answer_line(&mut self, alloc: Global, event: &Event) -> Result<Answer, StepFault>
+    fn answer_line(
+        &mut self,
+        alloc: Global,
+        event: &Event,
+        hook: HookAnswer,
+    ) -> Result<Answer, StepFault>
+        requires hook { IsHeard self.old event.now hook }
         ensures ok { IfOk result (λ answer. IsStepUnder None self.old event.now (entry_by event.now answer) self.new) }
         ensures fault { IfErr result (λ fault. Leaves fault None self.old event.now self.new) }
+        ensures brands { self.new.shared.brands ≡ self.old.shared.brands }
     {
         let read = read_event(event);
         let subject = subject(&self.shared, alloc, read)?;
-        let (grant, reply) = self.answer_of(alloc, event, read, &subject, None)?;
+        let (grant, reply) = self.answer_of(alloc, event, read, &subject, None, hook)?;
         Ok(Answer {
             whose: Whose::Found(subject),
             grant,
@@ -349,6 +408,7 @@ impl Parts {
         requires { own_subject event.now ≡ subject_variants.Whole }
         ensures ok { IfOk result (λ answer. IsStepUnder None self.old event.now (entry_by event.now answer) self.new) }
         ensures fault { IfErr result (λ fault. Leaves fault None self.old event.now self.new) }
+        ensures brands { self.new.shared.brands ≡ self.old.shared.brands }
     {
         let (grant, reply) = self.answer_whole(alloc, event, None)?;
         Ok(Answer {
@@ -365,13 +425,18 @@ impl Parts {
         event: &Event,
         read: Read<'_>,
         zone: &ZoneName,
+        hook: HookAnswer,
     ) -> Result<Answer, StepFault>
         requires of { own_subject event.now ≡ Zone zone.now }
         requires decides { (v : View) → decide_read v read ≡ decide v event.now }
+        requires turn { is_turn_read read ≡ is_turn event.now }
+        requires right { IsRightRead read }
+        requires hook { IsHeard self.old event.now hook }
         ensures ok { IfOk result (λ answer. IsStepUnder None self.old event.now (entry_by event.now answer) self.new) }
         ensures fault { IfErr result (λ fault. Leaves fault None self.old event.now self.new) }
+        ensures brands { self.new.shared.brands ≡ self.old.shared.brands }
     {
-        let (grant, reply) = self.answer_zone(alloc, event, read, zone, None)?;
+        let (grant, reply) = self.answer_zone(alloc, event, read, zone, None, hook)?;
         Ok(Answer {
             whose: Whose::Own,
             grant,
@@ -379,38 +444,50 @@ impl Parts {
         })
     }
 
-    /// An event that is lent is answered, under the grant that the pools give it.
+    /// An event that is lent is answered, under the grant that the pools give it; of a turn the brand answered `hook`.
     #[tactic(auto, unfolding(crate::specs::Machine::decide))]
-    pub(crate) fn answer(&mut self, alloc: Global, event: &Event) -> Result<Answer, StepFault>
+    pub(crate) fn answer(
+        &mut self,
+        alloc: Global,
+        event: &Event,
+        hook: HookAnswer,
+    ) -> Result<Answer, StepFault>
+        requires hook { IsHeard self.old event.now hook }
         ensures ok { IfOk result (λ answer. IsStepUnder None self.old event.now (entry_by event.now answer) self.new) }
         ensures fault { IfErr result (λ fault. Leaves fault None self.old event.now self.new) }
+        ensures brands { self.new.shared.brands ≡ self.old.shared.brands }
     {
         match event {
-            Event::Session { .. } => self.answer_line(alloc, event),
-            Event::Turn { zone } => self.answer_own(alloc, event, Read::Turn(zone), zone),
+            Event::Session { .. } => self.answer_line(alloc, event, hook),
+            Event::Turn { zone } => self.answer_own(alloc, event, Read::Turn(zone), zone, hook),
             Event::Process { zone, pid, call } => self.answer_own(
                 alloc,
                 event,
                 Read::Process(zone, *pid, call),
                 zone,
+                hook,
             ),
             Event::System(_) => self.answer_system(alloc, event),
         }
     }
 
-    /// An event is answered, under the grant that the pools give it, or under one that is stated, where it fits.
+    /// An event is answered, under the grant that the pools give it, or under one that is stated, where it fits; of a turn
+    /// the brand answered `hook`.
     pub(crate) fn step(
         &mut self,
         alloc: Global,
         event: Event,
         stated: Option<Grant>,
+        hook: HookAnswer,
     ) -> Result<Entry, StepFault>
+        requires hook { IsHeard self.old event hook }
         ensures ok { IfOk result (λ entry. IsStepUnder stated self.old event entry self.new) }
         ensures fault { IfErr result (λ fault. Leaves fault stated self.old event self.new) }
+        ensures brands { self.new.shared.brands ≡ self.old.shared.brands }
     {
         let read = read_event(&event);
         let subject = subject(&self.shared, alloc, read)?;
-        let (grant, reply) = self.answer_of(alloc, &event, read, &subject, stated)?;
+        let (grant, reply) = self.answer_of(alloc, &event, read, &subject, stated, hook)?;
         Ok(Entry {
             event,
             subject,
@@ -420,7 +497,7 @@ impl Parts {
     }
 
     fn active(&self, zone: &ZoneName) -> Option<ZoneState>
-        ensures { result ≡ (world_or_empty (row_in zone.now self.now.shared) (cell_at zone.now self.now)).desk.active }
+        ensures { result ≡ (world_or_empty (outside_in zone.now self.now.shared) (cell_at zone.now self.now)).desk.active }
     {
         match self.cells.get(zone) {
             Some(cell) => cell.desk.active(),
@@ -430,7 +507,7 @@ impl Parts {
 
     /// The state of a zone, where it is stored.
     pub(crate) fn state(&self, zone: &ZoneName) -> Option<ZoneState>
-        ensures { result ≡ state_of (row_in zone.now self.now.shared) (world_or_empty (row_in zone.now self.now.shared) (cell_at zone.now self.now)).desk }
+        ensures { result ≡ state_of (row_in zone.now self.now.shared) (world_or_empty (outside_in zone.now self.now.shared) (cell_at zone.now self.now)).desk }
     {
         match self.shared.rows.get(zone) {
             Some(row) => Some(self.active(zone).unwrap_or(row.state)),

@@ -1,17 +1,23 @@
 //! What the pools give that all zones share, and which grants may be stated.
 ghost use Rattle.std.specs.Prelude.{◌≡◌, ◌&&◌, ◌∷◌, [], ◌+◌, slice_get, if◌then◌else◌};
 ghost use Rattle.std.specs.List.{list_any};
-ghost use Rattle.zone_pools.specs.Asked.{A_path, A_serial, A_zone};
+ghost use Rattle.datalink_table.specs.Shared.{ask_answer};
+ghost use Rattle.zone_machine.specs.Code.Cells.{row_in};
+ghost use Rattle.zone_pools.specs.Asked.{A_path, A_serial, A_source, A_zone, An_item};
 ghost use Rattle.commit_journal.specs.Zones.{rows_of};
+ghost use Rattle.datalink_table.specs.Claims.{pool_of};
+ghost use Rattle.zn_base.specs.Names.{Name};
 ghost use Rattle.zone_machine.specs.Code.Needs.{pools_in, takes_path, asked_by};
 ghost use Rattle.zone_machine.specs.Machine.Pools.{is_path, path_taken};
 ghost use Rattle.zone_pools.specs.Pools.{fits_asked, fits_pool, has_place, has_room, is_pool, said_by_all};
 
 use crate::machine::needs::Need;
 use crate::machine::shared::Shared;
+use crate::machine::ups::is_up;
 use commit_journal::Record;
+use datalink_table::Claim;
 use indexmap::IndexMap;
-use zn_base::{AbsPath, ZoneName};
+use zn_base::{AbsPath, ZoneName, ZoneState};
 use zone_pools::{Grant, Pool, SERIAL_MAX, ZONES_MAX};
 
 fn is_path(path: &[u8], own: &Option<AbsPath>) -> bool
@@ -80,6 +86,43 @@ fn new_zone(shared: &Shared, zone: &ZoneName, path: &[u8]) -> Grant
     next_serial(shared)
 }
 
+// A path that is new to a zone that is stored, and a record of it.
+fn new_path(shared: &Shared, zone: &ZoneName, path: &[u8]) -> Grant
+    ensures { result ≡ said_by_all (pools_in shared.now) zone.now (A_path path.now ∷ A_serial ∷ []) Grant.Nothing }
+{
+    if path_taken(&shared.rows, zone, path) {
+        return Grant::Denied(Pool::Paths);
+    }
+    next_serial(shared)
+}
+
+// An item that a zone would hold.
+fn item(shared: &Shared, zone: &ZoneName, claim: &Claim) -> Grant
+    ensures { result ≡ said_by_all (pools_in shared.now) zone.now (An_item (pool_of claim.now.kind) claim.now.item ∷ []) Grant.Nothing }
+{
+    shared.claims.ask(claim.kind, &claim.item, zone)
+}
+
+// Whether a zone may be cloned.
+fn may_clone(shared: &Shared, source: &ZoneName) -> bool
+    ensures { result ≡ (pools_in shared.now).may_clone source.now }
+{
+    match shared.rows.get(source) {
+        Some(row) => matches!(row.state, ZoneState::Installed) && !is_up(&shared.ups, source),
+        None => false,
+    }
+}
+
+fn source(shared: &Shared, zone: &ZoneName, source: &ZoneName) -> Grant
+    ensures { result ≡ said_by_all (pools_in shared.now) zone.now (A_source source.now ∷ []) Grant.Nothing }
+{
+    if may_clone(shared, source) {
+        Grant::Yes
+    } else {
+        Grant::Denied(Pool::Source)
+    }
+}
+
 /// What the pools give for a need.
 pub(crate) fn grant_for(shared: &Shared, zone: &ZoneName, need: &Need) -> Grant
     ensures { result ≡ said_by_all (pools_in shared.now) zone.now (asked_by need.now) Grant.Nothing }
@@ -89,7 +132,10 @@ pub(crate) fn grant_for(shared: &Shared, zone: &ZoneName, need: &Need) -> Grant
         Need::Pid => shared.kernel.next_pid(),
         Need::Zid => shared.kernel.next_zid(),
         Need::Record => next_serial(shared),
+        Need::Moved(path) => new_path(shared, zone, path),
         Need::NewZone(path) => new_zone(shared, zone, path),
+        Need::Item(claim) => item(shared, zone, claim),
+        Need::Source(name) => source(shared, zone, name),
     }
 }
 
@@ -101,7 +147,10 @@ fn asks_pool(need: &Need, pool: Pool) -> bool
         Need::Pid => pool == Pool::Pids,
         Need::Zid => pool == Pool::Zids,
         Need::Record => pool == Pool::Store,
+        Need::Moved(_) => pool == Pool::Paths || pool == Pool::Store,
         Need::NewZone(_) => pool == Pool::Zones || pool == Pool::Paths || pool == Pool::Store,
+        Need::Item(claim) => pool == claim.kind.pool(),
+        Need::Source(_) => pool == Pool::Source,
     }
 }
 
@@ -112,25 +161,40 @@ fn serial_fits(shared: &Shared, number: u32) -> bool
 }
 
 fn number_fits(shared: &Shared, need: &Need, number: u32) -> bool
-    ensures { result ≡ fits_asked (pools_in shared.now) (asked_by need.now) (Grant.Number number) }
+    ensures { (z : Name) → result ≡ fits_asked (pools_in shared.now) z (asked_by need.now) (Grant.Number number) }
 {
     match need {
         Need::Nothing => false,
         Need::Pid => shared.kernel.pid_free(number),
         Need::Zid => shared.kernel.zid_free(number),
-        Need::Record => serial_fits(shared, number),
+        Need::Record | Need::Moved(_) => serial_fits(shared, number),
+        Need::Item(_) | Need::Source(_) => false,
         Need::NewZone(_) => has_place(shared) && serial_fits(shared, number),
     }
 }
 
+// Whether a yes may be stated for a need.
+fn yes_fits(shared: &Shared, zone: &ZoneName, need: &Need) -> bool
+    ensures { result ≡ fits_asked (pools_in shared.now) zone.now (asked_by need.now) Grant.Yes }
+{
+    match need {
+        Need::Item(claim) => shared
+            .claims
+            .check_claim(claim.kind, &claim.item, zone)
+            .is_ok(),
+        Need::Source(_) => true,
+        _ => false,
+    }
+}
+
 /// Whether a grant may be stated for a need.
-pub(crate) fn fits(shared: &Shared, need: &Need, grant: Grant) -> bool
-    ensures { result ≡ fits_asked (pools_in shared.now) (asked_by need.now) grant }
+pub(crate) fn fits(shared: &Shared, zone: &ZoneName, need: &Need, grant: Grant) -> bool
+    ensures { result ≡ fits_asked (pools_in shared.now) zone.now (asked_by need.now) grant }
 {
     match grant {
         Grant::Nothing => matches!(need, Need::Nothing),
         Grant::Number(number) => number_fits(shared, need, number),
-        Grant::Yes => false,
+        Grant::Yes => yes_fits(shared, zone, need),
         Grant::Denied(pool) => asks_pool(need, pool),
     }
 }

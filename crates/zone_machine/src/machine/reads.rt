@@ -1,6 +1,6 @@
 //! An event is read, once: what it says, whose it is, and what it is answered where it is no zone's.
 ghost use Rattle.std.specs.Prelude.{◌≡◌, IfOk, None, Some, Option};
-ghost use Rattle.zone_machine.specs.Code.Reads.{decide_read, global_read, held_subject, idle_subject, number_read, subject_in, subject_read};
+ghost use Rattle.zone_machine.specs.Code.Reads.{IsRightRead, decide_read, global_read, held_subject, idle_subject, is_turn, is_turn_read, number_read, subject_in, subject_read};
 ghost use Rattle.kernel_objects.specs.Shared.{pid_owner};
 ghost use Rattle.zone_machine.specs.State.Decisions.{head_of, says};
 ghost use Rattle.zone_machine.specs.Code.Lines.{as_line, as_word};
@@ -19,6 +19,7 @@ use kernel_objects::{Errno, KernelShared};
 use process_calls::Call;
 use std::alloc::{AllocError, Global};
 use zn_base::{NameFault, ZoneName};
+use zoneadmd_steps::RequestKind;
 
 /// An event as it is read, once: what a session types, a turn of a zone's daemon, a call of a zone's process, or what the whole
 /// system declares.
@@ -36,6 +37,8 @@ pub(crate) fn read_event(event: &Event) -> Read<'_>
     ensures subject { (s : shared_types.Shared) → subject_read s result ≡ subject_in s event.now }
     ensures decide { (v : View) → decide_read v result ≡ decide v event.now }
     ensures number { number_read result ≡ session_number event.now }
+    ensures turn { is_turn_read result ≡ is_turn event.now }
+    ensures right { IsRightRead result }
     ensures global { (S : State) → global_read result ≡ global_reply S event.now }
 {
     match event {
@@ -81,8 +84,13 @@ fn idle_subject(kernel: &KernelShared, alloc: Global, line: Line<'_>) -> Result<
     match line.command {
         Command::Kill(_, pid) => holder(kernel, alloc, pid),
         Command::Blank
-        | Command::Make(_)
+        | Command::Make(_, _)
         | Command::Request(_)
+        | Command::Boot(_)
+        | Command::Reboot(_)
+        | Command::Move(_)
+        | Command::Clone(_)
+        | Command::Unforced
         | Command::Hold(_)
         | Command::Release(_)
         | Command::Unknown => named_subject(alloc, line.zone),
@@ -124,11 +132,20 @@ fn global_line(alloc: Global, line: Line<'_>) -> Result<Option<Refusal>, AllocEr
 {
     match line.command {
         Command::Blank => Ok(None),
-        Command::Unknown => Ok(Some(Refusal::Usage)),
+        Command::Unknown
+        | Command::Request(
+            RequestKind::Clone | RequestKind::Boot | RequestKind::Reboot | RequestKind::Move,
+        ) => Ok(Some(Refusal::Usage)),
         Command::Kill(_, _) => Ok(Some(Refusal::Errno(Errno::ESRCH))),
-        Command::Make(_) | Command::Request(_) | Command::Hold(_) | Command::Release(_) => Ok(Some(
-            badly_named(alloc, line.zone)?,
-        )),
+        Command::Make(_, _)
+        | Command::Request(_)
+        | Command::Boot(_)
+        | Command::Reboot(_)
+        | Command::Move(_)
+        | Command::Clone(_)
+        | Command::Unforced
+        | Command::Hold(_)
+        | Command::Release(_) => Ok(Some(badly_named(alloc, line.zone)?)),
     }
 }
 

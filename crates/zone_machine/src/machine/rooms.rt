@@ -1,18 +1,24 @@
 //! Room for what a case puts into its cell and into the shared part, taken before anything is changed.
-ghost use Rattle.std.specs.Prelude.{◌≡◌, OnOk};
+ghost use Rattle.std.specs.Prelude.{◌≡◌, OnOk, Option, false};
 ghost use Rattle.zoneadmd_steps.specs.Code.Desks.{as_desk};
 ghost use Rattle.zone_machine.specs.Code.Cases.{IsCaseOf, decision_of};
-ghost use Rattle.zone_machine.specs.Code.Rooms.{HasRoomFor, Alike, HasRoom, HasRoomIfSits, HasRoomToChange, HasRoomToStore};
+ghost use Rattle.zone_machine.specs.Code.Rooms.{HasRoomFor, Alike, HasRoom, HasRoomIfSits, HasRoomToChange, HasRoomToRise, HasRoomToStore};
 ghost use Rattle.zone_machine.specs.Code.Works.{objects_of};
-ghost use Rattle.zoneadmd_steps.specs.Code.Cases.{IsFreeFor, turn_objects};
+ghost use Rattle.zoneadmd_steps.specs.Code.Cases.{IsFreeFor, active_with, job_active, turn_active, turn_objects};
 ghost use Rattle.zone_machine.specs.Code.Needs.{asked_by};
+ghost use Rattle.zone_machine.specs.Code.Cases.{case_active};
+ghost use Rattle.zone_machine.specs.Code.Cells.{is_up_in};
+ghost use Rattle.zn_base.specs.Names.{Name};
+ghost use Rattle.zn_base.specs.declared.state.ZoneState as state_types;
 
 use crate::cases::Case;
 use crate::machine::cell::Cell;
 use crate::machine::needs::{Need, need_of};
 use crate::machine::shared::Shared;
-use std::alloc::AllocError;
-use zoneadmd_steps::{Desk, JobCase, ObjectEdit, TurnCase};
+use crate::machine::ups::make_place;
+use std::alloc::{AllocError, Global};
+use zn_base::ZoneName;
+use zoneadmd_steps::{Desk, JobCase, ObjectEdit, Step, TurnCase};
 
 /// Room for what the case puts on the desk: a request that waits, or a step that a failure undoes.
 pub(crate) fn room_on_desk(desk: &mut Desk, case: &Case) -> Result<(), AllocError>
@@ -37,8 +43,8 @@ fn room_to_store(shared: &mut Shared, need: Need<'_>) -> Result<(), AllocError>
     ensures room { OnOk result (HasRoomToStore (asked_by need.entry) shared.new) }
 {
     match need {
-        Need::Nothing | Need::Pid | Need::Zid => Ok(()),
-        Need::Record | Need::NewZone(_) => shared.rows.reserve(1),
+        Need::Nothing | Need::Pid | Need::Zid | Need::Item(_) | Need::Source(_) => Ok(()),
+        Need::Record | Need::Moved(_) | Need::NewZone(_) => shared.rows.reserve(1),
     }
 }
 
@@ -100,16 +106,77 @@ fn room_to_do(cell: &mut Cell, shared: &mut Shared, case: &Case) -> Result<(), A
     }
 }
 
+// Whether a step may make the zone's state one of those that aren't stored.
+fn is_state(shown: &Step) -> bool
+    ensures { result ≡ false → (active : Option state_types.ZoneState) → active_with shown.now active ≡ active }
+{
+    matches!(shown, Step::State(_))
+}
+
+// The same of what a request under way comes to.
+fn job_may_rise(case: &JobCase) -> bool
+    ensures { result ≡ false → (active : Option state_types.ZoneState) → job_active case.now active ≡ active }
+{
+    match case {
+        JobCase::Pass(pass) => is_state(&pass.shown),
+        _ => false,
+    }
+}
+
+fn turn_may_rise(case: &TurnCase) -> bool
+    ensures { result ≡ false → (active : Option state_types.ZoneState) → turn_active case.now active ≡ active }
+{
+    match case {
+        TurnCase::GoOn(case) => job_may_rise(case),
+        _ => false,
+    }
+}
+
+fn may_rise(case: &Case) -> bool
+    ensures { result ≡ false → (active : Option state_types.ZoneState) → case_active case.now active ≡ active }
+{
+    match case {
+        Case::Turn(case) => turn_may_rise(case),
+        _ => false,
+    }
+}
+
+// A place among the zones that may be up, where the case may bring the zone there.
+fn room_to_rise(
+    alloc: Global,
+    shared: &mut Shared,
+    zone: &ZoneName,
+    cell: &Cell,
+    case: &Case,
+) -> Result<(), AllocError>
+    ensures ups { (y : Name) → is_up_in shared.new y ≡ is_up_in shared.old y }
+    ensures same { shared.new ≡ record shared.old { ups = shared.new.ups } }
+    ensures room { OnOk result (HasRoomToRise zone.now case.now cell.now shared.new) }
+{
+    if cell.desk.active().is_none() && may_rise(case) {
+        make_place(alloc, &mut shared.ups, zone)
+    } else {
+        Ok(())
+    }
+}
+
 /// Room for all that a case does. Nothing is changed by it, whether or not memory runs out.
-pub(crate) fn make_room(cell: &mut Cell, shared: &mut Shared, case: &Case) -> Result<(), AllocError>
+pub(crate) fn make_room(
+    alloc: Global,
+    cell: &mut Cell,
+    shared: &mut Shared,
+    zone: &ZoneName,
+    case: &Case,
+) -> Result<(), AllocError>
     requires of { IsCaseOf cell.old.desk case.now }
     requires free { IsFreeFor (objects_of case.now) cell.old.mounts.list }
     ensures alike { Alike cell.old shared.old cell.new shared.new }
     ensures same { decision_of cell.new.desk case.now ≡ decision_of cell.old.desk case.now }
     ensures of { IsCaseOf cell.new.desk case.now }
-    ensures room { OnOk result (HasRoom case.now cell.new shared.new) }
+    ensures room { OnOk result (HasRoom zone.now case.now cell.new shared.new) }
 {
     room_to_do(cell, shared, case)?;
     room_to_store(shared, need_of(case))?;
+    room_to_rise(alloc, shared, zone, cell, case)?;
     room_on_desk(&mut cell.desk, case)
 }

@@ -1,7 +1,10 @@
 //! How a case is settled: the desk changes, and what else is to be done is told. No memory is taken, and nothing fails.
-ghost use Rattle.std.specs.Prelude.{◌+◌, ◌<◌, ◌≡◌, IfSome, None, Option, Some, false, ℕ};
+ghost use Rattle.std.specs.Prelude.{◌+◌, ◌<◌, ◌≡◌, IfSome, None, Option, Some, false, true, ℕ};
 ghost use Rattle.zn_base.specs.Names.{Name};
-ghost use Rattle.zone_machine.specs.Code.Cases.{IsCaseOf, IsNamedCase, decision_of, made};
+ghost use Rattle.zone_machine.specs.Code.Cases.{IsCaseOf, IsNamedCase, case_active, decision_of, made};
+ghost use Rattle.std.specs.List.{list_all};
+ghost use Rattle.zoneadmd_steps.specs.Code.Cases.{mount_in, object_edits};
+ghost use Rattle.zoneadmd_steps.specs.Local.{is_of_own};
 ghost use Rattle.zone_machine.specs.Code.Rooms.{HasRoomFor};
 ghost use Rattle.zoneadmd_steps.specs.Code.Rooms.{HasRequestRoom};
 ghost use Rattle.zone_machine.specs.Code.Works.{IsNamedWork, Works, objects_of, rest_of, sitting_of};
@@ -19,7 +22,7 @@ use commit_journal::{Record, uuid_of};
 use kernel_objects::Running;
 use zn_base::ZoneName;
 use zone_pools::{Grant, number_in};
-use zoneadmd_steps::{Desk, ObjectEdit, RequestKind, Stored, settle_turn};
+use zoneadmd_steps::{Desk, ObjectEdit, Request, Stored, settle_turn};
 
 // A zone is made, where the grant gives its record a number.
 fn make(row: Box<Record>, owner: ZoneName, grant: Grant) -> Work
@@ -56,13 +59,14 @@ fn fork(running: Box<Running>, grant: Grant) -> Work
 }
 
 // A request waits on the desk, and the session for its ticket.
-fn put(desk: &mut Desk, kind: RequestKind, owner: ZoneName) -> Work
+fn put(desk: &mut Desk, request: Request, owner: ZoneName) -> Work
     requires of { is_full (as_desk desk.old) ≡ false }
     requires room { HasRequestRoom desk.old }
-    ensures desk { as_desk desk.new ≡ with_request (as_desk desk.old) kind }
+    ensures desk { as_desk desk.new ≡ with_request (as_desk desk.old) request }
+    ensures active { desk.new.active ≡ desk.old.active }
     ensures work { result ≡ record { stored = None; objects = ObjectEdit.Nothing; sits = Some (record { ticket = desk.old.last + 1; owner = owner }); ended = None; reply = says (Head.Ticket (desk.old.last + 1)) } }
 {
-    let ticket = desk.put(kind);
+    let ticket = desk.put(request);
     Work {
         sits: Some(Sitting { ticket, owner }),
         ..Work::saying(Head::Ticket(ticket))
@@ -75,7 +79,9 @@ pub(crate) fn settle(desk: &mut Desk, case: Case, grant: Grant) -> Work
     requires room { HasRoomFor desk.old case }
     ensures works { (n : Option ℕ) (v : World) → v.desk ≡ as_desk desk.old
         → Works n (rest_of (act_of (decision_of desk.old case) grant)) v (as_desk desk.new) result }
-    ensures objects { result.objects ≡ objects_of case }
+    ensures objects { mount_in result.objects ≡ mount_in (objects_of case) }
+    ensures own { list_all is_of_own (object_edits (objects_of case)) ≡ true → list_all is_of_own (object_edits result.objects) ≡ true }
+    ensures active { desk.new.active ≡ case_active case desk.old.active }
     ensures sits { result.sits ≡ sitting_of desk.old case }
     ensures named { (z : Name) → IsNamedCase z case → IsNamedWork z result }
 {
@@ -88,7 +94,7 @@ pub(crate) fn settle(desk: &mut Desk, case: Case, grant: Grant) -> Work
         },
         Case::Fork(running) => fork(running, grant),
         Case::Make(row, owner) => make(row, owner, grant),
-        Case::Put(kind, owner) => put(desk, kind, owner),
+        Case::Put(request, owner) => put(desk, request, owner),
         Case::Turn(case) => Work::of_turn(settle_turn(desk, case, grant)),
     }
 }

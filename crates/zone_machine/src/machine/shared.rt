@@ -1,9 +1,10 @@
 //! What more than one zone may ask.
-ghost use Rattle.std.specs.Prelude.{[]};
+ghost use Rattle.std.specs.Prelude.{◌≡◌, []};
 ghost use Rattle.zone_machine.specs.Code.Cells.{SharedOf};
 ghost use Rattle.zone_machine.specs.Machine.Common.{common};
 ghost use Rattle.zone_machine.specs.Machine.{opening};
 
+use brand_hooks::BrandTables;
 use commit_journal::Record;
 use datalink_table::ClaimShared;
 use indexmap::IndexMap;
@@ -25,12 +26,17 @@ pub struct Shared {
     pub(crate) serial: u32,
     /// Whether an event has come that is no declaration.
     pub(crate) started: bool,
+    /// The zones whose state is none of the stored ones, and perhaps others, of which it says that theirs is a stored one.
+    pub(crate) ups: IndexMap<ZoneName, bool>,
+    /// The brands that there are, without their hooks.
+    pub(crate) brands: BrandTables,
 }
 
 impl Shared {
-    /// What is shared before any event, where no zone is stored. It takes no memory.
-    pub fn new(alloc: Global) -> Self
-        ensures { SharedOf result (common (opening [])) }
+    /// What is shared before any event, where no zone is stored and there are these brands. It takes no memory.
+    pub fn new(alloc: Global, brands: BrandTables) -> Self
+        ensures stands { SharedOf result (common (opening brands [])) }
+        ensures brands { result.brands ≡ brands }
     {
         Self {
             kernel: KernelShared::new(alloc),
@@ -39,6 +45,8 @@ impl Shared {
             rows: IndexMap::new(alloc),
             serial: 0,
             started: false,
+            ups: IndexMap::new(alloc),
+            brands,
         }
     }
 }

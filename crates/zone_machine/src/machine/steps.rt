@@ -1,21 +1,27 @@
 //! One event of a zone, on its cell and on the shared part: it is read, its case is decided, its grant is found or
 //! looked at, room is taken, and only then anything is changed.
-ghost use Rattle.std.specs.Prelude.{◌≡◌, ◌⊎◌, IfOk, IsErrOf, IsOkUnless, None, OnErr, Some, Option};
-ghost use Rattle.std.specs.Option.{option_map};
+ghost use Rattle.std.specs.Prelude.{◌≡◌, ◌⊎◌, IfOk, IsErrOf, IsOkUnless, None, OnErr, OnOk, Option, Some, nat_eq, true, ℕ};
 ghost use Rattle.zone_machine.specs.Code.Cases.{IsCaseOf, decision_of};
-ghost use Rattle.zone_machine.specs.Code.Cells.{cell_world, row_in};
+ghost use Rattle.zone_machine.specs.Code.Cells.{is_up_in, Does, IsHeardIn, cell_world, outside_in};
 ghost use Rattle.zone_machine.specs.Code.Needs.{pools_in};
-ghost use Rattle.zone_machine.specs.Code.Reads.{decide_read};
+ghost use Rattle.zone_machine.specs.Code.Reads.{IsRightRead, decide_read, is_turn, is_turn_read};
 ghost use Rattle.zone_machine.specs.Code.Decided.{IsCaseIn, entry_of};
-ghost use Rattle.zone_machine.specs.State.Decisions.{act_of};
-ghost use Rattle.zone_machine.specs.Machine.{decide, session_number};
-ghost use Rattle.zone_machine.specs.Code.Rooms.{Alike, IsFreeOf};
+ghost use Rattle.zone_machine.specs.State.Decisions.{act_of, after_came_world};
+ghost use Rattle.zone_machine.specs.Machine.{decide, session_number, turn};
+ghost use Rattle.zone_machine.specs.Code.Lines.{IsRight, as_command, as_line};
+ghost use Rattle.zone_machine.specs.Session.Typed.{typed};
+ghost use Rattle.zone_machine.specs.Code.Rooms.{Alike, HasRoom, IsFreeOf};
 ghost use Rattle.zone_machine.specs.State.{State};
 ghost use Rattle.zone_machine.specs.Code.Cell_steps.{IsAllowedCellStep, IsCellMisfit, IsCellMisfitUnder, IsCellStep, IsCellStepUnder, IsFittingCellStep};
 ghost use Rattle.zone_machine.specs.Code.Steps.{IsGrantFor, IsUnfit};
 ghost use Rattle.zone_machine.specs.State.Worlds.{view_of};
 ghost use Rattle.zone_machine.specs.declared.events.Subject.TheVariants.{Zone};
 ghost use Rattle.zone_pools.specs.Decisions.{asked_of};
+ghost use Rattle.zone_pools.specs.Owners.{owner};
+ghost use Rattle.zoneadmd_steps.specs.Arrivals.{in_kernel, in_store};
+ghost use Rattle.zoneadmd_steps.specs.Code.Cases.{IsFreeFor};
+ghost use Rattle.zone_machine.specs.Code.Works.{objects_of};
+ghost use Rattle.zone_machine.specs.Machine.Common.{came_common};
 
 use crate::calls::decide_call;
 use crate::cases::Case;
@@ -31,33 +37,74 @@ use crate::machine::rooms::make_room;
 use crate::machine::shared::Shared;
 use crate::replies::{Head, Reply};
 use crate::session::line_cases::decide_line;
+use crate::session::lines::Line;
 use crate::session::waits::awaited;
-use commit_journal::Record;
+use brand_hooks::HookAnswer;
 use std::alloc::{AllocError, Global};
 use zn_base::ZoneName;
 use zone_pools::Grant;
-use zoneadmd_steps::decide_turn;
+use zoneadmd_steps::{Objects, System, decide_turn};
 
-// The case of an event of a zone, by its cell and what is stored of it.
+// What a session types in a zone comes to.
+fn line_case(
+    alloc: Global,
+    zone: &ZoneName,
+    cell: &Cell,
+    shared: &Shared,
+    number: u8,
+    line: Line<'_>,
+) -> Result<Case, AllocError>
+    requires { IsRight (as_command line.command) }
+    ensures { IfOk result (IsCaseIn zone.now (outside_in zone.now shared.now) cell.now (λ v. typed v (v.world.sessions number) (as_line line.entry))) }
+{
+    let row = shared.rows.get(zone);
+    let ticket = awaited(&cell.waits, number);
+    decide_line(alloc, zone, cell, &shared.brands, row, ticket, line.command)
+}
+
+// What a turn of a zone's daemon comes to. The brand answers `hook` where it is asked.
+#[tactic(auto, unfolding(crate::specs::State::Worlds::view_of))]
+fn turn_case(
+    alloc: Global,
+    zone: &ZoneName,
+    cell: &Cell,
+    shared: &Shared,
+    hook: HookAnswer,
+) -> Result<Case, AllocError>
+    requires { IsHeardIn shared.now.brands cell.now hook }
+    ensures { IfOk result (IsCaseIn zone.now (outside_in zone.now shared.now) cell.now turn) }
+{
+    let objects = Objects {
+        kernel: &cell.kernel,
+        mounts: &cell.mounts,
+        claims: &cell.claims,
+    };
+    let system = System {
+        kernel: &shared.kernel,
+        brands: &shared.brands,
+    };
+    let row = shared.rows.get(zone);
+    let case = decide_turn(alloc, zone, &cell.desk, row, objects, system, hook)?;
+    Ok(Case::Turn(case))
+}
+
+// The case of an event of a zone, by its cell and what zones share.
 #[tactic(auto, unfolding(crate::specs::State::Worlds::view_of))]
 fn case_of(
     alloc: Global,
     zone: &ZoneName,
     cell: &Cell,
-    row: Option<&Record>,
+    shared: &Shared,
     read: Read<'_>,
+    hook: HookAnswer,
 ) -> Result<Case, AllocError>
-    ensures { IfOk result (IsCaseIn zone.now (option_map (λ row. row.now) row.entry) cell.now (λ v. decide_read v read.entry)) }
+    requires right { IsRightRead read }
+    requires hook { is_turn_read read ≡ true → IsHeardIn shared.now.brands cell.now hook }
+    ensures { IfOk result (IsCaseIn zone.now (outside_in zone.now shared.now) cell.now (λ v. decide_read v read.entry)) }
 {
     match read {
-        Read::Line(number, line) => {
-            let ticket = awaited(&cell.waits, number);
-            decide_line(alloc, zone, cell, row, ticket, line.command)
-        }
-        Read::Turn(_) => {
-            let case = decide_turn(alloc, zone, &cell.desk, row, &cell.kernel, &cell.mounts)?;
-            Ok(Case::Turn(case))
-        }
+        Read::Line(number, line) => line_case(alloc, zone, cell, shared, number, line),
+        Read::Turn(_) => turn_case(alloc, zone, cell, shared, hook),
         Read::Process(_, pid, call) => decide_call(alloc, zone, cell, pid, call),
         Read::System(_) => Ok(Case::Says(Head::Ok)),
     }
@@ -72,6 +119,35 @@ fn session_number(event: &Event) -> Option<u8>
     }
 }
 
+// Room is taken for all that a case does, and what it brings to the kernel comes, which takes memory too. Where memory runs
+// out, nothing is changed.
+#[inline(never)]
+fn prepare(
+    alloc: Global,
+    cell: &mut Cell,
+    shared: &mut Shared,
+    zone: &ZoneName,
+    case: &Case,
+    grant: Grant,
+) -> Result<(), AllocError>
+    requires of { IsCaseOf cell.old.desk case.now }
+    requires objects { IsFreeFor (objects_of case.now) cell.old.mounts.list }
+    requires free { IsFreeOf zone.now (act_of (decision_of cell.old.desk case.now) grant).came (pools_in shared.old) }
+    ensures does { OnOk result (Does zone.now (after_came_world (in_kernel (act_of (decision_of cell.old.desk case.now) grant).came)) (came_common zone.now (in_kernel (act_of (decision_of cell.old.desk case.now) grant).came)) cell.old shared.old cell.new shared.new) }
+    ensures same { OnOk result (decision_of cell.new.desk case.now ≡ decision_of cell.old.desk case.now) }
+    ensures of { OnOk result (IsCaseOf cell.new.desk case.now) }
+    ensures room { OnOk result (HasRoom zone.now case.now cell.new shared.new) }
+    ensures free { OnOk result (IsFreeOf zone.now (in_store (act_of (decision_of cell.old.desk case.now) grant).came) (pools_in shared.new)) }
+    ensures sessions { OnOk result ((n : ℕ) → owner nat_eq shared.new.sessions n ≡ owner nat_eq shared.old.sessions n) }
+    ensures up { OnOk result (is_up_in shared.new zone.now ≡ is_up_in shared.old zone.now) }
+    ensures active { OnOk result (cell.new.desk.active ≡ cell.old.desk.active) }
+    ensures memory { OnErr result (Alike cell.old shared.old cell.new shared.new) }
+    ensures brands { shared.new.brands ≡ shared.old.brands }
+{
+    make_room(alloc, cell, shared, zone, case)?;
+    come(alloc, cell, shared, zone, case, grant)
+}
+
 /// A case that was decided for an event is done under a grant that gives only what is free: the reply. What comes to the
 /// kernel takes memory, so it comes once there is room for all else, and before anything is changed.
 pub(crate) fn perform_case(
@@ -83,14 +159,15 @@ pub(crate) fn perform_case(
     case: Case,
     grant: Grant,
 ) -> Result<Reply, AllocError>
-    requires case { IsCaseIn zone.now (row_in zone.now shared.old) cell.old (λ v. decide v event.now) case }
-    requires free { IsFreeOf (act_of (decision_of cell.old.desk case) grant).came (pools_in shared.old) }
+    requires case { IsCaseIn zone.now (outside_in zone.now shared.old) cell.old (λ v. decide v event.now) case }
+    requires free { IsFreeOf zone.now (act_of (decision_of cell.old.desk case) grant).came (pools_in shared.old) }
     ensures step { IfOk result (λ reply. IsCellStep zone.now cell.old shared.old event.now grant (entry_of (Zone zone.now) event.now grant reply) cell.new shared.new) }
     ensures memory { OnErr result (Alike cell.old shared.old cell.new shared.new) }
+    ensures brands { shared.new.brands ≡ shared.old.brands }
 {
-    make_room(cell, shared, &case)?;
-    come(alloc, cell, shared, zone, &case, grant)?;
-    let reply = perform(alloc, cell, shared, session_number(event), case, grant);
+    prepare(alloc, cell, shared, zone, &case, grant)?;
+    let number = session_number(event);
+    let reply = perform(alloc, cell, shared, zone, number, case, grant);
     shared.started = true;
     Ok(reply)
 }
@@ -105,13 +182,13 @@ fn grant_of(
 ) -> Result<Grant, StepFault>
     requires { IsCaseOf cell.now.desk case.now }
     ensures takes { IfOk result (IsGrantFor zone.now (pools_in shared.now) (asked_of (decision_of cell.now.desk case.now)) stated) }
-    ensures misfit { OnErr result ((result ≡ Err StepFault.BadGrant) × IsUnfit (pools_in shared.now) (asked_of (decision_of cell.now.desk case.now)) stated) }
+    ensures misfit { OnErr result ((result ≡ Err StepFault.BadGrant) × IsUnfit zone.now (pools_in shared.now) (asked_of (decision_of cell.now.desk case.now)) stated) }
 {
     let need = need_of(case);
     match stated {
         None => Ok(grant_for(shared, zone, &need)),
         Some(grant) => {
-            if fits(shared, &need, grant) {
+            if fits(shared, zone, &need, grant) {
                 Ok(grant)
             } else {
                 Err(StepFault::BadGrant)
@@ -128,13 +205,16 @@ pub(crate) fn granted_case(
     shared: &Shared,
     read: Read<'_>,
     stated: Option<Grant>,
+    hook: HookAnswer,
 ) -> Result<(Case, Grant), StepFault>
-    ensures case { IfOk result (λ r. IsCaseIn zone.now (row_in zone.now shared.now) cell.now (λ v. decide_read v read.entry) r.0) }
+    requires right { IsRightRead read }
+    requires hook { is_turn_read read ≡ true → IsHeardIn shared.now.brands cell.now hook }
+    ensures case { IfOk result (λ r. IsCaseIn zone.now (outside_in zone.now shared.now) cell.now (λ v. decide_read v read.entry) r.0) }
     ensures takes { IfOk result (λ r. IsGrantFor zone.now (pools_in shared.now) (asked_of (decision_of cell.now.desk r.0)) stated r.1) }
-    ensures misfit { IsErrOf result StepFault.BadGrant → IsUnfit (pools_in shared.now) (asked_of (decide_read (view_of zone.now (cell_world (row_in zone.now shared.now) cell.now)) read.entry)) stated }
+    ensures misfit { IsErrOf result StepFault.BadGrant → IsUnfit zone.now (pools_in shared.now) (asked_of (decide_read (view_of zone.now (cell_world (outside_in zone.now shared.now) cell.now)) read.entry)) stated }
     ensures fault { OnErr result (IsErrOf result StepFault.BadGrant ⊎ IsErrOf result StepFault.Memory) }
 {
-    let case = case_of(alloc, zone, cell, shared.rows.get(zone), read)?;
+    let case = case_of(alloc, zone, cell, shared, read, hook)?;
     let grant = grant_of(zone, cell, shared, &case, stated)?;
     Ok((case, grant))
 }
@@ -146,11 +226,14 @@ pub(crate) fn cell_grant(
     cell: &Cell,
     shared: &Shared,
     read: Read<'_>,
+    hook: HookAnswer,
 ) -> Result<Grant, StepFault>
-    ensures ok { IfOk result (IsGrantFor zone.now (pools_in shared.now) (asked_of (decide_read (view_of zone.now (cell_world (row_in zone.now shared.now) cell.now)) read.entry)) None) }
+    requires right { IsRightRead read }
+    requires hook { is_turn_read read ≡ true → IsHeardIn shared.now.brands cell.now hook }
+    ensures ok { IfOk result (IsGrantFor zone.now (pools_in shared.now) (asked_of (decide_read (view_of zone.now (cell_world (outside_in zone.now shared.now) cell.now)) read.entry)) None) }
     ensures err { IsOkUnless result StepFault.Memory }
 {
-    let (_case, grant) = granted_case(alloc, zone, cell, shared, read, None)?;
+    let (_case, grant) = granted_case(alloc, zone, cell, shared, read, None, hook)?;
     Ok(grant)
 }
 
@@ -162,13 +245,16 @@ fn answer(
     shared: &mut Shared,
     event: &Event,
     stated: Option<Grant>,
+    hook: HookAnswer,
 ) -> Result<(Grant, Reply), StepFault>
+    requires hook { is_turn event.now ≡ true → IsHeardIn shared.old.brands cell.old hook }
     ensures ok { IfOk result (λ r. IsCellStepUnder zone.now stated cell.old shared.old event.now (entry_of (Zone zone.now) event.now r.0 r.1) cell.new shared.new) }
     ensures memory { IsErrOf result StepFault.Memory → Alike cell.old shared.old cell.new shared.new }
     ensures misfit { IsErrOf result StepFault.BadGrant → IsCellMisfitUnder zone.now stated cell.old shared.old event.now cell.new shared.new }
     ensures fault { OnErr result (IsErrOf result StepFault.BadGrant ⊎ IsErrOf result StepFault.Memory) }
 {
-    let (case, grant) = granted_case(alloc, zone, cell, shared, read_event(event), stated)?;
+    let read = read_event(event);
+    let (case, grant) = granted_case(alloc, zone, cell, shared, read, stated, hook)?;
     let reply = perform_case(alloc, cell, shared, event, zone, case, grant)?;
     Ok((grant, reply))
 }
@@ -181,7 +267,9 @@ fn cell_event(
     shared: &mut Shared,
     event: Event,
     stated: Option<Grant>,
+    hook: HookAnswer,
 ) -> Result<Entry, StepFault>
+    requires hook { is_turn event ≡ true → IsHeardIn shared.old.brands cell.old hook }
     ensures event { IfOk result (λ entry. entry.event ≡ event) }
     ensures ok { IfOk result (λ entry. IsCellStepUnder zone.now stated cell.old shared.old event entry cell.new shared.new) }
     ensures memory { IsErrOf result StepFault.Memory → Alike cell.old shared.old cell.new shared.new }
@@ -189,7 +277,7 @@ fn cell_event(
     ensures fault { OnErr result (IsErrOf result StepFault.BadGrant ⊎ IsErrOf result StepFault.Memory) }
 {
     let subject = Subject::Zone(zone.copy(alloc)?);
-    let (grant, reply) = answer(alloc, zone, cell, shared, &event, stated)?;
+    let (grant, reply) = answer(alloc, zone, cell, shared, &event, stated, hook)?;
     Ok(Entry {
         event,
         subject,
@@ -198,25 +286,27 @@ fn cell_event(
     })
 }
 
-/// An event of a zone is answered on its cell and the shared part, under the grant that the pools give it. Where memory
-/// runs out, both are as they were.
+/// An event of a zone is answered on its cell and the shared part, under the grant that the pools give it; of a turn the
+/// brand answered `hook`. Where memory runs out, both are as they were.
 pub fn cell_step(
     alloc: Global,
     zone: &ZoneName,
     cell: &mut Cell,
     shared: &mut Shared,
     event: Event,
+    hook: HookAnswer,
 ) -> Result<Entry, StepFault>
+    requires hook { is_turn event ≡ true → IsHeardIn shared.old.brands cell.old hook }
     ensures event { IfOk result (λ entry. entry.event ≡ event) }
     ensures ok { IfOk result (λ entry. IsAllowedCellStep zone.now cell.old shared.old event entry cell.new shared.new) }
     ensures err { IsOkUnless result StepFault.Memory }
     ensures memory { OnErr result (Alike cell.old shared.old cell.new shared.new) }
 {
-    cell_event(alloc, zone, cell, shared, event, None)
+    cell_event(alloc, zone, cell, shared, event, None, hook)
 }
 
-/// An event of a zone is answered on its cell and the shared part, under a stated grant, where it fits. Where memory
-/// runs out, both are as they were.
+/// An event of a zone is answered on its cell and the shared part, under a stated grant, where it fits; of a turn the
+/// brand answered `hook`. Where memory runs out, both are as they were.
 pub fn cell_step_given(
     alloc: Global,
     zone: &ZoneName,
@@ -224,12 +314,14 @@ pub fn cell_step_given(
     shared: &mut Shared,
     event: Event,
     grant: Grant,
+    hook: HookAnswer,
 ) -> Result<Entry, StepFault>
+    requires hook { is_turn event ≡ true → IsHeardIn shared.old.brands cell.old hook }
     ensures event { IfOk result (λ entry. entry.event ≡ event) }
     ensures ok { IfOk result (λ entry. IsFittingCellStep zone.now cell.old shared.old event grant entry cell.new shared.new) }
     ensures misfit { IsErrOf result StepFault.BadGrant → IsCellMisfit zone.now cell.old shared.old event grant cell.new shared.new }
     ensures memory { IsErrOf result StepFault.Memory → Alike cell.old shared.old cell.new shared.new }
     ensures fault { OnErr result (IsErrOf result StepFault.BadGrant ⊎ IsErrOf result StepFault.Memory) }
 {
-    cell_event(alloc, zone, cell, shared, event, Some(grant))
+    cell_event(alloc, zone, cell, shared, event, Some(grant), hook)
 }

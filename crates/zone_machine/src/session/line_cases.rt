@@ -1,21 +1,25 @@
 //! What the lines come to that sessions type.
-ghost use Rattle.std.specs.Prelude.{◌∷◌, ◌≡◌, [], IfOk, IfSome, List, MatchBool, MatchOption, None, Ok, Option, false, true, ℕ};
+ghost use Rattle.std.specs.Prelude.{◌∷◌, ◌≡◌, [], IfOk, IfSome, IsTrue, List, MatchBool, MatchOption, None, Ok, Option, false, true, ℕ};
 ghost use Rattle.std.specs.Result.{result_ok};
-ghost use Rattle.std.specs.Option.{option_map};
+ghost use Rattle.std.specs.Option.{option_map, unwrap_or};
 ghost use Rattle.zn_base.specs.Text.{is_text};
 ghost use Rattle.zone_config.specs.Edits.{with_property};
 ghost use Rattle.zone_pools.specs.Decisions.{Just};
 ghost use Rattle.zone_machine.specs.Code.Cases.{IsCaseOf, IsNamedCase, decision_of};
 ghost use Rattle.zoneadmd_steps.specs.Code.Desks.{as_desk};
-ghost use Rattle.zone_machine.specs.Code.Lines.{as_command};
+ghost use Rattle.zone_machine.specs.Code.Decided.{IsCaseIn};
+ghost use Rattle.zone_machine.specs.Code.Lines.{IsRight, as_command};
+ghost use Rattle.zone_machine.specs.Session.Lines as lines;
+ghost use Rattle.zone_machine.specs.Session.Lines.{asks, joined, words};
+ghost use Rattle.zone_machine.specs.State.Declarations.{Declared};
 ghost use Rattle.zone_machine.specs.State.{Awaiting};
 ghost use Rattle.loopback_mounts.specs.Mounts.{mount_at};
 ghost use Rattle.loopback_mounts.specs.declared.mount.MountEntry as entry_types;
 ghost use Rattle.zoneadmd_steps.specs.Code.Cases.{IsFreeFor, object_edits};
-ghost use Rattle.zn_base.specs.Names.{Name};
+ghost use Rattle.zn_base.specs.Names.{Name, name_of};
 ghost use Rattle.zone_machine.specs.Code.Cells.{Shows};
 ghost use Rattle.zone_machine.specs.Code.Works.{IsFreeCase, MountsNothing};
-ghost use Rattle.zone_machine.specs.Session.Typed.{held_answer, hold_refusal, holding_at, holds, idle_line, made_config, make, make_with, put_request, typed};
+ghost use Rattle.zone_machine.specs.Session.Typed.{held_answer, hold_refusal, holding_at, holds, idle_line, made_config, make, make_unless, make_with, put_clone, put_request, typed};
 ghost use Rattle.zoneadmd_steps.specs.Desks.{is_full};
 ghost use Rattle.zone_machine.specs.State.Worlds.{View};
 ghost use Rattle.zoneadmd_steps.specs.declared.desks.Desk as desk_types;
@@ -24,15 +28,19 @@ use crate::calls::signal_case;
 use crate::cases::Case;
 use crate::machine::cell::Cell;
 use crate::replies::{Head, Refusal};
-use crate::session::lines::Command;
+use crate::session::lines::{Command, split_word};
+use brand_hooks::BrandTables;
 use commit_journal::Record;
 use config_terms::ConfigFault;
+use config_verify::{Flaw, verify};
 use loopback_mounts::{HoldFault, MountCell};
 use std::alloc::{AllocError, Global};
 use uuid::Uuid;
-use zn_base::{AbsPath, Text, TextFault, Value, ZoneName, ZoneState, is_path};
+use zn_base::{
+    AbsPath, NameFault, Text, TextFault, Value, ZoneName, ZoneState, is_path, push_both,
+};
 use zone_config::{ZoneConfig, blank};
-use zoneadmd_steps::{Desk, ObjectEdit, RequestKind};
+use zoneadmd_steps::{Desk, ObjectEdit, Request, RequestKind};
 
 fn refused(refusal: Refusal) -> Case
     ensures { result ≡ Case.Says (Head.Refused refusal) }
@@ -62,31 +70,30 @@ fn text_of(alloc: Global, word: &[u8]) -> Result<Option<Text>, AllocError>
     }
 }
 
-// The configuration of a zone that is made with a word for its zonepath.
-#[tactic(auto, using(crate::proofs::Made::no_text))]
-fn made_config(alloc: Global, word: &[u8]) -> Result<Option<ZoneConfig>, AllocError>
-    ensures { IfOk result (λ config. config ≡ result_ok (made_config word.now)) }
+// The configuration of a zone that is made with words for its zonepath and its brand.
+#[tactic(auto, using(crate::proofs::Made::no_path, crate::proofs::Made::no_brand))]
+fn made_config(alloc: Global, path: &[u8], brand: &[u8]) -> Result<Option<ZoneConfig>, AllocError>
+    ensures { IfOk result (λ config. config ≡ result_ok (made_config path.now brand.now)) }
 {
-    let Some(path) = text_of(alloc, word)? else {
+    let Some(path) = text_of(alloc, path)? else {
         return Ok(None);
     };
-    let brand = Text::of(alloc, b"ipkg")?;
+    let Some(brand) = text_of(alloc, brand)? else {
+        return Ok(None);
+    };
     let mut config = blank(alloc);
     let is_set = set(alloc, &mut config, b"zonepath", path)?
         && set(alloc, &mut config, b"brand", brand)?;
     if is_set { Ok(Some(config)) } else { Ok(None) }
 }
 
-// A zone is made with a configuration.
-fn make_with(alloc: Global, zone: &ZoneName, config: Option<ZoneConfig>) -> Result<Case, AllocError>
-    ensures decides { IfOk result (λ c. (d : desk_types.Desk) → make_with zone.now config ≡ decision_of d c) }
+// A zone is made with a configuration that has no flaw.
+fn make_verified(alloc: Global, zone: &ZoneName, config: ZoneConfig) -> Result<Case, AllocError>
+    ensures decides { IfOk result (λ c. (d : desk_types.Desk) → make_unless zone.now config (Ok record {}) ≡ decision_of d c) }
     ensures of { IfOk result (λ c. (d : desk_types.Desk) → IsCaseOf d c) }
     ensures named { IfOk result (IsNamedCase zone.now) }
     ensures free { IfOk result MountsNothing }
 {
-    let Some(config) = config else {
-        return Ok(refused(Refusal::BadValue));
-    };
     let row = Record {
         state: ZoneState::Configured,
         // The grant gives the UUID and the revision.
@@ -98,15 +105,39 @@ fn make_with(alloc: Global, zone: &ZoneName, config: Option<ZoneConfig>) -> Resu
     Ok(Case::Make(row, zone.copy(alloc)?))
 }
 
-// A zone is made with a word for its zonepath.
+// A zone is made with a configuration.
+fn make_with(
+    alloc: Global,
+    zone: &ZoneName,
+    brands: &BrandTables,
+    config: Option<ZoneConfig>,
+) -> Result<Case, AllocError>
+    ensures decides { IfOk result (λ c. (d : desk_types.Desk) → make_with zone.now brands.now config ≡ decision_of d c) }
+    ensures of { IfOk result (λ c. (d : desk_types.Desk) → IsCaseOf d c) }
+    ensures named { IfOk result (IsNamedCase zone.now) }
+    ensures free { IfOk result MountsNothing }
+{
+    let Some(config) = config else {
+        return Ok(refused(Refusal::BadValue));
+    };
+    match verify(alloc, &config, brands.names()) {
+        Ok(()) => make_verified(alloc, zone, config),
+        Err(Flaw::Memory) => Err(AllocError),
+        Err(flaw) => Ok(refused(Refusal::Flawed(flaw))),
+    }
+}
+
+// A zone is made with words for its zonepath and its brand.
 #[inline(never)]
 fn make_case(
     alloc: Global,
     zone: &ZoneName,
+    brands: &BrandTables,
     row: Option<&Record>,
-    word: &[u8],
+    path: &[u8],
+    brand: &[u8],
 ) -> Result<Case, AllocError>
-    ensures decides { IfOk result (λ c. (d : desk_types.Desk) → make zone.now (option_map (λ r. r.now) row.entry) word.now ≡ decision_of d c) }
+    ensures decides { IfOk result (λ c. (d : desk_types.Desk) → make zone.now brands.now (option_map (λ r. r.now) row.entry) path.now brand.now ≡ decision_of d c) }
     ensures of { IfOk result (λ c. (d : desk_types.Desk) → IsCaseOf d c) }
     ensures named { IfOk result (IsNamedCase zone.now) }
     ensures free { IfOk result MountsNothing }
@@ -114,8 +145,8 @@ fn make_case(
     match row {
         Some(_) => Ok(refused(Refusal::NeedForce)),
         None => {
-            let config = made_config(alloc, word)?;
-            make_with(alloc, zone, config)
+            let config = made_config(alloc, path, brand)?;
+            make_with(alloc, zone, brands, config)
         }
     }
 }
@@ -126,9 +157,9 @@ fn put_case(
     zone: &ZoneName,
     desk: &Desk,
     row: Option<&Record>,
-    kind: RequestKind,
+    request: Request,
 ) -> Result<Case, AllocError>
-    ensures decides { IfOk result (λ c. Just (put_request (as_desk desk.now) kind (option_map (λ r. r.now) row.entry)) ≡ decision_of desk.now c) }
+    ensures decides { IfOk result (λ c. Just (put_request (as_desk desk.now) request (option_map (λ r. r.now) row.entry)) ≡ decision_of desk.now c) }
     ensures of { IfOk result (IsCaseOf desk.now) }
     ensures named { IfOk result (IsNamedCase zone.now) }
     ensures free { IfOk result MountsNothing }
@@ -139,7 +170,71 @@ fn put_case(
     if desk.is_full() {
         return Ok(refused(Refusal::DeskFull));
     }
-    Ok(Case::Put(kind, zone.copy(alloc)?))
+    Ok(Case::Put(request, zone.copy(alloc)?))
+}
+
+// The request that a kind is which has no contents.
+fn plain_request(kind: RequestKind) -> Option<Request>
+    ensures { asks kind ≡ unwrap_or (option_map lines.Ask result) lines.Unknown }
+{
+    match kind {
+        RequestKind::Install => Some(Request::Install),
+        RequestKind::Uninstall => Some(Request::Uninstall),
+        RequestKind::Attach => Some(Request::Attach),
+        RequestKind::Detach => Some(Request::Detach),
+        RequestKind::Mark => Some(Request::Mark),
+        RequestKind::Ready => Some(Request::Ready),
+        RequestKind::Halt => Some(Request::Halt),
+        RequestKind::Clone | RequestKind::Move | RequestKind::Boot | RequestKind::Reboot => None,
+    }
+}
+
+// The words of a text, with a space between two.
+#[tactic(auto, using(crate::proofs::Words::joined_spaced))]
+fn joined(alloc: Global, text: &[u8]) -> Result<Vec<u8>, AllocError>
+    ensures { IfOk result (λ out. out.items ≡ joined (words text.now)) }
+{
+    let mut out = Vec::new(alloc);
+    let Some((word, rest)) = split_word(text) else {
+        return Ok(out);
+    };
+    out.extend_from_slice(word)?;
+    let mut rest = rest;
+    while let Some((word, more)) = split_word(rest) {
+        push_both(&mut out, b" ", word)?;
+        rest = more;
+    }
+    Ok(out)
+}
+
+// The arguments that the words of a text are.
+fn args_of(alloc: Global, text: &[u8]) -> Result<Text, AllocError>
+    requires { IsTrue (is_text (joined (words text.now))) }
+    ensures { IfOk result (λ args. args ≡ joined (words text.now)) }
+{
+    let args = joined(alloc, text)?;
+    Text::of(alloc, &args)
+}
+
+// A request for a copy of another zone, which is looked at for its name alone.
+#[inline(never)]
+fn clone_case(
+    alloc: Global,
+    zone: &ZoneName,
+    desk: &Desk,
+    row: Option<&Record>,
+    word: &[u8],
+) -> Result<Case, AllocError>
+    ensures decides { IfOk result (λ c. Just (put_clone (as_desk desk.now) (name_of word.now) (option_map (λ r. r.now) row.entry)) ≡ decision_of desk.now c) }
+    ensures of { IfOk result (IsCaseOf desk.now) }
+    ensures named { IfOk result (IsNamedCase zone.now) }
+    ensures free { IfOk result MountsNothing }
+{
+    match ZoneName::read(alloc, word) {
+        Ok(source) => put_case(alloc, zone, desk, row, Request::Clone(source)),
+        Err(NameFault::Memory) => Err(AllocError),
+        Err(fault) => Ok(refused(Refusal::BadName(fault))),
+    }
 }
 
 // The directory that a word is. What is no path is no mount's.
@@ -212,24 +307,70 @@ fn hold_case(
     }
 }
 
+// What the daemon of a zone is asked is put on the desk, where it is a request.
+fn plain_case(
+    alloc: Global,
+    zone: &ZoneName,
+    desk: &Desk,
+    row: Option<&Record>,
+    kind: RequestKind,
+) -> Result<Case, AllocError>
+    ensures decides { IfOk result (λ c. (v : View) → v.world.stored ≡ option_map (λ r. r.now) row.entry → v.world.desk ≡ as_desk desk.now
+        → idle_line v (asks kind) ≡ decision_of desk.now c) }
+    ensures of { IfOk result (IsCaseOf desk.now) }
+    ensures named { IfOk result (IsNamedCase zone.now) }
+    ensures free { IfOk result MountsNothing }
+{
+    match plain_request(kind) {
+        Some(request) => put_case(alloc, zone, desk, row, request),
+        None => Ok(refused(Refusal::Usage)),
+    }
+}
+
 // A line of an idle session.
 fn idle_case(
     alloc: Global,
     zone: &ZoneName,
     cell: &Cell,
+    brands: &BrandTables,
     row: Option<&Record>,
     command: Command<'_>,
 ) -> Result<Case, AllocError>
-    ensures decides { IfOk result (λ c. (v : View) → Shows v zone.now cell.now → v.world.stored ≡ option_map (λ r. r.now) row.entry → v.world.desk ≡ as_desk cell.now.desk
+    requires { IsRight (as_command command) }
+    ensures decides { IfOk result (λ c. (v : View) → Shows v zone.now cell.now → v.world.stored ≡ option_map (λ r. r.now) row.entry → v.world.brands ≡ brands.now → v.world.desk ≡ as_desk cell.now.desk
         → idle_line v (as_command command.entry) ≡ decision_of cell.now.desk c) }
     ensures of { IfOk result (IsCaseOf cell.now.desk) }
     ensures named { IfOk result (IsNamedCase zone.now) }
     ensures free { IfOk result (λ c. IsFreeCase c cell.now.mounts.list) }
 {
+    let desk = &cell.desk;
     match command {
         Command::Blank => Ok(Case::Says(Head::Ok)),
-        Command::Make(word) => make_case(alloc, zone, row, word),
-        Command::Request(kind) => put_case(alloc, zone, &cell.desk, row, kind),
+        Command::Make(path, brand) => make_case(alloc, zone, brands, row, path, brand),
+        Command::Request(kind) => plain_case(alloc, zone, desk, row, kind),
+        Command::Boot(text) => put_case(
+            alloc,
+            zone,
+            desk,
+            row,
+            Request::Boot(args_of(alloc, text)?),
+        ),
+        Command::Reboot(text) => put_case(
+            alloc,
+            zone,
+            desk,
+            row,
+            Request::Reboot(args_of(alloc, text)?),
+        ),
+        Command::Move(word) => put_case(
+            alloc,
+            zone,
+            desk,
+            row,
+            Request::Move(AbsPath::of(alloc, word)?),
+        ),
+        Command::Clone(word) => clone_case(alloc, zone, desk, row, word),
+        Command::Unforced => Ok(refused(Refusal::NeedForce)),
         Command::Kill(signal, pid) => Ok(signal_case(&cell.kernel, false, signal, pid)),
         Command::Hold(word) => hold_case(alloc, &cell.mounts, row, word, true),
         Command::Release(word) => hold_case(alloc, &cell.mounts, row, word, false),
@@ -239,23 +380,22 @@ fn idle_case(
 
 /// What a line comes to that a session types, which is idle or waits in the zone for a ticket.
 #[inline(never)]
-#[tactic(auto, unfolding(crate::specs::Session::Typed::typed))]
+#[tactic(auto, unfolding(crate::specs::Session::Typed::typed, crate::specs::State::Worlds::view_of))]
 pub(crate) fn decide_line(
     alloc: Global,
     zone: &ZoneName,
     cell: &Cell,
+    brands: &BrandTables,
     row: Option<&Record>,
     awaited: Option<u32>,
     command: Command<'_>,
 ) -> Result<Case, AllocError>
-    ensures decides { IfOk result (λ c. (v : View) (named : Option (List ℕ)) → Shows v zone.now cell.now → v.world.stored ≡ option_map (λ r. r.now) row.entry → v.world.desk ≡ as_desk cell.now.desk
-        → typed v (option_map Awaiting awaited) (record { zone = named; command = as_command command.entry }) ≡ decision_of cell.now.desk c) }
-    ensures of { IfOk result (IsCaseOf cell.now.desk) }
-    ensures named { IfOk result (IsNamedCase zone.now) }
-    ensures free { IfOk result (λ c. IsFreeCase c cell.now.mounts.list) }
+    requires { IsRight (as_command command) }
+    ensures { IfOk result (λ c. (declared : Declared) (named : Option (List ℕ)) → IsCaseIn zone.now (record { stored = option_map (λ r. r.now) row.entry; declared = declared; brands = brands.now }) cell.now
+        (λ v. typed v (option_map Awaiting awaited) (record { zone = named; command = as_command command.entry })) c) }
 {
     match awaited {
         Some(ticket) => Ok(refused(Refusal::Waiting(ticket))),
-        None => idle_case(alloc, zone, cell, row, command),
+        None => idle_case(alloc, zone, cell, brands, row, command),
     }
 }

@@ -1,26 +1,33 @@
 -- What the code's cases of a turn decide, as the definitions have it.
-use Rattle.std.specs.Prelude.{◌≡◌, ℕ, ◌<◌, List, [], ◌∷◌, drop, length, Bool, true, false, Option, Some, None, Ok, IsSomeAnd}
-use Rattle.zn_base.specs.Names.{Name}
-use Rattle.zn_base.specs.declared.state.ZoneState.{ZoneState}
-use Rattle.zone_pools.specs.Asked.{A_pid, A_serial, A_zid, Asked}
-use Rattle.zone_pools.specs.Decisions as decisions
-use Rattle.zone_pools.specs.Owned_lists.{Change, Go, Put}
-use Rattle.zoneadmd_steps.specs.Arrivals.{A_process, A_record, An_id, Comes}
-use Rattle.zoneadmd_steps.specs.Desks as desks
-use Rattle.kernel_objects.specs.Kernel.{cleared, new_id}
+use Rattle.std.specs.Prelude.{◌≡◌, ℕ, ◌<◌, ◌-◌, List, [], ◌∷◌, drop, length, slice_get, true, false, Option, Some, None, Ok, IfSome, IsSomeAnd, if◌then◌else◌}
+use Rattle.brand_hooks.specs.Brands.{Tabled, answer_of}
+use Rattle.brand_hooks.specs.declared.change.Change.{Change}
+use Rattle.brand_hooks.specs.declared.table.HookAnswer.{HookAnswer}
+use Rattle.brand_hooks.specs.declared.table.HookAnswer.TheVariants.{Proceed}
+use Rattle.config_terms.specs.Fields.{path_text}
+use Rattle.datalink_table.specs.Claims.{pool_of}
+use Rattle.kernel_objects.specs.Kernel.{cleared, limited, new_id, with_bootargs}
 use Rattle.kernel_objects.specs.Processes.{at_pid, dropping, process_of, renamed}
 use Rattle.loopback_mounts.specs.Mounts.{at_dir, before, is_at, mount_answer, with_hold}
+use Rattle.loopback_mounts.specs.declared.mount.Mount as mounts
 use Rattle.loopback_mounts.specs.declared.mount.MountEntry.{MountEntry}
-use Rattle.zoneadmd_steps.specs.Objects.{ids_of, Ids_change, Ids_go, Object_edit, Of_mounts, Process_goes, Processes_change, Processes_go, all_of}
-use Rattle.zoneadmd_steps.specs.Code.Desks.{as_desk, as_job}
+use Rattle.zn_base.specs.Names.{Name}
+use Rattle.zn_base.specs.declared.state.ZoneState.{ZoneState}
+use Rattle.zone_pools.specs.Asked.{A_path, A_pid, A_serial, A_source, A_zid, An_item, Asked}
+use Rattle.zone_pools.specs.Decisions as decisions
+use Rattle.zone_pools.specs.Owned_lists.{Change as Change_each, Go, Put}
+use Rattle.zoneadmd_steps.specs.Arrivals.{A_claim, A_process, A_record, An_id, Comes, No_thing}
+use Rattle.zoneadmd_steps.specs.Desks as desks
+use Rattle.zoneadmd_steps.specs.Desks.{Fails, Goes, Stage}
+use Rattle.zoneadmd_steps.specs.Objects.{ids_of, Devices_are, Ids_change, Ids_go, Last_claim_goes, Object_edit, Of_mounts, Process_goes, Processes_change, Processes_go, all_of}
 use Rattle.zoneadmd_steps.specs.Objects as objects
-use Rattle.zoneadmd_steps.specs.Turns.{Turn_decision, Turned, active_after, advance, asking, default_limits, finish, reports, rests, undone}
+use Rattle.zoneadmd_steps.specs.Code.Desks.{as_desk, as_job, as_outcome}
+use Rattle.zoneadmd_steps.specs.Plans.{kind_of}
+use Rattle.zoneadmd_steps.specs.Turns.{A_step, Next, Turn_decision, Turned, active_after, advance, asking, failed, finish, next, reports, rests, stuck, undone, with_job}
 use Rattle.zoneadmd_steps.specs.declared.cases.JobCase.{JobCase}
-use Rattle.zoneadmd_steps.specs.declared.cases.JobCase.TheVariants.{Finish, Pass, Ask, Undo, Stuck}
+use Rattle.zoneadmd_steps.specs.declared.cases.JobCase.TheVariants.{Finish, Pass, Ask, Fail, Undo, Stuck}
 use Rattle.zoneadmd_steps.specs.declared.cases.TurnCase.{TurnCase}
-use Rattle.zoneadmd_steps.specs.declared.cases.TurnCase.TheVariants.{Idle, Begin, Refuse, GoOn}
-use Rattle.zoneadmd_steps.specs.declared.requests.Outcome.TheVariants.{WrongState}
-use Rattle.zoneadmd_steps.specs.declared.requests.RequestKind.{RequestKind}
+use Rattle.zoneadmd_steps.specs.declared.cases.TurnCase.TheVariants.{Idle, Begin, Refuse, Again, GoOn}
 use Rattle.zoneadmd_steps.specs.declared.requests.Step.{Step}
 use Rattle.zoneadmd_steps.specs.declared.requests.Step.TheVariants as step
 use Rattle.zoneadmd_steps.specs.declared.requests.TurnReply.TheVariants as reply
@@ -28,12 +35,12 @@ use Rattle.zoneadmd_steps.specs.declared.desks.Desk.{Desk}
 use Rattle.zoneadmd_steps.specs.declared.desks.Job.{Job}
 use Rattle.zoneadmd_steps.specs.declared.objects.Objects.{Objects}
 use Rattle.zoneadmd_steps.specs.declared.objects.changes.Came.{Came}
-use Rattle.zoneadmd_steps.specs.declared.objects.changes.Came.TheVariants.{Process, Id, Record}
+use Rattle.zoneadmd_steps.specs.declared.objects.changes.Came.TheVariants.{Process, Id, Claim, Record, Moved, Source}
 use Rattle.zoneadmd_steps.specs.declared.objects.changes.ObjectEdit.{ObjectEdit}
-use Rattle.zoneadmd_steps.specs.declared.objects.changes.ObjectEdit.TheVariants.{ClearLimits, EndIds, EndProcess, EndProcesses, GiveUp, Hold, Mount, Nothing, Release, Rename, SetLimits, Unmount}
+use Rattle.zoneadmd_steps.specs.declared.objects.changes.ObjectEdit.TheVariants.{Clear, ClearLimits, DropDevices, EndClaim, EndIds, EndProcess, EndProcesses, GiveUp, Hold, Mount, Nothing, Release, Rename, SetBootargs, SetDevices, SetLimits, Unmount}
 
 abbrev pub as_objects : Objects → objects.Objects
-as_objects o = record { processes = o.kernel.now.processes; mounts = o.mounts.now.list; ids = ids_of o.kernel.now.id }
+as_objects o = record { processes = o.kernel.now.processes; mounts = o.mounts.now.list; claims = o.claims.now.claims; devices = o.kernel.now.devices; ids = ids_of o.kernel.now.id }
 
 abbrev pub object_edits : ObjectEdit → List Object_edit
 object_edits Nothing = []
@@ -43,32 +50,45 @@ object_edits (Rename pid name) = Processes_change (at_pid pid (renamed name)) �
 object_edits (GiveUp pid number) = Processes_change (at_pid pid (dropping number)) ∷ []
 object_edits (Mount m) = Of_mounts (Put (before m.value.dir) (record { mount = m.value; held = false })) ∷ []
 object_edits (Unmount dir) = Of_mounts (Go (is_at dir)) ∷ []
-object_edits (Hold dir) = Of_mounts (Change (at_dir dir (with_hold true))) ∷ []
-object_edits (Release dir) = Of_mounts (Change (at_dir dir (with_hold false))) ∷ []
+object_edits (Hold dir) = Of_mounts (Change_each (at_dir dir (with_hold true))) ∷ []
+object_edits (Release dir) = Of_mounts (Change_each (at_dir dir (with_hold false))) ∷ []
+object_edits EndClaim = Last_claim_goes ∷ []
+object_edits (SetDevices ds) = Devices_are ds ∷ []
+object_edits DropDevices = Devices_are [] ∷ []
 object_edits EndIds = Ids_go all_of ∷ []
-object_edits SetLimits = Ids_change default_limits ∷ []
+object_edits (SetLimits l) = Ids_change (limited l.value.set l.value.most l.value.fs_allowed) ∷ []
+object_edits (SetBootargs args) = Ids_change (with_bootargs args) ∷ []
 object_edits ClearLimits = Ids_change cleared ∷ []
+object_edits Clear = Ids_change cleared ∷ Devices_are [] ∷ []
 
--- what comes with a grant, the pool that is asked for it, and the step as it is told under the number
+-- what comes with a grant, the pools that are asked for it, what the step does beside, and the step as it is told under the number
 abbrev pub comes_of : Came → Comes
-comes_of (Process p) = A_process (process_of (0, p.value))
+comes_of (Process p args) = A_process (process_of (0, p.value))
 comes_of Id = An_id (new_id 0)
+comes_of (Claim c) = A_claim c
 comes_of (Record r owner) = A_record (λ n. Some r.value)
+comes_of (Moved r owner new) = A_record (λ n. Some (record r.value { revision = n }))
+comes_of (Source source) = No_thing
 
-abbrev pub asked_for : Came → Asked
-asked_for (Process p) = A_pid
-asked_for Id = A_zid
-asked_for (Record r owner) = A_serial
+abbrev pub asked_for : Came → List Asked
+asked_for (Process p args) = A_pid ∷ []
+asked_for Id = A_zid ∷ []
+asked_for (Claim c) = An_item (pool_of c.kind) c.item ∷ []
+asked_for (Record r owner) = A_serial ∷ []
+asked_for (Moved r owner new) = if new then A_path (path_text r.value.config.zonepath) ∷ A_serial ∷ [] else A_serial ∷ []
+asked_for (Source source) = A_source source ∷ []
+
+abbrev pub edits_under : Came → List Object_edit
+edits_under (Process p args) = Ids_change (with_bootargs args) ∷ []
+edits_under _ = []
 
 abbrev pub shown_under : Came → ℕ → Step
-shown_under (Process p) n = step.Init (Some n)
+shown_under (Process p args) n = step.Init (Some n)
 shown_under Id n = step.Zid (Some n)
+shown_under (Claim c) n = step.Claimed c
 shown_under (Record r owner) n = step.Record r.value.state
-
--- a step that is a turn only where something is mounted
-abbrev pub is_unmount : Step → Bool
-is_unmount (step.Unmount dir) = true
-is_unmount _ = false
+shown_under (Moved r owner new) n = step.Moved
+shown_under (Source source) n = step.Source source
 
 -- the zone's state on its desk after a step
 abbrev pub active_with : Step → Option ZoneState → Option ZoneState
@@ -76,17 +96,19 @@ active_with (step.State s) active = active_after s
 active_with _ active = active
 
 -- the latest step that is to be undone is undone; a desk has no such case where none is
-abbrev pub undo_with : desks.Desk → desks.Job → List Object_edit → List Step → Turn_decision
-undo_with d j edits [] = decisions.Just (rests d)
-undo_with d j edits (s ∷ rest) = decisions.Just (undone d j rest edits s)
+abbrev pub undo_with : desks.Desk → desks.Job → List Object_edit → Stage → Turn_decision
+undo_with d j edits (Goes left) = decisions.Just (rests d)
+undo_with d j edits (Fails outcome []) = decisions.Just (rests d)
+undo_with d j edits (Fails outcome (s ∷ rest)) = decisions.Just (undone d j outcome rest edits s)
 
 -- what a case of the request under way decides
 abbrev pub job_turn : desks.Desk → Job → JobCase → Turn_decision
 job_turn d j (Finish outcome) = decisions.Just (finish d j.ticket outcome)
 job_turn d j (Pass p) = decisions.Just (advance (record d { active = active_with p.shown d.active }) (as_job j) (drop p.next j.steps.items) (object_edits p.objects) p.shown)
-job_turn d j (Ask it next) = asking d (as_job j) (drop next j.steps.items) (comes_of it) (asked_for it) (shown_under it)
-job_turn d j (Undo objects) = undo_with d (as_job j) (object_edits objects) (as_job j).undo
-job_turn d j Stuck = decisions.Just (reports [] d reply.Stuck)
+job_turn d j (Ask it next) = asking d (as_job j) (drop next j.steps.items) (comes_of it) (asked_for it) (edits_under it) (shown_under it)
+job_turn d j (Fail f) = decisions.Just (failed d (as_job j) (as_outcome f))
+job_turn d j (Undo objects) = undo_with d (as_job j) (object_edits objects) (as_job j).stage
+job_turn d j Stuck = decisions.Just (stuck d)
 
 -- a desk without a request under way has no such case
 abbrev pub on_job : Desk → Option Job → JobCase → Turn_decision
@@ -97,30 +119,42 @@ on_job d (Some j) c = job_turn (as_desk d) j c
 abbrev pub without_first : Desk → desks.Desk
 without_first d = record (as_desk d) { waiting = drop 1 d.waiting.items }
 
-abbrev pub begun : desks.Desk → desks.Job → RequestKind → Turned
-begun d j kind = reports [] (record d { job = Some j }) (reply.Began j.ticket kind)
+abbrev pub begun : desks.Desk → desks.Job → Turned
+begun d j = reports [] (with_job d j) (reply.Began j.ticket (kind_of j.request))
 
 -- what a turn decides
 abbrev pub turn_decision_of : Desk → TurnCase → Turn_decision
 turn_decision_of d Idle = decisions.Just (rests (as_desk d))
-turn_decision_of d (Begin job kind) = decisions.Just (begun (without_first d) (as_job job.value) kind)
-turn_decision_of d (Refuse ticket s) = decisions.Just (finish (without_first d) ticket (WrongState s))
+turn_decision_of d (Begin job) = decisions.Just (begun (without_first d) (as_job job.value))
+turn_decision_of d (Refuse ticket outcome) = decisions.Just (finish (without_first d) ticket outcome)
+turn_decision_of d (Again job) = decisions.Just (begun (as_desk d) (as_job job.value))
 turn_decision_of d (GoOn c) = on_job d d.job c
+
+-- a step that is taken out of the plan once it is done stands there, just before the next one
+abbrev pub IsInPlan : List Step → ℕ → Step → Type 0
+IsInPlan steps next (step.Mounted dir) = (0 < next) × (slice_get steps (next - 1) ≡ Some (step.Mounted dir))
+IsInPlan steps next (step.Claimed c) = (0 < next) × (slice_get steps (next - 1) ≡ Some (step.Claimed c))
+IsInPlan steps next _ = Unit {0}
 
 -- the case is one of a desk like this
 abbrev pub IsJobCase : Job → JobCase → Type 0
-IsJobCase j (Undo objects) = 0 < length j.undo.items
+IsJobCase j (Pass p) = (j.failure ≡ None) × IsInPlan j.steps.items p.next p.shown
+IsJobCase j (Ask it next) = (j.failure ≡ None) × IsInPlan j.steps.items next (shown_under it 0)
+IsJobCase j (Fail f) = j.failure ≡ None
+IsJobCase j (Undo objects) = IsSomeAnd j.failure (λ f. 0 < length j.made.items)
 IsJobCase j _ = Unit {0}
 
 abbrev pub IsTurnOf : Desk → TurnCase → Type 0
 IsTurnOf d Idle = Unit {0}
-IsTurnOf d (Begin job kind) = 0 < length d.waiting.items
-IsTurnOf d (Refuse ticket s) = 0 < length d.waiting.items
+IsTurnOf d (Begin job) = 0 < length d.waiting.items
+IsTurnOf d (Refuse ticket outcome) = 0 < length d.waiting.items
+IsTurnOf d (Again job) = Unit {0}
 IsTurnOf d (GoOn c) = IsSomeAnd d.job (λ j. IsJobCase j c)
 
--- what comes and who sits down is named by the zone
+-- what comes is named by the zone
 abbrev pub IsNamedCame : Name → Came → Type 0
 IsNamedCame z (Record r owner) = owner ≡ z
+IsNamedCame z (Moved r owner new) = owner ≡ z
 IsNamedCame z _ = Unit {0}
 
 abbrev pub IsNamedJobCase : Name → JobCase → Type 0
@@ -131,7 +165,7 @@ abbrev pub IsNamedTurn : Name → TurnCase → Type 0
 IsNamedTurn z (GoOn c) = IsNamedJobCase z c
 IsNamedTurn z _ = Unit {0}
 
--- what becomes of the zone's objects, whatever is granted
+-- what a case does to the zone's objects, whatever is granted
 abbrev pub job_objects : JobCase → ObjectEdit
 job_objects (Pass p) = p.objects
 job_objects (Undo objects) = objects
@@ -142,6 +176,39 @@ turn_objects (GoOn c) = job_objects c
 turn_objects _ = Nothing
 
 -- a mount comes only where it may, by mount(2)
+abbrev pub mount_in : ObjectEdit → Option mounts.Mount
+mount_in (Mount m) = Some m.value
+mount_in _ = None
+
 abbrev pub IsFreeFor : ObjectEdit → List MountEntry → Type 0
-IsFreeFor (Mount m) ms = mount_answer m.value.dir ms ≡ Ok tt
-IsFreeFor _ ms = Unit {0}
+IsFreeFor e ms = IfSome (mount_in e) (λ m. mount_answer m.dir ms ≡ Ok tt)
+
+-- the zone's state on its desk after a turn
+abbrev pub job_active : JobCase → Option ZoneState → Option ZoneState
+job_active (Pass p) active = active_with p.shown active
+job_active _ active = active
+
+abbrev pub turn_active : TurnCase → Option ZoneState → Option ZoneState
+turn_active (GoOn c) active = job_active c active
+turn_active _ active = active
+
+-- the change of which the brand of the request under way is asked next, if it is
+abbrev pub hook_of : desks.Job → Next → Option (List ℕ × Change)
+hook_of j (A_step (step.Hook change) rest) = Some (j.config.brand, change)
+hook_of j _ = None
+
+abbrev pub stage_hook : objects.Objects → desks.Job → Stage → Option (List ℕ × Change)
+stage_hook o j (Goes left) = hook_of j (next o left)
+stage_hook o j (Fails outcome undo) = None
+
+abbrev pub next_hook : objects.Objects → Option desks.Job → Option (List ℕ × Change)
+next_hook o None = None
+next_hook o (Some j) = stage_hook o j j.stage
+
+-- what the brand answers; where it isn't asked that the change proceeds
+abbrev pub heard : List Tabled → Option (List ℕ × Change) → HookAnswer
+heard brands None = Proceed
+heard brands (Some asked) = answer_of brands asked.0 asked.1
+
+abbrev pub next_answer : List Tabled → objects.Objects → desks.Desk → HookAnswer
+next_answer brands o d = heard brands (next_hook o d.job)

@@ -8,12 +8,12 @@ use Rattle.zoneadmd_steps.specs.declared.desks.Desk.{Desk}
 use Rattle.zoneadmd_steps.specs.declared.desks.Job.{Job}
 
 -- room for a step that a failure undoes
-abbrev pub HasUndoRoom : Job → Type 0
-HasUndoRoom j = vec_len j.undo < vec_capacity j.undo
+abbrev pub HasMadeRoom : Job → Type 0
+HasMadeRoom j = vec_len j.made < vec_capacity j.made
 
 abbrev pub HasJobRoom : Job → JobCase → Type 0
-HasJobRoom j (Pass p) = HasUndoRoom j
-HasJobRoom j (Ask c next) = HasUndoRoom j
+HasJobRoom j (Pass p) = HasMadeRoom j
+HasJobRoom j (Ask c next) = HasMadeRoom j
 HasJobRoom j _ = Unit {0}
 
 abbrev pub HasTurnRoom : Desk → TurnCase → Type 0

@@ -4,4 +4,4 @@ use Rattle.zone_views.proofs.Steady.{goes-one, steady-history}
 use Rattle.zone_views.proofs.laws.states_move_along_the_table.Goals as goal
 
 pub returns : goal.returns
-returns c = λ z commits h e g all. (goes-one z (after (opening commits) h) e g (steady-history commits h all)).moves
+returns c = λ z brands commits h e g all. (goes-one z (after (opening brands commits) h) e g (steady-history brands commits h all)).moves

@@ -5,10 +5,10 @@ use Rattle.zone_views.proofs.Purge.{IsPurged-after, IsPurged-opening, away_is_id
 use Rattle.zone_views.proofs.laws.subjects_agree.Goals as goal
 
 pub returns-clause-agree : goal.returns-clause-agree
-returns-clause-agree c = λ z S commits h e is all w concerned.
-    subjects z S (after (opening commits) h) e (record { world = w; purged = IsPurged-after z (opening commits) h is all (IsPurged-opening z commits) }) concerned
+returns-clause-agree c = λ z S brands commits h e is all w concerned.
+    subjects z S (after (opening brands commits) h) e (record { world = w; purged = IsPurged-after z (opening brands commits) h is all (IsPurged-opening z brands commits) }) concerned
 
 pub returns-clause-away : goal.returns-clause-away
-returns-clause-away c = λ z S commits h n is all w away.
-    let own = own_session z (after (opening commits) h) n (IsPurged-after z (opening commits) h is all (IsPurged-opening z commits)) in
-    away_is_idle z ((after (opening commits) h).sessions n) own (sym (ap (λ w. w.sessions n) w) ∙ away)
+returns-clause-away c = λ z S brands commits h n is all w away.
+    let own = own_session z (after (opening brands commits) h) n (IsPurged-after z (opening brands commits) h is all (IsPurged-opening z brands commits)) in
+    away_is_idle z ((after (opening brands commits) h).sessions n) own (sym (ap (λ w. w.sessions n) w) ∙ away)

@@ -1,10 +1,18 @@
-use Rattle.std.proofs.Common.{rules}
-use Rattle.zones_run.proofs.TraceEnds.{ended_front, ended_writing, runs_anyway}
+use Rattle.brand_hooks.specs.Brands.{tables_of}
+use Rattle.zones_run.proofs.TraceStarts.{no_lines, tables_are}
 use Rattle.zones_run.proofs.trace.trace_all.Goals as goal
 
-pub returns-in_err-write_waiting-clause-front : goal.returns-in_err-write_waiting-clause-front
-returns-in_err-write_waiting-clause-front g c = λ _.
-    let ended = c.take_lines-ended.ensures in ended_front _ _ _ _ _ _ ended.told ended.answered ended.front ended.none ended.written c.in_err-write_waiting.ensures.front
+pub returns-in_default-clause-taken : goal.returns-in_default-clause-taken
+returns-in_default-clause-taken g c = no_lines (tables_of c.args.brands.now) (g.K.Sink.holds c.args.out.now) (g.S.Source.left c.args.source.now)
 
-pub returns-in_err-write_waiting-clause-taken : goal.returns-in_err-write_waiting-clause-taken
-returns-in_err-write_waiting-clause-taken g c = ended_writing _ _ _ _ _ (search rules) (runs_anyway _ _ _ _ _ c.take_lines-ended.ensures.taken)
+pub returns-clause-told : goal.returns-clause-told
+returns-clause-told g c = rw (tables_are _ _ c.in-Ok.ensures.stands) at c.trace_from.ensures.told
+
+pub returns-clause-front : goal.returns-clause-front
+returns-clause-front g c = rw (tables_are _ _ c.in-Ok.ensures.stands) at c.trace_from.ensures.front
+
+pub returns-clause-answered : goal.returns-clause-answered
+returns-clause-answered g c = rw (tables_are _ _ c.in-Ok.ensures.stands) at c.trace_from.ensures.answered
+
+pub returns-clause-taken : goal.returns-clause-taken
+returns-clause-taken g c = rw (tables_are _ _ c.in-Ok.ensures.stands) at c.trace_from.ensures.taken

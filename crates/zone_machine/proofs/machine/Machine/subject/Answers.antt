@@ -3,4 +3,4 @@ use Rattle.zone_machine.proofs.Standing.{subject-stands}
 use Rattle.zone_machine.proofs.machine.Machine.subject.Goals as goal
 
 pub returns-clause-ok : goal.returns-clause-ok
-returns-clause-ok c = rw (← c.self.view_is) (λ S h. c.in_ok-subject.ensures ∙ (c.read_event.ensures.subject c.self.inside.parts.shared ∙ sym (subject-stands S c.self.inside.parts.shared c.args.event.now h.shared)))
+returns-clause-ok g c = λ S h. c.in_ok-subject.ensures ∙ (c.read_event.ensures.subject c.args.self.now.parts.shared ∙ sym (subject-stands S c.args.self.now.parts.shared c.args.event.now h.shared))

@@ -3,8 +3,8 @@ use Rattle.zone_pools.specs.Owners.{owner}
 use Rattle.zone_machine.proofs.Doing_laws.{does_sits, retaken}
 use Rattle.zone_machine.proofs.machine.effects.sit.Goals as goal
 
-pub returns : goal.returns
-returns c = λ is_open.
+pub returns-clause-does : goal.returns-clause-does
+returns-clause-does c = λ is_open.
     let k = c.args.number in let x = c.args.sitting in let s = c.args.shared.now in
     does_sits x.owner c.args.cell.now (record c.args.cell.now { waits = c.wait.new.waits }) s (record s { sessions = c.take_reserved.new.self }) k x is_open
     (λ n. c.take_reserved.ensures n ∙ (ap (λ o. if nat_eq k n then Some x.owner else o) (c.give_back.ensures.given n) ∙ retaken (nat_eq k n) x.owner (owner nat_eq s.sessions n))) c.wait.ensures

@@ -1,8 +1,9 @@
-use Rattle.std.proofs.Common.{None, ap, refl, ◌∙◌}
+use Rattle.std.proofs.Common.{[], None, ap, refl, ◌∙◌}
 use Rattle.zone_pools.specs.declared.grant.Grant.TheVariants.{Nothing}
 use Rattle.zone_machine.proofs.Local_doing.{after, settled}
 use Rattle.zone_machine.specs.Code.Cases.{decision_of}
 use Rattle.zone_machine.specs.Code.Cells.{cell_world}
+use Rattle.zone_machine.specs.State.Declarations.{none_declared}
 use Rattle.zone_machine.specs.State.Decisions.{act_of}
 use Rattle.zoneadmd_steps.specs.Code.Desks.{as_desk}
 use Rattle.zone_machine.specs.declared.cases.Case.TheVariants.{Turn}
@@ -10,9 +11,9 @@ use Rattle.zone_machine.proofs.machine.local_turns.do_local.Goals as goal
 
 pub returns-clause-reply : goal.returns-clause-reply
 returns-clause-reply c =
-    (c.settle-work.ensures.works None (cell_world None c.room_for.new.cell) refl).reply ∙ ap (λ d. (act_of d Nothing).effect.reply) c.room_for.ensures.seen
+    (c.settle-work.ensures.works None (cell_world (record { stored = None; declared = none_declared; brands = [] }) c.room_for.new.cell) refl).reply ∙ ap (λ d. (act_of d Nothing).effect.reply) c.room_for.ensures.seen
 
 pub returns-clause-done : goal.returns-clause-done
-returns-clause-done c = λ t is row.
-    after row c.args.cell.now c.room_for.new.cell c.edit_own.new.cell c.settle-work.new.desk c.settle-work.result.objects t (c.room_for.ensures.same row) c.edit_own.ensures.same c.edit_own.ensures.processes c.edit_own.ensures.devices c.edit_own.ensures.mounts c.edit_own.ensures.ids
-    (settled (decision_of c.room_for.new.cell.desk (Turn c.args.case)) t (as_desk c.settle-work.new.desk) c.settle-work.result (cell_world row c.room_for.new.cell) (c.room_for.ensures.seen ∙ is) c.settle-work.ensures.sits (c.settle-work.ensures.works None (cell_world row c.room_for.new.cell) refl))
+returns-clause-done c = λ t is out.
+    after out c.args.cell.now c.room_for.new.cell c.edit_own.new.cell c.settle-work.new.desk c.settle-work.result.objects t (c.room_for.ensures.same out) c.edit_own.ensures.same c.edit_own.ensures.processes c.edit_own.ensures.devices c.edit_own.ensures.mounts c.edit_own.ensures.ids
+    (settled (decision_of c.room_for.new.cell.desk (Turn c.args.case)) t (as_desk c.settle-work.new.desk) c.settle-work.result (cell_world out c.room_for.new.cell) (c.room_for.ensures.seen ∙ is) c.settle-work.ensures.sits (c.settle-work.ensures.works None (cell_world out c.room_for.new.cell) refl))

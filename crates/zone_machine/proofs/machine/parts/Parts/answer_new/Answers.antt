@@ -1,7 +1,7 @@
 use Rattle.std.proofs.Common.{rules}
 use Rattle.zone_pools.specs.Decisions.{asked_of}
-use Rattle.zone_machine.proofs.Stepping.{case_freed, left_so, same_none, taken, unfit}
-use Rattle.zone_machine.specs.Code.Cells.{cell_world, row_in}
+use Rattle.zone_machine.proofs.Stepping.{case_freed, heard-new, left_so, same_none, taken, unfit}
+use Rattle.zone_machine.specs.Code.Cells.{cell_world, outside_in}
 use Rattle.zone_machine.specs.Code.Needs.{pools_in}
 use Rattle.zone_machine.specs.Code.Reads.{decide_read}
 use Rattle.zone_machine.specs.Code.Steps.{IsUnfit}
@@ -9,13 +9,13 @@ use Rattle.zone_machine.specs.State.Worlds.{view_of}
 use Rattle.zone_machine.proofs.machine.parts.Parts.answer_new.Goals as goal
 
 pub do_new-requires-clause-nothing : goal.do_new-requires-clause-nothing
-do_new-requires-clause-nothing c = λ row. rw c.in_ok-cell.ensures.ok (c.new.ensures row)
+do_new-requires-clause-nothing c = λ out. rw c.in_ok-cell.ensures.ok (c.new.ensures out)
 
 pub returns-in_err-case-clause-fault : goal.returns-in_err-case-clause-fault
 returns-in_err-case-clause-fault c = left_so c.from_residual-in_err-case.result c.args.stated c.args.self.now c.args.event.now (λ bad.
     let m = c.args.self.now in let z = c.args.zone.now in
-    let said : IsUnfit (pools_in m.shared) (asked_of (decide_read (view_of z (cell_world (row_in z m.shared) c.deref.result.now)) c.args.read)) c.args.stated = search rules in
-    unfit m z c.args.event.now c.in_ok-cell.cell.value (λ v. decide_read v c.args.read) c.requires.of (same_none m z c.in_ok-cell.cell.value c.requires.none (λ row. rw c.in_ok-cell.ensures.ok (c.new.ensures row))) c.requires.decides c.args.stated
+    let said : IsUnfit z (pools_in m.shared) (asked_of (decide_read (view_of z (cell_world (outside_in z m.shared) c.deref.result.now)) c.args.read)) c.args.stated = search rules in
+    unfit m z c.args.event.now c.in_ok-cell.cell.value (λ v. decide_read v c.args.read) c.requires.of (same_none m z c.in_ok-cell.cell.value c.requires.none (λ out. rw c.in_ok-cell.ensures.ok (c.new.ensures out))) c.requires.decides c.args.stated
     (rw c.deref.ensures at said))
 
 pub do_new-requires-clause-free : goal.do_new-requires-clause-free
@@ -26,7 +26,10 @@ pub returns-clause-ok : goal.returns-clause-ok
 returns-clause-ok c = λ S h.
     let m = c.args.self.now in let z = c.args.zone.now in
     record {
-      takes = taken m z c.args.event.now c.in_ok-cell.cell.value (λ v. decide_read v c.args.read) c.requires.of (same_none m z c.in_ok-cell.cell.value c.requires.none (λ row. rw c.in_ok-cell.ensures.ok (c.new.ensures row))) c.requires.decides
+      takes = taken m z c.args.event.now c.in_ok-cell.cell.value (λ v. decide_read v c.args.read) c.requires.of (same_none m z c.in_ok-cell.cell.value c.requires.none (λ out. rw c.in_ok-cell.ensures.ok (c.new.ensures out))) c.requires.decides
           c.args.stated c.in_ok-case.case c.in_ok-case.grant (rw c.deref.ensures at c.in_ok-case.ensures.case) (rw c.deref.ensures at c.in_ok-case.ensures.takes) S h;
       answers = c.in_ok-reply.ensures.step S h;
     }
+
+pub granted_case-requires-clause-hook : goal.granted_case-requires-clause-hook
+granted_case-requires-clause-hook c = λ turn. heard-new c.args.self.now.shared.brands c.deref.result.now (λ out. rw c.deref.ensures (rw c.in_ok-cell.ensures.ok (c.new.ensures out)))

@@ -20,7 +20,7 @@ returns-clause-step c =
     let u : Parts = record { cells = with_value_at m.cells i d; shared = c.perform_case.new.shared } in
     let here : cell_at z m ≡ Some old = here_at m z i old h c.index_mut.ensures.value in
     if_ok c.perform_case.result _ _
-    (λ reply. IsStep-cell m u z c.args.event.now old d (λ row. ap (world_or_empty row) here) (Keeps-at m u z i d h.unique h.index refl) c.args.grant (entry_of (Zone z) c.args.event.now c.args.grant reply) c.requires.of)
+    (λ reply. IsStep-cell m u z c.args.event.now old d (λ out. ap (world_or_empty out) here) (Keeps-at m u z i d h.unique h.index refl) c.args.grant (entry_of (Zone z) c.args.event.now c.args.grant reply) c.requires.of)
     c.perform_case.ensures.step
 
 pub returns-clause-memory : goal.returns-clause-memory
@@ -28,4 +28,4 @@ returns-clause-memory c =
     let m = c.args.self.now in let z = c.args.zone.now in let i = c.args.at in let d = c.perform_case.new.cell in let old = c.index_mut.result.now in let h = c.requires.at in
     let u : Parts = record { cells = with_value_at m.cells i d; shared = c.perform_case.new.shared } in
     let here : cell_at z m ≡ Some old = here_at m z i old h c.index_mut.ensures.value in
-    on_err c.perform_case.result _ _ (AsItWas-cell m u z c.args.event.now old d (λ row. ap (world_or_empty row) here) (Keeps-at m u z i d h.unique h.index refl)) c.perform_case.ensures.memory
+    on_err c.perform_case.result _ _ (AsItWas-cell m u z c.args.event.now old d (λ out. ap (world_or_empty out) here) (Keeps-at m u z i d h.unique h.index refl)) c.perform_case.ensures.memory

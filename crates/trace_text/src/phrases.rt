@@ -1,0 +1,65 @@
+//! Phrases: a word, and what follows it. What is to be printed is made a phrase, and the phrase is put down.
+ghost use Rattle.std.specs.Prelude.{◌≡◌, ◌++◌, OnOk};
+ghost use Rattle.trace_text.specs.Phrases.{phrase_text};
+ghost use Rattle.trace_text.specs.Turns.{claim_kind_text, claim_text, counted_text};
+
+use crate::flaws::push_flaw;
+use config_verify::Flaw;
+use datalink_table::{Claim, ClaimKind};
+use std::alloc::AllocError;
+use zn_base::{ZoneState, push_both, push_numbered};
+
+#[derive(Clone, Copy)]
+pub(crate) enum Phrase<'a> {
+    /// The word alone.
+    Bare(&'a [u8]),
+    Text(&'a [u8], &'a [u8]),
+    State(&'a [u8], ZoneState),
+    Number(&'a [u8], u64),
+    /// The number follows a space, where it is known.
+    Counted(&'a [u8], &'a Option<u32>),
+    Claimed(&'a [u8], &'a Claim),
+    /// A flaw, with its own words.
+    Flawed(&'a Flaw),
+}
+
+fn push_counted(out: &mut Vec<u8>, word: &[u8], count: &Option<u32>) -> Result<(), AllocError>
+    ensures { OnOk result (out.new.items ≡ out.old.items ++ counted_text word.now count.now) }
+{
+    out.extend_from_slice(word)?;
+    match count {
+        None => Ok(()),
+        Some(number) => push_numbered(out, b" ", *number as u64),
+    }
+}
+
+fn claim_kind_text(kind: ClaimKind) -> &'static [u8]
+    ensures { result.now ≡ claim_kind_text kind }
+{
+    match kind {
+        ClaimKind::Link => b"link ",
+        ClaimKind::Address => b"address ",
+        ClaimKind::Dataset => b"dataset ",
+    }
+}
+
+fn push_claim(out: &mut Vec<u8>, word: &[u8], claim: &Claim) -> Result<(), AllocError>
+    ensures { OnOk result (out.new.items ≡ out.old.items ++ (word.now ++ claim_text claim.now)) }
+{
+    out.extend_from_slice(word)?;
+    push_both(out, claim_kind_text(claim.kind), claim.item.bytes())
+}
+
+pub(crate) fn push_phrase(out: &mut Vec<u8>, phrase: Phrase) -> Result<(), AllocError>
+    ensures { OnOk result (out.new.items ≡ out.old.items ++ phrase_text phrase.entry) }
+{
+    match phrase {
+        Phrase::Bare(word) => out.extend_from_slice(word),
+        Phrase::Text(word, text) => push_both(out, word, text),
+        Phrase::State(word, state) => push_both(out, word, state.text()),
+        Phrase::Number(word, number) => push_numbered(out, word, number),
+        Phrase::Counted(word, count) => push_counted(out, word, count),
+        Phrase::Claimed(word, claim) => push_claim(out, word, claim),
+        Phrase::Flawed(flaw) => push_flaw(out, flaw),
+    }
+}
