@@ -7,7 +7,7 @@ use Rattle.std.proofs.lemmas.List.FromFn.{get_or-range_with_len, length-range_wi
 use Rattle.std.proofs.lemmas.Slice.Eq.{bytes_eq-Decides}
 use Rattle.brand_hooks.specs.Brands.{Hooked, brand_named, first_again, is_again, names_of}
 
-none_passes : {X : Type 0} (test : X → Bool) (xs : List X) (k : ℕ) (d : X) → find test xs ≡ None → k < length xs → test (get_or xs k d) ≡ false
+pub none_passes : {X : Type 0} (test : X → Bool) (xs : List X) (k : ℕ) (d : X) → find test xs ≡ None → k < length xs → test (get_or xs k d) ≡ false
 none_passes test [] k d h within = absurd (omega arith)
 none_passes test (x ∷ xs) zero d h within = elim (test x) as (λ v. cond v (Some x) (find test xs) ≡ None → v ≡ false) [ true ↦ λ e. absurd (cc) | false ↦ λ e. refl ] h
 none_passes test (x ∷ xs) (suc k) d h within =

@@ -1,5 +1,5 @@
 -- Brands, by brands(7) and the property brand of zonecfg(8).
-use Rattle.std.specs.Prelude.{ℕ, List, [], Bool, ◌&&◌, ◌||◌, ◌==◌, bytes_eq, find, length, map, nat_le, slice_index_or, take, Option, Some, None, Result, Ok, Err, if◌then◌else◌}
+use Rattle.std.specs.Prelude.{ℕ, List, [], Bool, ◌&&◌, ◌||◌, ◌==◌, bytes_eq, find, length, map, nat_le, option_and_then, position, slice_get, slice_index_or, take, Option, Some, None, Result, Ok, Err, if◌then◌else◌}
 use Rattle.std.specs.List.{list_all, list_any, range_with_len}
 use Rattle.zn_base.specs.Names.{is_letter_or_digit}
 use Rattle.brand_hooks.specs.declared.fault.BrandFault.{BrandFault}
@@ -64,10 +64,19 @@ tables_of brands = map tabled brands
 abbrev pub tabled_names : List Tabled → List (List ℕ)
 tabled_names brands = map (λ b. b.name) brands
 
+-- the place of the first brand of a name
+abbrev pub place_of : List ℕ → List Tabled → Option ℕ
+place_of name brands = position (λ b. bytes_eq name b.name) brands
+
+-- the brand at a place, with its hook or without it
+abbrev pub brand_at : {B : Type 0} → List B → Option ℕ → Option B
+brand_at brands place = option_and_then (slice_get brands) place
+
 -- what a brand answers of a change; a brand that isn't there is asked nothing, and the change proceeds
 abbrev pub answer_by : Option Tabled → Change → HookAnswer
 answer_by None change = Proceed
 answer_by (Some b) change = answer_at change b.table
 
-abbrev pub answer_of : List Tabled → List ℕ → Change → HookAnswer
-answer_of brands name change = answer_by (find (λ b. bytes_eq name b.name) brands) change
+-- what the brand at a place answers of a change
+abbrev pub answer_of : List Tabled → Option ℕ → Change → HookAnswer
+answer_of brands place change = answer_by (brand_at brands place) change

@@ -2,8 +2,8 @@
 ghost use Rattle.std.specs.Prelude.{◌≡◌, ◌<◌, IfOk, IfSome, bytes_eq, length, option_map};
 ghost use Rattle.std.specs.List.{list_any};
 ghost use Rattle.zn_base.specs.Answers.{AnswersUnless};
-ghost use Rattle.brand_hooks.specs.Brands.{answer_of, brand_named, brands_of, first_again, is_again, names_of, tables_of};
-ghost use Rattle.brand_hooks.specs.Hooks.{AllFollow, Follows};
+ghost use Rattle.brand_hooks.specs.Brands.{answer_of, brand_at, brand_named, brands_of, first_again, is_again, names_of, tables_of};
+ghost use Rattle.brand_hooks.specs.Hooks.{AllFollow, AskedAt, Follows};
 
 use crate::brand::Brand;
 use crate::change::Change;
@@ -99,6 +99,7 @@ impl<F: Fn(&Change) -> HookAnswer> Brands<F> {
     {
         self.list.iter().find(|brand| name == brand.name().bytes())
     }
+
     /// The brands without their hooks.
     #[tactic(auto, using(crate::proofs::Tabled::names_of_tables))]
     pub fn tables(&self, alloc: Global) -> Result<BrandTables, AllocError>
@@ -109,14 +110,22 @@ impl<F: Fn(&Change) -> HookAnswer> Brands<F> {
         Ok(BrandTables::of(tables, names))
     }
 
-    /// Asks the hook of the brand of a name, and answers what it does. Where no brand has the name the change proceeds.
-    /// It takes no memory.
-    #[tactic(auto, using(crate::proofs::Tabled::found_tabled))]
-    pub fn answer(&self, name: &[u8], change: &Change) -> HookAnswer
-        requires { AllFollow F.Fn self.now }
-        ensures { result ≡ answer_of (tables_of self.now) name.now change.now }
+    fn at(&self, place: Option<usize>) -> Option<&Brand<F>>
+        ensures found { option_map (λ brand. brand.now) result ≡ brand_at self.now place }
+        ensures follows { AllFollow F.Fn self.now → IfSome result (λ brand. Follows F.Fn brand.now) }
     {
-        match self.find(name) {
+        self.list.get(place?)
+    }
+
+    /// Asks the hook of the brand at a place, and answers what it does. Where no brand stands there the change proceeds.
+    /// It takes no memory.
+    #[tactic(auto, using(crate::proofs::Tabled::tabled_at))]
+    pub fn answer(&self, brand: Option<usize>, change: &Change) -> HookAnswer
+        requires { AllFollow F.Fn self.now }
+        ensures answer { result ≡ answer_of (tables_of self.now) brand change.now }
+        ensures asked { AskedAt F.Fn self.now brand change.now result }
+    {
+        match self.at(brand) {
             Some(brand) => brand.ask(change),
             None => HookAnswer::Proceed,
         }

@@ -1,6 +1,6 @@
 //! What the definitions keep. Each law is the contract of a function that does nothing.
-ghost use Rattle.std.specs.Prelude.{◌≡◌, ◌≢◌, ◌<◌, List, ℕ, None, Some, length, slice_index_or};
-ghost use Rattle.brand_hooks.specs.Brands.{Hooked, brand_named, first_again, names_of};
+ghost use Rattle.std.specs.Prelude.{◌≡◌, ◌≢◌, ◌<◌, ◌↔◌, All, List, ℕ, None, Some, bytes_eq, find, length, slice_index_or};
+ghost use Rattle.brand_hooks.specs.Brands.{Hooked, Tabled, answer_by, answer_of, brand_named, first_again, names_of, place_of};
 ghost use Rattle.brand_hooks.specs.Tables.{answer_at, proceeding, with_answer};
 ghost use Rattle.brand_hooks.specs.declared.change.Change.{Change};
 ghost use Rattle.brand_hooks.specs.declared.table.HookAnswer.{HookAnswer};
@@ -21,4 +21,13 @@ pub fn one_answer_changes()
 pub fn brands_are_found_by_name<F>()
     ensures { (brands : List (Hooked F)) (place : ℕ) (other : Hooked F) → first_again (names_of brands) ≡ None → place < length brands
         → brand_named (slice_index_or brands place other).name brands ≡ Some (slice_index_or brands place other) }
+{}
+
+/// At the place of a name the first brand of that name answers. A name has no place exactly where each brand has another
+/// name.
+#[tactic(auto, using(crate::proofs::Placed::answer_at_place, crate::proofs::Placed::no_place))]
+pub fn brands_answer_at_their_places()
+    ensures answer { (name : List ℕ) (brands : List Tabled) (change : Change)
+        → answer_of brands (place_of name brands) change ≡ answer_by (find (λ b. bytes_eq name b.name) brands) change }
+    ensures absent { (name : List ℕ) (brands : List Tabled) → (place_of name brands ≡ None) ↔ All (λ b. name ≢ b.name) brands }
 {}

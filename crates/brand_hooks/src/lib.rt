@@ -3,7 +3,8 @@
 //! answers the table; `ask` calls the hook, and what it answers is the table's entry. No type can say of a function that
 //! it keeps what its calls answer, so clauses do: `Brand::new` asks that the hook answers the table and hands that on,
 //! `ask` and what stands on it ask for it again, of a list of brands as `AllFollow`. `BrandTables` are brands without
-//! their hooks: what `Brands::answer` asks of a hook, they answer from its table.
+//! their hooks: what `Brands::answer` asks of a hook, they answer from its table. Both are asked by the brand's place
+//! among them, which `BrandTables::place` tells once: to keep it takes no memory, and to ask by it no search.
 #![tactic(auto)]
 
 mod brand;
@@ -18,6 +19,6 @@ pub use brand::Brand;
 pub use brands::Brands;
 pub use change::{Change, ChangeKind};
 pub use fault::BrandFault;
-pub use laws::{brands_are_found_by_name, one_answer_changes};
+pub use laws::{brands_answer_at_their_places, brands_are_found_by_name, one_answer_changes};
 pub use table::{HookAnswer, HookTable};
 pub use tables::BrandTables;

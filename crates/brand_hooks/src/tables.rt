@@ -1,6 +1,6 @@
 //! Brands without their hooks.
-ghost use Rattle.std.specs.Prelude.{◌≡◌, [], bytes_eq, find, option_map};
-ghost use Rattle.brand_hooks.specs.Brands.{answer_of, tabled_names};
+ghost use Rattle.std.specs.Prelude.{◌≡◌, [], option_map};
+ghost use Rattle.brand_hooks.specs.Brands.{answer_of, brand_at, place_of, tabled_names};
 
 use crate::change::Change;
 use crate::table::{HookAnswer, HookTable};
@@ -67,18 +67,27 @@ impl BrandTables {
         &self.names
     }
 
-    fn find(&self, name: &[u8]) -> Option<&BrandTable>
-        ensures { option_map (λ brand. brand.now) result ≡ find (λ b. bytes_eq name.now b.name) self.now }
+    /// The place of the first brand of a name, from 0. It takes no memory.
+    pub fn place(&self, name: &[u8]) -> Option<usize>
+        ensures { result ≡ place_of name.now self.now }
     {
-        self.list.iter().find(|brand| name == brand.name.bytes())
+        self.list
+            .iter()
+            .position(|brand| name == brand.name.bytes())
     }
 
-    /// What the brand of a name answers of a change: its table's entry, and that the change proceeds where no brand has
-    /// the name. It takes no memory.
-    pub fn answer(&self, name: &[u8], change: &Change) -> HookAnswer
-        ensures { result ≡ answer_of self.now name.now change.now }
+    fn at(&self, place: Option<usize>) -> Option<&BrandTable>
+        ensures { option_map (λ brand. brand.now) result ≡ brand_at self.now place }
     {
-        match self.find(name) {
+        self.list.get(place?)
+    }
+
+    /// What the brand at a place answers of a change: its table's entry, and that the change proceeds where no brand
+    /// stands there. It takes no memory.
+    pub fn answer(&self, brand: Option<usize>, change: &Change) -> HookAnswer
+        ensures { result ≡ answer_of self.now brand change.now }
+    {
+        match self.at(brand) {
             Some(brand) => brand.table.at(change),
             None => HookAnswer::Proceed,
         }

@@ -142,7 +142,7 @@ release link net0
 fn check_held<R: Abort + AllocGlobal>(rt: &R, zone: &mut Zone) -> Result<(), Fail> {
     boot_full(rt, zone)?;
     assert!(rt; zone.hold(rt.alloc(), b"/usr")?);
-    zone.put(Request::Halt)?;
+    zone.put(rt.alloc(), Request::Halt)?;
     check_turns(rt, zone, 7, TO_THE_HELD)?;
     assert!(rt; zone.release(rt.alloc(), b"/usr")?);
     check_turns(rt, zone, 3, FROM_THE_HELD)

@@ -118,7 +118,7 @@ idle
 ";
 
 fn check_held<R: Abort + AllocGlobal>(rt: &R, zone: &mut Zone) -> Result<(), Fail> {
-    zone.put(Request::Ready)?;
+    zone.put(rt.alloc(), Request::Ready)?;
     check_turns(rt, zone, 7, TO_THE_MOUNT)?;
     assert!(rt; zone.hold(rt.alloc(), b"/usr")?);
     check_turns(rt, zone, 3, HELD)?;
@@ -182,7 +182,7 @@ idle
 ";
 
 fn check_zids<R: Abort + AllocGlobal>(rt: &R, zone: &mut Zone) -> Result<(), Fail> {
-    zone.put(Request::Ready)?;
+    zone.put(rt.alloc(), Request::Ready)?;
     check_turns(rt, zone, 2, "began 1 ready\nhook before ready\n")?;
     zone.stated = Some(Grant::Denied(Pool::Zids));
     check_turns(rt, zone, 20, NO_ZID)?;

@@ -24,9 +24,9 @@ idle
 
 fn check_eight<R: Abort + AllocGlobal>(rt: &R, zone: &mut Zone) -> Result<(), Fail> {
     for ticket in 1..=8 {
-        assert_eq!(rt; zone.put(Request::Mark)?, Some(ticket));
+        assert_eq!(rt; zone.put(rt.alloc(), Request::Mark)?, Some(ticket));
     }
-    assert_eq!(rt; zone.put(Request::Mark)?, None);
+    assert_eq!(rt; zone.put(rt.alloc(), Request::Mark)?, None);
     check_turns(rt, zone, 11, MARKED)
 }
 
@@ -51,7 +51,7 @@ fn a_new_desk_is_empty(rt: HostRuntime) {
 // A zone that isn't stored has no turn.
 fn check_missing<R: Abort + AllocGlobal>(rt: &R, zone: &mut Zone) -> Result<(), Fail> {
     zone.row = None;
-    zone.put(Request::Install)?;
+    zone.put(rt.alloc(), Request::Install)?;
     check_turns(rt, zone, 3, "idle\n")
 }
 
@@ -86,10 +86,10 @@ const LOCAL_IN_BOOT: &[u8] = b"-L-L-L-LL--L--";
 const LOCAL_IN_HALT: &[u8] = b"-L--L----L--";
 
 fn check_local<R: Abort + AllocGlobal>(rt: &R, zone: &mut Zone) -> Result<(), Fail> {
-    zone.put(booting(rt.alloc(), b"")?)?;
+    zone.put(rt.alloc(), booting(rt.alloc(), b"")?)?;
     let booted = localities(rt.alloc(), zone)?;
     assert_eq!(rt; booted.as_slice(), LOCAL_IN_BOOT);
-    zone.put(Request::Halt)?;
+    zone.put(rt.alloc(), Request::Halt)?;
     let halted = localities(rt.alloc(), zone)?;
     assert_eq!(rt; halted.as_slice(), LOCAL_IN_HALT);
     Ok(())

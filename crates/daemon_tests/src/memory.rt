@@ -127,9 +127,9 @@ fn reported(alloc: Global, zone: &mut Zone) -> Result<Vec<u8>, Fail> {
 fn check_reported<R: Abort + AllocGlobal>(rt: &R, zone: &mut Zone) -> Result<(), Fail> {
     zone.declare(rt.alloc(), ClaimKind::Link, b"net0")?;
     zone.declare_device(rt.alloc(), b"/dev/null")?;
-    zone.put(booting(rt.alloc(), b"")?)?;
-    zone.put(Request::Halt)?;
-    zone.put(Request::Uninstall)?;
+    zone.put(rt.alloc(), booting(rt.alloc(), b"")?)?;
+    zone.put(rt.alloc(), Request::Halt)?;
+    zone.put(rt.alloc(), Request::Uninstall)?;
     let told = reported(rt.alloc(), zone)?;
     assert_eq!(rt; str::from_utf8(&told)?, REPORTED);
     Ok(())

@@ -58,7 +58,7 @@ mount /usr lofs /usr rw
 // The zone runs, and a reboot of it has come to the end of its halt part, while another configuration was stored.
 fn halt_part<R: Abort + AllocGlobal>(rt: &R, zone: &mut Zone, later: &[u8]) -> Result<(), Fail> {
     check_run(rt, zone, booting(rt.alloc(), b"")?, PLAIN_BOOT)?;
-    zone.put(rebooting(rt.alloc(), b"-s")?)?;
+    zone.put(rt.alloc(), rebooting(rt.alloc(), b"-s")?)?;
     zone.commit(rt.alloc(), later)?;
     check_turns(rt, zone, 10, HALT_PART)
 }

@@ -44,7 +44,7 @@ fn check_stored<R: Abort + AllocGlobal>(rt: &R, zone: &Zone, text: &[u8]) -> Res
 }
 
 fn check_install<R: Abort + AllocGlobal>(rt: &R, zone: &mut Zone) -> Result<(), Fail> {
-    zone.put(Request::Install)?;
+    zone.put(rt.alloc(), Request::Install)?;
     check_turns(rt, zone, 1, "began 1 install\n")?;
     zone.commit(rt.alloc(), LATER)?;
     check_turns(rt, zone, 20, REST)?;
@@ -77,7 +77,7 @@ idle
 
 // The move's record is the third.
 fn check_move<R: Abort + AllocGlobal>(rt: &R, zone: &mut Zone) -> Result<(), Fail> {
-    zone.put(moving(rt.alloc(), b"/pool/web")?)?;
+    zone.put(rt.alloc(), moving(rt.alloc(), b"/pool/web")?)?;
     check_turns(rt, zone, 1, "began 1 move\n")?;
     zone.commit(rt.alloc(), LATER)?;
     check_turns(rt, zone, 20, MOVED_TURNS)?;
@@ -97,7 +97,7 @@ idle
 ";
 
 fn check_taken<R: Abort + AllocGlobal>(rt: &R, zone: &mut Zone) -> Result<(), Fail> {
-    zone.put(moving(rt.alloc(), b"/pool/web")?)?;
+    zone.put(rt.alloc(), moving(rt.alloc(), b"/pool/web")?)?;
     check_turns(rt, zone, 1, "began 1 move\n")?;
     zone.stated = Some(Grant::Denied(Pool::Paths));
     check_turns(rt, zone, 20, TAKEN)?;
@@ -156,7 +156,7 @@ fn a_path_with_which_the_text_is_too_long_is_refused(rt: HostRuntime) -> Result<
 }
 
 fn check_denied<R: Abort + AllocGlobal>(rt: &R, zone: &mut Zone) -> Result<(), Fail> {
-    zone.put(Request::Mark)?;
+    zone.put(rt.alloc(), Request::Mark)?;
     check_turns(rt, zone, 1, "began 1 mark\n")?;
     zone.stated = Some(Grant::Denied(Pool::Store));
     check_turns(

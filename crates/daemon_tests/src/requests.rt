@@ -184,7 +184,7 @@ idle
 ";
 
 fn check_source<R: Abort + AllocGlobal>(rt: &R, zone: &mut Zone) -> Result<(), Fail> {
-    zone.put(request_of(rt.alloc(), RequestKind::Clone)?)?;
+    zone.put(rt.alloc(), request_of(rt.alloc(), RequestKind::Clone)?)?;
     check_turns(rt, zone, 2, "began 1 clone\nhook before clone\n")?;
     zone.stated = Some(Grant::Denied(Pool::Source));
     check_turns(rt, zone, 20, NO_SOURCE)?;

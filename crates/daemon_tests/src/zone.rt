@@ -22,8 +22,8 @@ use std::test::Fail;
 use zn_base::{AbsPath, Listing, Text, ZoneName, ZoneState};
 use zone_pools::Grant;
 use zoneadmd_steps::{
-    Came, Desk, JobCase, Limits, ObjectEdit, Objects, Request, Stored, System, TurnCase, TurnReply,
-    decide_turn, settle_turn,
+    Came, Desk, Gone, JobCase, Limits, ObjectEdit, Objects, QueuedRequest, Request, Stored, System,
+    TurnCase, TurnReply, decide_turn, settle_turn,
 };
 
 /// One zone with all that its daemon looks at and changes.
@@ -161,12 +161,13 @@ impl Zone {
     }
 
     /// A request is put on the desk, if there is a place.
-    pub fn put(&mut self, request: Request) -> Result<Option<u32>, AllocError> {
+    pub fn put(&mut self, alloc: Global, request: Request) -> Result<Option<u32>, AllocError> {
         if self.desk.is_full() {
             return Ok(None);
         }
+        let queued = QueuedRequest::new(alloc, request)?;
         self.desk.reserve()?;
-        Ok(Some(self.desk.put(request)))
+        Ok(Some(self.desk.put(queued)))
     }
 
     // What the brand of the request under way answers, where it is asked.
@@ -309,6 +310,20 @@ impl Zone {
         self.claims.release_last(&mut self.items);
     }
 
+    fn unmount_last(&mut self) -> Gone {
+        match self.mounts.take_last() {
+            Some(mount) => Gone::Mount(mount.dir),
+            None => Gone::Nothing,
+        }
+    }
+
+    fn release_last(&mut self) -> Gone {
+        match self.claims.release_last(&mut self.items) {
+            Some(claim) => Gone::Claim(claim),
+            None => Gone::Nothing,
+        }
+    }
+
     fn end_ids(&mut self) {
         self.kernel.give_up_id(&mut self.kernels);
     }
@@ -333,7 +348,7 @@ impl Zone {
         self.kernel.clear(alloc);
     }
 
-    // What a turn does to the objects, but for a mount that comes.
+    // What a turn does to the objects, but for a mount that comes and what goes as the last.
     fn edit(&mut self, alloc: Global, edit: ObjectEdit) {
         match edit {
             ObjectEdit::EndProcesses => self.end_processes(),
@@ -351,19 +366,22 @@ impl Zone {
             | ObjectEdit::Rename(_, _)
             | ObjectEdit::GiveUp(_, _)
             | ObjectEdit::Mount(_)
+            | ObjectEdit::UnmountLast(_)
             | ObjectEdit::Hold(_)
-            | ObjectEdit::Release(_) => {}
+            | ObjectEdit::Release(_)
+            | ObjectEdit::ReleaseLast(_) => {}
         }
     }
 
-    fn change(&mut self, alloc: Global, edit: ObjectEdit) -> Result<(), AllocError> {
+    // What a turn does to the objects, and what goes as the last.
+    fn change(&mut self, alloc: Global, edit: ObjectEdit) -> Result<Gone, AllocError> {
         match edit {
-            ObjectEdit::Mount(mount) => self.mount(Box::into_inner(mount)),
-            edit => {
-                self.edit(alloc, edit);
-                Ok(())
-            }
+            ObjectEdit::Mount(mount) => self.mount(Box::into_inner(mount))?,
+            ObjectEdit::UnmountLast(_) => return Ok(self.unmount_last()),
+            ObjectEdit::ReleaseLast(_) => return Ok(self.release_last()),
+            edit => self.edit(alloc, edit),
         }
+        Ok(Gone::Nothing)
     }
 
     fn store(&mut self, stored: Option<Stored>) {
@@ -384,10 +402,10 @@ impl Zone {
     {
         self.desk.reserve_turn(&case)?;
         self.come(alloc, &case, grant)?;
-        let work = settle_turn(&mut self.desk, case, grant);
+        let work = settle_turn(alloc, &mut self.desk, case, grant);
         self.store(work.stored);
-        self.change(alloc, work.objects)?;
-        Ok(work.reply)
+        let gone = self.change(alloc, work.objects)?;
+        Ok(work.reply.with_gone(gone))
     }
 
     /// One turn. Where memory runs out nothing is changed.
@@ -418,7 +436,7 @@ impl Zone {
 
     /// A request is put on the desk, and turns are taken until the zone is idle: what they report.
     pub fn run(&mut self, alloc: Global, request: Request) -> Result<Vec<u8>, AllocError> {
-        self.put(request)?;
+        self.put(alloc, request)?;
         self.turns(alloc, 64)
     }
 

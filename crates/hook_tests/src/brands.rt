@@ -57,17 +57,21 @@ fn found_answer<F: Fn(&Change) -> HookAnswer>(
     Some(brands.find(name)?.ask(change))
 }
 
-// What a brand answers: found and asked, asked by its name, and by the tables alone.
+// The place of a brand, and what it answers: found by its name and asked, asked at its place, and by the tables alone.
 #[derive(Clone, Copy)]
 struct Answers {
+    place: Option<usize>,
     found: Option<HookAnswer>,
     asked: HookAnswer,
     tabled: HookAnswer,
 }
 
 impl Answers {
-    fn are(&self, answer: HookAnswer) -> bool {
-        self.found == Some(answer) && self.asked == answer && self.tabled == answer
+    fn are(&self, place: usize, answer: HookAnswer) -> bool {
+        self.place == Some(place)
+            && self.found == Some(answer)
+            && self.asked == answer
+            && self.tabled == answer
     }
 }
 
@@ -83,10 +87,12 @@ fn answers_of(alloc: Global, name: &[u8], change: &Change) -> Result<Answers, Br
     };
     let brands = Brands::new(alloc, list)?;
     let tables = brands.tables(alloc)?;
+    let place = tables.place(name);
     Ok(Answers {
+        place,
         found: found_answer(&brands, name, change),
-        asked: brands.answer(name, change),
-        tabled: tables.answer(name, change),
+        asked: brands.answer(place, change),
+        tabled: tables.answer(place, change),
     })
 }
 
@@ -97,12 +103,13 @@ fn hooks_answer_their_tables(rt: HostRuntime) -> Result<(), BrandFault> {
         for before in [true, false] {
             let change = Change { before, kind };
             let ipkg = answers_of(alloc, b"ipkg", &change)?;
-            assert!(rt; ipkg.are(HookAnswer::Proceed));
+            assert!(rt; ipkg.are(0, HookAnswer::Proceed));
             let lx = answers_of(alloc, b"lx", &change)?;
             let refused = before && matches!(kind, ChangeKind::Clone);
-            assert!(rt; lx.are(HookAnswer::Refuse(7)) == refused);
-            assert!(rt; lx.are(HookAnswer::Proceed) != refused);
+            assert!(rt; lx.are(1, HookAnswer::Refuse(7)) == refused);
+            assert!(rt; lx.are(1, HookAnswer::Proceed) != refused);
             let kvm = answers_of(alloc, b"kvm", &change)?;
+            assert!(rt; kvm.place.is_none());
             assert!(rt; kvm.found.is_none());
             assert!(rt; kvm.asked == HookAnswer::Proceed);
             assert!(rt; kvm.tabled == HookAnswer::Proceed);
@@ -149,7 +156,7 @@ fn names_are_words_and_differ(rt: HostRuntime) -> Result<(), Fail> {
 }
 
 #[test]
-fn tables_have_the_names_and_no_hooks(rt: HostRuntime) -> Result<(), BrandFault> {
+fn a_brand_is_asked_at_its_place_alone(rt: HostRuntime) -> Result<(), BrandFault> {
     let alloc = rt.alloc();
     let clones = HookTable::proceed().with(&BEFORE_CLONE, HookAnswer::Refuse(7));
     let copy = clones.copy();
@@ -159,12 +166,23 @@ fn tables_have_the_names_and_no_hooks(rt: HostRuntime) -> Result<(), BrandFault>
     let Ok(list) = vec![in alloc; lx] else {
         return Err(BrandFault::Memory);
     };
-    let tables = Brands::new(alloc, list)?.tables(alloc)?;
+    let brands = Brands::new(alloc, list)?;
+    let tables = brands.tables(alloc)?;
+    let none = BrandTables::none(alloc);
     assert!(rt; tables.names().len() == 1);
     assert!(rt; tables.names()[0].bytes() == b"lx".as_slice());
-    assert!(rt; tables.answer(b"lx", &BEFORE_CLONE) == HookAnswer::Refuse(7));
-    let none = BrandTables::none(alloc);
     assert!(rt; none.names().is_empty());
-    assert!(rt; none.answer(b"lx", &BEFORE_CLONE) == HookAnswer::Proceed);
+    assert!(rt; none.place(b"lx").is_none());
+    let rows = [
+        (Some(0), HookAnswer::Refuse(7)),
+        (Some(1), HookAnswer::Proceed),
+        (Some(usize::MAX), HookAnswer::Proceed),
+        (None, HookAnswer::Proceed),
+    ];
+    for (place, answer) in rows {
+        assert!(rt; brands.answer(place, &BEFORE_CLONE) == answer);
+        assert!(rt; tables.answer(place, &BEFORE_CLONE) == answer);
+        assert!(rt; none.answer(place, &BEFORE_CLONE) == HookAnswer::Proceed);
+    }
     Ok(())
 }

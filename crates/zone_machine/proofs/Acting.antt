@@ -1,7 +1,6 @@
 -- A whole act: what comes to the kernel, and then the rest, after which the shared part says whether the zone is up.
-use Rattle.std.proofs.Common.{◌≡◌, ◌∷◌, [], ℕ, List, Bool, Option, Some, None, Result, Ok, Err, OnOk, IfSome, true, false, refl, ap, subst, sym, ◌∙◌}
-use Rattle.std.specs.Prelude.{bytes_eq, is_some, nat_eq, if◌then◌else◌}
-use Rattle.std.specs.Option.{option_map}
+use Rattle.std.proofs.Common.{◌≡◌, ℕ, Option, Some, None, Result, Ok, Err, OnOk, IfSome, refl, ap, subst, sym, ◌∙◌}
+use Rattle.std.specs.Prelude.{bytes_eq, is_some, nat_eq}
 use Rattle.std.specs.List.{list_any}
 use Rattle.indexmap.specs.IndexMap.{get}
 use Rattle.zn_base.specs.Names.{Name}
@@ -11,52 +10,14 @@ use Rattle.zone_pools.proofs.Owned_laws.{same_self, same_true}
 use Rattle.zone_pools.specs.Owners.{is_owner, owner}
 use Rattle.datalink_table.specs.Claims.{holds}
 use Rattle.kernel_objects.specs.Processes.{has_pid}
-use Rattle.zoneadmd_steps.specs.Arrivals.{Arrival, New_claim, New_id, New_process, New_record, No_new_thing, in_kernel, in_store}
 use Rattle.zoneadmd_steps.specs.Objects.{has_zid}
-use Rattle.zone_machine.specs.Code.Cells.{Acts, Agree, Does, cell_world, common_in, outside_in}
-use Rattle.zone_machine.specs.Code.Works.{rest_of}
-use Rattle.zone_machine.specs.Code.Cases.{decision_of}
-use Rattle.zone_machine.specs.Code.Rooms.{Alike, HasRoom, HasRoomIfSits, HasRoomToStore, IsOpenTo}
-use Rattle.zone_machine.specs.declared.cases.Case.{Case}
-use Rattle.zone_machine.specs.declared.cases.Case.TheVariants as cases
-use Rattle.zone_pools.specs.Asked.{A_path, A_pid, A_serial, A_source, A_zid, A_zone, An_item, Asked}
-use Rattle.zone_pools.specs.Decisions.{asked_of}
+use Rattle.zone_machine.specs.Code.Cells.{Agree, Does, cell_world, outside_in}
+use Rattle.zone_machine.specs.Code.Rooms.{Alike, IsOpenTo}
 use Rattle.zone_machine.proofs.Doing_laws.{holds_wait}
-use Rattle.zone_machine.specs.Machine.Common.{Common, came_common, holding, standing}
-use Rattle.zone_machine.specs.State.{Awaiting}
-use Rattle.zone_machine.specs.State.Decisions.{Act, acts_world, after_came_world}
-use Rattle.zone_machine.specs.State.Edits.{edits_world}
+use Rattle.zone_machine.specs.Machine.Common.{Common, holding}
 use Rattle.zone_machine.specs.State.Worlds.{World}
 use Rattle.zone_machine.specs.declared.machine.cell.Cell.{Cell}
 use Rattle.zone_machine.specs.declared.machine.shared.Shared.{Shared}
-
--- room stays where something comes to the kernel or is claimed
-store_stays : (asked : List Asked) (s t : Shared) → t.rows ≡ s.rows → HasRoomToStore asked s → HasRoomToStore asked t
-store_stays [] s t same h = tt
-store_stays (A_pid ∷ asked) s t same h = tt
-store_stays (A_zid ∷ asked) s t same h = tt
-store_stays (An_item pool item ∷ asked) s t same h = tt
-store_stays (A_source z ∷ asked) s t same h = tt
-store_stays (A_zone ∷ asked) s t same h = rw same h
-store_stays (A_path path ∷ asked) s t same h = rw same h
-store_stays (A_serial ∷ asked) s t same h = rw same h
-
-sits_stay : (case : Case) (c d : Cell) (s t : Shared) → d.waits ≡ c.waits → t.sessions ≡ s.sessions → HasRoomIfSits case c s → HasRoomIfSits case d t
-sits_stay (cases.Put request owner) c d s t waits sessions h = rw (waits, sessions) h
-sits_stay _ c d s t waits sessions h = tt
-
-pub room_stays : (z : Name) (case : Case) (c d : Cell) (s t : Shared) → d ≡ record c { kernel = d.kernel; claims = d.claims } → t ≡ record s { kernel = t.kernel; claims = t.claims } → HasRoom z case c s → HasRoom z case d t
-room_stays z case c d s t cell shared room =
-    let desk : d.desk ≡ c.desk = ap (λ (c : Cell). c.desk) cell in
-    let mounts : d.mounts ≡ c.mounts = ap (λ (c : Cell). c.mounts) cell in
-    let ups : t.ups ≡ s.ups = ap (λ (s : Shared). s.ups) shared in
-    record {
-      stored = rw desk (store_stays (asked_of (decision_of c.desk case)) s t (ap (λ (s : Shared). s.rows) shared) room.stored);
-      objects = rw mounts room.objects;
-      sits = sits_stay case c d s t (ap (λ (c : Cell). c.waits) cell) (ap (λ (s : Shared). s.sessions) shared) room.sits;
-      rises = rw (desk, ups) room.rises;
-      desk = rw desk room.desk;
-    }
 
 pub alike_both : (c d e : Cell) (s t u : Shared) → Alike c s d t → Alike d t e u → Alike c s e u
 alike_both c d e s t u one two = record {

@@ -1,23 +1,23 @@
 -- Changes of what a zone claims, and of who holds what.
 use Rattle.std.proofs.Common.{◌≡◌, ◌∷◌, ◌++◌, [], ℕ, List, Bool, Option, Some, None, true, false, not, ◌&&◌, ◌||◌, refl, ap, sym, subst, ◌∙◌, map}
 use Rattle.indexmap.specs.IndexMap.{get}
-use Rattle.std.specs.Prelude.{◌≢◌, IfNone, IfSome, bytes_eq, is_some, nat_eq, if◌then◌else◌}
+use Rattle.std.specs.Prelude.{◌≢◌, IfNone, IfSome, bytes_eq, nat_eq, if◌then◌else◌}
 use Rattle.std.proofs.lemmas.Bool.{and_parts, false≢true, true≢false}
 use Rattle.datalink_table.proofs.Kept.{holds-last}
-use Rattle.datalink_table.proofs.Same_laws.{claim-Decides, claim_self}
+use Rattle.datalink_table.proofs.Same_laws.{claim-Decides}
 use Rattle.datalink_table.specs.Claims.{claiming, holds, same_claim}
-use Rattle.datalink_table.specs.Shared.{Alike as Claims_alike, Frees, Shared as Claim_shared, Takes, allows, holder, is_declared, is_that, may_hold}
+use Rattle.datalink_table.specs.Shared.{Frees, Shared as Claim_shared, Takes, allows, holder, is_declared, may_hold}
 use Rattle.datalink_table.specs.Claims as claims
 use Rattle.datalink_table.specs.declared.claims.Claim.{Claim}
 use Rattle.zn_base.specs.Names.{Name}
-use Rattle.zone_pools.proofs.Holding.{column, gone_column, not_same}
+use Rattle.zone_pools.proofs.Holding.{column, gone_column}
 use Rattle.zone_pools.proofs.Owned_laws.{same_self, same_true}
-use Rattle.zone_pools.specs.Owned_lists.{Last_goes, but_last, edited}
+use Rattle.zone_pools.specs.Owned_lists.{but_last}
 use Rattle.zone_pools.specs.Owners as owners
 use Rattle.zone_pools.specs.Owners.{held_by, is_owner}
 use Rattle.zone_machine.proofs.Acts_laws.{same_other}
 use Rattle.zone_machine.proofs.Doing_laws.{common_by, holds_wait, same_pids, same_sessions, same_zids}
-use Rattle.zone_machine.specs.Code.Cells.{Agree, Does, cell_world, common_in, declared_in, kept, outside_in}
+use Rattle.zone_machine.specs.Code.Cells.{Agree, Does, cell_world, common_in, kept, outside_in}
 use Rattle.zone_machine.specs.Machine.Common.{Common, came_common, holding}
 use Rattle.zone_machine.specs.State.Edits.{Of_objects, comes_world, edits_world}
 use Rattle.zone_machine.specs.State.Worlds.{World}

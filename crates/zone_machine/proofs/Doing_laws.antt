@@ -20,8 +20,8 @@ use Rattle.zone_machine.specs.Code.Cells.{Acts, Agree, Does, cell_world, common_
 use Rattle.zoneadmd_steps.specs.Objects.{ids_of, has_zid}
 use Rattle.zone_machine.specs.Code.Waits.{is_wait_for, unless_ended}
 use Rattle.zone_machine.specs.Code.Works.{work_world, Works, rest_of, sits, work_act}
-use Rattle.datalink_table.specs.Claims.{claiming, holds, same_claim}
-use Rattle.datalink_table.specs.Shared.{Frees, Takes, allows, holder, is_declared, may_hold}
+use Rattle.datalink_table.specs.Claims.{holds}
+use Rattle.datalink_table.specs.Shared.{holder}
 use Rattle.datalink_table.specs.declared.claims.Claim.{Claim}
 use Rattle.zone_machine.specs.Machine.Common.{Common, came_common, holding, holds_claim, holds_pid, holds_zid, standing}
 use Rattle.zone_machine.specs.State.Edits.{Edit, Of_objects, Set_desk, at_session, comes_world, edit_world, edits_world, swept_doing}
@@ -242,6 +242,8 @@ desk-objects n object.Nothing w d = refl
 desk-objects n object.EndProcesses w d = refl
 desk-objects n (object.Mount m) w d = refl
 desk-objects n (object.Unmount dir) w d = refl
+desk-objects n (object.UnmountLast dir) w d = refl
+desk-objects n (object.ReleaseLast claim) w d = refl
 desk-objects n (object.Hold dir) w d = refl
 desk-objects n (object.Release dir) w d = refl
 desk-objects n object.EndIds w d = refl

@@ -8,7 +8,7 @@ use Rattle.zone_pools.proofs.Owned_laws.{same_self}
 use Rattle.zone_pools.proofs.Same_laws.{pool-Decides}
 use Rattle.zn_base.specs.Names.{Name}
 use Rattle.zone_pools.proofs.Pools_laws.{said_one}
-use Rattle.zone_pools.specs.Asked.{A_path, A_pid, A_serial, A_source, A_zid, A_zone, An_item, Asked}
+use Rattle.zone_pools.specs.Asked.{A_path, A_pid, A_serial, A_zid, A_zone, An_item, Asked}
 use Rattle.zone_pools.specs.Decisions as decisions
 use Rattle.zone_pools.specs.Decisions.{Ask, Just, asked_of, number_in}
 use Rattle.zone_pools.specs.Pools.{Pools, first_free, fits_asked, has_place, has_room, next_free, numbered, or_else, said_by_all}
@@ -21,11 +21,10 @@ use Rattle.zone_machine.proofs.Asking.{asks_rightly}
 use Rattle.zoneadmd_steps.proofs.Of_turns.{asked_item, is_asked_for}
 use Rattle.zoneadmd_steps.specs.Arrivals.{A_claim, A_process, A_record, An_id, Arrival, Comes, No_thing, arrived, New_claim, New_id, New_process, New_record, No_new_thing, in_kernel, in_store}
 use Rattle.zone_machine.specs.State.Decisions.{Decision, act_of, effects, turned}
-use Rattle.zone_machine.specs.Code.Rooms.{HasRoomOf, HasRoomToChange, HasRoomToStore, IsFreeOf, HasRoomToStore}
+use Rattle.zone_machine.specs.Code.Rooms.{HasRoomOf, HasRoomToStore, IsFreeOf}
 use Rattle.zone_machine.specs.Code.Steps.{IsGrantFor}
-use Rattle.zone_machine.specs.declared.machine.cell.Cell.{Cell}
 use Rattle.zone_machine.specs.declared.machine.shared.Shared.{Shared}
-use Rattle.zoneadmd_steps.specs.Code.Cases.{asked_for, comes_of, edits_under, job_turn, object_edits, on_job, shown_under, turn_decision_of, undo_with}
+use Rattle.zoneadmd_steps.specs.Code.Cases.{asked_for, comes_of, edits_under, halt_begun, job_turn, object_edits, on_job, shown_under, turn_decision_of, undo_with}
 use Rattle.zone_machine.specs.Code.Cases.{decision_of}
 use Rattle.zoneadmd_steps.specs.Desks as desks
 use Rattle.zoneadmd_steps.specs.Code.Desks.{as_desk, as_job}
@@ -37,12 +36,12 @@ use Rattle.zoneadmd_steps.specs.declared.cases.JobCase.{JobCase}
 use Rattle.zoneadmd_steps.specs.declared.cases.JobCase.TheVariants as jobs
 use Rattle.zoneadmd_steps.specs.declared.cases.TurnCase.{TurnCase}
 use Rattle.zoneadmd_steps.specs.declared.cases.TurnCase.TheVariants as turns
+use Rattle.zoneadmd_steps.specs.declared.requests.Request.{Request}
 use Rattle.zoneadmd_steps.specs.declared.requests.Step.{Step}
 use Rattle.zoneadmd_steps.specs.declared.desks.Desk.{Desk}
 use Rattle.zoneadmd_steps.specs.declared.desks.Job.{Job}
 use Rattle.zoneadmd_steps.specs.declared.objects.changes.Came.{Came}
 use Rattle.zoneadmd_steps.specs.declared.objects.changes.Came.TheVariants as came_type
-use Rattle.zoneadmd_steps.specs.declared.objects.changes.ObjectEdit.{ObjectEdit}
 
 -- a number that is found isn't used
 unused_found : (used : ℕ → Bool) (from count n : ℕ) → first_free used from count ≡ Some n → used n ≡ false
@@ -244,6 +243,8 @@ asks_undo d j edits (desks.Fails outcome (s ∷ rest)) = refl
 asks_job : (d : desks.Desk) (j : Job) (c : JobCase) → asks_rightly (job_turn d j c) ≡ true
 asks_job d j (jobs.Finish outcome) = refl
 asks_job d j (jobs.Pass p) = refl
+asks_job d j (jobs.Unmounts dir next) = refl
+asks_job d j (jobs.Releases claim next) = refl
 asks_job d j (jobs.Ask it next) = asks_came d (as_job j) (drop next j.steps.items) it
 asks_job d j (jobs.Fail f) = refl
 asks_job d j jobs.Stuck = refl
@@ -253,9 +254,14 @@ asks_on : (d : Desk) (o : Option Job) (c : JobCase) → asks_rightly (on_job d o
 asks_on d None c = refl
 asks_on d (Some j) c = asks_job (as_desk d) j c
 
+asks_first : (d : Desk) (waiting : List (ℕ × Request)) (brand : Option ℕ) → asks_rightly (halt_begun d waiting brand) ≡ true
+asks_first d [] brand = refl
+asks_first d (first ∷ rest) brand = refl
+
 asks_turn_case : (d : Desk) (c : TurnCase) → asks_rightly (turn_decision_of d c) ≡ true
 asks_turn_case d turns.Idle = refl
 asks_turn_case d (turns.Begin job) = refl
+asks_turn_case d (turns.BeginHalt brand) = asks_first d d.waiting.items brand
 asks_turn_case d (turns.Refuse ticket outcome) = refl
 asks_turn_case d (turns.Again job) = refl
 asks_turn_case d (turns.GoOn c) = asks_on d d.job c
@@ -268,7 +274,3 @@ asks_case d (cases.Fork p) = refl
 asks_case d (cases.Make row owner) = refl
 asks_case d (cases.Put kind owner) = refl
 asks_case d (cases.Turn c) = asks_turn (turn_decision_of d c) (asks_turn_case d c)
-
--- room doesn't go by the desk
-pub room_change : (o : ObjectEdit) (c : Cell) (d : Desk) → HasRoomToChange o c → HasRoomToChange o (record c { desk = d })
-room_change o c d h = h

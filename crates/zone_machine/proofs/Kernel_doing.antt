@@ -13,7 +13,7 @@ use Rattle.zone_pools.specs.Owners as owners
 use Rattle.zone_pools.specs.Owners.{held_by, is_owner}
 use Rattle.zone_machine.proofs.Acts_laws.{same_other}
 use Rattle.zone_machine.proofs.Lists_laws.{any-put, none_left}
-use Rattle.zone_machine.specs.Code.Cells.{Agree, Does, cell_world, common_in, kept, outside_in, row_in}
+use Rattle.zone_machine.specs.Code.Cells.{Agree, Does, cell_world, common_in, kept, outside_in}
 use Rattle.zoneadmd_steps.specs.Objects.{ids_of, has_zid, keeping_pid, keeping_zid}
 use Rattle.zone_machine.specs.Machine.Common.{Common, came_common, holding}
 use Rattle.zone_machine.specs.State.Edits.{Of_objects, comes_world, edits_world}

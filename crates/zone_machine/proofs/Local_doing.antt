@@ -1,12 +1,12 @@
 -- A local turn on its zone's cell: what is done to the cell is what the turn does to the zone's world.
-use Rattle.std.proofs.Common.{◌≡◌, ◌∷◌, ◌++◌, [], ℕ, List, Option, Some, None, true, false, map, refl, ap, subst, sym, ◌∙◌}
+use Rattle.std.proofs.Common.{◌≡◌, ◌∷◌, ◌++◌, [], ℕ, List, Option, Some, None, map, refl, ap, subst, sym, ◌∙◌}
 use Rattle.std.specs.Prelude.{IsSomeAnd}
 use Rattle.zn_base.specs.Names.{Name}
 use Rattle.zone_pools.specs.Decisions as decisions
 use Rattle.zone_pools.specs.Decisions.{Ask, Just}
 use Rattle.zone_pools.specs.declared.grant.Grant.TheVariants.{Nothing}
 use Rattle.zone_machine.proofs.Local_laws.{Local, is-local, local-one, not-local, stays, subject-turn, world-after}
-use Rattle.zone_machine.specs.Code.Works.{turned_act, Works, rest_of, sits}
+use Rattle.zone_machine.specs.Code.Works.{turned_act, Works, rest_of, sits, told_by}
 use Rattle.zone_machine.proofs.Turned_laws.{has-turned}
 use Rattle.zoneadmd_steps.specs.Arrivals.{Arrival}
 use Rattle.zoneadmd_steps.specs.Code.Cases.{object_edits}
@@ -16,9 +16,8 @@ use Rattle.brand_hooks.specs.declared.table.HookAnswer.{HookAnswer}
 use Rattle.zoneadmd_steps.specs.Objects.{ids_of, Object_edit, Processes_go, devices_after, ids_after, mounts_after}
 use Rattle.zone_machine.specs.State.Decisions.{Decision, act_of, acts_world, after_came_world, effects, says, sweeps, turned}
 use Rattle.zoneadmd_steps.specs.Desks as desks
-use Rattle.zoneadmd_steps.specs.Code.Desks.{as_desk, as_job}
+use Rattle.zoneadmd_steps.specs.Code.Desks.{as_desk}
 use Rattle.zone_machine.specs.State.Edits.{Of_objects, Set_desk, edit_world, edits_world}
-use Rattle.zone_machine.specs.Machine.Local.{is_local}
 use Rattle.zone_machine.specs.Code.Local_turns.{After, HasNoNext, IsDone, IsLocalTurn, IsNotLocal}
 use Rattle.zone_machine.specs.Machine.{Answered, one, subject}
 use Rattle.zoneadmd_steps.specs.Turns.{Turn_decision, Turned, local_turn}
@@ -30,7 +29,6 @@ use Rattle.zoneadmd_steps.specs.declared.desks.Desk.{Desk}
 use Rattle.zone_machine.specs.declared.events.Entry.{Entry}
 use Rattle.zone_machine.specs.declared.events.Event.TheVariants.{Turn}
 use Rattle.zone_machine.specs.declared.events.Subject.TheVariants.{Zone}
-use Rattle.commit_journal.specs.declared.records.Record.{Record}
 use Rattle.zone_machine.specs.declared.replies.Head.TheVariants.{Turned as Told}
 use Rattle.zone_machine.specs.declared.replies.Reply.{Reply}
 use Rattle.zoneadmd_steps.specs.declared.objects.changes.ObjectEdit.{ObjectEdit}
@@ -80,7 +78,7 @@ settled decided t d w v is sat works =
     let left = has-turned None told v in let right = has-turned None done v in
     let left_ids = has-ids None told v (stored_apart w.stored) in let right_ids = has-ids None done v (λ w. refl) in
     let same : acts_world None (turned_act told) v ≡ acts_world None (turned_act done) v =
-    sym (ap (λ s. acts_world None (record { came = arrival_of w.stored; effect = record { edits = map Of_objects (object_edits w.objects) ++ (Set_desk d ∷ (sits s ++ sweeps w.ended)); reply = w.reply } }) v) sat)
+    sym (ap (λ s. acts_world None (record { came = arrival_of w.stored; effect = record { edits = map Of_objects (object_edits w.objects) ++ (Set_desk d ∷ (sits s ++ sweeps w.ended)); reply = told_by w } }) v) sat)
     ∙ (works.world ∙ ap (λ x. acts_world None (rest_of (act_of x Nothing)) v) is) in
     record {
       mounts = sym left.mounts ∙ (ap (λ (u : World). u.mounts) same ∙ right.mounts);

@@ -1,14 +1,14 @@
 -- Room is taken, and a cell and the shared part are as they were.
-use Rattle.std.proofs.Common.{◌≡◌, ◌∷◌, [], List, refl, ◌∙◌, ap, subst, sym}
+use Rattle.std.proofs.Common.{◌≡◌, ◌∷◌, [], Bool, List, false, true, refl, ◌∙◌, ap, subst, sym}
 use Rattle.zone_machine.specs.Code.Cells.{cell_world, common_in, is_up_in, row_in}
 use Rattle.zoneadmd_steps.specs.Code.Desks.{as_desk}
 use Rattle.zone_machine.specs.Code.Cases.{decision_of}
-use Rattle.zone_machine.specs.Code.Rooms.{Alike, HasRoom, HasRoomIfSits, HasRoomToChange, HasRoomToStore}
+use Rattle.zone_machine.specs.Code.Rooms.{Alike, HasRoom, HasRoomIfSits, HasRoomToStore}
+use Rattle.loopback_mounts.specs.Mounts.{Mounts}
+use Rattle.zoneadmd_steps.specs.Code.Cases.{Holds, IsFreeFor, No_premise, Premise}
 use Rattle.zone_machine.specs.Code.Works.{objects_of}
 use Rattle.zone_machine.specs.declared.cases.Case.{Case}
 use Rattle.zone_machine.specs.declared.cases.Case.TheVariants as cases
-use Rattle.zoneadmd_steps.specs.declared.objects.changes.ObjectEdit.{ObjectEdit}
-use Rattle.zoneadmd_steps.specs.declared.objects.changes.ObjectEdit.TheVariants as edit
 use Rattle.zone_pools.specs.Asked.{A_pid, A_source, A_zid, An_item, Asked}
 use Rattle.datalink_table.specs.Claims as claims
 use Rattle.datalink_table.specs.Claims.{holds}
@@ -92,10 +92,13 @@ alike_ups c s t ups same = record {
   pools = ap pools_in same ∙ (λ i. record (pools_in s) { may_clone = λ z. is_installed (row_in z s) && not (ups z i) });
 }
 
--- room doesn't go by what the zone has in the kernel and what it claims
-change_came : (o : ObjectEdit) (c : Cell) (k : Kernels.Kernel) (cs : claims.Cell) → HasRoomToChange o c → HasRoomToChange o (record c { kernel = k; claims = cs })
-change_came (edit.Mount m) c k cs h = h
-change_came _ c k cs h = tt
+-- what an edit takes for granted still holds once something came, which is a claim only where nothing is taken for granted
+pub free_came : (p : Premise) (b : Bool) (c d : Cell) → (b ≡ true → p ≡ No_premise) → (b ≡ false → d.claims ≡ c.claims) → d.mounts ≡ c.mounts
+    → Holds p c.mounts.list c.claims.claims → Holds p d.mounts.list d.claims.claims
+free_came p true c d none same mounts h = subst (λ p. Holds p d.mounts.list d.claims.claims) (sym (none refl)) tt
+free_came p false c d none same mounts h = rw (mounts, same refl) h
+
+-- and room doesn't go by what the zone has in the kernel and what it claims
 
 store_came : (asked : List Asked) (s : Shared) (t : Kernel) (u : Claim_shared) → HasRoomToStore asked s → HasRoomToStore asked (record s { kernel = t; claims = u })
 store_came [] s t u h = tt
@@ -109,11 +112,14 @@ sits_came : (case : Case) (c : Cell) (s : Shared) (k : Kernels.Kernel) (cs : cla
 sits_came (cases.Put request owner) c s k cs t u h = h
 sits_came _ c s k cs t u h = tt
 
-pub room_came : (z : Name) (case : Case) (c d : Cell) (s t : Shared) → d ≡ record c { kernel = d.kernel; claims = d.claims } → t ≡ record s { kernel = t.kernel; claims = t.claims } → HasRoom z case c s → HasRoom z case d t
-room_came z case c d s t cell shared room =
-    subst (λ d. HasRoom z case d t) (sym cell) (subst (λ t. HasRoom z case (record c { kernel = d.kernel; claims = d.claims }) t) (sym shared) (record {
+pub room_came : (z : Name) (case : Case) (c d : Cell) (s t : Shared) → d ≡ record c { kernel = d.kernel; claims = d.claims } → t ≡ record s { kernel = t.kernel; claims = t.claims }
+    → IsFreeFor (objects_of case) d.mounts.list d.claims.claims → HasRoom z case c s → HasRoom z case d t
+room_came z case c d s t cell shared free room =
+    let now = record c { kernel = d.kernel; claims = d.claims } in
+    let left : IsFreeFor (objects_of case) c.mounts.list d.claims.claims = subst (λ (m : Mounts). IsFreeFor (objects_of case) m.list d.claims.claims) (ap (λ (c : Cell). c.mounts) cell) free in
+    subst (λ d. HasRoom z case d t) (sym cell) (subst (λ t. HasRoom z case now t) (sym shared) (record {
       stored = store_came (asked_of (decision_of c.desk case)) s t.kernel t.claims room.stored;
-      objects = change_came (objects_of case) c d.kernel d.claims room.objects;
+      objects = (room.objects.0, left);
       sits = sits_came case c s d.kernel d.claims t.kernel t.claims room.sits;
       rises = room.rises;
       desk = room.desk;

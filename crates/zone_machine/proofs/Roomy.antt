@@ -1,16 +1,11 @@
 -- Room for what comes and what changes, and that what a case of the code asks goes with what comes.
-use Rattle.std.proofs.Common.{◌≡◌, ◌∷◌, [], ◌&&◌, ◌<◌, ℕ, List, Bool, drop, true, false, Option, Some, None, Result, Ok as Right, Err, Ok, refl, sym, ◌∙◌, subst, IfSome}
-use Rattle.std.specs.Prelude.{if◌then◌else◌}
+use Rattle.std.proofs.Common.{◌≡◌, ◌∷◌, [], ℕ, List, drop, true, false, Option, Some, None, Result, Ok as Right, Err, refl, sym, subst}
 use Rattle.std.proofs.lemmas.Bool.{false≢true}
 use Rattle.zn_base.specs.Names.{Name}
-use Rattle.config_terms.specs.Fields.{path_text}
 use Rattle.datalink_table.specs.Claims.{pool_of}
-use Rattle.loopback_mounts.specs.Mounts.{mount_answer}
 use Rattle.std.proofs.lemmas.Bool.{and_from}
 use Rattle.std.proofs.lemmas.Slice.Eq.{bytes_eq-Decides}
-use Rattle.std.specs.Str.{bytes_eq}
 use Rattle.zone_pools.proofs.Same_laws.{pool-Decides}
-use Rattle.zone_pools.specs.Same.{same_pool}
 use Rattle.zone_pools.specs.Asked.{A_path, A_pid, A_serial, A_source, A_zid, A_zone, An_item, Asked}
 use Rattle.zone_pools.specs.Decisions as decisions
 use Rattle.zone_pools.specs.Decisions.{Ask, Just, asked_of, number_in}
@@ -19,12 +14,12 @@ use Rattle.zone_pools.specs.declared.grant.Grant.{Grant}
 use Rattle.zone_pools.specs.declared.grant.Pool.{Pool}
 use Rattle.zone_machine.proofs.Asking.{asks_rightly}
 use Rattle.zoneadmd_steps.proofs.Of_turns.{is_asked_for}
-use Rattle.zoneadmd_steps.specs.Arrivals.{A_claim, A_process, A_record, An_id, Arrival, Comes, No_thing, arrived, New_claim, New_process, New_id, New_record, No_new_thing, in_kernel, in_store}
+use Rattle.zoneadmd_steps.specs.Arrivals.{A_claim, A_process, A_record, An_id, Arrival, Comes, No_thing, arrived, New_claim, New_process, New_id, New_record, No_new_thing, in_store}
 use Rattle.zone_machine.specs.State.Decisions.{Decision, act_of, effects, turned}
-use Rattle.zone_machine.specs.Code.Rooms.{HasRoomOf, HasRoomToChange, HasRoomToStore, IsFreeOf}
+use Rattle.zone_machine.specs.Code.Rooms.{HasRoomBy, HasRoomOf, HasRoomToChange, HasRoomToStore, IsFreeOf}
 use Rattle.zone_machine.specs.declared.machine.cell.Cell.{Cell}
 use Rattle.zone_machine.specs.declared.machine.shared.Shared.{Shared}
-use Rattle.zoneadmd_steps.specs.Code.Cases.{asked_for, comes_of, edits_under, job_turn, mount_in, object_edits, on_job, shown_under, turn_decision_of, undo_with}
+use Rattle.zoneadmd_steps.specs.Code.Cases.{Holds, asked_for, comes_of, edits_under, halt_begun, job_turn, object_edits, on_job, premise_of, shown_under, turn_decision_of, undo_with}
 use Rattle.zone_machine.specs.Code.Cases.{decision_of}
 use Rattle.zoneadmd_steps.specs.Desks as desks
 use Rattle.zoneadmd_steps.specs.Desks.{Fails, Goes, Stage}
@@ -37,13 +32,13 @@ use Rattle.zoneadmd_steps.specs.declared.cases.JobCase.{JobCase}
 use Rattle.zoneadmd_steps.specs.declared.cases.JobCase.TheVariants as jobs
 use Rattle.zoneadmd_steps.specs.declared.cases.TurnCase.{TurnCase}
 use Rattle.zoneadmd_steps.specs.declared.cases.TurnCase.TheVariants as turns
+use Rattle.zoneadmd_steps.specs.declared.requests.Request.{Request}
 use Rattle.zoneadmd_steps.specs.declared.requests.Step.{Step}
 use Rattle.zoneadmd_steps.specs.declared.desks.Desk.{Desk}
 use Rattle.zoneadmd_steps.specs.declared.desks.Job.{Job}
 use Rattle.zoneadmd_steps.specs.declared.objects.changes.Came.{Came}
 use Rattle.zoneadmd_steps.specs.declared.objects.changes.Came.TheVariants as came_type
 use Rattle.zoneadmd_steps.specs.declared.objects.changes.ObjectEdit.{ObjectEdit}
-use Rattle.loopback_mounts.specs.declared.mount.Mount as mounts
 
 -- what comes by a number, or is denied
 abbrev pub came : Comes → Result ℕ Pool → Option Arrival
@@ -94,6 +89,8 @@ asks_undo d j edits (Fails outcome (s ∷ rest)) = refl
 asks_job : (d : desks.Desk) (j : Job) (c : JobCase) → asks_rightly (job_turn d j c) ≡ true
 asks_job d j (jobs.Finish outcome) = refl
 asks_job d j (jobs.Pass p) = refl
+asks_job d j (jobs.Unmounts dir next) = refl
+asks_job d j (jobs.Releases claim next) = refl
 asks_job d j (jobs.Ask it next) = asks_came d (as_job j) (drop next j.steps.items) it
 asks_job d j (jobs.Fail f) = refl
 asks_job d j jobs.Stuck = refl
@@ -103,9 +100,14 @@ asks_on : (d : Desk) (o : Option Job) (c : JobCase) → asks_rightly (on_job d o
 asks_on d None c = refl
 asks_on d (Some j) c = asks_job (as_desk d) j c
 
+asks_first : (d : Desk) (waiting : List (ℕ × Request)) (brand : Option ℕ) → asks_rightly (halt_begun d waiting brand) ≡ true
+asks_first d [] brand = refl
+asks_first d (first ∷ rest) brand = refl
+
 asks_turn_case : (d : Desk) (c : TurnCase) → asks_rightly (turn_decision_of d c) ≡ true
 asks_turn_case d turns.Idle = refl
 asks_turn_case d (turns.Begin job) = refl
+asks_turn_case d (turns.BeginHalt brand) = asks_first d d.waiting.items brand
 asks_turn_case d (turns.Again job) = refl
 asks_turn_case d (turns.Refuse ticket s) = refl
 asks_turn_case d (turns.GoOn c) = asks_on d d.job c
@@ -119,9 +121,9 @@ asks_case d (cases.Make row owner) = refl
 asks_case d (cases.Put request owner) = refl
 asks_case d (cases.Turn c) = asks_turn (turn_decision_of d c) (asks_turn_case d c)
 
--- room doesn't go by the desk, and not by what else than a mount is changed
-pub room_change : (o p : ObjectEdit) (c : Cell) (d : Desk) → mount_in p ≡ mount_in o → HasRoomToChange o c → HasRoomToChange p (record c { desk = d })
-room_change o p c d same h = subst (λ m. IfSome m (λ m. (0 < c.mounts.room) × (mount_answer m.dir c.mounts.list ≡ Ok tt))) (sym same) h
+-- room doesn't go by the desk, and not by more of an edit than what it takes for granted
+pub room_change : (o p : ObjectEdit) (c : Cell) (d : Desk) → premise_of p ≡ premise_of o → HasRoomToChange o c → HasRoomToChange p (record c { desk = d })
+room_change o p c d same h = subst (λ q. HasRoomBy q c.mounts × Holds q c.mounts.list c.claims.claims) (sym same) h
 
 -- a record is free for any zone
 pub free_any : (z y : Name) (a : Option Arrival) (P : Pools) → IsFreeOf z (in_store a) P → IsFreeOf y (in_store a) P

@@ -45,7 +45,7 @@ use Rattle.zone_machine.specs.declared.replies.Reply.{Reply}
 use Rattle.zone_machine.specs.declared.machine.shared.Shared.{Shared}
 use Rattle.zoneadmd_steps.specs.Objects.{has_zid}
 use Rattle.zone_machine.specs.Code.Cases.{decision_of}
-use Rattle.zone_machine.specs.Code.Rooms.{Alike, IsOpenTo}
+use Rattle.zone_machine.specs.Code.Rooms.{IsOpenTo}
 use Rattle.zone_machine.specs.declared.cases.Case.{Case}
 
 -- what is stored of a zone is its row of the shared part

@@ -28,7 +28,7 @@ use Rattle.zone_pools.specs.declared.owned.Owned.{Owned}
 use Rattle.zone_machine.proofs.Common_laws.{any_mine, any_own}
 use Rattle.zone_machine.proofs.Own_worlds.{leaves}
 use Rattle.zone_machine.proofs.Standing.{cell-stands, decide-stands, outside-stands, stored-stands, subject-stands}
-use Rattle.zone_machine.specs.Code.Cells.{CellOf, IsHeardIn, Keeps, Outside, SharedOf, Stands, cell_at, cell_objects, cell_world, common_in, declared_in, empty_world, outside_in, outside_of, row_in, world_or_empty}
+use Rattle.zone_machine.specs.Code.Cells.{CellOf, IsHeardIn, Keeps, Outside, SharedOf, Stands, cell_at, cell_world, common_in, declared_in, empty_world, outside_in, outside_of, row_in, world_or_empty}
 use Rattle.zone_machine.specs.Code.Needs.{pools_in}
 use Rattle.zone_machine.specs.Code.Reads.{decide_in, held_subject, idle_subject, is_turn, subject_at, subject_in}
 use Rattle.zone_machine.specs.Machine.Common.{Common, common}
@@ -449,7 +449,7 @@ pub heard-new : (brands : List Tabled) (c : Cell) → ((out : Outside) → cell_
 heard-new brands c nothing = ap (λ (w : World). next_answer brands (objects_of w) w.desk) (sym (nothing (record { stored = None; declared = none_declared; brands = brands })))
 
 -- what the machine hears is what the brand's table answers
-pub hears : (m : Parts) (e : Event) (asked : Option (List ℕ × Change)) (answer : HookAnswer) → IsNextHook m e asked → answer ≡ heard m.shared.brands asked → IsHeard m e answer
+pub hears : (m : Parts) (e : Event) (asked : Option (Option ℕ × Change)) (answer : HookAnswer) → IsNextHook m e asked → answer ≡ heard m.shared.brands asked → IsHeard m e answer
 hears m (event.Session n text) asked answer next is = tt
 hears m (event.Process y pid x) asked answer next is = tt
 hears m (event.System what) asked answer next is = tt

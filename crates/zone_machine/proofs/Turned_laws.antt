@@ -10,7 +10,7 @@ use Rattle.zone_pools.specs.declared.grant.Pool.TheVariants.{Store}
 use Rattle.zone_machine.proofs.Acts_laws.{own-acts}
 use Rattle.zone_machine.proofs.Own_worlds.{view-world}
 use Rattle.zoneadmd_steps.specs.Arrivals.{Arrival, Comes, New_process, New_record, arrived}
-use Rattle.zone_machine.specs.Code.Works.{Works, rest_of, turned_act, work_act}
+use Rattle.zone_machine.specs.Code.Works.{Works, reply_with, rest_of, turned_act, work_act}
 use Rattle.zone_machine.specs.declared.machine.work.Work.{Work}
 use Rattle.zoneadmd_steps.specs.Code.Works.{rest_of_turn, turn_work}
 use Rattle.zoneadmd_steps.specs.declared.settling.TurnWork.{TurnWork}
@@ -25,7 +25,10 @@ use Rattle.zone_machine.specs.State.Worlds.{World, seen_of, view_of, world}
 use Rattle.zone_machine.specs.declared.events.Event.TheVariants.{Turn}
 use Rattle.loopback_mounts.specs.declared.mount.MountEntry.{MountEntry}
 use Rattle.commit_journal.specs.declared.records.Record.{Record}
+use Rattle.zoneadmd_steps.specs.declared.requests.Gone.TheVariants.{Nothing as Nothing_gone}
+use Rattle.zone_machine.specs.declared.replies.Head.{Head}
 use Rattle.zone_machine.specs.declared.replies.Head.TheVariants.{Turned as Told}
+use Rattle.zone_machine.specs.declared.replies.Reply.{Reply}
 
 -- what a decision comes to is so, whatever is granted
 abbrev pub In : {E : Type 0} → (Option Arrival → E → Type 0) → decisions.Decision Comes E → Type 0
@@ -89,6 +92,14 @@ has-turned n a w = at_came a.came
     at_came : (c : Option Arrival) → Has (stored_after c w.stored) (mounts_after a.effect.objects w.mounts) (devices_after a.effect.objects w.devices) a.effect.desk (acts_world n (turned_act (record a { came = c })) w)
     at_came (Some (New_process p)) = has-edits n a.effect.objects a.effect.desk a.effect.ended (comes_world (New_process p) w)
     at_came c = has-edits n a.effect.objects a.effect.desk a.effect.ended (after_came_world c w)
+
+-- where nothing goes as the last, a reply is as it is
+pub nothing_told : (r : Reply) → reply_with Nothing_gone r ≡ r
+nothing_told r = at_head r.head
+  where
+    at_head : (h : Head) → reply_with Nothing_gone (record r { head = h }) ≡ record r { head = h }
+    at_head (Told t) = refl
+    at_head h = refl
 
 -- the work of a turn does what the machine makes of the turn
 pub settled_turn : (d : decisions.Decision Comes Turned) (g : Grant) (w : TurnWork) (desk : Desk) → rest_of_turn (decisions.act_of arrived d g) ≡ turn_work w desk → rest_of (act_of (effects turned d) g) ≡ turned_act (turn_work w desk)

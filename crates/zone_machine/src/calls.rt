@@ -122,7 +122,7 @@ fn call_case(
     ensures decides { IfOk result (λ c. (d : desk_types.Desk) (v : View) (p : Process) → Shows v zone.now cell.now → with_pid pid cell.now.kernel.processes ≡ Some p → calls v pid p call.now ≡ decision_of d c) }
     ensures of { IfOk result (λ c. (d : desk_types.Desk) → IsCaseOf d c) }
     ensures named { IfOk result (λ c. (z : Name) → IsNamedCase z c) }
-    ensures free { IfOk result (λ c. IsFreeCase c cell.now.mounts.list) }
+    ensures free { IfOk result (λ c. IsFreeCase c cell.now.mounts.list cell.now.claims.claims) }
 {
     let kernel = &cell.kernel;
     match call {

@@ -3,7 +3,7 @@ use crate::replies::{Body, Head};
 use commit_journal::Record;
 use kernel_objects::Running;
 use zn_base::ZoneName;
-use zoneadmd_steps::{ObjectEdit, Request, TurnCase};
+use zoneadmd_steps::{ObjectEdit, QueuedRequest, TurnCase};
 
 /// What an event of a zone comes to.
 #[derive(Drop)]
@@ -19,6 +19,6 @@ pub(crate) enum Case {
     /// A zone is made. The record's revision is the number that the grant gives.
     Make(Box<Record>, ZoneName),
     /// A request is put on the desk, and the session waits for its ticket.
-    Put(Request, ZoneName),
+    Put(QueuedRequest, ZoneName),
     Turn(TurnCase),
 }

@@ -217,7 +217,7 @@ module _ (w : World) (may : Bool) (none : may ≡ false → w.processes ≡ []) 
     limited_moved j rest path (Some row) h = limited_config j rest path row (with_zonepath path row.config) h
 
     limited_step : (j : Job) (rest : List Step) (s : Step) → Stands j (s ∷ rest) → LeavesBoth (shared_step v j rest s) (local_step w.brands (objects_of w) d j rest s)
-    limited_step j rest (Hook change) h = at_answer (answer_of w.brands j.config.brand change) (and_parts (stands may up (is_nil j.done.made)) _ h)
+    limited_step j rest (Hook change) h = at_answer (answer_of w.brands j.brand change) (and_parts (stands may up (is_nil j.done.made)) _ h)
       where
         at_answer : (answer : HookAnswer) → (stands may up (is_nil j.done.made) ≡ true) × (plan_stands may up (is_nil j.done.made) rest ≡ true) → Leaves None (hooked d j rest change answer)
         at_answer Proceed parts = stay parts.1
@@ -252,7 +252,7 @@ module _ (w : World) (may : Bool) (none : may ≡ false → w.processes ≡ []) 
     limited_begin waiting t r row h = at_outcome (refusal w.brands (kind_of r) (unwrap_or d.active row.state) row.config) refl
       where
         at_outcome : (outcome : Option Outcome) → refusal w.brands (kind_of r) (unwrap_or d.active row.state) row.config ≡ outcome
-            → Leaves None (started (record d { waiting = waiting }) t r (unwrap_or d.active row.state) row outcome)
+            → Leaves None (started w.brands (record d { waiting = waiting }) t r (unwrap_or d.active row.state) row outcome)
         at_outcome None e = stay (begin_stands r d.active row.state row.config may (begins w.brands (kind_of r) (unwrap_or d.active row.state) row.config e) h)
         at_outcome (Some outcome) e = stay h
 

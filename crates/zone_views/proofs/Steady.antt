@@ -169,7 +169,7 @@ module _ (o : Objects) (declared : List (List ℕ)) (brands : List Tabled) (row 
   keeps_moved j rest path (Right config) l = (λ pool. record { steady = and_from _ _ f refl; moves = inl refl }, λ n. record { steady = and_from _ _ f l; moves = inl refl })
 
   keeps_step : (j : Job) (rest : List Step) (s : Step) → leads d.active row.state (s ∷ rest) ≡ true → KeepsBoth (shared_step v j rest s) (local_step brands o d j rest s)
-  keeps_step j rest (Hook change) l = at_answer (answer_of brands j.config.brand change)
+  keeps_step j rest (Hook change) l = at_answer (answer_of brands j.brand change)
     where
       at_answer : (answer : HookAnswer) → Kept (hooked d j rest change answer)
       at_answer Proceed = record { steady = and_from _ _ f l; moves = inl refl }
@@ -208,7 +208,7 @@ module _ (o : Objects) (declared : List (List ℕ)) (brands : List Tabled) (row 
   keeps_begin : (waiting : List (ℕ × Request)) (t : ℕ) (r : Request) → Kept (begin brands (record d { waiting = waiting }) t r row)
   keeps_begin waiting t r = at_outcome (refusal brands (kind_of r) (unwrap_or d.active row.state) row.config) refl
     where
-      at_outcome : (outcome : Option Outcome) → refusal brands (kind_of r) (unwrap_or d.active row.state) row.config ≡ outcome → Kept (started (record d { waiting = waiting }) t r (unwrap_or d.active row.state) row outcome)
+      at_outcome : (outcome : Option Outcome) → refusal brands (kind_of r) (unwrap_or d.active row.state) row.config ≡ outcome → Kept (started brands (record d { waiting = waiting }) t r (unwrap_or d.active row.state) row outcome)
       at_outcome None e = record { steady = and_from _ _ f (begin_leads r d.active row.state row.config f (begins brands (kind_of r) (unwrap_or d.active row.state) row.config e)); moves = inl refl }
       at_outcome (Some outcome) e = record { steady = and_from _ _ f refl; moves = inl refl }
 

@@ -30,7 +30,7 @@ use Rattle.zone_pools.specs.Decisions.{Just}
 use Rattle.zone_pools.specs.Owned_lists.{Go, Put, but_last, put}
 use Rattle.zone_pools.specs.Pools.{or_else}
 use Rattle.zone_pools.specs.declared.grant.Grant.{Grant}
-use Rattle.zoneadmd_laws.proofs.Answering.{In, J, at_job, in_after, is_at_job, on_next, on_undo}
+use Rattle.zoneadmd_laws.proofs.Answering.{In, J, Kept, at_job, in_after, is_at_job, on_next, on_undo}
 use Rattle.zoneadmd_laws.proofs.Locally.{at_rest, is_plain}
 use Rattle.zoneadmd_laws.proofs.Making.{claim_fresh, entry, fit_claimed, fit_devices, fit_end, fit_mounted, fit_root, freed, freed_put, freed_without, fs_dir, fs_free, isn't, kept_resources, last_gone, no_devices, no_mounts, no_way, none_at, one_still, root_free, without, without_put}
 use Rattle.zoneadmd_laws.proofs.Moving.{moved_so}
@@ -42,7 +42,7 @@ use Rattle.zoneadmd_laws.specs.Lists.{all_differ}
 use Rattle.zoneadmd_steps.specs.Configs.{claims_of, fs_dirs, fs_mount, limits_by, root_dir, root_mount, with_zonepath}
 use Rattle.zoneadmd_steps.specs.Desks.{Fails, Goes, Job, Progress, Stage, state_now}
 use Rattle.zoneadmd_steps.specs.Objects.{Of_mounts, all_of}
-use Rattle.zoneadmd_steps.specs.Plans.{boot_part, hook_after, is_verified, kind_of, may_begin, plan, ready_part, refusal, unverified}
+use Rattle.zoneadmd_steps.specs.Plans.{boot_part, hook_after, is_verified, kept_of, kind_of, may_begin, plan, ready_part, refusal, unverified}
 use Rattle.zoneadmd_steps.specs.Turns.{A_step, Seen, advance, bootargs_of, claim_or, failed, hooked, local_turn, mount_or, mounting, new_path, next, next_request, over, record_config, record_moved, record_state, size_in, started, stuck, turn, undone, unmount_last, with_step}
 use Rattle.zoneadmd_steps.specs.declared.requests.Outcome.TheVariants.{TooLarge, WrongState}
 use Rattle.zoneadmd_steps.specs.declared.requests.Outcome.{Outcome}
@@ -183,12 +183,19 @@ stands_on : (p : Phase) (dn left : List Step) (c : Contents) (v : Seen) (rs : Li
 stands_on Off dn left c v rs o h = h
 stands_on _ dn left c v rs o h = h
 
+-- before a step is done, what stands doesn't depend on the configuration
+stands_any : (p : Phase) (left : List Step) (c d : Contents) (v : Seen) → Stands p [] left c v → Stands p [] left d v
+stands_any Making left c d v h = absurd (true≢false (sym h.steps))
+stands_any Off left c d v h = h
+stands_any Ahead left c d v h = h
+stands_any _ left c d v h = h
+
 begin_agrees : (v : Seen) (now : Agrees v) (rs : List (ℕ × Request)) (t : ℕ) (r : Request) (row : Record) → v.stored ≡ Some row → Rests v v.desk.active
-    → (o : Option Outcome) → refusal v.brands (kind_of r) (state_now row v.desk) row.config ≡ o → In (λ a. Agrees a.seen) v (Just (started (record v.desk { waiting = rs }) t r (state_now row v.desk) row o))
+    → (o : Option Outcome) → refusal v.brands (kind_of r) (state_now row v.desk) row.config ≡ o → In (λ a. Agrees a.seen) v (Just (started v.brands (record v.desk { waiting = rs }) t r (state_now row v.desk) row o))
 begin_agrees v now rs t r row e rest (Some o) eo = (rest, now.1)
 begin_agrees v now rs t r row e rest None eo =
     let x = starts v.brands v row.config v.desk.active row.state r rest (subst Is_kept e now.1).1 (subst Is_kept e now.1).0 (λ i. ap is_installed e ∙ ap is_state_installed i) eo (begins v.brands (kind_of r) (state_now row v.desk) row.config eo) in
-    ((x.phase, x.goes, stands_on x.phase [] _ row.config v rs _ x.stands, λ e. refl), now.1)
+    ((x.phase, x.goes, stands_on x.phase [] _ (kept_of r row.config) v rs _ (stands_any x.phase _ row.config (kept_of r row.config) _ x.stands), λ e. refl), now.1)
 
 module _ (v : Seen) (j : Job) (now : Agrees v) where
   kept : Is_kept v.stored
@@ -242,7 +249,7 @@ module _ (v : Seen) (j : Job) (now : Agrees v) where
 
   step_agrees : (p : Phase) (s : Step) (rest : List Step) → walks (Some p) (s ∷ rest) ≡ true → Stands p j.done.made (s ∷ rest) j.config v → (is_making p ≡ false → j.done.made ≡ []) → is_plain (A_step s rest) ≡ true
       → In Agreed v (on_next v j (A_step s rest))
-  step_agrees Off (step.Hook c) rest h st n i = hook_agrees Off rest c (answer_of v.brands j.config.brand c) (n refl) h (λ o. fails_late Off (step.Hook c ∷ rest) o refl (n refl) st) st
+  step_agrees Off (step.Hook c) rest h st n i = hook_agrees Off rest c (answer_of v.brands j.brand c) (n refl) h (λ o. fails_late Off (step.Hook c ∷ rest) o refl (n refl) st) st
   step_agrees Off (step.Record Configured) rest h st n i = state_agrees rest Configured v.stored refl refl (n refl) h st
   step_agrees Off (step.Record Incomplete) rest h st n i = state_agrees rest Incomplete v.stored refl refl (n refl) h st
   step_agrees Off (step.Record Installed) rest h st n i = state_agrees rest Installed v.stored refl refl (n refl) h st
@@ -250,7 +257,7 @@ module _ (v : Seen) (j : Job) (now : Agrees v) where
   step_agrees Off (step.Copy k) rest h st n i = ((Off, h, st, n), kept)
   step_agrees Off (step.Erase k) rest h st n i = ((Off, h, st, n), kept)
   step_agrees Off (step.Source z) rest h st n i = (λ p. fails_late Off (step.Source z ∷ rest) _ refl (n refl) st, λ k. ((Off, h, st, n), kept))
-  step_agrees Ahead (step.Hook c) rest h st n i = hook_agrees Ahead rest c (answer_of v.brands j.config.brand c) (n refl) h (λ o. fails_ahead (step.Hook c ∷ rest) o (n refl) st) st
+  step_agrees Ahead (step.Hook c) rest h st n i = hook_agrees Ahead rest c (answer_of v.brands j.brand c) (n refl) h (λ o. fails_ahead (step.Hook c ∷ rest) o (n refl) st) st
   step_agrees Ahead (step.Zid z) rest h st n i = (
     λ p. fails_ahead (step.Zid z ∷ rest) _ (n refl) st,
     λ k. (
@@ -381,14 +388,14 @@ module _ (v : Seen) (j : Job) (now : Agrees v) where
     ),
   )
   step_agrees Making (step.State Is_ready) rest h st n i = ((Ready, h, ((st.installed, st.id, refl), refl, st.processes), λ e. refl), kept)
-  step_agrees Ready (step.Hook c) rest h st n i = hook_agrees Ready rest c (answer_of v.brands j.config.brand c) (n refl) h (λ o. fails_late Ready (step.Hook c ∷ rest) o refl (n refl) st) st
+  step_agrees Ready (step.Hook c) rest h st n i = hook_agrees Ready rest c (answer_of v.brands j.brand c) (n refl) h (λ o. fails_late Ready (step.Hook c ∷ rest) o refl (n refl) st) st
   step_agrees Ready (step.Init o) rest h st n i = (
     λ p. fails_late Ready (step.Init o ∷ rest) _ refl (n refl) st,
     λ k. ((Started, h, (st.0.0, one_still (with_bootargs (bootargs_of j.request j.config)) v.objects.ids st.0.1, st.0.2), n), kept),
   )
   step_agrees Ready (step.State ShuttingDown) rest h st n i = ((Stopping, h, (st.0.0, st.0.1, refl), n), kept)
   step_agrees Started (step.State Is_running) rest h st n i = ((Running, h, ((st.0, st.1, refl), refl), n), kept)
-  step_agrees Running (step.Hook c) rest h st n i = hook_agrees Running rest c (answer_of v.brands j.config.brand c) (n refl) h (λ o. fails_late Running (step.Hook c ∷ rest) o refl (n refl) st) st
+  step_agrees Running (step.Hook c) rest h st n i = hook_agrees Running rest c (answer_of v.brands j.brand c) (n refl) h (λ o. fails_late Running (step.Hook c ∷ rest) o refl (n refl) st) st
   step_agrees Running (step.State ShuttingDown) rest h st n i = ((Stopping, h, (st.0.0, st.0.1, refl), n), kept)
   step_agrees Stopping (step.Kill o) rest h st n i = ((Killed, h, (st, all_gone v.objects.processes), n), kept)
   step_agrees Released step.Clear rest h st n i = ((Cleared, h, ((st.0.0, one_still cleared v.objects.ids st.0.1, st.0.2), st.1, st.2, st.3, refl), n), kept)
@@ -522,7 +529,7 @@ module _ (v : Seen) (j : Job) (now : Agrees v) where
       }))
   undo_agrees o _ rest h = no_way h.steps
 
-stage_agrees : (w : Seen) (t : ℕ) (r : Request) (c : Contents) (dn : Progress) (stage : Stage)
+stage_agrees : (w : Seen) (t : ℕ) (r : Request) (c : Kept) (dn : Progress) (stage : Stage)
     → let v = at_job w (J t r c dn stage) in Agrees v → In (λ a. Agrees a.seen) v (turn v)
 unfolding turn local_turn
 stage_agrees w t r c dn (Goes left) h = let j = J t r c dn (Goes left) in left_agrees (at_job w j) j h h.0.0 left h.0.1 h.0.2 h.0.3
@@ -549,4 +556,4 @@ turn_agrees w g h = go w.desk.job refl
     go (Some j) e =
         let same = is_at_job w j e in
         subst (λ v. Agrees (after (turn v) g v).seen) (sym same)
-        (in_after (λ a. Agrees a.seen) (at_job w j) (turn (at_job w j)) g (stage_agrees w j.ticket j.request j.config j.done j.stage (subst Agrees same h)))
+        (in_after (λ a. Agrees a.seen) (at_job w j) (turn (at_job w j)) g (stage_agrees w j.ticket j.request (j.brand, j.config) j.done j.stage (subst Agrees same h)))

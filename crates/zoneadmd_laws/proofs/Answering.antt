@@ -1,5 +1,5 @@
 -- What one turn of a request under way answers.
-use Rattle.brand_hooks.specs.Brands.{answer_of}
+use Rattle.brand_hooks.specs.Brands.{Tabled, answer_of, place_of}
 use Rattle.brand_hooks.specs.declared.change.Change.{Change}
 use Rattle.brand_hooks.specs.declared.table.HookAnswer.TheVariants.{Proceed, Refuse}
 use Rattle.brand_hooks.specs.declared.table.HookAnswer.{HookAnswer}
@@ -25,6 +25,7 @@ use Rattle.zoneadmd_steps.specs.Arrivals.{arrived}
 use Rattle.zoneadmd_steps.specs.Configs.{devices_by, root_dir, with_zonepath}
 use Rattle.zoneadmd_steps.specs.Desks.{Desk, Fails, Goes, Job, Progress, Stage}
 use Rattle.zoneadmd_steps.specs.Objects.{Of_mounts, zid_of}
+use Rattle.zoneadmd_steps.specs.Plans.{kept_of}
 use Rattle.zoneadmd_steps.specs.Turns.{A_step, Next, Seen, Turn_decision, finish, hooked, local_next, local_turn, local_undo, new_path, next, or_shared, record_config, record_moved, record_state, shared_next, size_in, stuck, turn, undo_edits, undone, with_step}
 use Rattle.zoneadmd_steps.specs.declared.requests.Outcome.TheVariants as outcome
 use Rattle.zoneadmd_steps.specs.declared.requests.Outcome.{Outcome}
@@ -33,9 +34,16 @@ use Rattle.zoneadmd_steps.specs.declared.requests.Step.TheVariants as step
 use Rattle.zoneadmd_steps.specs.declared.requests.Step.{Step}
 use Rattle.zoneadmd_steps.specs.declared.requests.TurnReply.TheVariants.{Stepped, Failed, Undone, Stuck, Finished}
 
--- a job by its parts, and a zone with it under way
-abbrev pub J : ℕ → Request → Contents → Progress → Stage → Job
-J t r c done stage = record { ticket = t; request = r; config = c; done = done; stage = stage }
+-- what a job keeps as it begins, a job by its parts, and a zone with it under way
+abbrev pub Kept : Type 0
+Kept = Option ℕ × Contents
+
+abbrev pub J : ℕ → Request → Kept → Progress → Stage → Job
+J t r c done stage = record { ticket = t; request = r; brand = c.0; config = c.1; done = done; stage = stage }
+
+-- what a request keeps of a configuration
+abbrev pub kept_now : List Tabled → Request → Contents → Kept
+kept_now brands r c = (place_of c.brand brands, kept_of r c)
 
 abbrev pub at_job : Seen → Job → Seen
 at_job w j = record w { desk = record w.desk { job = Some j } }
@@ -47,7 +55,7 @@ is_at_job w j h = λ i. record w { desk = record w.desk { job = h i } }
 abbrev pub on_next : Seen → Job → Next → Turn_decision
 on_next w j n = or_shared (shared_next w j n) (local_next w.brands w.objects w.desk j n)
 
-pub turn_goes : (w : Seen) (t : ℕ) (r : Request) (c : Contents) (done : Progress) (left : List Step)
+pub turn_goes : (w : Seen) (t : ℕ) (r : Request) (c : Kept) (done : Progress) (left : List Step)
     → let j = J t r c done (Goes left) in let v = at_job w j in turn v ≡ on_next v j (next v.objects left)
 unfolding turn local_turn
 turn_goes w t r c done left = refl
@@ -109,7 +117,7 @@ moved_did d j rest path (Some row) w h = at_config (with_zonepath path row.confi
 -- a step of a plan: its turn shows it, or it failed
 pub step_did : (w : Seen) (j : Job) (s : Step) (rest : List Step) → is_some w.stored ≡ true
     → In (Dids j s rest) w (on_next w j (A_step s rest))
-step_did w j (step.Hook change) rest h = hooked_did w.desk j rest change (answer_of w.brands j.config.brand change) w
+step_did w j (step.Hook change) rest h = hooked_did w.desk j rest change (answer_of w.brands j.brand change) w
 step_did w j (step.Record s) rest h = state_did w.desk j rest s w.stored w h
 step_did w j step.Moved rest h = moved_did w.desk j rest (new_path j.request) w.stored w h
 step_did w j (step.Source z) rest h = (λ p. didn't j (step.Source z) rest (outcome.Denied p) _ refl refl refl, λ n. did j (step.Source z) (step.Source z) rest _ refl refl refl)
@@ -150,12 +158,12 @@ step_undone w j o step.Root rest h = mount_undone w j o rest root_dir step.Root 
 step_undone w j o (step.Mounted dir) rest h = mount_undone w j o rest dir (step.Mounted dir) (is_held (mount_at dir w.objects.mounts)) h
 step_undone w j o s rest h = inl (record { reply = refl; job = refl })
 
-pub turn_undoes : (w : Seen) (t : ℕ) (r : Request) (c : Contents) (done : Progress) (o : Outcome) (s : Step) (rest : List Step)
+pub turn_undoes : (w : Seen) (t : ℕ) (r : Request) (c : Kept) (done : Progress) (o : Outcome) (s : Step) (rest : List Step)
     → let j = J t r c done (Fails o (s ∷ rest)) in let v = at_job w j in turn v ≡ on_undo v j o rest s
 unfolding turn local_turn
 turn_undoes w t r c done o s rest = refl
 
-pub turn_ends : (w : Seen) (t : ℕ) (r : Request) (c : Contents) (done : Progress) (o : Outcome)
+pub turn_ends : (w : Seen) (t : ℕ) (r : Request) (c : Kept) (done : Progress) (o : Outcome)
     → let v = at_job w (J t r c done (Fails o [])) in turn v ≡ Just (finish v.desk t o)
 unfolding turn local_turn
 turn_ends w t r c done o = refl
@@ -187,7 +195,7 @@ moved_still d j rest path (Some row) w = at_config (with_zonepath path row.confi
 
 pub step_still : (w : Seen) (j : Job) (s : Step) (rest : List Step) → only_ends (s ∷ rest) ≡ true
     → In (Still w) w (on_next w j (A_step s rest))
-step_still w j (step.Hook change) rest h = hooked_still w.desk j rest change (answer_of w.brands j.config.brand change) w
+step_still w j (step.Hook change) rest h = hooked_still w.desk j rest change (answer_of w.brands j.brand change) w
 step_still w j (step.Record s) rest h = state_still w.desk j rest s w.stored w
 step_still w j step.Moved rest h = moved_still w.desk j rest (new_path j.request) w.stored w
 step_still w j (step.Source z) rest h = (λ p. still w _ refl refl refl, λ n. still w _ refl refl refl)

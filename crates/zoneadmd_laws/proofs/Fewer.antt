@@ -22,7 +22,7 @@ use Rattle.zone_config.specs.declared.terms.Contents.{Contents}
 use Rattle.zone_pools.specs.Decisions.{Just}
 use Rattle.zone_pools.specs.Owned_lists.{Go, Put, but_last, put}
 use Rattle.zone_pools.specs.declared.grant.Grant.{Grant}
-use Rattle.zoneadmd_laws.proofs.Answering.{In, J, at_job, in_after, is_at_job, on_next, on_undo}
+use Rattle.zoneadmd_laws.proofs.Answering.{In, J, Kept, at_job, in_after, is_at_job, on_next, on_undo}
 use Rattle.zoneadmd_laws.proofs.Locally.{at_rest, is_plain}
 use Rattle.zoneadmd_laws.proofs.Moving.{moved_so}
 use Rattle.zoneadmd_laws.proofs.Telling.{last_more, last_some}
@@ -167,7 +167,7 @@ module _ (v : Seen) (j : Job) where
   claim_fewer x rest c false = subst (λ k. A + most more (length v.objects.mounts) k (suc u) rest < A + max c (most more (length v.objects.mounts) (suc (length v.objects.claims)) (suc u) rest + 1)) (sym (length-append v.objects.claims (x ∷ []) ∙ (omega arith))) (did A c _)
 
   step_fewer : (s : Step) (rest : List Step) → is_plain (A_step s rest) ≡ true → In (Fewer (left_of (s ∷ rest))) v (on_next v j (A_step s rest))
-  step_fewer (step.Hook change) rest h = hook_fewer rest change (answer_of v.brands j.config.brand change)
+  step_fewer (step.Hook change) rest h = hook_fewer rest change (answer_of v.brands j.brand change)
   step_fewer (step.Record s) rest h = state_fewer rest s v.stored refl
   step_fewer step.Moved rest h = moved_fewer rest (new_path j.request) v.stored refl
   step_fewer (step.Source z) rest h = (λ p i. fail_fewer _, λ n i. did A _ _)
@@ -209,7 +209,7 @@ module _ (v : Seen) (j : Job) where
   over_fewer : (row : Option Record) (r : Request) → v.stored ≡ row → j.request ≡ r → In (Fewer (A + turns_after row r (length v.objects.mounts) (length v.objects.claims))) v (over v.brands v.desk j row r)
   over_fewer (Some row) (request.Reboot args) e er = go (refusal v.brands kind.Boot (state_now row v.desk) row.config)
     where
-      go : (o : Option Outcome) → In (Fewer (A + boot_turns args row.config (length v.objects.mounts) (length v.objects.claims))) v (Just (started v.desk j.ticket (request.Boot args) (state_now row v.desk) row o))
+      go : (o : Option Outcome) → In (Fewer (A + boot_turns args row.config (length v.objects.mounts) (length v.objects.claims))) v (Just (started v.brands v.desk j.ticket (request.Boot args) (state_now row v.desk) row o))
       go None = λ i. rw e (boot_fewer (state_now row v.desk) args row.config (length v.objects.mounts) (length v.objects.claims))
       go (Some o) = λ i. omega arith
   over_fewer None r e er = λ i. omega arith
@@ -253,7 +253,7 @@ module _ (v : Seen) (j : Job) where
   undo_fewer o (step.Mounted dir) rest = undo_mount_fewer o (step.Mounted dir) rest dir (is_held (mount_at dir v.objects.mounts))
   undo_fewer o _ rest = λ i. omega arith
 
-stage_fewer : (w : Seen) (t : ℕ) (r : Request) (c : Contents) (dn : Progress) (stage : Stage)
+stage_fewer : (w : Seen) (t : ℕ) (r : Request) (c : Kept) (dn : Progress) (stage : Stage)
     → let v = at_job w (J t r c dn stage) in In (Fewer (turns_left v)) v (turn v)
 unfolding turn local_turn
 stage_fewer w t r c dn (Goes left) = left_fewer (at_job w (J t r c dn (Goes left))) (J t r c dn (Goes left)) left
@@ -265,7 +265,7 @@ begin_fewer w [] row e short = λ i. absurd (true≢false (sym i))
 begin_fewer w (r ∷ rs) None e short = λ i. absurd (true≢false (sym i))
 begin_fewer w (r ∷ rs) (Some row) e short = go (refusal w.brands (kind_of r.1) (state_now row w.desk) row.config)
   where
-    go : (o : Option Outcome) → In (Fewer (1000000 * length (r ∷ rs))) w (Just (started (record w.desk { waiting = rs }) r.0 r.1 (state_now row w.desk) row o))
+    go : (o : Option Outcome) → In (Fewer (1000000 * length (r ∷ rs))) w (Just (started w.brands (record w.desk { waiting = rs }) r.0 r.1 (state_now row w.desk) row o))
     go None = λ i. omega (arith, short row r.1 e)
     go (Some o) = λ i. omega arith
 
@@ -283,4 +283,4 @@ turn_fewer w g short = go w.desk.job refl
         subst (λ v. Fewer (turns_left v) (after (turn v) g v)) (sym same) (in_after (Fewer (turns_left (at_rest w))) (at_rest w) (turn (at_rest w)) g (rest_fewer w short))
     go (Some j) e =
         subst (λ v. Fewer (turns_left v) (after (turn v) g v)) (sym (is_at_job w j e))
-        (in_after (Fewer (turns_left (at_job w j))) (at_job w j) (turn (at_job w j)) g (stage_fewer w j.ticket j.request j.config j.done j.stage))
+        (in_after (Fewer (turns_left (at_job w j))) (at_job w j) (turn (at_job w j)) g (stage_fewer w j.ticket j.request (j.brand, j.config) j.done j.stage))

@@ -15,7 +15,7 @@ use Rattle.zone_pools.specs.Decisions.{Ask, Just, granted, number_in}
 use Rattle.zone_pools.specs.Owned_lists.{Go}
 use Rattle.zone_pools.specs.declared.grant.Grant.{Grant}
 use Rattle.zone_pools.specs.declared.grant.Pool.{Pool}
-use Rattle.zoneadmd_laws.proofs.Answering.{J, at_job, is_at_job, on_next, on_undo}
+use Rattle.zoneadmd_laws.proofs.Answering.{J, Kept, at_job, is_at_job, on_next, on_undo}
 use Rattle.zoneadmd_laws.proofs.Locally.{at_rest, is_plain, next_plain}
 use Rattle.zoneadmd_laws.proofs.Trailing.{refusal_fault}
 use Rattle.zoneadmd_laws.specs.Afters.{After, after, come, done}
@@ -47,7 +47,7 @@ under_after g P w (Ask c asked denied given) h = go (number_in g) refl
     go (Err p) e = h.0 p
 
 module _ (brands : List Tabled) (v : Seen) (g : Grant) where
-  start_right : (d : Desk) (t : ℕ) (r : Request) (s : ZoneState) (row : Record) (o : Option Outcome) → refusal brands (kind_of r) s row.config ≡ o → Answers v g (A_begin t r) (done (started d t r s row o) v).reply
+  start_right : (d : Desk) (t : ℕ) (r : Request) (s : ZoneState) (row : Record) (o : Option Outcome) → refusal brands (kind_of r) s row.config ≡ o → Answers v g (A_begin t r) (done (started brands d t r s row o) v).reply
   start_right d t r s row None e = inl refl
   start_right d t r s row (Some o) e = inr (o, refusal_fault brands (kind_of r) s row.config o e, refl)
 
@@ -77,7 +77,7 @@ module _ (v : Seen) (g : Grant) (j : Job) (stored : is_some v.stored ≡ true) w
       at_config (Ok config) = (λ p. inr (inl (_, refl, refl)), λ n e. inl refl)
 
   step_right : (s : Step) (rest : List Step) → is_plain (A_step s rest) ≡ true → Under g (Right_at (A_step s rest)) v (on_next v j (A_step s rest))
-  step_right (step.Hook c) rest h = hook_right rest c (answer_of v.brands j.config.brand c)
+  step_right (step.Hook c) rest h = hook_right rest c (answer_of v.brands j.brand c)
   step_right (step.Record s) rest h = state_right rest s v.stored stored
   step_right step.Moved rest h = moved_right rest (new_path j.request) v.stored stored
   step_right (step.Source z) rest h = (λ p. inr (inl (_, refl, refl)), λ n e. inl refl)
@@ -118,7 +118,7 @@ module _ (v : Seen) (g : Grant) (j : Job) (stored : is_some v.stored ≡ true) w
 abbrev pub Turn_right : Seen → Grant → Type 0
 Turn_right w g = Answers w g (item w) (after (turn w) g w).reply
 
-stage_right : (w : Seen) (g : Grant) (t : ℕ) (r : Request) (c : Contents) (dn : Progress) (stage : Stage) → is_some w.stored ≡ true
+stage_right : (w : Seen) (g : Grant) (t : ℕ) (r : Request) (c : Kept) (dn : Progress) (stage : Stage) → is_some w.stored ≡ true
     → let v = at_job w (J t r c dn stage) in Under g (λ a. Answers v g (item v) a.reply) v (turn v)
 unfolding turn local_turn
 stage_right w g t r c dn (Goes left) h = let j = J t r c dn (Goes left) in let v = at_job w j in next_right v g j h (next v.objects left) (next_plain v.objects left)
@@ -139,4 +139,4 @@ turn_right w g h = go w.desk.job refl
         subst (λ v. Turn_right v g) (sym same) (under_after g (λ a. Answers (at_rest w) g (item (at_rest w)) a.reply) (at_rest w) (turn (at_rest w)) (rest_right w g h))
     go (Some j) e =
         subst (λ v. Turn_right v g) (sym (is_at_job w j e))
-        (under_after g (λ a. Answers (at_job w j) g (item (at_job w j)) a.reply) (at_job w j) (turn (at_job w j)) (stage_right w g j.ticket j.request j.config j.done j.stage h))
+        (under_after g (λ a. Answers (at_job w j) g (item (at_job w j)) a.reply) (at_job w j) (turn (at_job w j)) (stage_right w g j.ticket j.request (j.brand, j.config) j.done j.stage h))

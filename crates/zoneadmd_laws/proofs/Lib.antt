@@ -15,3 +15,4 @@ pub mod Agreeing
 pub mod Points
 pub mod Rooms
 mod Examples
+pub mod Halting

@@ -19,7 +19,7 @@ use Rattle.zone_config.specs.declared.terms.Contents.{Contents}
 use Rattle.zone_pools.specs.Decisions.{Just}
 use Rattle.zone_pools.specs.Owned_lists.{Go, Put}
 use Rattle.zone_pools.specs.declared.grant.Grant.{Grant}
-use Rattle.zoneadmd_laws.proofs.Answering.{In, J, at_job, in_after, is_at_job, on_next, on_undo}
+use Rattle.zoneadmd_laws.proofs.Answering.{In, J, Kept, at_job, in_after, is_at_job, on_next, on_undo}
 use Rattle.zoneadmd_laws.proofs.Telling.{and_left, and_right}
 use Rattle.zoneadmd_laws.specs.Afters.{After, after, done, edit, edits}
 use Rattle.zoneadmd_laws.specs.Common.{common}
@@ -59,7 +59,7 @@ hook_owns d j rest change Proceed = (refl, refl, refl)
 hook_owns d j rest change (Refuse code) = (refl, refl, refl)
 
 step_owns : (brands : List Tabled) (o : Objects) (d : Desk) (j : Job) (rest : List Step) (s : Step) → May_own d (local_step brands o d j rest s)
-step_owns brands o d j rest (step.Hook change) = hook_owns d j rest change (answer_of brands j.config.brand change)
+step_owns brands o d j rest (step.Hook change) = hook_owns d j rest change (answer_of brands j.brand change)
 step_owns brands o d j rest step.Limits = (refl, refl, refl)
 step_owns brands o d j rest (step.Copy k) = (refl, refl, refl)
 step_owns brands o d j rest (step.Erase k) = (refl, refl, refl)
@@ -176,18 +176,18 @@ moved_tells d j rest path (Some row) w = at_config (with_zonepath path row.confi
     at_config (Err f) = refl
     at_config (Ok config) = (λ p. refl, λ n. refl)
 
-start_tells : (d : Desk) (t : ℕ) (r : Request) (s : ZoneState) (row : Record) (o : Option Outcome) (w : Seen) → In (Tells_local false) w (Just (started d t r s row o))
-start_tells d t r s row None w = refl
-start_tells d t r s row (Some o) w = refl
+start_tells : (brands : List Tabled) (d : Desk) (t : ℕ) (r : Request) (s : ZoneState) (row : Record) (o : Option Outcome) (w : Seen) → In (Tells_local false) w (Just (started brands d t r s row o))
+start_tells brands d t r s row None w = refl
+start_tells brands d t r s row (Some o) w = refl
 
 over_tells : (brands : List Tabled) (d : Desk) (j : Job) (row : Option Record) (r : Request) (w : Seen) → In (Tells_local false) w (over brands d j row r)
-over_tells brands d j (Some row) (request.Reboot args) w = start_tells d j.ticket (request.Boot args) (state_now row d) row _ w
+over_tells brands d j (Some row) (request.Reboot args) w = start_tells brands d j.ticket (request.Boot args) (state_now row d) row _ w
 over_tells brands d j None r w = refl
 over_tells brands d j (Some row) r w = refl
 
 step_tells : (w : Seen) (j : Job) (s : Step) (rest : List Step) → is_plain (A_step s rest) ≡ true
     → In (Tells_local (is_some (local_next w.brands w.objects w.desk j (A_step s rest)))) w (on_next w j (A_step s rest))
-step_tells w j (step.Hook change) rest h = hook_tells w.desk j rest change (answer_of w.brands j.config.brand change) w
+step_tells w j (step.Hook change) rest h = hook_tells w.desk j rest change (answer_of w.brands j.brand change) w
 step_tells w j (step.Record s) rest h = state_tells w.desk j rest s w.stored w
 step_tells w j step.Moved rest h = moved_tells w.desk j rest (new_path j.request) w.stored w
 step_tells w j (step.Source z) rest h = (λ p. refl, λ n. refl)
@@ -223,7 +223,7 @@ undo_tells w j o rest step.Root = undo_mount_tells w j o rest root_dir step.Root
 undo_tells w j o rest (step.Mounted dir) = undo_mount_tells w j o rest dir (step.Mounted dir) refl
 undo_tells w j o rest _ = refl
 
-stage_tells : (w : Seen) (t : ℕ) (r : Request) (c : Contents) (dn : Progress) (stage : Stage)
+stage_tells : (w : Seen) (t : ℕ) (r : Request) (c : Kept) (dn : Progress) (stage : Stage)
     → let v = at_job w (J t r c dn stage) in In (Tells_local (is_some (local_turn v.brands v.objects v.desk))) v (turn v)
 unfolding local_turn turn
 stage_tells w t r c dn (Goes left) = let v = at_job w (J t r c dn (Goes left)) in next_tells v (J t r c dn (Goes left)) (next v.objects left) (next_plain v.objects left)
@@ -231,7 +231,7 @@ stage_tells w t r c dn (Fails o []) = refl
 stage_tells w t r c dn (Fails o (s ∷ rest)) = undo_tells (at_job w (J t r c dn (Fails o (s ∷ rest)))) (J t r c dn (Fails o (s ∷ rest))) o rest s
 
 waiting_tells : (brands : List Tabled) (d : Desk) (rs : List (ℕ × Request)) (row : Option Record) (w : Seen) → In (Tells_local false) w (next_request brands d rs row)
-waiting_tells brands d (r ∷ rs) (Some row) w = start_tells (record d { waiting = rs }) r.0 r.1 (state_now row d) row _ w
+waiting_tells brands d (r ∷ rs) (Some row) w = start_tells brands (record d { waiting = rs }) r.0 r.1 (state_now row d) row _ w
 waiting_tells brands d (r ∷ rs) None w = refl
 waiting_tells brands d [] row w = refl
 
@@ -253,4 +253,4 @@ local_told w g = go w.desk.job refl
         (in_after (Tells_local (is_some (local_turn w.brands (at_rest w).objects (at_rest w).desk))) (at_rest w) (turn (at_rest w)) g (rest_tells w))
     go (Some j) e =
         subst (λ v. is_some (local_turn v.brands v.objects v.desk) ≡ is_local_reply (after (turn v) g v).reply) (sym (is_at_job w j e))
-        (in_after (Tells_local (is_some (local_turn w.brands (at_job w j).objects (at_job w j).desk))) (at_job w j) (turn (at_job w j)) g (stage_tells w j.ticket j.request j.config j.done j.stage))
+        (in_after (Tells_local (is_some (local_turn w.brands (at_job w j).objects (at_job w j).desk))) (at_job w j) (turn (at_job w j)) g (stage_tells w j.ticket j.request (j.brand, j.config) j.done j.stage))

@@ -18,7 +18,7 @@ use Rattle.zone_config.specs.declared.terms.Contents.{Contents}
 use Rattle.zone_pools.specs.Decisions.{Just}
 use Rattle.zone_pools.specs.Owned_lists.{Go, Put}
 use Rattle.zone_pools.specs.declared.grant.Grant.{Grant}
-use Rattle.zoneadmd_laws.proofs.Answering.{In, J, at_job, in_after, is_at_job, on_next, on_undo}
+use Rattle.zoneadmd_laws.proofs.Answering.{In, J, Kept, at_job, in_after, is_at_job, on_next, on_undo}
 use Rattle.zoneadmd_laws.proofs.Locally.{at_rest}
 use Rattle.zoneadmd_laws.proofs.Moving.{moved_so}
 use Rattle.zoneadmd_laws.proofs.Telling.{all_gone, and_left, and_right}
@@ -29,6 +29,7 @@ use Rattle.zoneadmd_steps.specs.Desks.{Desk, Fails, Goes, Job, Progress, Stage, 
 use Rattle.zoneadmd_steps.specs.Objects.{Objects, Of_mounts, all_of, keeping_zid}
 use Rattle.zoneadmd_steps.specs.Turns.{A_claim_left, A_mount, A_step, Next, Nothing_left, Seen, bootargs_of, hooked, local_turn, mounting, new_path, next, next_request, over, record_config, record_moved, record_state, started, stuck, turn, undone, unmount_last}
 use Rattle.zoneadmd_steps.specs.declared.requests.Outcome.{Outcome}
+use Rattle.zoneadmd_steps.specs.Plans.{kept_of}
 use Rattle.zoneadmd_steps.specs.declared.requests.Request.TheVariants as request
 use Rattle.zoneadmd_steps.specs.declared.requests.Request.{Request}
 use Rattle.zoneadmd_steps.specs.declared.requests.Step.TheVariants as step
@@ -61,8 +62,12 @@ module _ (v : Seen) (now : Has_room v) where
   abbrev Roomed : After → Type 0
   Roomed a = Has_room a.seen
 
-  start_roomed : (d : Desk) (t : ℕ) (r : Request) (s : ZoneState) (row : Record) (o : Option Outcome) → v.stored ≡ Some row → In Roomed v (Just (started d t r s row o))
-  start_roomed d t r s row None e = (now.0, ap row_has_room (sym e) ∙ now.2, now.2)
+  kept_room : (r : Request) (c : Contents) → has_room (most_processes c.rctl) ≡ true → has_room (most_processes (kept_of r c).rctl) ≡ true
+  kept_room request.Halt c h = refl
+  kept_room _ c h = h
+
+  start_roomed : (d : Desk) (t : ℕ) (r : Request) (s : ZoneState) (row : Record) (o : Option Outcome) → v.stored ≡ Some row → In Roomed v (Just (started v.brands d t r s row o))
+  start_roomed d t r s row None e = (now.0, kept_room r row.config (ap row_has_room (sym e) ∙ now.2), now.2)
   start_roomed d t r s row (Some o) e = (now.0, refl, now.2)
 
   waiting_roomed : (rs : List (ℕ × Request)) (row : Option Record) → v.stored ≡ row → In Roomed v (next_request v.brands v.desk rs row)
@@ -88,7 +93,7 @@ module _ (v : Seen) (now : Has_room v) where
         at_config (Ok config) is = (λ p. (now.0, room, now.2), λ n. (now.0, room, ap (λ (c : Contents). has_room (most_processes c.rctl)) (sym (moved_so path row.config config is)) ∙ (ap row_has_room (sym e) ∙ now.2)))
 
     step_roomed : (s : Step) (rest : List Step) → In Roomed v (on_next v j (A_step s rest))
-    step_roomed (step.Hook c) rest = hook_roomed rest c (answer_of v.brands j.config.brand c)
+    step_roomed (step.Hook c) rest = hook_roomed rest c (answer_of v.brands j.brand c)
     step_roomed (step.Record s) rest = state_roomed rest s v.stored refl
     step_roomed step.Moved rest = moved_roomed rest (new_path j.request) v.stored refl
     step_roomed (step.Source z) rest = (λ p. (now.0, room, now.2), λ n. (now.0, room, now.2))
@@ -131,7 +136,7 @@ module _ (v : Seen) (now : Has_room v) where
     undo_roomed o step.Limits rest = (cleared_room v.objects.ids now.0, room, now.2)
     undo_roomed o _ rest = (now.0, room, now.2)
 
-stage_roomed : (w : Seen) (t : ℕ) (r : Request) (c : Contents) (dn : Progress) (stage : Stage) → let v = at_job w (J t r c dn stage) in Has_room v → In (λ a. Has_room a.seen) v (turn v)
+stage_roomed : (w : Seen) (t : ℕ) (r : Request) (c : Kept) (dn : Progress) (stage : Stage) → let v = at_job w (J t r c dn stage) in Has_room v → In (λ a. Has_room a.seen) v (turn v)
 unfolding turn local_turn
 stage_roomed w t r c dn (Goes left) h = let j = J t r c dn (Goes left) in next_roomed (at_job w j) h j h.1 (next (at_job w j).objects left)
 stage_roomed w t r c dn (Fails o []) h = (h.0, refl, h.2)
@@ -151,4 +156,4 @@ turn_roomed w g h = go w.desk.job refl
     go (Some j) e =
         let same = is_at_job w j e in
         subst (λ v. Has_room (after (turn v) g v).seen) (sym same)
-        (in_after (λ a. Has_room a.seen) (at_job w j) (turn (at_job w j)) g (stage_roomed w j.ticket j.request j.config j.done j.stage (subst Has_room same h)))
+        (in_after (λ a. Has_room a.seen) (at_job w j) (turn (at_job w j)) g (stage_roomed w j.ticket j.request (j.brand, j.config) j.done j.stage (subst Has_room same h)))

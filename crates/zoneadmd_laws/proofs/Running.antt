@@ -12,7 +12,7 @@ use Rattle.zone_config.specs.declared.terms.Contents.{Contents}
 use Rattle.zone_pools.specs.Decisions.{Just, act_of}
 use Rattle.zone_pools.specs.Owned_lists.{Go, but_last}
 use Rattle.zone_pools.specs.declared.grant.Grant.{Grant}
-use Rattle.zoneadmd_laws.proofs.Answering.{Did, Did_fail, Dids, Ended, In, J, Stands, Still, Undoes, at_job, in_after, is_at_job, on_next, step_did, step_still, step_undone, turn_ends, turn_goes, turn_undoes}
+use Rattle.zoneadmd_laws.proofs.Answering.{Did, Did_fail, Dids, Ended, In, J, Kept, Stands, Still, Undoes, at_job, in_after, is_at_job, kept_now, on_next, step_did, step_still, step_undone, turn_ends, turn_goes, turn_undoes}
 use Rattle.zoneadmd_laws.proofs.Telling.{all_gone, bare_with, last_goes, last_some, onto_last, onto_last_same, tells_cons, tells_failed, tells_nil}
 use Rattle.zoneadmd_laws.specs.Afters.{After, after, come, done}
 use Rattle.zoneadmd_laws.specs.Lists.{onto}
@@ -78,7 +78,7 @@ record Undo_told (t : ℕ) (o : Outcome) (us : List Step) (ms : List Moment) : T
   front : IsFront (told ms) (map Undone (map bare us) ++ Finished t o ∷ [])
   killed : (ds : List (List ℕ)) (cs : List Claim) → Killed_first ds cs ms
 
-undo_told : (ms : List Moment) (w : Seen) (t : ℕ) (r : Request) (c : Contents) (dn : Progress) (o : Outcome) (us : List Step)
+undo_told : (ms : List Moment) (w : Seen) (t : ℕ) (r : Request) (c : Kept) (dn : Progress) (o : Outcome) (us : List Step)
     → w.desk.job ≡ Some (J t r c dn (Fails o us)) → Goes_on w ms → Undo_told t o us ms
 undo_told [] w t r c dn o us h go = record { front = (_, refl); killed = λ ds cs. tt }
 undo_told (m ∷ ms) w t r c dn o [] h go =
@@ -110,7 +110,7 @@ undo_told (m ∷ ms) w t r c dn o (s ∷ rest) h go =
         }
 
 -- what a failed step tells
-fails_told : (m : Moment) (ms : List Moment) (t : ℕ) (r : Request) (c : Contents) (dn : Progress) (stage : Stage) (s : Step) (rest : List Step) (L : List TurnReply → Type 0)
+fails_told : (m : Moment) (ms : List Moment) (t : ℕ) (r : Request) (c : Kept) (dn : Progress) (stage : Stage) (s : Step) (rest : List Step) (L : List TurnReply → Type 0)
     → (x : Did_fail (J t r c dn stage) (result m)) → Undo_told t x.outcome dn.made ms
     → Tells t (bare_progress dn) (s ∷ rest) L (told (m ∷ ms))
 fails_told m ms t r c dn stage s rest L x more =
@@ -133,7 +133,7 @@ pub record Told_so (brands : List Tabled) (all : List Moment) (gone : Bool) (w :
   pub tells : Tells t (bare_progress dn) (in_full ds cs left) (Later brands all t r) (told ms)
 
 abbrev pub Told_from : List Tabled → List Moment → List Moment → Type 0
-Told_from brands all ms = ((k : Moment) → IsOneOf k ms → IsOneOf k all) → (gone : Bool) (w : Seen) → w.brands ≡ brands → (t : ℕ) (r : Request) (c : Contents) (dn : Progress) (left : List Step)
+Told_from brands all ms = ((k : Moment) → IsOneOf k ms → IsOneOf k all) → (gone : Bool) (w : Seen) → w.brands ≡ brands → (t : ℕ) (r : Request) (c : Kept) (dn : Progress) (left : List Step)
     → w.desk.job ≡ Some (J t r c dn (Goes left)) → Mode gone w left → Goes_on w ms → Told_so brands all gone w t r dn left ms
 
 -- each plan is so: mounts and claims go only after the processes
@@ -159,7 +159,7 @@ plan_kills (request.Boot args) s c = boots_kill (fs_dirs c) (claims_of c) _ _ re
 plan_kills r s c = refl
 
 -- a request begins
-pub record Begun (t : ℕ) (r : Request) (c : Contents) (steps : List Step) (a : After) : Type 0 where
+pub record Begun (t : ℕ) (r : Request) (c : Kept) (steps : List Step) (a : After) : Type 0 where
   pub reply : a.reply ≡ Began t (kind_of r)
   pub job : a.seen.desk.job ≡ Some (J t r c no_progress (Goes steps))
 
@@ -177,7 +177,7 @@ kill_bare : (s : Step) → is_kill (Stepped s) ≡ is_kill (Stepped (bare s))
 kill_bare (step.Kill o) = refl
 kill_bare _ = refl
 
-module _ (brands : List Tabled) (all : List Moment) (m : Moment) (ms : List Moment) (t : ℕ) (r : Request) (c : Contents) (dn : Progress) (left0 : List Step)
+module _ (brands : List Tabled) (all : List Moment) (m : Moment) (ms : List Moment) (t : ℕ) (r : Request) (c : Kept) (dn : Progress) (left0 : List Step)
     (here : m.seen.desk.job ≡ Some (J t r c dn (Goes left0))) (stored : is_some m.seen.stored ≡ true)
     (bs : m.seen.brands ≡ brands) (order : in_order m.seen.objects.mounts ≡ true)
     (go : Goes_on (result m).seen ms) (within : (k : Moment) → IsOneOf k (m ∷ ms) → IsOneOf k all) (more : Told_from brands all ms) where
@@ -233,7 +233,7 @@ module _ (brands : List Tabled) (all : List Moment) (m : Moment) (ms : List Mome
     where
       at_refusal : (o : Option Outcome) → refusal brands kind.Boot (state_now row v.desk) row.config ≡ o → Over_told brands all t (request.Reboot args) (m ∷ ms)
       at_refusal (Some o) eo =
-          let is = by_over (Some row) (request.Reboot args) (Ended o t) er e n (subst (λ x. In (Ended o t) v (Just (started v.desk t (request.Boot args) (state_now row v.desk) row x))) (sym eo) (record { reply = refl; job = refl })) in
+          let is = by_over (Some row) (request.Reboot args) (Ended o t) er e n (subst (λ x. In (Ended o t) v (Just (started brands v.desk t (request.Boot args) (state_now row v.desk) row x))) (sym eo) (record { reply = refl; job = refl })) in
           record {
             ds = [];
             cs = [];
@@ -243,9 +243,9 @@ module _ (brands : List Tabled) (all : List Moment) (m : Moment) (ms : List Mome
       at_refusal None eo =
           let s = state_now row v.desk in
           let steps = plan (request.Boot args) s row.config in
-          let is = by_over (Some row) (request.Reboot args) (Begun t (request.Boot args) row.config steps) er e n
-          (subst (λ x. In (Begun t (request.Boot args) row.config steps) v (Just (started v.desk t (request.Boot args) s row x))) (sym eo) (record { reply = refl; job = refl })) in
-          let rest = more (λ k is. within k (inr is)) false after_m stay t (request.Boot args) row.config no_progress steps is.job (plan_kills (request.Boot args) s row.config) go in
+          let is = by_over (Some row) (request.Reboot args) (Begun t (request.Boot args) (kept_now brands (request.Boot args) row.config) steps) er e n
+          (subst (λ x. In (Begun t (request.Boot args) (kept_now brands (request.Boot args) row.config) steps) v (Just (started brands v.desk t (request.Boot args) s row x))) (sym eo) (record { reply = refl; job = refl })) in
+          let rest = more (λ k is. within k (inr is)) false after_m stay t (request.Boot args) (kept_now brands (request.Boot args) row.config) no_progress steps is.job (plan_kills (request.Boot args) s row.config) go in
           record {
             ds = rest.ds;
             cs = rest.cs;

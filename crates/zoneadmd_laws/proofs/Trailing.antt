@@ -15,7 +15,7 @@ use Rattle.zn_base.specs.declared.state.ZoneState.{ZoneState}
 use Rattle.zone_config.specs.declared.terms.Contents.{Contents}
 use Rattle.zone_pools.specs.Decisions.{Just}
 use Rattle.zone_pools.specs.Pools.{or_else}
-use Rattle.zoneadmd_laws.proofs.Answering.{Ended, In, in_after}
+use Rattle.zoneadmd_laws.proofs.Answering.{Ended, In, in_after, kept_now}
 use Rattle.zoneadmd_laws.proofs.Running.{Begun, brands_stay, killed_ended, killed_next, plan_kills, run_told, told_ended, told_next}
 use Rattle.zoneadmd_laws.specs.Afters.{After, after}
 use Rattle.zoneadmd_laws.specs.Trails.{All_done, Begins, Ends, IsFront, IsRun, Moment, One_failed, So_far, Tells, Trail, are_free, bare_reply, in_full, is_done, is_stuck, is_well, result, told, with_steps}
@@ -54,7 +54,7 @@ module _ (t : ℕ) (r : Request) (row : Record) (m : Moment) (ms : List Moment) 
   abbrev d : Desk
   d = record m.seen.desk { job = None; waiting = run.others }
 
-  by_begin : (P : After → Type 0) → In P v (Just (started d t r s row (refusal m.seen.brands (kind_of r) s row.config))) → P (result m)
+  by_begin : (P : After → Type 0) → In P v (Just (started m.seen.brands d t r s row (refusal m.seen.brands (kind_of r) s row.config))) → P (result m)
   by_begin P p = subst (λ w. P (after (turn w) m.grant w)) (sym same) (in_after P v (turn v) m.grant (subst (In P v) (sym (turn_begins m.seen t r run.others row)) p))
 
   pub trail : Trail m.seen.brands t r s row.config (m ∷ ms)
@@ -62,7 +62,7 @@ module _ (t : ℕ) (r : Request) (row : Record) (m : Moment) (ms : List Moment) 
     where
       at_refusal : (o : Option Outcome) → refusal m.seen.brands (kind_of r) (state_now row m.seen.desk) row.config ≡ o → Trail m.seen.brands t r (state_now row m.seen.desk) row.config (m ∷ ms)
       at_refusal (Some o) e =
-          let is = by_begin (Ended o t) (subst (λ x. In (Ended o t) v (Just (started d t r s row x))) (sym e) (record { reply = refl; job = refl })) in
+          let is = by_begin (Ended o t) (subst (λ x. In (Ended o t) v (Just (started m.seen.brands d t r s row x))) (sym e) (record { reply = refl; job = refl })) in
           record {
             dirs = [];
             claims = [];
@@ -71,8 +71,8 @@ module _ (t : ℕ) (r : Request) (row : Record) (m : Moment) (ms : List Moment) 
           }
       at_refusal None e =
           let steps = plan r s row.config in
-          let is = by_begin (Begun t r row.config steps) (subst (λ x. In (Begun t r row.config steps) v (Just (started d t r s row x))) (sym e) (record { reply = refl; job = refl })) in
-          let rest = run_told m.seen.brands (m ∷ ms) ms (λ k is. inr is) false (result m).seen (brands_stay (turn m.seen) m.grant m.seen) t r row.config no_progress steps is.job (plan_kills r s row.config) run.goes in
+          let is = by_begin (Begun t r (kept_now m.seen.brands r row.config) steps) (subst (λ x. In (Begun t r (kept_now m.seen.brands r row.config) steps) v (Just (started m.seen.brands d t r s row x))) (sym e) (record { reply = refl; job = refl })) in
+          let rest = run_told m.seen.brands (m ∷ ms) ms (λ k is. inr is) false (result m).seen (brands_stay (turn m.seen) m.grant m.seen) t r (kept_now m.seen.brands r row.config) no_progress steps is.job (plan_kills r s row.config) run.goes in
           record {
             dirs = rest.ds;
             claims = rest.cs;

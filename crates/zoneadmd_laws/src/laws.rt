@@ -25,6 +25,7 @@ ghost use Rattle.zoneadmd_laws.specs.Shapes.{only_ends};
 ghost use Rattle.zoneadmd_laws.specs.Trails.{Goes_on, IsRun, Killed_first, Later, Moment, Tells, Trail, are_free, bare_progress, dirs_of, in_full, is_well, told, undone_after, with_steps};
 ghost use Rattle.zoneadmd_laws.specs.Turns_left.{IsSmall, moves_on, turns_left};
 ghost use Rattle.zoneadmd_steps.specs.Desks.{Desk, Fails, Goes, Job, state_now};
+ghost use Rattle.zoneadmd_steps.specs.Halts.{is_halting};
 ghost use Rattle.zoneadmd_steps.specs.Local.{is_local_reply, is_of_own};
 ghost use Rattle.zoneadmd_steps.specs.Objects.{Objects};
 ghost use Rattle.zoneadmd_steps.specs.Plans.{plan};
@@ -45,6 +46,12 @@ pub fn each_turn_answers_the_next_item()
 pub fn a_request_tells_its_trail()
     ensures { (t : ℕ) (r : Request) (row : Record) (m : Moment) (ms : List Moment)
         → IsRun t r row m ms → Trail m.seen.brands t r (state_now row m.seen.desk) row.config (m ∷ ms) }
+{}
+
+/// A halt stays one to its end, so that none of its turns takes memory: once it waits as the first or is under way, so it is
+/// after the next turn, or it is over.
+pub fn a_halt_stays_one()
+    ensures { (w : Seen) (g : Grant) → is_halting w.desk ≡ true → ((after (turn w) g w).seen.desk.job ≡ None) ⊎ (is_halting (after (turn w) g w).seen.desk ≡ true) }
 {}
 
 /// What a failure undoes, after some steps of a plan and before the others: while the zone is still to be made ready, all

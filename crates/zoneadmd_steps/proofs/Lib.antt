@@ -7,3 +7,6 @@ pub mod Turn_kinds
 pub mod Zonepaths
 pub mod Results
 pub mod Of_turns
+pub mod Keeping
+pub mod Halting
+pub mod Telling

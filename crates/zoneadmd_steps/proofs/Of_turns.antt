@@ -94,7 +94,7 @@ stays-if true d t u h k = h
 stays-if false d t u h k = k
 
 stays-step : (brands : List Tabled) (o : Objects) (d : Desk) (j : Job) (rest : List Step) (s : Step) → If_stays d (local_step brands o d j rest s)
-stays-step brands o d j rest (Hook change) = stays-hooked d j rest change (answer_of brands j.config.brand change)
+stays-step brands o d j rest (Hook change) = stays-hooked d j rest change (answer_of brands j.brand change)
 stays-step brands o d j rest (Copy k) = record { own = refl; ended = refl; busy = refl; local = refl; active = refl }
 stays-step brands o d j rest (Erase k) = record { own = refl; ended = refl; busy = refl; local = refl; active = refl }
 stays-step brands o d j rest Limits = record { own = refl; ended = refl; busy = refl; local = refl; active = refl }
@@ -149,7 +149,7 @@ turn-local v t is = ap (or_shared (shared_turn v v.desk.job)) is
 awake-begin : (brands : List Tabled) (d : Desk) (t : ℕ) (r : Request) (row : Record) → is_idle (begin brands d t r row).reply ≡ false
 awake-begin brands d t r row = at_outcome (refusal brands (kind_of r) (state_now row d) row.config)
   where
-    at_outcome : (outcome : Option Outcome) → is_idle (started d t r (state_now row d) row outcome).reply ≡ false
+    at_outcome : (outcome : Option Outcome) → is_idle (started brands d t r (state_now row d) row outcome).reply ≡ false
     at_outcome None = refl
     at_outcome (Some outcome) = refl
 

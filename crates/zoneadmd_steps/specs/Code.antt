@@ -1,4 +1,5 @@
 -- What the code's values stand for, and what it does to them.
+pub mod Queues
 pub mod Desks
 pub mod Cases
 pub mod Rooms

@@ -19,10 +19,12 @@ pub record Progress : Type 0 where
   pub place : ℕ
   pub made : List Step
 
--- a request under way: the configuration as it last began, and what was done since then
+-- a request under way: the place of its brand among the brands and the configuration, both as it last began, and what was done
+-- since then
 pub record Job : Type 0 where
   pub ticket : ℕ
   pub request : Request
+  pub brand : Option ℕ
   pub config : Contents
   pub done : Progress
   pub stage : Stage

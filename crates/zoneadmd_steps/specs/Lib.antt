@@ -7,5 +7,6 @@ pub mod Desks
 pub mod Plans
 pub mod Turns
 pub mod Local
+pub mod Halts
 -- what the code's values stand for, and what it does to them
 pub mod Code

@@ -9,6 +9,7 @@ use Rattle.priv_sets.specs.Limit.{limit_of}
 use Rattle.priv_sets.specs.declared.limit.PrivFault.{PrivFault}
 use Rattle.zn_base.specs.declared.state.ZoneState.{ZoneState}
 use Rattle.zn_base.specs.declared.state.ZoneState.TheVariants.{Configured, Incomplete, Installed, Ready, Running, ShuttingDown, Down}
+use Rattle.zone_config.specs.Property.{blank}
 use Rattle.zone_config.specs.declared.terms.Contents.{Contents}
 use Rattle.zone_pools.specs.Pools.{or_else}
 use Rattle.zoneadmd_steps.specs.Configs.{claims_of, fs_dirs}
@@ -154,6 +155,11 @@ plan request.Ready s c = ready_part c
 plan (request.Boot args) s c = boot_plan s c
 plan request.Halt s c = halt_part
 plan (request.Reboot args) s c = halt_part
+
+-- the configuration that a request keeps for its steps. Those of a halt look at none
+abbrev pub kept_of : Request → Contents → Contents
+kept_of request.Halt c = blank
+kept_of r c = c
 
 -- what a failure undoes: the steps of the ready part, hooks left out, until the zone is ready
 abbrev pub made_after : Step → List Step → List Step

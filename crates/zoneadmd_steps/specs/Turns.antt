@@ -1,6 +1,6 @@
 -- What a turn of a zone's daemon does: from the zone's desk and objects, what is stored of it, and what it finds on the system.
 use Rattle.std.specs.Prelude.{ℕ, List, [], ◌∷◌, Option, Some, None, true, false, bytes_eq, codes, is_ok, length, Result, Ok, Err, if◌then◌else◌}
-use Rattle.brand_hooks.specs.Brands.{Tabled, answer_of}
+use Rattle.brand_hooks.specs.Brands.{Tabled, answer_of, place_of}
 use Rattle.brand_hooks.specs.declared.change.Change.{Change}
 use Rattle.brand_hooks.specs.declared.table.HookAnswer.{HookAnswer}
 use Rattle.brand_hooks.specs.declared.table.HookAnswer.TheVariants.{Proceed, Refuse}
@@ -27,7 +27,7 @@ use Rattle.zoneadmd_steps.specs.Arrivals.{A_claim, A_process, A_record, An_id, C
 use Rattle.zoneadmd_steps.specs.Configs.{devices_by, fs_mount, limits_by, moved_record, root_dir, root_mount, with_zonepath}
 use Rattle.zoneadmd_steps.specs.Desks.{Desk, Fails, Goes, Job, Progress, Stage, next_place, state_now}
 use Rattle.zoneadmd_steps.specs.Objects.{Devices_are, Ids_change, Ids_go, Last_claim_goes, Object_edit, Objects, Of_mounts, Processes_go, all_of, kernel_of, zid_of}
-use Rattle.zoneadmd_steps.specs.Plans.{kind_of, made_after, plan, refusal}
+use Rattle.zoneadmd_steps.specs.Plans.{kept_of, kind_of, made_after, plan, refusal}
 use Rattle.zoneadmd_steps.specs.declared.requests.Outcome.{Outcome}
 use Rattle.zoneadmd_steps.specs.declared.requests.Outcome.TheVariants.{Done, Denied, HookRefused, TooLarge}
 use Rattle.zoneadmd_steps.specs.declared.requests.Request.{Request}
@@ -128,7 +128,7 @@ mounting m ms = if is_ok (mount_answer m.dir ms) then Of_mounts (Put (before m.d
 
 -- the steps that ask for nothing, and neither look at what zones share nor change it
 abbrev pub local_step : List Tabled → Objects → Desk → Job → List Step → Step → Option Turned
-local_step brands o d j rest (Hook change) = Some (hooked d j rest change (answer_of brands j.config.brand change))
+local_step brands o d j rest (Hook change) = Some (hooked d j rest change (answer_of brands j.brand change))
 local_step brands o d j rest (Copy k) = Some (advance d j rest [] (Copy k))
 local_step brands o d j rest (Erase k) = Some (advance d j rest [] (Erase k))
 local_step brands o d j rest Limits = Some (advance d j rest (Ids_change (limits_by j.config) ∷ []) Limits)
@@ -239,13 +239,14 @@ shared_step v j rest (ZidBack o) = Just (advance v.desk j rest (Ids_go all_of �
 shared_step v j rest s = Just (advance v.desk j rest [] s)
 
 -- a request begins, or ends at once
-abbrev pub started : Desk → ℕ → Request → ZoneState → Record → Option Outcome → Turned
-started d t r s row None =
-    reports [] (with_job d (record { ticket = t; request = r; config = row.config; done = no_progress; stage = Goes (plan r s row.config) })) (Began t (kind_of r))
-started d t r s row (Some outcome) = finish d t outcome
+abbrev pub started : List Tabled → Desk → ℕ → Request → ZoneState → Record → Option Outcome → Turned
+started brands d t r s row None =
+    reports [] (with_job d (record { ticket = t; request = r; brand = place_of row.config.brand brands; config = kept_of r row.config; done = no_progress; stage = Goes (plan r s row.config) }))
+    (Began t (kind_of r))
+started brands d t r s row (Some outcome) = finish d t outcome
 
 abbrev pub begin : List Tabled → Desk → ℕ → Request → Record → Turned
-begin brands d t r row = let s = state_now row d in started d t r s row (refusal brands (kind_of r) s row.config)
+begin brands d t r row = let s = state_now row d in started brands d t r s row (refusal brands (kind_of r) s row.config)
 
 -- a plan is over: a reboot goes on as a boot, and any other request ends
 abbrev pub over : List Tabled → Desk → Job → Option Record → Request → Turn_decision

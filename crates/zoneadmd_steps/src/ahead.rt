@@ -1,6 +1,5 @@
 //! What is next for a request under way.
 ghost use Rattle.std.specs.Prelude.{◌≡◌, ◌+◌, ◌<◌, ◌∷◌, Some, drop, length, slice_get};
-ghost use Rattle.std.specs.Option.{option_map};
 ghost use Rattle.zoneadmd_steps.specs.Code.Ahead.{IsAhead, as_next};
 ghost use Rattle.zoneadmd_steps.specs.Code.Cases.{next_hook};
 ghost use Rattle.zoneadmd_steps.specs.Code.Desks.{as_desk};
@@ -59,21 +58,20 @@ pub(crate) fn find_ahead<'j>(
 }
 
 impl Desk {
-    /// The change of which the brand of the request under way is asked next, with the brand's name, where it is.
-    pub fn next_hook<'d>(
-        &'d self,
-        mounts: &'d MountCell,
-        claims: &'d ClaimCell,
-    ) -> Option<(&'d [u8], Change)>
-        ensures { (o : objects.Objects) → o.mounts ≡ mounts.now.list → o.claims ≡ claims.now.claims
-            → option_map (λ asked. (asked.0.now, asked.1)) result ≡ next_hook o (as_desk self.now).job }
+    /// The change of which the brand of the request under way is asked next, with the brand's place, where it is.
+    pub fn next_hook(
+        &self,
+        mounts: &MountCell,
+        claims: &ClaimCell,
+    ) -> Option<(Option<usize>, Change)>
+        ensures { (o : objects.Objects) → o.mounts ≡ mounts.now.list → o.claims ≡ claims.now.claims → result ≡ next_hook o (as_desk self.now).job }
     {
         let job = self.job.as_ref()?;
         if job.failure.is_some() {
             return None;
         }
         match find_ahead(&job.steps, job.at, mounts, claims) {
-            Ahead::Step(Step::Hook(change), _) => Some((job.config.brand.bytes(), *change)),
+            Ahead::Step(Step::Hook(change), _) => Some((job.brand, *change)),
             _ => None,
         }
     }

@@ -3,6 +3,9 @@
 use crate::desks::Job;
 use crate::objects::changes::{Came, ObjectEdit};
 use crate::requests::{Failure, Outcome, Step};
+use datalink_table::Claim;
+use std::snapshot::Snapshot;
+use zn_base::AbsPath;
 
 /// A step that is done: the place of the next one, what becomes of the objects, and the step as it is told.
 #[derive(Drop)]
@@ -19,6 +22,11 @@ pub enum JobCase {
     Finish(Outcome),
     /// A step is done.
     Pass(Pass),
+    /// The last mount goes, and the plan stays at this place. Its directory is in no memory here: it is told as the mount
+    /// goes.
+    Unmounts(Snapshot<AbsPath>, usize),
+    /// The latest claim ends, and the plan stays at this place. It is told as it ends.
+    Releases(Snapshot<Claim>, usize),
     /// A step asks pools for what comes; then the plan goes on at this place.
     Ask(Came, usize),
     /// A step fails.
@@ -36,6 +44,8 @@ pub enum TurnCase {
     Idle,
     /// The first request that waits begins.
     Begin(Box<Job>),
+    /// The first request that waits is a halt, and begins; the zone's brand stands at this place.
+    BeginHalt(Option<usize>),
     /// The first request that waits, of this ticket, doesn't begin.
     Refuse(u32, Outcome),
     /// A reboot goes on as a boot.

@@ -1,13 +1,14 @@
 //! A zone's desk: the requests that wait, and the one under way.
-ghost use Rattle.std.specs.Prelude.{◌+◌, ◌-◌, ◌<◌, ◌≤◌, ◌∷◌, ◌≡◌, [], IsSomeAnd, None, OnOk, Some, drop, false, length, reverse, slice_get, true};
+ghost use Rattle.std.specs.Prelude.{◌+◌, ◌-◌, ◌<◌, ◌≤◌, ◌∷◌, ◌≡◌, [], IsSomeAnd, None, OnOk, Some, drop, false, is_ok, length, reverse, slice_get, true};
 ghost use Rattle.zoneadmd_steps.specs.Code.Cases.{IsInPlan, IsTurnOf, turn_decision_of};
-ghost use Rattle.zoneadmd_steps.specs.Code.Rooms.{HasMadeRoom, HasRequestRoom, HasTurnRoom};
+ghost use Rattle.zoneadmd_steps.specs.Code.Rooms.{HasRequestRoom, HasRoomToKeep, HasTurnRoom, is_undone, takes_room, turn_takes_room};
 ghost use Rattle.zoneadmd_steps.specs.Desks.{Fails, Goes, empty_desk, is_full, with_request};
 ghost use Rattle.zoneadmd_steps.specs.Turns.{with_step};
 ghost use Rattle.zoneadmd_steps.specs.Code.Desks.{as_desk, as_job, as_outcome};
 ghost use Rattle.zoneadmd_steps.specs.Plans.{made_after};
 
 use crate::cases::{JobCase, TurnCase};
+use crate::queued::QueuedRequest;
 use crate::requests::{Failure, Request, Step};
 use std::alloc::{AllocError, Global};
 use std::mem;
@@ -25,7 +26,9 @@ pub(crate) const TICKET_MAX: u32 = u32::MAX;
 pub struct Job {
     pub(crate) ticket: u32,
     pub(crate) request: Request,
-    /// The configuration as the request last began.
+    /// The place of the zone's brand among the brands, as the request last began.
+    pub(crate) brand: Option<usize>,
+    /// The configuration as the request last began. A halt keeps none.
     pub(crate) config: ZoneConfig,
     /// The whole plan, and the place of the next step in it. A step that a failure undoes is taken out once it is done.
     pub(crate) steps: Vec<Step>,
@@ -43,7 +46,7 @@ pub struct Job {
 pub struct Desk {
     /// The last ticket given.
     pub(crate) last: u32,
-    pub(crate) waiting: Vec<(u32, Request)>,
+    pub(crate) waiting: Vec<(u32, QueuedRequest)>,
     pub(crate) job: Option<Job>,
     /// The zone's state, where it is none of the stored ones.
     pub(crate) active: Option<ZoneState>,
@@ -93,23 +96,22 @@ impl Desk {
     }
 
     /// Room for what a turn puts there, a step that a failure undoes. Nothing is changed by it, whether or not memory runs
-    /// out.
+    /// out. No turn of a halt takes any.
     pub fn reserve_turn(&mut self, case: &TurnCase) -> Result<(), AllocError>
         ensures desk { as_desk self.new ≡ as_desk self.old }
         ensures same { turn_decision_of self.new case.now ≡ turn_decision_of self.old case.now }
         ensures of { IsTurnOf self.old case.now → IsTurnOf self.new case.now }
         ensures room { OnOk result (HasTurnRoom self.new case.now) }
+        ensures none { turn_takes_room case.now ≡ false → is_ok result ≡ true }
     {
         match (case, &mut self.job) {
-            (TurnCase::GoOn(JobCase::Pass(_) | JobCase::Ask(_, _)), Some(job)) => {
-                job.made.reserve(1)
-            }
+            (TurnCase::GoOn(case), Some(job)) if takes_room(case) => job.made.reserve(1),
             _ => Ok(()),
         }
     }
 
     /// One more request waits, under the ticket that is answered.
-    pub fn put(&mut self, request: Request) -> u32
+    pub fn put(&mut self, request: QueuedRequest) -> u32
         requires of { is_full (as_desk self.old) ≡ false }
         requires room { HasRequestRoom self.old }
         ensures desk { as_desk self.new ≡ with_request (as_desk self.old) request }
@@ -119,6 +121,32 @@ impl Desk {
         self.waiting.push_reserved((ticket, request));
         self.last = ticket;
         ticket
+    }
+}
+
+// Whether a failure may undo a step.
+fn is_undone(shown: &Step) -> bool
+    ensures { result ≡ is_undone shown.now }
+{
+    matches!(
+        shown,
+        Step::Zid(_)
+            | Step::Limits
+            | Step::Devices(_)
+            | Step::Root
+            | Step::Mounted(_)
+            | Step::Claimed(_)
+    )
+}
+
+// Whether a case takes room on a desk.
+fn takes_room(case: &JobCase) -> bool
+    ensures { result ≡ takes_room case.now }
+{
+    match case {
+        JobCase::Pass(pass) => is_undone(&pass.shown),
+        JobCase::Ask(_, _) => true,
+        _ => false,
     }
 }
 
@@ -135,7 +163,7 @@ impl Job {
 
     // What a failure undoes of a step that is done.
     fn keep(&mut self, next: usize, shown: &Step)
-        requires room { HasMadeRoom self.old }
+        requires room { HasRoomToKeep self.old shown.now }
         requires planned { IsInPlan self.old.steps.items next shown.now }
         ensures made { reverse self.new.made.items ≡ made_after shown.now (reverse self.old.made.items) }
         ensures rest { drop next self.new.steps.items ≡ drop next self.old.steps.items }
@@ -158,7 +186,7 @@ impl Job {
     /// A step is done: the plan goes on at a place, and a failure may have to undo the step.
     pub(crate) fn pass(&mut self, next: usize, shown: &Step)
         requires goes { self.old.failure ≡ None }
-        requires room { HasMadeRoom self.old }
+        requires room { HasRoomToKeep self.old shown.now }
         requires planned { IsInPlan self.old.steps.items next shown.now }
         ensures { as_job self.new ≡ record (as_job self.old) { done = with_step shown.now (as_job self.old).done; stage = Goes (drop next self.old.steps.items) } }
     {

@@ -1,17 +1,20 @@
 //! What the next turn of a zone's daemon comes to, where it touches nothing which other zones may ask.
-ghost use Rattle.std.specs.Prelude.{◌≡◌, ◌<◌, ◌-◌, ◌∷◌, [], IfNone, IfOk, IfSome, IsSomeAnd, IsTrue, List, None, Option, Some, drop, is_some, length, slice_get, true};
+ghost use Rattle.std.specs.Prelude.{◌≡◌, ◌<◌, ◌-◌, ◌∷◌, [], IfNone, IfOk, IfSome, IsSomeAnd, IsTrue, List, None, Option, Some, drop, false, is_some, length, slice_get, true};
 ghost use Rattle.std.specs.List.{list_all};
 ghost use Rattle.brand_hooks.specs.Brands.{Tabled, answer_of};
-ghost use Rattle.loopback_mounts.specs.Mounts.{is_held, mount_at};
+ghost use Rattle.datalink_table.specs.declared.claims.Claim as claim_types;
+ghost use Rattle.loopback_mounts.specs.Mounts.{is_held, last_of, mount_at};
 ghost use Rattle.loopback_mounts.specs.declared.mount.MountEntry as entries;
 ghost use Rattle.zn_base.specs.declared.state.ZoneState as states;
 ghost use Rattle.zone_pools.specs.Decisions.{Just};
-ghost use Rattle.zoneadmd_steps.specs.Code.Cases.{IsFreeFor, IsInPlan, IsJobCase, IsTurnOf, heard, hook_of, job_active, job_objects, job_turn, next_answer, object_edits, stage_hook, turn_active, turn_decision_of, turn_objects};
+ghost use Rattle.zoneadmd_steps.specs.Code.Cases.{IsFreeFor, IsInPlan, IsJobCase, IsTurnOf, heard, hook_of, is_last, job_active, job_objects, job_turn, next_answer, object_edits, stage_hook, turn_active, turn_decision_of, turn_objects};
 ghost use Rattle.zoneadmd_steps.specs.Code.Desks.{as_desk, as_job};
 ghost use Rattle.zoneadmd_steps.specs.Code.Locals.{IsLocal};
+ghost use Rattle.zoneadmd_steps.specs.Code.Rooms.{IsSomeFree, takes_room, turn_takes_room};
 ghost use Rattle.zoneadmd_steps.specs.Configs.{fs_mount, limits_by, root_dir, root_mount};
 ghost use Rattle.zoneadmd_steps.specs.Desks as desks;
 ghost use Rattle.zoneadmd_steps.specs.Desks.{Fails};
+ghost use Rattle.zoneadmd_steps.specs.Halts.{halts_by, is_halting, is_of_halt};
 ghost use Rattle.zoneadmd_steps.specs.Local.{is_of_own};
 ghost use Rattle.zoneadmd_steps.specs.Objects as objects;
 ghost use Rattle.zoneadmd_steps.specs.Objects.{Ids_change};
@@ -30,6 +33,7 @@ use brand_hooks::{Change, HookAnswer};
 use datalink_table::ClaimCell;
 use loopback_mounts::{Mount, MountCell, MountEntry};
 use std::alloc::{AllocError, Global};
+use std::snapshot::Snapshot;
 use zn_base::AbsPath;
 use zone_config::ZoneConfig;
 
@@ -55,9 +59,10 @@ pub(crate) fn passed(next: usize, shown: Step) -> JobCase
 fn hooked(next: usize, change: Change, answer: HookAnswer) -> JobCase
     ensures decides { (d : desks.Desk) (j : job_types.Job) → Just (hooked d (as_job j) (drop next j.steps.items) change answer) ≡ job_turn d j result }
     ensures of { (j : job_types.Job) → j.failure ≡ None → IsJobCase j result }
-    ensures free { (ms : List entries.MountEntry) → IsFreeFor (job_objects result) ms }
+    ensures free { (ms : List entries.MountEntry) (cs : List claim_types.Claim) → IsFreeFor (job_objects result) ms cs }
     ensures own { list_all is_of_own (object_edits (job_objects result)) ≡ true }
     ensures active { (a : Option states.ZoneState) → job_active result a ≡ a }
+    ensures room { takes_room result ≡ false }
 {
     match answer {
         HookAnswer::Proceed => passed(next, Step::Hook(change)),
@@ -70,7 +75,7 @@ fn hooked(next: usize, change: Change, answer: HookAnswer) -> JobCase
 fn set_limits(alloc: Global, next: usize, config: &ZoneConfig) -> Result<JobCase, AllocError>
     ensures decides { IfOk result (λ c. (d : desks.Desk) (j : job_types.Job) → Just (advance d (as_job j) (drop next j.steps.items) (Ids_change (limits_by config.now) ∷ []) Step.Limits) ≡ job_turn d j c) }
     ensures of { IfOk result (λ c. (j : job_types.Job) → j.failure ≡ None → IsJobCase j c) }
-    ensures free { IfOk result (λ c. (ms : List entries.MountEntry) → IsFreeFor (job_objects c) ms) }
+    ensures free { IfOk result (λ c. (ms : List entries.MountEntry) (cs : List claim_types.Claim) → IsFreeFor (job_objects c) ms cs) }
     ensures own { IfOk result (λ c. list_all is_of_own (object_edits (job_objects c)) ≡ true) }
     ensures active { IfOk result (λ c. (a : Option states.ZoneState) → job_active c a ≡ a) }
 {
@@ -82,8 +87,9 @@ fn set_limits(alloc: Global, next: usize, config: &ZoneConfig) -> Result<JobCase
 // A mount comes where it may.
 fn mounting(alloc: Global, mount: Mount, mounts: &MountCell) -> Result<ObjectEdit, AllocError>
     ensures edits { IfOk result (λ objects. object_edits objects ≡ mounting mount mounts.now.list) }
+    ensures last { IfOk result (λ objects. is_last objects ≡ false) }
     ensures own { IfOk result (λ objects. list_all is_of_own (object_edits objects) ≡ true) }
-    ensures free { IfOk result (λ objects. IsFreeFor objects mounts.now.list) }
+    ensures free { IfOk result (λ objects. (cs : List claim_types.Claim) → IsFreeFor objects mounts.now.list cs) }
 {
     match mounts.check_mount(&mount.dir) {
         Ok(()) => Ok(ObjectEdit::Mount(Box::new(alloc, mount)?)),
@@ -101,7 +107,7 @@ fn mount_root(
 ) -> Result<JobCase, AllocError>
     ensures decides { IfOk result (λ c. (d : desks.Desk) (j : job_types.Job) → Just (advance d (as_job j) (drop next j.steps.items) (mounting (root_mount config.now) mounts.now.list) Step.Root) ≡ job_turn d j c) }
     ensures of { IfOk result (λ c. (j : job_types.Job) → j.failure ≡ None → IsJobCase j c) }
-    ensures free { IfOk result (λ c. IsFreeFor (job_objects c) mounts.now.list) }
+    ensures free { IfOk result (λ c. (cs : List claim_types.Claim) → IsFreeFor (job_objects c) mounts.now.list cs) }
     ensures own { IfOk result (λ c. list_all is_of_own (object_edits (job_objects c)) ≡ true) }
     ensures active { IfOk result (λ c. (a : Option states.ZoneState) → job_active c a ≡ a) }
 {
@@ -121,7 +127,7 @@ fn mount_fs(
 ) -> Result<JobCase, AllocError>
     ensures decides { IfOk result (λ c. (d : desks.Desk) (j : job_types.Job) → Just (advance d (as_job j) (drop next j.steps.items) (mounting (fs_mount config.now dir.now) mounts.now.list) (Step.Mounted dir.now)) ≡ job_turn d j c) }
     ensures of { IfOk result (λ c. (j : job_types.Job) → j.failure ≡ None → IsInPlan j.steps.items next (Step.Mounted dir.now) → IsJobCase j c) }
-    ensures free { IfOk result (λ c. IsFreeFor (job_objects c) mounts.now.list) }
+    ensures free { IfOk result (λ c. (cs : List claim_types.Claim) → IsFreeFor (job_objects c) mounts.now.list cs) }
     ensures own { IfOk result (λ c. list_all is_of_own (object_edits (job_objects c)) ≡ true) }
     ensures active { IfOk result (λ c. (a : Option states.ZoneState) → job_active c a ≡ a) }
 {
@@ -147,9 +153,10 @@ fn step_case(
         → IsLocal d job.now c (local_step brands x d (as_job job.now) (drop next job.now.steps.items) planned.now))) }
     ensures none { IfOk result (λ o. o ≡ None → (brands : List Tabled) (x : objects.Objects) (d : desks.Desk) → local_step brands x d (as_job job.now) (drop next job.now.steps.items) planned.now ≡ None) }
     ensures of { IfOk result (λ o. IfSome o (IsJobCase job.now)) }
-    ensures free { IfOk result (λ o. IfSome o (λ c. IsFreeFor (job_objects c) mounts.now.list)) }
+    ensures free { IfOk result (λ o. IfSome o (λ c. (cs : List claim_types.Claim) → IsFreeFor (job_objects c) mounts.now.list cs)) }
     ensures own { IfOk result (λ o. IfSome o (λ c. list_all is_of_own (object_edits (job_objects c)) ≡ true)) }
     ensures active { IfOk result (λ o. IfSome o (λ c. (a : Option states.ZoneState) → job_active c a ≡ a)) }
+    ensures room { is_of_halt planned.now ≡ true → IsSomeFree takes_room result }
 {
     match planned {
         Step::Hook(change) => Ok(Some(hooked(next, *change, answer))),
@@ -162,28 +169,20 @@ fn step_case(
     }
 }
 
-// A mount goes, and the plan stays where it is.
-#[inline(never)]
-fn unmounted(alloc: Global, at: usize, dir: &AbsPath) -> Result<JobCase, AllocError>
-    ensures { IfOk result (λ c. c ≡ JobCase.Pass (record { next = at; objects = ObjectEdit.Unmount dir.now; shown = Step.Unmount (Some dir.now) })) }
-{
-    let gone = dir.copy(alloc)?;
-    let shown = Step::Unmount(Some(dir.copy(alloc)?));
-    Ok(changed(at, ObjectEdit::Unmount(gone), shown))
-}
-
 // The last mount goes, unless it is held, and the plan stays where it is.
-fn unmount_case(alloc: Global, at: usize, entry: &MountEntry) -> Result<JobCase, AllocError>
-    ensures decides { IfOk result (λ c. (d : desks.Desk) (j : job_types.Job) → Just (unmount_last d (as_job j) (drop at j.steps.items) entry.now) ≡ job_turn d j c) }
-    ensures of { IfOk result (λ c. (j : job_types.Job) → j.failure ≡ None → IsJobCase j c) }
-    ensures free { IfOk result (λ c. (ms : List entries.MountEntry) → IsFreeFor (job_objects c) ms) }
-    ensures own { IfOk result (λ c. list_all is_of_own (object_edits (job_objects c)) ≡ true) }
-    ensures active { IfOk result (λ c. (a : Option states.ZoneState) → job_active c a ≡ a) }
+fn unmount_case(at: usize, entry: &MountEntry) -> JobCase
+    ensures decides { (d : desks.Desk) (j : job_types.Job) → Just (unmount_last d (as_job j) (drop at j.steps.items) entry.now) ≡ job_turn d j result }
+    ensures of { (j : job_types.Job) → j.failure ≡ None → IsJobCase j result }
+    ensures free { (ms : List entries.MountEntry) (cs : List claim_types.Claim) → last_of ms ≡ Some entry.now → IsFreeFor (job_objects result) ms cs }
+    ensures own { list_all is_of_own (object_edits (job_objects result)) ≡ true }
+    ensures active { (a : Option states.ZoneState) → job_active result a ≡ a }
+    ensures room { takes_room result ≡ false }
 {
     if entry.held {
-        return Ok(JobCase::Stuck);
+        JobCase::Stuck
+    } else {
+        JobCase::Unmounts(Snapshot::of(&entry.mount.dir), at)
     }
-    unmounted(alloc, at, &entry.mount.dir)
 }
 
 // What the plan of a request comes to, where that is local.
@@ -201,13 +200,14 @@ fn plan_case(
     ensures none { IfOk result (λ o. o ≡ None → (brands : List Tabled) (x : objects.Objects) (d : desks.Desk) → x.mounts ≡ mounts.now.list → x.claims ≡ claims.now.claims
         → local_next brands x d (as_job job.now) (next x (drop job.now.at job.now.steps.items)) ≡ None) }
     ensures of { IfOk result (λ o. IfSome o (IsJobCase job.now)) }
-    ensures free { IfOk result (λ o. IfSome o (λ c. IsFreeFor (job_objects c) mounts.now.list)) }
+    ensures free { IfOk result (λ o. IfSome o (λ c. IsFreeFor (job_objects c) mounts.now.list claims.now.claims)) }
     ensures own { IfOk result (λ o. IfSome o (λ c. list_all is_of_own (object_edits (job_objects c)) ≡ true)) }
     ensures active { IfOk result (λ o. IfSome o (λ c. (a : Option states.ZoneState) → job_active c a ≡ a)) }
+    ensures room { list_all is_of_halt (drop job.now.at job.now.steps.items) ≡ true → IsSomeFree takes_room result }
 {
     match find_ahead(&job.steps, job.at, mounts, claims) {
         Ahead::Step(planned, next) => step_case(alloc, job, planned, next, mounts, answer),
-        Ahead::Mount(entry, at) => Ok(Some(unmount_case(alloc, at, entry)?)),
+        Ahead::Mount(entry, at) => Ok(Some(unmount_case(at, entry))),
         Ahead::Nothing | Ahead::Claim(_, _) => Ok(None),
     }
 }
@@ -227,7 +227,7 @@ fn undo_mount(alloc: Global, dir: &AbsPath, mounts: &MountCell) -> Result<JobCas
     ensures decides { IfOk result (λ c. (x : objects.Objects) (d : desks.Desk) (j : job_types.Job) (outcome : outcomes.Outcome) (shown : steps.Step) (rest : List steps.Step)
         → x.mounts ≡ mounts.now.list → (as_job j).stage ≡ Fails outcome (shown ∷ rest) → Just (undo_mount x d (as_job j) outcome rest dir.now shown) ≡ job_turn d j c) }
     ensures of { IfOk result (λ c. (j : job_types.Job) → IsSomeAnd j.failure (λ f. 0 < length j.made.items) → IsJobCase j c) }
-    ensures free { IfOk result (λ c. (ms : List entries.MountEntry) → IsFreeFor (job_objects c) ms) }
+    ensures free { IfOk result (λ c. (ms : List entries.MountEntry) (cs : List claim_types.Claim) → IsFreeFor (job_objects c) ms cs) }
     ensures own { IfOk result (λ c. list_all is_of_own (object_edits (job_objects c)) ≡ true) }
     ensures active { IfOk result (λ c. (a : Option states.ZoneState) → job_active c a ≡ a) }
 {
@@ -242,7 +242,7 @@ fn undo_root(alloc: Global, mounts: &MountCell) -> Result<JobCase, AllocError>
     ensures decides { IfOk result (λ c. (x : objects.Objects) (d : desks.Desk) (j : job_types.Job) (outcome : outcomes.Outcome) (shown : steps.Step) (rest : List steps.Step)
         → x.mounts ≡ mounts.now.list → (as_job j).stage ≡ Fails outcome (shown ∷ rest) → Just (undo_mount x d (as_job j) outcome rest root_dir shown) ≡ job_turn d j c) }
     ensures of { IfOk result (λ c. (j : job_types.Job) → IsSomeAnd j.failure (λ f. 0 < length j.made.items) → IsJobCase j c) }
-    ensures free { IfOk result (λ c. (ms : List entries.MountEntry) → IsFreeFor (job_objects c) ms) }
+    ensures free { IfOk result (λ c. (ms : List entries.MountEntry) (cs : List claim_types.Claim) → IsFreeFor (job_objects c) ms cs) }
     ensures own { IfOk result (λ c. list_all is_of_own (object_edits (job_objects c)) ≡ true) }
     ensures active { IfOk result (λ c. (a : Option states.ZoneState) → job_active c a ≡ a) }
 {
@@ -257,7 +257,7 @@ fn undo_step(alloc: Global, shown: &Step, mounts: &MountCell) -> Result<Option<J
     ensures none { IfOk result (λ o. o ≡ None → (x : objects.Objects) (d : desks.Desk) (j : desks.Job) (outcome : outcomes.Outcome) (rest : List steps.Step)
         → local_undo x d j outcome rest shown.now ≡ None) }
     ensures of { IfOk result (λ o. IfSome o (λ c. (j : job_types.Job) → IsSomeAnd j.failure (λ f. 0 < length j.made.items) → IsJobCase j c)) }
-    ensures free { IfOk result (λ o. IfSome o (λ c. (ms : List entries.MountEntry) → IsFreeFor (job_objects c) ms)) }
+    ensures free { IfOk result (λ o. IfSome o (λ c. (ms : List entries.MountEntry) (cs : List claim_types.Claim) → IsFreeFor (job_objects c) ms cs)) }
     ensures own { IfOk result (λ o. IfSome o (λ c. list_all is_of_own (object_edits (job_objects c)) ≡ true)) }
     ensures active { IfOk result (λ o. IfSome o (λ c. (a : Option states.ZoneState) → job_active c a ≡ a)) }
 {
@@ -291,9 +291,10 @@ fn undo_case(alloc: Global, job: &Job, mounts: &MountCell) -> Result<Option<JobC
     ensures none { IfOk result (λ o. o ≡ None → (brands : List Tabled) (x : objects.Objects) (d : desks.Desk)
         → local_stage brands x d (as_job job.now) (as_job job.now).stage ≡ None) }
     ensures of { IfOk result (λ o. IfSome o (IsJobCase job.now)) }
-    ensures free { IfOk result (λ o. IfSome o (λ c. (ms : List entries.MountEntry) → IsFreeFor (job_objects c) ms)) }
+    ensures free { IfOk result (λ o. IfSome o (λ c. (ms : List entries.MountEntry) (cs : List claim_types.Claim) → IsFreeFor (job_objects c) ms cs)) }
     ensures own { IfOk result (λ o. IfSome o (λ c. list_all is_of_own (object_edits (job_objects c)) ≡ true)) }
     ensures active { IfOk result (λ o. IfSome o (λ c. (a : Option states.ZoneState) → job_active c a ≡ a)) }
+    ensures room { halts_by (as_job job.now).stage ≡ true → IsSomeFree takes_room result }
 {
     match latest(job) {
         Some(shown) => undo_step(alloc, shown, mounts),
@@ -315,9 +316,10 @@ fn job_case(
     ensures none { IfOk result (λ o. o ≡ None → (brands : List Tabled) (x : objects.Objects) (d : desks.Desk) → x.mounts ≡ mounts.now.list → x.claims ≡ claims.now.claims
         → local_stage brands x d (as_job job.now) (as_job job.now).stage ≡ None) }
     ensures of { IfOk result (λ o. IfSome o (IsJobCase job.now)) }
-    ensures free { IfOk result (λ o. IfSome o (λ c. IsFreeFor (job_objects c) mounts.now.list)) }
+    ensures free { IfOk result (λ o. IfSome o (λ c. IsFreeFor (job_objects c) mounts.now.list claims.now.claims)) }
     ensures own { IfOk result (λ o. IfSome o (λ c. list_all is_of_own (object_edits (job_objects c)) ≡ true)) }
     ensures active { IfOk result (λ o. IfSome o (λ c. (a : Option states.ZoneState) → job_active c a ≡ a)) }
+    ensures room { halts_by (as_job job.now).stage ≡ true → IsSomeFree takes_room result }
 {
     match job.failure {
         None => plan_case(alloc, job, mounts, claims, answer),
@@ -327,7 +329,7 @@ fn job_case(
 
 /// What the next turn comes to, where that is local: it steps through a hook, through the zone's files, limits and mounts,
 /// undoes such a step, or waits for a held mount, and nothing that other zones may ask is touched. The brand answers
-/// `answer` where it is asked.
+/// `answer` where it is asked. On the turns of a halt it takes no memory, and nor does what comes of it.
 #[tactic(auto, unfolding(crate::specs::Turns::local_turn))]
 pub fn local_case(
     alloc: Global,
@@ -341,10 +343,11 @@ pub fn local_case(
     ensures none { IfOk result (λ o. o ≡ None → (brands : List Tabled) (x : objects.Objects) → x.mounts ≡ mounts.now.list → x.claims ≡ claims.now.claims
         → local_turn brands x (as_desk desk.now) ≡ None) }
     ensures of { IfOk result (λ o. IfSome o (IsTurnOf desk.now)) }
-    ensures free { IfOk result (λ o. IfSome o (λ c. IsFreeFor (turn_objects c) mounts.now.list)) }
+    ensures free { IfOk result (λ o. IfSome o (λ c. IsFreeFor (turn_objects c) mounts.now.list claims.now.claims)) }
     ensures own { IfOk result (λ o. IfSome o (λ c. list_all is_of_own (object_edits (turn_objects c)) ≡ true)) }
     ensures job { IfOk result (λ o. IfSome o (λ c. is_some desk.now.job ≡ true)) }
     ensures active { IfOk result (λ o. IfSome o (λ c. turn_active c desk.now.active ≡ desk.now.active)) }
+    ensures room { is_halting (as_desk desk.now) ≡ true → IsSomeFree turn_takes_room result }
 {
     let Some(job) = &desk.job else {
         return Ok(None);

@@ -128,7 +128,8 @@ fn detach_part(alloc: Global) -> Result<Vec<Step>, AllocError>
     ]?)
 }
 
-fn halt_part(alloc: Global) -> Result<Vec<Step>, AllocError>
+/// The plan of a halt. Its unmounts and releases are as many as there are mounts and claims, and each stands for all.
+pub(crate) fn halt_part(alloc: Global) -> Result<Vec<Step>, AllocError>
     ensures { IfOk result (λ steps. steps.items ≡ halt_part) }
 {
     Ok(vec![in alloc;

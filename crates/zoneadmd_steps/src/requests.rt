@@ -1,6 +1,7 @@
 //! What a zone's daemon is asked, and what its turns report. The words are those of zoneadm(8).
 ghost use Rattle.std.specs.Prelude.{◌≡◌, IfOk};
 ghost use Rattle.zoneadmd_steps.specs.Code.Desks.{as_outcome};
+ghost use Rattle.zoneadmd_steps.specs.Code.Works.{with_gone};
 ghost use Rattle.zoneadmd_steps.specs.Plans.{kind_of};
 
 use brand_hooks::Change;
@@ -138,6 +139,28 @@ pub enum TurnReply {
     /// The next unmount is of a mount that the global zone holds: nothing changes, and the request waits until it is
     /// released. By zoneadmd(8)'s umount of a zone's mounts, umount2(2) EBUSY.
     Stuck,
+}
+
+/// What went as the last, as it is moved out of the zone's tables.
+#[derive(Drop)]
+pub enum Gone {
+    Nothing,
+    /// The directory of a mount.
+    Mount(AbsPath),
+    Claim(Claim),
+}
+
+impl TurnReply {
+    /// What is told of a turn once the last mount or the latest claim went by it.
+    pub fn with_gone(self, gone: Gone) -> TurnReply
+        ensures { result ≡ with_gone gone self }
+    {
+        match gone {
+            Gone::Nothing => self,
+            Gone::Mount(dir) => TurnReply::Stepped(Step::Unmount(Some(dir))),
+            Gone::Claim(claim) => TurnReply::Stepped(Step::Release(Some(claim))),
+        }
+    }
 }
 
 impl Request {

@@ -1,9 +1,9 @@
 //! How a turn is settled: the desk changes, and what else is to be done is told. No memory is taken, and nothing fails.
-ghost use Rattle.std.specs.Prelude.{◌<◌, ◌≡◌, IfSome, None, Option, Some, drop, length, true, ℕ};
+ghost use Rattle.std.specs.Prelude.{◌<◌, ◌≡◌, ◌∷◌, IfSome, None, Option, Some, drop, length, true, ℕ};
 ghost use Rattle.zn_base.specs.Names.{Name};
 ghost use Rattle.zone_pools.specs.Decisions as decisions;
 ghost use Rattle.zoneadmd_steps.specs.Arrivals.{arrived, in_store};
-ghost use Rattle.zoneadmd_steps.specs.Code.Cases.{IsJobCase, IsNamedCame, IsNamedJobCase, IsNamedTurn, IsTurnOf, active_with, comes_of, edits_under, job_active, job_objects, job_turn, mount_in, object_edits, shown_under, turn_active, turn_decision_of, turn_objects};
+ghost use Rattle.zoneadmd_steps.specs.Code.Cases.{IsJobCase, IsNamedCame, IsNamedJobCase, IsNamedTurn, IsTurnOf, IsHaltFirst, No_premise, active_with, comes_of, edits_under, halt_begun, job_active, job_objects, job_turn, object_edits, premise_of, shown_under, turn_active, turn_decision_of, turn_objects};
 ghost use Rattle.zoneadmd_steps.specs.Code.Desks.{as_desk, as_job};
 ghost use Rattle.zoneadmd_steps.specs.Code.Rooms.{HasJobRoom, HasMadeRoom, HasTurnRoom};
 ghost use Rattle.zoneadmd_steps.specs.Code.Works.{arrival_of, rest_of_turn, turn_work, unless_ended};
@@ -16,9 +16,12 @@ ghost use Rattle.zoneadmd_steps.specs.Turns.{active_after};
 use crate::cases::{JobCase, TurnCase};
 use crate::desks::{Desk, Job};
 use crate::objects::changes::{Came, ObjectEdit};
-use crate::requests::{Failure, Outcome, Request, Step, TurnReply};
+use crate::queued::QueuedRequest;
+use crate::requests::{Failure, Outcome, Request, RequestKind, Step, TurnReply};
 use commit_journal::Record;
+use std::alloc::Global;
 use zn_base::{ZoneName, ZoneState};
+use zone_config::blank;
 use zone_pools::{Grant, number_in};
 
 /// A record that is stored, and the name of the zone whose it is.
@@ -28,7 +31,8 @@ pub struct Stored {
     pub owner: ZoneName,
 }
 
-/// What a turn does beside its change of the desk, and once what comes to the kernel is there.
+/// What a turn does beside its change of the desk, and once what comes to the kernel is there. Where the last mount or the
+/// latest claim goes, the reply lacks its directory or item until it is filled.
 #[derive(Drop)]
 pub struct TurnWork {
     pub stored: Option<Stored>,
@@ -88,7 +92,7 @@ fn active_with(shown: &Step, active: Option<ZoneState>) -> Option<ZoneState>
 fn given(it: Came, number: u32) -> (Step, ObjectEdit, Option<Stored>)
     ensures shown { result.0 ≡ shown_under it number }
     ensures edits { object_edits result.1 ≡ edits_under it }
-    ensures mounts { mount_in result.1 ≡ None }
+    ensures premise { premise_of result.1 ≡ No_premise }
     ensures own { list_all is_of_own (object_edits result.1) ≡ true }
     ensures stored { arrival_of result.2 ≡ in_store (Some (arrived (comes_of it) number)) }
     ensures named { (z : Name) → IsNamedCame z it → IfSome result.2 (λ s. s.owner ≡ z) }
@@ -123,7 +127,7 @@ fn ask(job: &mut Job, it: Came, next: usize, grant: Grant) -> TurnWork
     requires of { IsJobCase job.old (JobCase.Ask it next) }
     requires room { HasMadeRoom job.old }
     ensures act { (d : desks.Desk) → rest_of_turn (decisions.act_of arrived (job_turn d job.old (JobCase.Ask it next)) grant) ≡ turn_work result (record d { job = unless_ended result.ended (as_job job.new) }) }
-    ensures mounts { mount_in result.objects ≡ None }
+    ensures premise { premise_of result.objects ≡ No_premise }
     ensures own { list_all is_of_own (object_edits result.objects) ≡ true }
     ensures named { (z : Name) → IsNamedCame z it → IfSome result.stored (λ s. s.owner ≡ z) }
 {
@@ -148,6 +152,7 @@ fn ask(job: &mut Job, it: Came, next: usize, grant: Grant) -> TurnWork
 }
 
 // The request under way goes on, or ends.
+#[tactic(auto, using(crate::proofs::Telling::told_as_is))]
 fn settle_job(
     job: &mut Job,
     active: &mut Option<ZoneState>,
@@ -157,7 +162,7 @@ fn settle_job(
     requires of { IsJobCase job.old case }
     requires room { HasJobRoom job.old case }
     ensures act { (d : desks.Desk) → d.job ≡ Some (as_job job.old) → d.active ≡ active.old → rest_of_turn (decisions.act_of arrived (job_turn d job.old case) grant) ≡ turn_work result (record d { job = unless_ended result.ended (as_job job.new); active = active.new }) }
-    ensures mounts { mount_in result.objects ≡ mount_in (job_objects case) }
+    ensures premise { premise_of result.objects ≡ premise_of (job_objects case) }
     ensures own { list_all is_of_own (object_edits (job_objects case)) ≡ true → list_all is_of_own (object_edits result.objects) ≡ true }
     ensures active { active.new ≡ job_active case active.old }
     ensures named { (z : Name) → IsNamedJobCase z case → IfSome result.stored (λ s. s.owner ≡ z) }
@@ -168,6 +173,20 @@ fn settle_job(
             job.pass(pass.next, &pass.shown);
             *active = active_with(&pass.shown, *active);
             TurnWork::turned(pass.objects, TurnReply::Stepped(pass.shown))
+        }
+        JobCase::Unmounts(dir, next) => {
+            job.pass(next, &Step::Unmount(None));
+            TurnWork::turned(
+                ObjectEdit::UnmountLast(dir),
+                TurnReply::Stepped(Step::Unmount(None)),
+            )
+        }
+        JobCase::Releases(claim, next) => {
+            job.pass(next, &Step::Release(None));
+            TurnWork::turned(
+                ObjectEdit::ReleaseLast(claim),
+                TurnReply::Stepped(Step::Release(None)),
+            )
         }
         JobCase::Ask(it, next) => ask(job, it, next, grant),
         JobCase::Fail(failure) => {
@@ -185,11 +204,46 @@ fn settle_job(
     }
 }
 
-fn drop_first(waiting: &mut Vec<(u32, Request)>)
+fn take_first(waiting: &mut Vec<(u32, QueuedRequest)>) -> (u32, QueuedRequest)
+    requires { 0 < length waiting.old.items }
+    ensures { waiting.old.items ≡ result ∷ waiting.new.items }
+{
+    waiting.remove(0)
+}
+
+fn drop_first(waiting: &mut Vec<(u32, QueuedRequest)>)
     requires { 0 < length waiting.old.items }
     ensures { waiting.new.items ≡ drop 1 waiting.old.items }
 {
-    waiting.remove(0);
+    take_first(waiting);
+}
+
+// The first request that waits is a halt, and is under way from now on. It keeps no configuration.
+#[inline(never)]
+fn begin_halt(alloc: Global, desk: &mut Desk, brand: Option<usize>) -> TurnWork
+    requires { IsHaltFirst desk.old.waiting.items }
+    ensures act { (grant : Grant) → rest_of_turn (decisions.act_of arrived (halt_begun desk.old desk.old.waiting.items brand) grant) ≡ turn_work result (as_desk desk.new) }
+    ensures premise { premise_of result.objects ≡ No_premise }
+    ensures own { list_all is_of_own (object_edits result.objects) ≡ true }
+    ensures active { desk.new.active ≡ desk.old.active }
+    ensures stored { result.stored ≡ None }
+{
+    let (ticket, queued) = take_first(&mut desk.waiting);
+    desk.job = Some(Job {
+        ticket,
+        request: Request::Halt,
+        brand,
+        config: blank(alloc),
+        steps: queued.into_halt_plan(),
+        at: 0,
+        place: 1,
+        made: Vec::new(alloc),
+        failure: None,
+    });
+    TurnWork::turned(
+        ObjectEdit::Nothing,
+        TurnReply::Began(ticket, RequestKind::Halt),
+    )
 }
 
 // A request is under way from now on: what is told.
@@ -212,12 +266,13 @@ fn end_job(desk: &mut Desk)
     desk.job = None;
 }
 
-/// A turn is settled on the desk under a grant: what else is to be done.
-pub fn settle_turn(desk: &mut Desk, case: TurnCase, grant: Grant) -> TurnWork
+/// A turn is settled on the desk under a grant: what else is to be done. It takes no memory. Where the last mount or the
+/// latest claim goes, the reply is to be filled with what goes.
+pub fn settle_turn(alloc: Global, desk: &mut Desk, case: TurnCase, grant: Grant) -> TurnWork
     requires of { IsTurnOf desk.old case }
     requires room { HasTurnRoom desk.old case }
     ensures act { rest_of_turn (decisions.act_of arrived (turn_decision_of desk.old case) grant) ≡ turn_work result (as_desk desk.new) }
-    ensures mounts { mount_in result.objects ≡ mount_in (turn_objects case) }
+    ensures premise { premise_of result.objects ≡ premise_of (turn_objects case) }
     ensures own { list_all is_of_own (object_edits (turn_objects case)) ≡ true → list_all is_of_own (object_edits result.objects) ≡ true }
     ensures active { desk.new.active ≡ turn_active case desk.old.active }
     ensures named { (z : Name) → IsNamedTurn z case → IfSome result.stored (λ s. s.owner ≡ z) }
@@ -228,6 +283,7 @@ pub fn settle_turn(desk: &mut Desk, case: TurnCase, grant: Grant) -> TurnWork
             drop_first(&mut desk.waiting);
             put_job(desk, job)
         }
+        TurnCase::BeginHalt(brand) => begin_halt(alloc, desk, brand),
         TurnCase::Refuse(ticket, outcome) => {
             drop_first(&mut desk.waiting);
             end_job(desk);

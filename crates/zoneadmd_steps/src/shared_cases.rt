@@ -2,24 +2,29 @@
 ghost use Rattle.std.specs.Prelude.{◌≡◌, ◌<◌, ◌≤◌, ◌-◌, ◌∷◌, [], Err, IfOk, IfSome, List, None, Ok, Some, bytes_eq, drop, false, length, not, slice_get, true};
 ghost use Rattle.std.specs.Option.{option_map};
 ghost use Rattle.config_terms.specs.Fields.{path_text};
+ghost use Rattle.datalink_table.specs.declared.claims.Claim as claim_types;
 ghost use Rattle.kernel_objects.specs.Kernel.{with_bootargs};
 ghost use Rattle.kernel_objects.specs.Processes.{count_of};
+ghost use Rattle.loopback_mounts.specs.Mounts.{last_of};
 ghost use Rattle.loopback_mounts.specs.declared.mount.MountEntry as entries;
 ghost use Rattle.zn_base.specs.Names.{Name};
 ghost use Rattle.zn_base.specs.Text.{is_text};
 ghost use Rattle.zone_config.specs.Sound.{IsSound};
 ghost use Rattle.zone_pools.specs.Asked.{A_pid};
+ghost use Rattle.zone_pools.specs.Decisions.{Just};
 ghost use Rattle.zoneadmd_steps.specs.Arrivals.{A_process};
 ghost use Rattle.zoneadmd_steps.specs.Code.Ahead.{is_for_all};
 ghost use Rattle.zoneadmd_steps.specs.Code.Cases.{IsFreeFor, IsInPlan, IsJobCase, IsNamedJobCase, as_objects, job_objects, job_turn};
 ghost use Rattle.zoneadmd_steps.specs.Code.Desks.{as_job};
+ghost use Rattle.zoneadmd_steps.specs.Code.Rooms.{IsFree, IsSomeFree, takes_room};
 ghost use Rattle.zoneadmd_steps.specs.Code.Shareds.{case_turn, is_left, is_of_objects, is_of_store};
 ghost use Rattle.zoneadmd_steps.specs.Configs.{devices_by, with_zonepath};
 ghost use Rattle.zoneadmd_steps.specs.Desks as desks;
+ghost use Rattle.zoneadmd_steps.specs.Halts.{is_of_halt};
 ghost use Rattle.zoneadmd_steps.specs.Objects as objects;
-ghost use Rattle.zoneadmd_steps.specs.Objects.{Ids_change, ids_of, kernel_of, zid_of};
+ghost use Rattle.zoneadmd_steps.specs.Objects.{Ids_change, Last_claim_goes, ids_of, kernel_of, zid_of};
 ghost use Rattle.zoneadmd_steps.specs.Turns as turns;
-ghost use Rattle.zoneadmd_steps.specs.Turns.{args_or, asking, bootargs_of, init_process, new_path, record_config, record_state, shared_step, size_in};
+ghost use Rattle.zoneadmd_steps.specs.Turns.{advance, args_or, asking, bootargs_of, init_process, new_path, record_config, record_state, shared_step, size_in};
 ghost use Rattle.zoneadmd_steps.specs.declared.desks.Job as job_types;
 
 use crate::cases::JobCase;
@@ -33,6 +38,7 @@ use config_terms::ConfigFault;
 use datalink_table::Claim;
 use kernel_objects::{KernelCell, KernelShared};
 use std::alloc::{AllocError, Global};
+use std::snapshot::Snapshot;
 use zn_base::{AbsPath, Listing, Text, Value, ZoneName, ZoneState};
 use zone_config::{Contents, ZoneConfig};
 
@@ -57,7 +63,7 @@ fn store_state(
 ) -> Result<JobCase, AllocError>
     ensures decides { IfOk result (λ c. (d : desks.Desk) (j : job_types.Job) → record_state d (as_job j) (drop next j.steps.items) to (Some row.now) ≡ job_turn d j c) }
     ensures of { IfOk result (λ c. (j : job_types.Job) → j.failure ≡ None → IsJobCase j c) }
-    ensures free { IfOk result (λ c. (ms : List entries.MountEntry) → IsFreeFor (job_objects c) ms) }
+    ensures free { IfOk result (λ c. (ms : List entries.MountEntry) (cs : List claim_types.Claim) → IsFreeFor (job_objects c) ms cs) }
     ensures named { IfOk result (IsNamedJobCase zone.now) }
 {
     let mut stored = row.copy(alloc)?;
@@ -155,7 +161,7 @@ fn store_moved(
     requires { with_zonepath path.now row.now.config ≡ Ok config }
     ensures decides { IfOk result (λ c. (d : desks.Desk) (j : job_types.Job) → record_config d (as_job j) (drop next j.steps.items) path.now row.now (Ok config) ≡ job_turn d j c) }
     ensures of { IfOk result (λ c. (j : job_types.Job) → j.failure ≡ None → IsJobCase j c) }
-    ensures free { IfOk result (λ c. (ms : List entries.MountEntry) → IsFreeFor (job_objects c) ms) }
+    ensures free { IfOk result (λ c. (ms : List entries.MountEntry) (cs : List claim_types.Claim) → IsFreeFor (job_objects c) ms cs) }
     ensures named { IfOk result (IsNamedJobCase zone.now) }
 {
     let is_new = is_other(&row.config, path.bytes());
@@ -174,7 +180,7 @@ fn store_path(
 ) -> Result<JobCase, AllocError>
     ensures decides { IfOk result (λ c. (d : desks.Desk) (j : job_types.Job) → record_config d (as_job j) (drop next j.steps.items) path.now row.now (with_zonepath path.now row.now.config) ≡ job_turn d j c) }
     ensures of { IfOk result (λ c. (j : job_types.Job) → j.failure ≡ None → IsJobCase j c) }
-    ensures free { IfOk result (λ c. (ms : List entries.MountEntry) → IsFreeFor (job_objects c) ms) }
+    ensures free { IfOk result (λ c. (ms : List entries.MountEntry) (cs : List claim_types.Claim) → IsFreeFor (job_objects c) ms cs) }
     ensures named { IfOk result (IsNamedJobCase zone.now) }
 {
     match with_zonepath(alloc, &row.config, path.copy(alloc)?)? {
@@ -196,7 +202,7 @@ fn stored_case(
     requires planned { is_of_store planned.now ≡ true }
     ensures decides { IfOk result (λ o. (v : turns.Seen) → v.stored ≡ option_map (λ r. r.now) row.entry → shared_step v (as_job job.now) (drop next job.now.steps.items) planned.now ≡ case_turn v.desk job.now o) }
     ensures of { IfOk result (λ o. IfSome o (IsJobCase job.now)) }
-    ensures free { IfOk result (λ o. IfSome o (λ c. (ms : List entries.MountEntry) → IsFreeFor (job_objects c) ms)) }
+    ensures free { IfOk result (λ o. IfSome o (λ c. (ms : List entries.MountEntry) (cs : List claim_types.Claim) → IsFreeFor (job_objects c) ms cs)) }
     ensures named { IfOk result (λ o. IfSome o (IsNamedJobCase zone.now)) }
 {
     let Some(row) = row else {
@@ -288,7 +294,7 @@ fn start_init(
     ensures decides { IfOk result (λ c. (o : objects.Objects) (d : desks.Desk) (j : job_types.Job) → kernel_of o ≡ kernel.now
         → asking d (as_job j) (drop next j.steps.items) (A_process (init_process o)) (A_pid ∷ []) (Ids_change (with_bootargs args) ∷ []) (λ n. Step.Init (Some n)) ≡ job_turn d j c) }
     ensures of { IfOk result (λ c. (j : job_types.Job) → j.failure ≡ None → IsJobCase j c) }
-    ensures free { IfOk result (λ c. (ms : List entries.MountEntry) → IsFreeFor (job_objects c) ms) }
+    ensures free { IfOk result (λ c. (ms : List entries.MountEntry) (cs : List claim_types.Claim) → IsFreeFor (job_objects c) ms cs) }
     ensures named { IfOk result (λ c. (z : Name) → IsNamedJobCase z c) }
 {
     let name = Text::of(alloc, b"init")?;
@@ -301,7 +307,7 @@ fn boot(alloc: Global, job: &Job, next: usize, kernel: &KernelCell) -> Result<Jo
     ensures decides { IfOk result (λ c. (o : objects.Objects) (d : desks.Desk) → kernel_of o ≡ kernel.now
         → asking d (as_job job.now) (drop next job.now.steps.items) (A_process (init_process o)) (A_pid ∷ []) (Ids_change (with_bootargs (bootargs_of job.now.request job.now.config)) ∷ []) (λ n. Step.Init (Some n)) ≡ job_turn d job.now c) }
     ensures of { IfOk result (λ c. (j : job_types.Job) → j.failure ≡ None → IsJobCase j c) }
-    ensures free { IfOk result (λ c. (ms : List entries.MountEntry) → IsFreeFor (job_objects c) ms) }
+    ensures free { IfOk result (λ c. (ms : List entries.MountEntry) (cs : List claim_types.Claim) → IsFreeFor (job_objects c) ms cs) }
     ensures named { IfOk result (λ c. (z : Name) → IsNamedJobCase z c) }
 {
     let args = bootargs_of(alloc, job)?;
@@ -340,8 +346,9 @@ fn object_case(
     ensures decides { IfOk result (λ c. (v : turns.Seen) → v.objects ≡ as_objects objects.entry → v.declared ≡ system.entry.kernel.now.devices
         → shared_step v (as_job job.now) (drop next job.now.steps.items) planned.now ≡ job_turn v.desk job.now c) }
     ensures of { IfOk result (IsJobCase job.now) }
-    ensures free { IfOk result (λ c. (ms : List entries.MountEntry) → IsFreeFor (job_objects c) ms) }
+    ensures free { IfOk result (λ c. (ms : List entries.MountEntry) (cs : List claim_types.Claim) → IsFreeFor (job_objects c) ms cs) }
     ensures named { IfOk result (λ c. (z : Name) → IsNamedJobCase z c) }
+    ensures room { is_of_halt planned.now ≡ true → IsFree takes_room result }
 {
     match planned {
         Step::Source(source) => look_at_source(alloc, next, source),
@@ -383,8 +390,9 @@ pub(crate) fn step_case(
     ensures decides { IfOk result (λ o. (v : turns.Seen) → v.stored ≡ option_map (λ r. r.now) row.entry → v.objects ≡ as_objects objects.entry → v.declared ≡ system.entry.kernel.now.devices
         → shared_step v (as_job job.now) (drop next job.now.steps.items) planned.now ≡ case_turn v.desk job.now o) }
     ensures of { IfOk result (λ o. IfSome o (IsJobCase job.now)) }
-    ensures free { IfOk result (λ o. IfSome o (λ c. (ms : List entries.MountEntry) → IsFreeFor (job_objects c) ms)) }
+    ensures free { IfOk result (λ o. IfSome o (λ c. (ms : List entries.MountEntry) (cs : List claim_types.Claim) → IsFreeFor (job_objects c) ms cs)) }
     ensures named { IfOk result (λ o. IfSome o (IsNamedJobCase zone.now)) }
+    ensures room { is_of_halt planned.now ≡ true → IsSomeFree takes_room result }
 {
     if is_of_store(planned) {
         return stored_case(alloc, zone, job, planned, next, row);
@@ -393,9 +401,12 @@ pub(crate) fn step_case(
 }
 
 /// The last claim ends, and the plan stays where it is.
-pub(crate) fn release(alloc: Global, at: usize, claim: &Claim) -> Result<JobCase, AllocError>
-    ensures { IfOk result (λ c. c ≡ JobCase.Pass (record { next = at; objects = ObjectEdit.EndClaim; shown = Step.Release (Some claim.now) })) }
+pub(crate) fn release(at: usize, claim: &Claim) -> JobCase
+    ensures decides { (d : desks.Desk) (j : job_types.Job) → Just (advance d (as_job j) (drop at j.steps.items) (Last_claim_goes ∷ []) (Step.Release (Some claim.now))) ≡ job_turn d j result }
+    ensures of { (j : job_types.Job) → j.failure ≡ None → IsJobCase j result }
+    ensures free { (ms : List entries.MountEntry) (cs : List claim_types.Claim) → last_of cs ≡ Some claim.now → IsFreeFor (job_objects result) ms cs }
+    ensures named { (z : Name) → IsNamedJobCase z result }
+    ensures room { takes_room result ≡ false }
 {
-    let shown = Step::Release(Some(claim.copy(alloc)?));
-    Ok(changed(at, ObjectEdit::EndClaim, shown))
+    JobCase::Releases(Snapshot::of(claim), at)
 }

@@ -1,5 +1,5 @@
 -- What comes to the kernel with a number, as the definitions have it.
-use Rattle.std.specs.Prelude.{ℕ, Option, Some, None, Result, Ok}
+use Rattle.std.specs.Prelude.{ℕ, Bool, true, false, Option, Some, None, Result, Ok}
 use Rattle.kernel_objects.specs.Kernel.{new_id}
 use Rattle.kernel_objects.specs.Processes.{process_of}
 use Rattle.zone_pools.specs.declared.grant.Pool.{Pool}
@@ -12,3 +12,8 @@ newcome (Process p) (Ok n) = Some (New_process (process_of (n, p.now)))
 newcome Id (Ok n) = Some (New_id (new_id n))
 newcome (Claim c) (Ok n) = Some (New_claim c.now)
 newcome _ _ = None
+
+-- whether it is a claim
+abbrev pub is_claim : Newcomer → Bool
+is_claim (Claim c) = true
+is_claim _ = false

@@ -1,5 +1,5 @@
 -- What is known of an event that was decided, and how it is answered.
-use Rattle.std.specs.Prelude.{◌≡◌, ℕ, List, bytes_eq, slice_get, Option, Some}
+use Rattle.std.specs.Prelude.{◌≡◌, ℕ, bytes_eq, slice_get, Option, Some}
 use Rattle.std.specs.Fn.{Shared}
 use denote.Ref.{Bor}
 use Rattle.indexmap.specs.IndexMap.{IsUnique, index_of_by, values}
@@ -35,7 +35,7 @@ pub record IsCaseIn (z : Name) (out : Outside) (c : Cell) (decides : View → De
   pub decided : decides (view_of z (cell_world out c)) ≡ decision_of c.desk case
   pub of : IsCaseOf c.desk case
   pub named : IsNamedCase z case
-  pub free : IsFreeCase case c.mounts.list
+  pub free : IsFreeCase case c.mounts.list c.claims.claims
 
 -- z's cell stands at an index
 pub record IsCellAt (p : Parts) (at : ℕ) (z : Name) : Type 0 where
@@ -69,7 +69,7 @@ IsHeard t (Turn z) answer = (c : Cell) → cell_at z t ≡ Some c → IsHeardIn 
 IsHeard t _ answer = Unit {0}
 
 -- of which change the brand of a turn's zone is asked at the next step of its daemon
-abbrev pub IsNextHook : Parts → Event → Option (List ℕ × Change) → Type 0
+abbrev pub IsNextHook : Parts → Event → Option (Option ℕ × Change) → Type 0
 IsNextHook t (Turn z) asked = (c : Cell) → cell_at z t ≡ Some c → asked ≡ next_hook (cell_objects c) (as_desk c.desk).job
 IsNextHook t _ asked = Unit {0}
 

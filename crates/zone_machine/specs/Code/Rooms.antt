@@ -1,8 +1,8 @@
 -- Room that is taken before anything is changed, and that nothing is changed by taking it.
-use Rattle.std.specs.Prelude.{◌≡◌, ◌⊎◌, ◌<◌, List, [], ◌∷◌, Option, Some, None, IfSome, bytes_eq, is_some, false, true, Ok}
+use Rattle.std.specs.Prelude.{◌≡◌, ◌⊎◌, ◌<◌, List, [], ◌∷◌, Option, Some, None, bytes_eq, is_some, false, true}
 use Rattle.datalink_table.specs.Claims.{pool_of}
-use Rattle.loopback_mounts.specs.Mounts.{mount_answer}
 use Rattle.indexmap.specs.IndexMap.{get_by, spare}
+use Rattle.loopback_mounts.specs.Mounts.{Mounts}
 use Rattle.zn_base.specs.Names.{Name}
 use Rattle.zone_pools.specs.Asked.{A_pid, A_source, A_zid, An_item, Asked}
 use Rattle.zone_pools.specs.Decisions.{asked_of}
@@ -10,7 +10,7 @@ use Rattle.zone_pools.specs.Owners.{owner}
 use Rattle.zone_pools.specs.Pools.{Pools, has_room}
 use Rattle.zoneadmd_steps.specs.Arrivals.{Arrival, New_claim, New_id, New_process, New_record, No_new_thing}
 use Rattle.zone_machine.specs.Code.Cases.{case_active, decision_of}
-use Rattle.zoneadmd_steps.specs.Code.Cases.{mount_in}
+use Rattle.zoneadmd_steps.specs.Code.Cases.{IsFreeFor, May_mount, Premise, premise_of}
 use Rattle.zoneadmd_steps.specs.Code.Rooms.{HasRequestRoom, HasTurnRoom}
 use Rattle.zone_machine.specs.Code.Works.{objects_of}
 use Rattle.zone_machine.specs.Code.Cells.{Outside, cell_world, common_in}
@@ -59,9 +59,13 @@ IsFreeOf z (Some (New_claim c)) P = P.may_hold z (pool_of c.kind) c.item ≡ tru
 IsFreeOf z (Some (New_record row)) P = has_room P ≡ true
 IsFreeOf z (Some No_new_thing) P = Unit {0}
 
--- room for what becomes of the zone's objects, where nothing refuses a mount
+-- room for what becomes of the zone's objects, where nothing refuses a mount, and what goes as the last is the last
+abbrev pub HasRoomBy : Premise → Mounts → Type 0
+HasRoomBy (May_mount dir) m = 0 < m.room
+HasRoomBy _ m = Unit {0}
+
 abbrev pub HasRoomToChange : ObjectEdit → Cell → Type 0
-HasRoomToChange e c = IfSome (mount_in e) (λ m. (0 < c.mounts.room) × (mount_answer m.dir c.mounts.list ≡ Ok tt))
+HasRoomToChange e c = HasRoomBy (premise_of e) c.mounts × IsFreeFor e c.mounts.list c.claims.claims
 
 -- a zone whose state becomes none of the stored ones has its place among those that may be up
 abbrev pub HasRoomToRise : Name → Case → Cell → Shared → Type 0

@@ -19,7 +19,12 @@ use Rattle.zone_machine.specs.declared.machine.work.Work.{Work}
 use Rattle.zone_pools.specs.Owners.{owner}
 use Rattle.zoneadmd_steps.specs.Code.Cases.{IsFreeFor, object_edits, turn_objects}
 use Rattle.loopback_mounts.specs.declared.mount.MountEntry.{MountEntry}
-use Rattle.zoneadmd_steps.specs.Code.Works.{arrival_of}
+use Rattle.zoneadmd_steps.specs.Code.Works.{arrival_of, gone_by, with_gone}
+use Rattle.zoneadmd_steps.specs.declared.requests.Gone.{Gone}
+use Rattle.datalink_table.specs.declared.claims.Claim.{Claim}
+use Rattle.zone_machine.specs.declared.replies.Head.{Head}
+use Rattle.zone_machine.specs.declared.replies.Head.TheVariants.{Turned as Told}
+use Rattle.zone_machine.specs.declared.replies.Reply.{Reply}
 
 pub record IsNamedWork (z : Name) (w : Work) : Type 0 where
   pub stored : IfSome w.stored (λ s. s.owner ≡ z)
@@ -30,12 +35,12 @@ objects_of (Turn c) = turn_objects c
 objects_of (Change edit) = edit
 objects_of _ = Nothing
 
--- a case that mounts nothing, or what nothing refuses
-abbrev pub IsFreeCase : Case → List MountEntry → Type 0
-IsFreeCase c ms = IsFreeFor (objects_of c) ms
+-- a case that mounts nothing, or what nothing refuses, and by which nothing goes as the last that isn't
+abbrev pub IsFreeCase : Case → List MountEntry → List Claim → Type 0
+IsFreeCase c ms cs = IsFreeFor (objects_of c) ms cs
 
 abbrev pub MountsNothing : Case → Type 0
-MountsNothing c = (ms : List MountEntry) → IsFreeCase c ms
+MountsNothing c = (ms : List MountEntry) (cs : List Claim) → IsFreeCase c ms cs
 
 -- who sits down
 abbrev pub sitting_of : Desk → Case → Option Sitting
@@ -50,16 +55,28 @@ abbrev pub sits : Option Sitting → List Edit
 sits None = []
 sits (Some s) = Here (Some (Awaiting s.ticket)) ∷ []
 
+-- a reply, once the last mount or the latest claim went
+abbrev pub head_with : Gone → Head → Head
+head_with gone (Told t) = Told (with_gone gone t)
+head_with gone h = h
+
+abbrev pub reply_with : Gone → Reply → Reply
+reply_with gone r = record r { head = head_with gone r.head }
+
+-- what some work tells
+abbrev pub told_by : Work → Reply
+told_by w = reply_with (gone_by w.objects) w.reply
+
 abbrev pub work_act : Work → desks.Desk → Act
 work_act w d = record {
   came = arrival_of w.stored;
-  effect = record { edits = map Of_objects (object_edits w.objects) ++ (Set_desk d ∷ (sits w.sits ++ sweeps w.ended)); reply = w.reply };
+  effect = record { edits = map Of_objects (object_edits w.objects) ++ (Set_desk d ∷ (sits w.sits ++ sweeps w.ended)); reply = told_by w };
 }
 
 -- the work does what an act says in a world, and leaves the desk so
 pub record Works (n : Option ℕ) (a : Act) (v : World) (d : desks.Desk) (w : Work) : Type 0 where
   pub came : arrival_of w.stored ≡ a.came
-  pub reply : w.reply ≡ a.effect.reply
+  pub reply : told_by w ≡ a.effect.reply
   pub world : acts_world n (work_act w d) v ≡ acts_world n a v
 
 -- what some work does to a world beside its change of the desk

@@ -1,5 +1,5 @@
 -- What the pools that all zones share give in a state, and which grants may be stated.
-use Rattle.std.specs.Prelude.{ℕ, List, [], length, Option, Some, None, Bool, true, false, is_some, not, ◌&&◌, bytes_eq}
+use Rattle.std.specs.Prelude.{ℕ, List, length, Option, Some, None, Bool, true, false, is_some, not, ◌&&◌, bytes_eq}
 use Rattle.datalink_table.specs.Claims.{claim_of, holds, same_claim}
 use Rattle.datalink_table.specs.declared.claims.Claim.{Claim}
 use Rattle.datalink_table.specs.declared.claims.ClaimKind.{ClaimKind}

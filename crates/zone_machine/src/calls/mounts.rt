@@ -1,6 +1,7 @@
 //! What the calls come to that ask for the zone's mounts, claims and devices.
 ghost use Rattle.std.specs.Prelude.{◌≡◌, ◌≢◌, ◌&&◌, IfErr, IfOk, List, Ok, Some};
 ghost use Rattle.datalink_table.specs.Claims.{items_of};
+ghost use Rattle.datalink_table.specs.declared.claims.Claim as claim_types;
 ghost use Rattle.datalink_table.specs.declared.claims.ClaimKind.TheVariants as claim_kinds;
 ghost use Rattle.kernel_objects.specs.Kernel.{fs_allowed_of};
 ghost use Rattle.kernel_objects.specs.Processes.{Process, may_mount, with_pid};
@@ -47,7 +48,7 @@ fn mount_special(
     ensures decides { IfOk result (λ c. (d : desk_types.Desk) → mounts_special call.now mounts.now.list (Ok special) ≡ decision_of d c) }
     ensures of { IfOk result (λ c. (d : desk_types.Desk) → IsCaseOf d c) }
     ensures named { IfOk result (λ c. (z : Name) → IsNamedCase z c) }
-    ensures free { IfOk result (λ c. IsFreeCase c mounts.now.list) }
+    ensures free { IfOk result (λ c. (cs : List claim_types.Claim) → IsFreeCase c mounts.now.list cs) }
 {
     if let Err(fault) = mounts.check_mount(&call.dir) {
         return refused(fault);
@@ -81,7 +82,7 @@ pub(crate) fn mount_case(
     ensures decides { IfOk result (λ c. (d : desk_types.Desk) (p : Process) → with_pid pid kernel.now.processes ≡ Some p → calls.mounts p (fs_allowed_of kernel.now.id) call.now mounts.now.list ≡ decision_of d c) }
     ensures of { IfOk result (λ c. (d : desk_types.Desk) → IsCaseOf d c) }
     ensures named { IfOk result (λ c. (z : Name) → IsNamedCase z c) }
-    ensures free { IfOk result (λ c. IsFreeCase c mounts.now.list) }
+    ensures free { IfOk result (λ c. (cs : List claim_types.Claim) → IsFreeCase c mounts.now.list cs) }
 {
     if !may_mount(kernel, pid, &call.fstype) {
         return Ok(refused_by(Errno::EPERM));
@@ -114,7 +115,7 @@ pub(crate) fn umount_case(
     ensures decides { IfOk result (λ c. (d : desk_types.Desk) (p : Process) → with_pid pid kernel.now.processes ≡ Some p → unmounts p dir.now mounts.now.list ≡ decision_of d c) }
     ensures of { IfOk result (λ c. (d : desk_types.Desk) → IsCaseOf d c) }
     ensures named { IfOk result (λ c. (z : Name) → IsNamedCase z c) }
-    ensures free { IfOk result (λ c. IsFreeCase c mounts.now.list) }
+    ensures free { IfOk result (λ c. (cs : List claim_types.Claim) → IsFreeCase c mounts.now.list cs) }
 {
     if kernel.check_mounter(pid).is_err() || !is_by_process(mounts, dir) {
         return Ok(refused_by(Errno::EPERM));
@@ -136,7 +137,7 @@ pub(crate) fn place_case(
     ensures decides { IfOk result (λ c. (d : desk_types.Desk) → tells_place (place_at mounts.now.list path.now write) ≡ decision_of d c) }
     ensures of { IfOk result (λ c. (d : desk_types.Desk) → IsCaseOf d c) }
     ensures named { IfOk result (λ c. (z : Name) → IsNamedCase z c) }
-    ensures free { IfOk result (λ c. IsFreeCase c mounts.now.list) }
+    ensures free { IfOk result (λ c. (cs : List claim_types.Claim) → IsFreeCase c mounts.now.list cs) }
 {
     match mounts.place(alloc, path, write) {
         Ok(place) => line_case(alloc, Bytes::from_slice(alloc, place.bytes())?),

@@ -59,9 +59,9 @@ impl Cell {
             && self.waits.is_empty()
     }
 
-    /// The name of the brand and the change of which it is asked at the next step of the zone's daemon, if it is.
-    pub fn next_hook(&self) -> Option<(&[u8], Change)>
-        ensures { option_map (λ asked. (asked.0.now, asked.1)) result ≡ next_hook (cell_objects self.now) (as_desk self.now.desk).job }
+    /// The place of the brand and the change of which it is asked at the next step of the zone's daemon, if it is.
+    pub fn next_hook(&self) -> Option<(Option<usize>, Change)>
+        ensures { result ≡ next_hook (cell_objects self.now) (as_desk self.now.desk).job }
     {
         self.desk.next_hook(&self.mounts, &self.claims)
     }

@@ -8,9 +8,10 @@ ghost use Rattle.zone_pools.specs.declared.grant.Grant as grant_types;
 ghost use Rattle.zoneadmd_steps.specs.Arrivals.{New_claim, New_id, New_process, arrived, in_kernel};
 ghost use Rattle.datalink_table.specs.Shared.{allows};
 ghost use Rattle.zone_machine.specs.Code.Cases.{IsCaseOf, decision_of};
-ghost use Rattle.zoneadmd_steps.specs.Code.Cases.{IsTurnOf, comes_of, job_turn, turn_decision_of};
+ghost use Rattle.zoneadmd_steps.specs.Code.Cases.{IsFreeFor, IsTurnOf, No_premise, comes_of, job_objects, job_turn, premise_of, turn_decision_of, turn_objects};
+ghost use Rattle.zone_machine.specs.Code.Works.{objects_of};
 ghost use Rattle.zone_machine.specs.Code.Cells.{Does};
-ghost use Rattle.zone_machine.specs.Code.Comings.{newcome};
+ghost use Rattle.zone_machine.specs.Code.Comings.{is_claim, newcome};
 ghost use Rattle.zone_machine.specs.Code.Needs.{pools_in};
 ghost use Rattle.zone_machine.specs.Code.Rooms.{Alike, IsFreeOf};
 ghost use Rattle.zoneadmd_steps.specs.Desks as desks;
@@ -51,12 +52,15 @@ fn came_newcomer(it: &Came) -> Newcomer<'_>
 }
 
 fn job_newcomer(case: &JobCase) -> Newcomer<'_>
-    ensures { (d : desks.Desk) (j : job_types.Job) (g : grant_types.Grant) → in_kernel (act_of (effects turned (job_turn d j case.now)) g).came ≡ newcome result (number_in g) }
+    ensures comes { (d : desks.Desk) (j : job_types.Job) (g : grant_types.Grant) → in_kernel (act_of (effects turned (job_turn d j case.now)) g).came ≡ newcome result (number_in g) }
+    ensures claim { is_claim result ≡ true → premise_of (job_objects case.now) ≡ No_premise }
 {
     match case {
         JobCase::Ask(it, _) => came_newcomer(it),
         JobCase::Finish(_)
         | JobCase::Pass(_)
+        | JobCase::Unmounts(_, _)
+        | JobCase::Releases(_, _)
         | JobCase::Fail(_)
         | JobCase::Stuck
         | JobCase::Undo(_) => Newcomer::Nothing,
@@ -64,17 +68,22 @@ fn job_newcomer(case: &JobCase) -> Newcomer<'_>
 }
 
 fn turn_newcomer(case: &TurnCase) -> Newcomer<'_>
-    ensures { (d : desk_types.Desk) (g : grant_types.Grant) → IsTurnOf d case.now → in_kernel (act_of (effects turned (turn_decision_of d case.now)) g).came ≡ newcome result (number_in g) }
+    ensures comes { (d : desk_types.Desk) (g : grant_types.Grant) → IsTurnOf d case.now → in_kernel (act_of (effects turned (turn_decision_of d case.now)) g).came ≡ newcome result (number_in g) }
+    ensures claim { is_claim result ≡ true → premise_of (turn_objects case.now) ≡ No_premise }
 {
     match case {
         TurnCase::GoOn(case) => job_newcomer(case),
-        TurnCase::Idle | TurnCase::Begin(_) | TurnCase::Refuse(_, _) | TurnCase::Again(_) =>
-            Newcomer::Nothing,
+        TurnCase::Idle
+        | TurnCase::Begin(_)
+        | TurnCase::BeginHalt(_)
+        | TurnCase::Refuse(_, _)
+        | TurnCase::Again(_) => Newcomer::Nothing,
     }
 }
 
 fn case_newcomer(case: &Case) -> Newcomer<'_>
-    ensures { (d : desk_types.Desk) (g : grant_types.Grant) → IsCaseOf d case.now → in_kernel (act_of (decision_of d case.now) g).came ≡ newcome result (number_in g) }
+    ensures comes { (d : desk_types.Desk) (g : grant_types.Grant) → IsCaseOf d case.now → in_kernel (act_of (decision_of d case.now) g).came ≡ newcome result (number_in g) }
+    ensures claim { is_claim result ≡ true → premise_of (objects_of case.now) ≡ No_premise }
 {
     match case {
         Case::Fork(running) => Newcomer::Process(running),
@@ -163,6 +172,7 @@ fn let_in(
     ensures alike { OnErr result (Alike cell.old shared.old cell.new shared.new) }
     ensures cell { cell.new ≡ record cell.old { kernel = cell.new.kernel; claims = cell.new.claims } }
     ensures shared { shared.new ≡ record shared.old { kernel = shared.new.kernel; claims = shared.new.claims } }
+    ensures claims { is_claim newcomer.entry ≡ false → cell.new.claims ≡ cell.old.claims }
 {
     match (newcomer, number) {
         (Newcomer::Process(running), Ok(pid)) => begin(alloc, cell, shared, zone, pid, running),
@@ -182,11 +192,13 @@ pub(crate) fn come(
     grant: Grant,
 ) -> Result<(), AllocError>
     requires of { IsCaseOf cell.old.desk case.now }
+    requires objects { IsFreeFor (objects_of case.now) cell.old.mounts.list cell.old.claims.claims }
     requires free { IsFreeOf zone.now (act_of (decision_of cell.old.desk case.now) grant).came (pools_in shared.old) }
     ensures does { OnOk result (Does zone.now (after_came_world (in_kernel (act_of (decision_of cell.old.desk case.now) grant).came)) (came_common zone.now (in_kernel (act_of (decision_of cell.old.desk case.now) grant).came)) cell.old shared.old cell.new shared.new) }
     ensures alike { OnErr result (Alike cell.old shared.old cell.new shared.new) }
     ensures cell { cell.new ≡ record cell.old { kernel = cell.new.kernel; claims = cell.new.claims } }
     ensures shared { shared.new ≡ record shared.old { kernel = shared.new.kernel; claims = shared.new.claims } }
+    ensures objects { IsFreeFor (objects_of case.now) cell.new.mounts.list cell.new.claims.claims }
 {
     let_in(
         alloc,

@@ -1,16 +1,18 @@
 //! What an event does, on its zone's cell and on the shared part. All room for it has been taken, so nothing here takes
 //! memory or fails.
-ghost use Rattle.std.specs.Prelude.{◌≡◌, ◌<◌, ℕ, IfSome, None, Option, Some, true, map, nat_eq};
+ghost use Rattle.std.specs.Prelude.{◌≡◌, ◌<◌, ℕ, IfSome, None, Option, Some, false, true, map, nat_eq};
 ghost use Rattle.indexmap.specs.IndexMap.{spare};
 ghost use Rattle.zn_base.specs.Names.{Name};
 ghost use Rattle.zone_pools.specs.Owners.{owner};
 ghost use Rattle.zone_pools.specs.Pools.{has_room};
 ghost use Rattle.zone_machine.specs.Code.Cases.{IsCaseOf, IsNamedCase, decision_of};
 ghost use Rattle.zoneadmd_steps.specs.Code.Cases.{object_edits};
-ghost use Rattle.zone_machine.specs.Code.Works.{IsNamedWork, rest_of, sits, work_world};
-ghost use Rattle.zoneadmd_steps.specs.Code.Works.{arrival_of};
+ghost use Rattle.zone_machine.specs.Code.Works.{IsNamedWork, rest_of, sits, told_by, work_world};
+ghost use Rattle.zoneadmd_steps.specs.Code.Works.{arrival_of, gone_by};
+ghost use Rattle.zoneadmd_steps.specs.Code.Cases.{is_last};
+ghost use Rattle.loopback_mounts.specs.Mounts.{last_of};
+ghost use Rattle.std.specs.Option.{option_map};
 ghost use Rattle.zoneadmd_steps.specs.Arrivals.{in_store, New_record};
-ghost use Rattle.zoneadmd_steps.specs.Code.Cases.{mount_in};
 ghost use Rattle.indexmap.specs.IndexMap.{get_by};
 ghost use Rattle.zone_machine.specs.Code.Cells.{is_up_in};
 ghost use Rattle.zone_machine.specs.declared.machine.shared.Shared as shared_types;
@@ -30,11 +32,13 @@ use crate::machine::work::{Sitting, Work};
 use crate::maps::put;
 use crate::replies::Reply;
 use crate::session::waits::{end_waits, wait};
+use datalink_table::Claim;
 use loopback_mounts::Mount;
 use std::alloc::Global;
+use std::snapshot::Snapshot;
 use zn_base::{AbsPath, Listing, Text, ZoneName};
 use zone_pools::Grant;
-use zoneadmd_steps::{Limits, ObjectEdit, Stored};
+use zoneadmd_steps::{Gone, Limits, ObjectEdit, Stored};
 
 // What is stored of the zone from now on.
 #[inline(never)]
@@ -145,6 +149,21 @@ fn unmount(cell: &mut Cell, dir: &AbsPath)
     cell.mounts.take_out(dir);
 }
 
+// The last mount goes, which is at a directory.
+#[inline(never)]
+fn unmount_last(cell: &mut Cell, dir: Snapshot<AbsPath>) -> Gone
+    requires { option_map (λ m. m.mount.dir) (last_of cell.old.mounts.list) ≡ Some dir.value }
+    ensures does { (z : Name) (n : Option ℕ) (s : shared_types.Shared) → Does z (edits_world n (map Of_objects (object_edits (ObjectEdit.UnmountLast dir)))) kept cell.old s cell.new s }
+    ensures waits { cell.new.waits ≡ cell.old.waits }
+    ensures desk { cell.new.desk ≡ cell.old.desk }
+    ensures gone { result ≡ Gone.Mount dir.value }
+{
+    match cell.mounts.take_last() {
+        Some(mount) => Gone::Mount(mount.dir),
+        None => unreachable!(),
+    }
+}
+
 // The global zone holds a mount.
 #[inline(never)]
 fn hold(cell: &mut Cell, dir: &AbsPath)
@@ -176,6 +195,24 @@ fn end_claim(cell: &mut Cell, shared: &mut Shared)
     ensures desk { cell.new.desk ≡ cell.old.desk }
 {
     cell.claims.release_last(&mut shared.claims);
+}
+
+// The latest claim ends, which is this.
+#[inline(never)]
+fn release_last(cell: &mut Cell, shared: &mut Shared, claim: Snapshot<Claim>) -> Gone
+    requires { last_of cell.old.claims.claims ≡ Some claim.value }
+    ensures does { (z : Name) (n : Option ℕ) → Does z (edits_world n (map Of_objects (object_edits (ObjectEdit.ReleaseLast claim)))) kept cell.old shared.old cell.new shared.new }
+    ensures waits { cell.new.waits ≡ cell.old.waits }
+    ensures sessions { shared.new.sessions ≡ shared.old.sessions }
+    ensures ups { shared.new.ups ≡ shared.old.ups }
+    ensures brands { shared.new.brands ≡ shared.old.brands }
+    ensures desk { cell.new.desk ≡ cell.old.desk }
+    ensures gone { result ≡ Gone.Claim claim.value }
+{
+    match cell.claims.release_last(&mut shared.claims) {
+        Some(claim) => Gone::Claim(claim),
+        None => unreachable!(),
+    }
 }
 
 // The zone has these devices.
@@ -240,8 +277,10 @@ fn clear(alloc: Global, cell: &mut Cell)
     cell.kernel.clear(alloc);
 }
 
+// What becomes of the zone's objects, where nothing goes as the last.
 fn edit_objects(alloc: Global, cell: &mut Cell, shared: &mut Shared, edit: ObjectEdit)
-    requires { HasRoomToChange edit cell.old }
+    requires room { HasRoomToChange edit cell.old }
+    requires others { is_last edit ≡ false }
     ensures does { (z : Name) (n : Option ℕ) → Does z (edits_world n (map Of_objects (object_edits edit))) kept cell.old shared.old cell.new shared.new }
     ensures waits { cell.new.waits ≡ cell.old.waits }
     ensures sessions { shared.new.sessions ≡ shared.old.sessions }
@@ -267,6 +306,28 @@ fn edit_objects(alloc: Global, cell: &mut Cell, shared: &mut Shared, edit: Objec
         ObjectEdit::SetBootargs(args) => set_bootargs(cell, args),
         ObjectEdit::ClearLimits => clear_limits(alloc, cell),
         ObjectEdit::Clear => clear(alloc, cell),
+        ObjectEdit::UnmountLast(_) | ObjectEdit::ReleaseLast(_) => unreachable!(),
+    }
+}
+
+// What becomes of the zone's objects, and what goes as the last.
+fn change_objects(alloc: Global, cell: &mut Cell, shared: &mut Shared, edit: ObjectEdit) -> Gone
+    requires { HasRoomToChange edit cell.old }
+    ensures does { (z : Name) (n : Option ℕ) → Does z (edits_world n (map Of_objects (object_edits edit))) kept cell.old shared.old cell.new shared.new }
+    ensures waits { cell.new.waits ≡ cell.old.waits }
+    ensures sessions { shared.new.sessions ≡ shared.old.sessions }
+    ensures ups { shared.new.ups ≡ shared.old.ups }
+    ensures brands { shared.new.brands ≡ shared.old.brands }
+    ensures desk { cell.new.desk ≡ cell.old.desk }
+    ensures gone { result ≡ gone_by edit }
+{
+    match edit {
+        ObjectEdit::UnmountLast(dir) => unmount_last(cell, dir),
+        ObjectEdit::ReleaseLast(claim) => release_last(cell, shared, claim),
+        edit => {
+            edit_objects(alloc, cell, shared, edit);
+            Gone::Nothing
+        }
     }
 }
 
@@ -322,17 +383,17 @@ fn carry_out(
     requires stored { HasRoomOf (arrival_of work.stored) shared.old }
     requires objects { HasRoomToChange work.objects cell.old }
     requires sits { IfSome work.sits (λ s. HasRoomToSit cell.old shared.old) }
-    ensures reply { result ≡ work.reply }
+    ensures reply { result ≡ told_by work }
     ensures does { (z : Name) → IsNamedWork z work → IfSome number (λ n. IsOpenTo z (owner nat_eq shared.old.sessions n)) → Does z (work_world number work) (came_common z (arrival_of work.stored)) cell.old shared.old cell.new shared.new }
     ensures ups { shared.new.ups ≡ shared.old.ups }
     ensures brands { shared.new.brands ≡ shared.old.brands }
     ensures desk { cell.new.desk ≡ cell.old.desk }
 {
     store_some(cell, shared, work.stored);
-    edit_objects(alloc, cell, shared, work.objects);
+    let gone = change_objects(alloc, cell, shared, work.objects);
     sit_down(cell, shared, number, work.sits);
     end_ticket(cell, shared, work.ended);
-    work.reply
+    work.reply.with_gone(gone)
 }
 
 /// A case is done under a grant that fits, but for what it brings to the kernel.
@@ -354,7 +415,7 @@ pub(crate) fn perform(
     ensures brands { shared.new.brands ≡ shared.old.brands }
 {
     let was = cell.desk.active().is_some();
-    let work = settle(&mut cell.desk, case, grant);
+    let work = settle(alloc, &mut cell.desk, case, grant);
     let is = cell.desk.active().is_some();
     let reply = carry_out(alloc, cell, shared, number, work);
     mark(&mut shared.ups, zone, was, is);

@@ -1,9 +1,12 @@
 //! Turns of a zone's daemon that touch nothing which other zones may ask, on the zone's cell alone.
-ghost use Rattle.std.specs.Prelude.{◌≡◌, IfOk, IfSome, IsSomeAnd, None, OnErr, OnOk, true};
+ghost use Rattle.std.specs.Prelude.{◌≡◌, IfOk, IfSome, IsSomeAnd, None, OnErr, OnOk, Some, false, true};
 ghost use Rattle.std.specs.List.{list_all};
+ghost use Rattle.std.specs.Option.{option_map};
+ghost use Rattle.loopback_mounts.specs.Mounts.{last_of, unmounted};
+ghost use Rattle.zoneadmd_steps.specs.Code.Works.{gone_by};
 ghost use Rattle.zone_pools.specs.Decisions.{Just};
 ghost use Rattle.zone_machine.specs.Code.Cases.{IsCaseOf, decision_of};
-ghost use Rattle.zoneadmd_steps.specs.Code.Cases.{IsFreeFor, IsTurnOf, object_edits, turn_decision_of, turn_objects};
+ghost use Rattle.zoneadmd_steps.specs.Code.Cases.{IsFreeFor, IsTurnOf, is_last, object_edits, turn_decision_of, turn_objects};
 ghost use Rattle.zone_machine.specs.Code.Rooms.{HasRoomFor, HasRoomToChange};
 ghost use Rattle.zone_machine.specs.Code.Works.{objects_of};
 ghost use Rattle.zoneadmd_steps.specs.Objects.{devices_after, ids_of, ids_after, mounts_after};
@@ -21,10 +24,12 @@ use crate::machine::rooms::{room_for_objects, room_on_desk};
 use crate::machine::settling::settle;
 use crate::replies::Reply;
 use brand_hooks::HookAnswer;
+use loopback_mounts::MountCell;
 use std::alloc::{AllocError, Global};
-use zn_base::ZoneName;
+use std::snapshot::Snapshot;
+use zn_base::{AbsPath, ZoneName};
 use zone_pools::Grant;
-use zoneadmd_steps::{ObjectEdit, TurnCase, local_case};
+use zoneadmd_steps::{Gone, ObjectEdit, TurnCase, local_case};
 
 // What the next turn comes to, where that is local. The brand answers `hook` where it is asked.
 fn next_local(alloc: Global, cell: &Cell, hook: HookAnswer) -> Result<Option<TurnCase>, AllocError>
@@ -33,13 +38,26 @@ fn next_local(alloc: Global, cell: &Cell, hook: HookAnswer) -> Result<Option<Tur
     ensures none { IfOk result (λ o. o ≡ None → HasNoNext cell.now hook) }
     ensures of { IfOk result (λ o. IfSome o (IsTurnOf cell.now.desk)) }
     ensures own { IfOk result (λ o. IfSome o (λ c. list_all is_of_own (object_edits (turn_objects c)) ≡ true)) }
-    ensures free { IfOk result (λ o. IfSome o (λ c. IsFreeFor (turn_objects c) cell.now.mounts.list)) }
+    ensures free { IfOk result (λ o. IfSome o (λ c. IsFreeFor (turn_objects c) cell.now.mounts.list cell.now.claims.claims)) }
 {
     local_case(alloc, &cell.desk, &cell.mounts, &cell.claims, hook)
 }
 
-// What becomes of the zone's mounts, devices and limits.
+// The last mount goes, which is at a directory.
+fn take_last(mounts: &mut MountCell, dir: Snapshot<AbsPath>) -> Gone
+    requires { option_map (λ m. m.mount.dir) (last_of mounts.old.list) ≡ Some dir.value }
+    ensures mounts { mounts.new.list ≡ unmounted dir.value mounts.old.list }
+    ensures gone { result ≡ Gone.Mount dir.value }
+{
+    match mounts.take_last() {
+        Some(mount) => Gone::Mount(mount.dir),
+        None => unreachable!(),
+    }
+}
+
+// What becomes of the zone's mounts, devices and limits, where nothing goes as the last.
 fn edit_own(alloc: Global, cell: &mut Cell, edit: ObjectEdit)
+    requires others { is_last edit ≡ false }
     requires own { list_all is_of_own (object_edits edit) ≡ true }
     requires room { HasRoomToChange edit cell.old }
     ensures mounts { cell.new.mounts.list ≡ mounts_after (object_edits edit) cell.old.mounts.list }
@@ -74,14 +92,36 @@ fn edit_own(alloc: Global, cell: &mut Cell, edit: ObjectEdit)
         | ObjectEdit::Rename(_, _)
         | ObjectEdit::GiveUp(_, _)
         | ObjectEdit::EndClaim
+        | ObjectEdit::UnmountLast(_)
+        | ObjectEdit::ReleaseLast(_)
         | ObjectEdit::EndIds => unreachable!(),
+    }
+}
+
+// What becomes of the zone's mounts, devices and limits, and what goes as the last.
+fn change_own(alloc: Global, cell: &mut Cell, edit: ObjectEdit) -> Gone
+    requires own { list_all is_of_own (object_edits edit) ≡ true }
+    requires room { HasRoomToChange edit cell.old }
+    ensures mounts { cell.new.mounts.list ≡ mounts_after (object_edits edit) cell.old.mounts.list }
+    ensures devices { cell.new.kernel.devices ≡ devices_after (object_edits edit) cell.old.kernel.devices }
+    ensures ids { ids_of cell.new.kernel.id ≡ ids_after (object_edits edit) (ids_of cell.old.kernel.id) }
+    ensures processes { cell.new.kernel.processes ≡ cell.old.kernel.processes }
+    ensures same { cell.new ≡ record cell.old { kernel = cell.new.kernel; mounts = cell.new.mounts } }
+    ensures gone { result ≡ gone_by edit }
+{
+    match edit {
+        ObjectEdit::UnmountLast(dir) => take_last(&mut cell.mounts, dir),
+        edit => {
+            edit_own(alloc, cell, edit);
+            Gone::Nothing
+        }
     }
 }
 
 // Room for what a case does to the cell. Nothing is changed by it, whether or not memory runs out.
 fn room_for(cell: &mut Cell, case: &Case) -> Result<(), AllocError>
     requires of { IsCaseOf cell.old.desk case.now }
-    requires free { IsFreeFor (objects_of case.now) cell.old.mounts.list }
+    requires free { IsFreeFor (objects_of case.now) cell.old.mounts.list cell.old.claims.claims }
     ensures same { IsAsItWas cell.old cell.new }
     ensures seen { decision_of cell.new.desk case.now ≡ decision_of cell.old.desk case.now }
     ensures of { IsCaseOf cell.new.desk case.now }
@@ -96,16 +136,16 @@ fn room_for(cell: &mut Cell, case: &Case) -> Result<(), AllocError>
 fn do_local(alloc: Global, cell: &mut Cell, case: TurnCase) -> Result<Reply, AllocError>
     requires of { IsTurnOf cell.old.desk case }
     requires own { list_all is_of_own (object_edits (turn_objects case)) ≡ true }
-    requires free { IsFreeFor (turn_objects case) cell.old.mounts.list }
+    requires free { IsFreeFor (turn_objects case) cell.old.mounts.list cell.old.claims.claims }
     ensures reply { IfOk result (λ reply. reply ≡ (act_of (effects turned (turn_decision_of cell.old.desk case)) Grant.Nothing).effect.reply) }
     ensures done { IfOk result (λ reply. (t : Turned) → effects turned (turn_decision_of cell.old.desk case) ≡ effects turned (Just t) → After t cell.old cell.new) }
     ensures memory { OnErr result (IsAsItWas cell.old cell.new) }
 {
     let case = Case::Turn(case);
     room_for(cell, &case)?;
-    let work = settle(&mut cell.desk, case, Grant::Nothing);
-    edit_own(alloc, cell, work.objects);
-    Ok(work.reply)
+    let work = settle(alloc, &mut cell.desk, case, Grant::Nothing);
+    let gone = change_own(alloc, cell, work.objects);
+    Ok(work.reply.with_gone(gone))
 }
 
 /// The next turn of a zone's daemon is done on the zone's cell, where it is local: it steps through a hook, whose answer

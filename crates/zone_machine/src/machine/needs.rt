@@ -52,6 +52,8 @@ fn job_need(case: &JobCase) -> Need<'_>
         JobCase::Ask(it, _) => came_need(it),
         JobCase::Finish(_) => Need::Nothing,
         JobCase::Pass(_) => Need::Nothing,
+        JobCase::Unmounts(_, _) => Need::Nothing,
+        JobCase::Releases(_, _) => Need::Nothing,
         JobCase::Fail(_) => Need::Nothing,
         JobCase::Stuck => Need::Nothing,
         JobCase::Undo(_) => Need::Nothing,
@@ -65,6 +67,7 @@ fn turn_need(case: &TurnCase) -> Need<'_>
         TurnCase::GoOn(case) => job_need(case),
         TurnCase::Idle => Need::Nothing,
         TurnCase::Begin(_) => Need::Nothing,
+        TurnCase::BeginHalt(_) => Need::Nothing,
         TurnCase::Again(_) => Need::Nothing,
         TurnCase::Refuse(_, _) => Need::Nothing,
     }

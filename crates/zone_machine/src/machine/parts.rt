@@ -107,10 +107,10 @@ impl Parts {
         }
     }
 
-    /// The name of the brand and the change of which it is asked before an event: at the next step of the daemon of a turn's
+    /// The place of the brand and the change of which it is asked before an event: at the next step of the daemon of a turn's
     /// zone, if it is.
-    pub(crate) fn next_hook(&self, event: &Event) -> Option<(&[u8], Change)>
-        ensures { IsNextHook self.now event.now (option_map (λ asked. (asked.0.now, asked.1)) result) }
+    pub(crate) fn next_hook(&self, event: &Event) -> Option<(Option<usize>, Change)>
+        ensures { IsNextHook self.now event.now result }
     {
         match event {
             Event::Turn { zone } => match self.cells.get(zone) {

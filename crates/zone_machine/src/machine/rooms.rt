@@ -50,7 +50,7 @@ fn room_to_store(shared: &mut Shared, need: Need<'_>) -> Result<(), AllocError>
 
 // Room for what becomes of the zone's objects.
 fn room_to_change(cell: &mut Cell, edit: &ObjectEdit) -> Result<(), AllocError>
-    requires { IsFreeFor edit.now cell.old.mounts.list }
+    requires { IsFreeFor edit.now cell.old.mounts.list cell.old.claims.claims }
     ensures mounts { cell.new.mounts.list ≡ cell.old.mounts.list }
     ensures same { cell.new ≡ record cell.old { mounts = cell.new.mounts } }
     ensures room { OnOk result (HasRoomToChange edit.now cell.new) }
@@ -63,7 +63,7 @@ fn room_to_change(cell: &mut Cell, edit: &ObjectEdit) -> Result<(), AllocError>
 
 // Room for what a turn does to the zone's objects.
 fn room_to_turn(cell: &mut Cell, case: &TurnCase) -> Result<(), AllocError>
-    requires { IsFreeFor (turn_objects case.now) cell.old.mounts.list }
+    requires { IsFreeFor (turn_objects case.now) cell.old.mounts.list cell.old.claims.claims }
     ensures mounts { cell.new.mounts.list ≡ cell.old.mounts.list }
     ensures same { cell.new ≡ record cell.old { mounts = cell.new.mounts } }
     ensures room { OnOk result (HasRoomToChange (turn_objects case.now) cell.new) }
@@ -77,7 +77,7 @@ fn room_to_turn(cell: &mut Cell, case: &TurnCase) -> Result<(), AllocError>
 
 /// Room for what a case does to the zone's objects.
 pub(crate) fn room_for_objects(cell: &mut Cell, case: &Case) -> Result<(), AllocError>
-    requires { IsFreeFor (objects_of case.now) cell.old.mounts.list }
+    requires { IsFreeFor (objects_of case.now) cell.old.mounts.list cell.old.claims.claims }
     ensures mounts { cell.new.mounts.list ≡ cell.old.mounts.list }
     ensures same { cell.new ≡ record cell.old { mounts = cell.new.mounts } }
     ensures room { OnOk result (HasRoomToChange (objects_of case.now) cell.new) }
@@ -91,7 +91,7 @@ pub(crate) fn room_for_objects(cell: &mut Cell, case: &Case) -> Result<(), Alloc
 
 // Room for what a case does to the zone's objects, and for the session that waits from now on.
 fn room_to_do(cell: &mut Cell, shared: &mut Shared, case: &Case) -> Result<(), AllocError>
-    requires { IsFreeFor (objects_of case.now) cell.old.mounts.list }
+    requires { IsFreeFor (objects_of case.now) cell.old.mounts.list cell.old.claims.claims }
     ensures alike { Alike cell.old shared.old cell.new shared.new }
     ensures desk { cell.new.desk ≡ cell.old.desk }
     ensures objects { OnOk result (HasRoomToChange (objects_of case.now) cell.new) }
@@ -169,7 +169,7 @@ pub(crate) fn make_room(
     case: &Case,
 ) -> Result<(), AllocError>
     requires of { IsCaseOf cell.old.desk case.now }
-    requires free { IsFreeFor (objects_of case.now) cell.old.mounts.list }
+    requires free { IsFreeFor (objects_of case.now) cell.old.mounts.list cell.old.claims.claims }
     ensures alike { Alike cell.old shared.old cell.new shared.new }
     ensures same { decision_of cell.new.desk case.now ≡ decision_of cell.old.desk case.now }
     ensures of { IsCaseOf cell.new.desk case.now }

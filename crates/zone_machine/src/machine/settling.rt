@@ -3,7 +3,7 @@ ghost use Rattle.std.specs.Prelude.{◌+◌, ◌<◌, ◌≡◌, IfSome, None, O
 ghost use Rattle.zn_base.specs.Names.{Name};
 ghost use Rattle.zone_machine.specs.Code.Cases.{IsCaseOf, IsNamedCase, case_active, decision_of, made};
 ghost use Rattle.std.specs.List.{list_all};
-ghost use Rattle.zoneadmd_steps.specs.Code.Cases.{mount_in, object_edits};
+ghost use Rattle.zoneadmd_steps.specs.Code.Cases.{object_edits, premise_of};
 ghost use Rattle.zoneadmd_steps.specs.Local.{is_of_own};
 ghost use Rattle.zone_machine.specs.Code.Rooms.{HasRoomFor};
 ghost use Rattle.zoneadmd_steps.specs.Code.Rooms.{HasRequestRoom};
@@ -20,9 +20,10 @@ use crate::machine::work::{Sitting, Work};
 use crate::replies::{Body, Head, Refusal};
 use commit_journal::{Record, uuid_of};
 use kernel_objects::Running;
+use std::alloc::Global;
 use zn_base::ZoneName;
 use zone_pools::{Grant, number_in};
-use zoneadmd_steps::{Desk, ObjectEdit, Request, Stored, settle_turn};
+use zoneadmd_steps::{Desk, ObjectEdit, QueuedRequest, Stored, settle_turn};
 
 // A zone is made, where the grant gives its record a number.
 fn make(row: Box<Record>, owner: ZoneName, grant: Grant) -> Work
@@ -59,7 +60,7 @@ fn fork(running: Box<Running>, grant: Grant) -> Work
 }
 
 // A request waits on the desk, and the session for its ticket.
-fn put(desk: &mut Desk, request: Request, owner: ZoneName) -> Work
+fn put(desk: &mut Desk, request: QueuedRequest, owner: ZoneName) -> Work
     requires of { is_full (as_desk desk.old) ≡ false }
     requires room { HasRequestRoom desk.old }
     ensures desk { as_desk desk.new ≡ with_request (as_desk desk.old) request }
@@ -74,12 +75,12 @@ fn put(desk: &mut Desk, request: Request, owner: ZoneName) -> Work
 }
 
 /// A case is settled on the desk under a grant: what else is to be done.
-pub(crate) fn settle(desk: &mut Desk, case: Case, grant: Grant) -> Work
+pub(crate) fn settle(alloc: Global, desk: &mut Desk, case: Case, grant: Grant) -> Work
     requires of { IsCaseOf desk.old case }
     requires room { HasRoomFor desk.old case }
     ensures works { (n : Option ℕ) (v : World) → v.desk ≡ as_desk desk.old
         → Works n (rest_of (act_of (decision_of desk.old case) grant)) v (as_desk desk.new) result }
-    ensures objects { mount_in result.objects ≡ mount_in (objects_of case) }
+    ensures objects { premise_of result.objects ≡ premise_of (objects_of case) }
     ensures own { list_all is_of_own (object_edits (objects_of case)) ≡ true → list_all is_of_own (object_edits result.objects) ≡ true }
     ensures active { desk.new.active ≡ case_active case desk.old.active }
     ensures sits { result.sits ≡ sitting_of desk.old case }
@@ -95,6 +96,6 @@ pub(crate) fn settle(desk: &mut Desk, case: Case, grant: Grant) -> Work
         Case::Fork(running) => fork(running, grant),
         Case::Make(row, owner) => make(row, owner, grant),
         Case::Put(request, owner) => put(desk, request, owner),
-        Case::Turn(case) => Work::of_turn(settle_turn(desk, case, grant)),
+        Case::Turn(case) => Work::of_turn(settle_turn(alloc, desk, case, grant)),
     }
 }

@@ -131,7 +131,7 @@ fn prepare(
     grant: Grant,
 ) -> Result<(), AllocError>
     requires of { IsCaseOf cell.old.desk case.now }
-    requires objects { IsFreeFor (objects_of case.now) cell.old.mounts.list }
+    requires objects { IsFreeFor (objects_of case.now) cell.old.mounts.list cell.old.claims.claims }
     requires free { IsFreeOf zone.now (act_of (decision_of cell.old.desk case.now) grant).came (pools_in shared.old) }
     ensures does { OnOk result (Does zone.now (after_came_world (in_kernel (act_of (decision_of cell.old.desk case.now) grant).came)) (came_common zone.now (in_kernel (act_of (decision_of cell.old.desk case.now) grant).came)) cell.old shared.old cell.new shared.new) }
     ensures same { OnOk result (decision_of cell.new.desk case.now ≡ decision_of cell.old.desk case.now) }

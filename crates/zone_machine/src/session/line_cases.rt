@@ -13,6 +13,7 @@ ghost use Rattle.zone_machine.specs.Session.Lines as lines;
 ghost use Rattle.zone_machine.specs.Session.Lines.{asks, joined, words};
 ghost use Rattle.zone_machine.specs.State.Declarations.{Declared};
 ghost use Rattle.zone_machine.specs.State.{Awaiting};
+ghost use Rattle.datalink_table.specs.declared.claims.Claim as claim_types;
 ghost use Rattle.loopback_mounts.specs.Mounts.{mount_at};
 ghost use Rattle.loopback_mounts.specs.declared.mount.MountEntry as entry_types;
 ghost use Rattle.zoneadmd_steps.specs.Code.Cases.{IsFreeFor, object_edits};
@@ -40,7 +41,7 @@ use zn_base::{
     AbsPath, NameFault, Text, TextFault, Value, ZoneName, ZoneState, is_path, push_both,
 };
 use zone_config::{ZoneConfig, blank};
-use zoneadmd_steps::{Desk, ObjectEdit, Request, RequestKind};
+use zoneadmd_steps::{Desk, ObjectEdit, QueuedRequest, Request, RequestKind};
 
 fn refused(refusal: Refusal) -> Case
     ensures { result ≡ Case.Says (Head.Refused refusal) }
@@ -170,7 +171,8 @@ fn put_case(
     if desk.is_full() {
         return Ok(refused(Refusal::DeskFull));
     }
-    Ok(Case::Put(request, zone.copy(alloc)?))
+    let queued = QueuedRequest::new(alloc, request)?;
+    Ok(Case::Put(queued, zone.copy(alloc)?))
 }
 
 // The request that a kind is which has no contents.
@@ -272,7 +274,7 @@ fn check_held(mounts: &MountCell, dir: &AbsPath, held: bool) -> Result<(), HoldF
 // The mount at a directory is held from now on, or free.
 fn holding_at(dir: AbsPath, held: bool) -> ObjectEdit
     ensures edits { object_edits result ≡ holding_at held dir ∷ [] }
-    ensures free { (ms : List entry_types.MountEntry) → IsFreeFor result ms }
+    ensures free { (ms : List entry_types.MountEntry) (cs : List claim_types.Claim) → IsFreeFor result ms cs }
 {
     if held {
         ObjectEdit::Hold(dir)
@@ -341,7 +343,7 @@ fn idle_case(
         → idle_line v (as_command command.entry) ≡ decision_of cell.now.desk c) }
     ensures of { IfOk result (IsCaseOf cell.now.desk) }
     ensures named { IfOk result (IsNamedCase zone.now) }
-    ensures free { IfOk result (λ c. IsFreeCase c cell.now.mounts.list) }
+    ensures free { IfOk result (λ c. IsFreeCase c cell.now.mounts.list cell.now.claims.claims) }
 {
     let desk = &cell.desk;
     match command {

@@ -1,5 +1,6 @@
 -- What the code's cases of a turn decide, as the definitions have it.
-use Rattle.std.specs.Prelude.{◌≡◌, ℕ, ◌<◌, ◌-◌, List, [], ◌∷◌, drop, length, slice_get, true, false, Option, Some, None, Ok, IfSome, IsSomeAnd, if◌then◌else◌}
+use Rattle.std.specs.Prelude.{◌≡◌, ℕ, ◌<◌, ◌-◌, List, [], ◌∷◌, drop, length, slice_get, Bool, true, false, Option, Some, None, Ok, IsSomeAnd, if◌then◌else◌}
+use Rattle.std.specs.Option.{option_map}
 use Rattle.brand_hooks.specs.Brands.{Tabled, answer_of}
 use Rattle.brand_hooks.specs.declared.change.Change.{Change}
 use Rattle.brand_hooks.specs.declared.table.HookAnswer.{HookAnswer}
@@ -8,13 +9,14 @@ use Rattle.config_terms.specs.Fields.{path_text}
 use Rattle.datalink_table.specs.Claims.{pool_of}
 use Rattle.kernel_objects.specs.Kernel.{cleared, limited, new_id, with_bootargs}
 use Rattle.kernel_objects.specs.Processes.{at_pid, dropping, process_of, renamed}
-use Rattle.loopback_mounts.specs.Mounts.{at_dir, before, is_at, mount_answer, with_hold}
-use Rattle.loopback_mounts.specs.declared.mount.Mount as mounts
+use Rattle.datalink_table.specs.declared.claims.Claim as claims
+use Rattle.loopback_mounts.specs.Mounts.{at_dir, before, is_at, last_of, mount_answer, with_hold}
 use Rattle.loopback_mounts.specs.declared.mount.MountEntry.{MountEntry}
 use Rattle.zn_base.specs.Names.{Name}
 use Rattle.zn_base.specs.declared.state.ZoneState.{ZoneState}
 use Rattle.zone_pools.specs.Asked.{A_path, A_pid, A_serial, A_source, A_zid, An_item, Asked}
 use Rattle.zone_pools.specs.Decisions as decisions
+use Rattle.zone_pools.specs.Firsts.{first_of}
 use Rattle.zone_pools.specs.Owned_lists.{Change as Change_each, Go, Put}
 use Rattle.zoneadmd_steps.specs.Arrivals.{A_claim, A_process, A_record, An_id, Comes, No_thing}
 use Rattle.zoneadmd_steps.specs.Desks as desks
@@ -22,12 +24,15 @@ use Rattle.zoneadmd_steps.specs.Desks.{Fails, Goes, Stage}
 use Rattle.zoneadmd_steps.specs.Objects.{ids_of, Devices_are, Ids_change, Ids_go, Last_claim_goes, Object_edit, Of_mounts, Process_goes, Processes_change, Processes_go, all_of}
 use Rattle.zoneadmd_steps.specs.Objects as objects
 use Rattle.zoneadmd_steps.specs.Code.Desks.{as_desk, as_job, as_outcome}
-use Rattle.zoneadmd_steps.specs.Plans.{kind_of}
-use Rattle.zoneadmd_steps.specs.Turns.{A_step, Next, Turn_decision, Turned, active_after, advance, asking, failed, finish, next, reports, rests, stuck, undone, with_job}
+use Rattle.zone_config.specs.Property.{blank}
+use Rattle.zoneadmd_steps.specs.Plans.{halt_part, kind_of}
+use Rattle.zoneadmd_steps.specs.Turns.{A_step, Next, Turn_decision, Turned, active_after, advance, asking, failed, finish, next, no_progress, reports, rests, stuck, undone, with_job}
 use Rattle.zoneadmd_steps.specs.declared.cases.JobCase.{JobCase}
-use Rattle.zoneadmd_steps.specs.declared.cases.JobCase.TheVariants.{Finish, Pass, Ask, Fail, Undo, Stuck}
+use Rattle.zoneadmd_steps.specs.declared.cases.JobCase.TheVariants.{Finish, Pass, Unmounts, Releases, Ask, Fail, Undo, Stuck}
 use Rattle.zoneadmd_steps.specs.declared.cases.TurnCase.{TurnCase}
-use Rattle.zoneadmd_steps.specs.declared.cases.TurnCase.TheVariants.{Idle, Begin, Refuse, Again, GoOn}
+use Rattle.zoneadmd_steps.specs.declared.cases.TurnCase.TheVariants.{Idle, Begin, BeginHalt, Refuse, Again, GoOn}
+use Rattle.zoneadmd_steps.specs.declared.requests.Request.{Request}
+use Rattle.zoneadmd_steps.specs.declared.requests.Request.TheVariants as request
 use Rattle.zoneadmd_steps.specs.declared.requests.Step.{Step}
 use Rattle.zoneadmd_steps.specs.declared.requests.Step.TheVariants as step
 use Rattle.zoneadmd_steps.specs.declared.requests.TurnReply.TheVariants as reply
@@ -37,7 +42,7 @@ use Rattle.zoneadmd_steps.specs.declared.objects.Objects.{Objects}
 use Rattle.zoneadmd_steps.specs.declared.objects.changes.Came.{Came}
 use Rattle.zoneadmd_steps.specs.declared.objects.changes.Came.TheVariants.{Process, Id, Claim, Record, Moved, Source}
 use Rattle.zoneadmd_steps.specs.declared.objects.changes.ObjectEdit.{ObjectEdit}
-use Rattle.zoneadmd_steps.specs.declared.objects.changes.ObjectEdit.TheVariants.{Clear, ClearLimits, DropDevices, EndClaim, EndIds, EndProcess, EndProcesses, GiveUp, Hold, Mount, Nothing, Release, Rename, SetBootargs, SetDevices, SetLimits, Unmount}
+use Rattle.zoneadmd_steps.specs.declared.objects.changes.ObjectEdit.TheVariants.{Clear, ClearLimits, DropDevices, EndClaim, EndIds, EndProcess, EndProcesses, GiveUp, Hold, Mount, Nothing, Release, ReleaseLast, Rename, SetBootargs, SetDevices, SetLimits, Unmount, UnmountLast}
 
 abbrev pub as_objects : Objects → objects.Objects
 as_objects o = record { processes = o.kernel.now.processes; mounts = o.mounts.now.list; claims = o.claims.now.claims; devices = o.kernel.now.devices; ids = ids_of o.kernel.now.id }
@@ -50,9 +55,11 @@ object_edits (Rename pid name) = Processes_change (at_pid pid (renamed name)) �
 object_edits (GiveUp pid number) = Processes_change (at_pid pid (dropping number)) ∷ []
 object_edits (Mount m) = Of_mounts (Put (before m.value.dir) (record { mount = m.value; held = false })) ∷ []
 object_edits (Unmount dir) = Of_mounts (Go (is_at dir)) ∷ []
+object_edits (UnmountLast dir) = Of_mounts (Go (is_at dir.value)) ∷ []
 object_edits (Hold dir) = Of_mounts (Change_each (at_dir dir (with_hold true))) ∷ []
 object_edits (Release dir) = Of_mounts (Change_each (at_dir dir (with_hold false))) ∷ []
 object_edits EndClaim = Last_claim_goes ∷ []
+object_edits (ReleaseLast claim) = Last_claim_goes ∷ []
 object_edits (SetDevices ds) = Devices_are ds ∷ []
 object_edits DropDevices = Devices_are [] ∷ []
 object_edits EndIds = Ids_go all_of ∷ []
@@ -105,6 +112,8 @@ undo_with d j edits (Fails outcome (s ∷ rest)) = decisions.Just (undone d j ou
 abbrev pub job_turn : desks.Desk → Job → JobCase → Turn_decision
 job_turn d j (Finish outcome) = decisions.Just (finish d j.ticket outcome)
 job_turn d j (Pass p) = decisions.Just (advance (record d { active = active_with p.shown d.active }) (as_job j) (drop p.next j.steps.items) (object_edits p.objects) p.shown)
+job_turn d j (Unmounts dir next) = decisions.Just (advance d (as_job j) (drop next j.steps.items) (object_edits (UnmountLast dir)) (step.Unmount (Some dir.value)))
+job_turn d j (Releases claim next) = decisions.Just (advance d (as_job j) (drop next j.steps.items) (object_edits (ReleaseLast claim)) (step.Release (Some claim.value)))
 job_turn d j (Ask it next) = asking d (as_job j) (drop next j.steps.items) (comes_of it) (asked_for it) (edits_under it) (shown_under it)
 job_turn d j (Fail f) = decisions.Just (failed d (as_job j) (as_outcome f))
 job_turn d j (Undo objects) = undo_with d (as_job j) (object_edits objects) (as_job j).stage
@@ -122,9 +131,18 @@ without_first d = record (as_desk d) { waiting = drop 1 d.waiting.items }
 abbrev pub begun : desks.Desk → desks.Job → Turned
 begun d j = reports [] (with_job d j) (reply.Began j.ticket (kind_of j.request))
 
+-- the first request that waits is a halt, and begins
+abbrev pub halt_job : ℕ → Option ℕ → desks.Job
+halt_job t brand = record { ticket = t; request = request.Halt; brand = brand; config = blank; done = no_progress; stage = Goes halt_part }
+
+abbrev pub halt_begun : Desk → List (ℕ × Request) → Option ℕ → Turn_decision
+halt_begun d [] brand = decisions.Just (rests (as_desk d))
+halt_begun d (first ∷ rest) brand = decisions.Just (begun (without_first d) (halt_job first.0 brand))
+
 -- what a turn decides
 abbrev pub turn_decision_of : Desk → TurnCase → Turn_decision
 turn_decision_of d Idle = decisions.Just (rests (as_desk d))
+turn_decision_of d (BeginHalt brand) = halt_begun d d.waiting.items brand
 turn_decision_of d (Begin job) = decisions.Just (begun (without_first d) (as_job job.value))
 turn_decision_of d (Refuse ticket outcome) = decisions.Just (finish (without_first d) ticket outcome)
 turn_decision_of d (Again job) = decisions.Just (begun (as_desk d) (as_job job.value))
@@ -136,17 +154,29 @@ IsInPlan steps next (step.Mounted dir) = (0 < next) × (slice_get steps (next - 
 IsInPlan steps next (step.Claimed c) = (0 < next) × (slice_get steps (next - 1) ≡ Some (step.Claimed c))
 IsInPlan steps next _ = Unit {0}
 
+-- whether something goes by an edit as the last, which its turn has to tell
+abbrev pub is_last : ObjectEdit → Bool
+is_last (UnmountLast dir) = true
+is_last (ReleaseLast claim) = true
+is_last _ = false
+
 -- the case is one of a desk like this
 abbrev pub IsJobCase : Job → JobCase → Type 0
-IsJobCase j (Pass p) = (j.failure ≡ None) × IsInPlan j.steps.items p.next p.shown
+IsJobCase j (Pass p) = (j.failure ≡ None) × IsInPlan j.steps.items p.next p.shown × (is_last p.objects ≡ false)
+IsJobCase j (Unmounts dir next) = j.failure ≡ None
+IsJobCase j (Releases claim next) = j.failure ≡ None
 IsJobCase j (Ask it next) = (j.failure ≡ None) × IsInPlan j.steps.items next (shown_under it 0)
 IsJobCase j (Fail f) = j.failure ≡ None
-IsJobCase j (Undo objects) = IsSomeAnd j.failure (λ f. 0 < length j.made.items)
+IsJobCase j (Undo objects) = IsSomeAnd j.failure (λ f. 0 < length j.made.items) × (is_last objects ≡ false)
 IsJobCase j _ = Unit {0}
+
+abbrev pub IsHaltFirst : List (ℕ × Request) → Type 0
+IsHaltFirst waiting = IsSomeAnd (first_of waiting) (λ first. first.1 ≡ request.Halt)
 
 abbrev pub IsTurnOf : Desk → TurnCase → Type 0
 IsTurnOf d Idle = Unit {0}
 IsTurnOf d (Begin job) = 0 < length d.waiting.items
+IsTurnOf d (BeginHalt brand) = IsHaltFirst d.waiting.items
 IsTurnOf d (Refuse ticket outcome) = 0 < length d.waiting.items
 IsTurnOf d (Again job) = Unit {0}
 IsTurnOf d (GoOn c) = IsSomeAnd d.job (λ j. IsJobCase j c)
@@ -168,6 +198,8 @@ IsNamedTurn z _ = Unit {0}
 -- what a case does to the zone's objects, whatever is granted
 abbrev pub job_objects : JobCase → ObjectEdit
 job_objects (Pass p) = p.objects
+job_objects (Unmounts dir next) = UnmountLast dir
+job_objects (Releases claim next) = ReleaseLast claim
 job_objects (Undo objects) = objects
 job_objects _ = Nothing
 
@@ -175,13 +207,28 @@ abbrev pub turn_objects : TurnCase → ObjectEdit
 turn_objects (GoOn c) = job_objects c
 turn_objects _ = Nothing
 
--- a mount comes only where it may, by mount(2)
-abbrev pub mount_in : ObjectEdit → Option mounts.Mount
-mount_in (Mount m) = Some m.value
-mount_in _ = None
+-- what an edit takes for granted: a mount comes only where it may, by mount(2), and what goes as the last is the last
+pub data Premise : Type 0 where
+  No_premise : Premise
+  May_mount : (dir : List ℕ) → Premise
+  Is_last_mount : (dir : List ℕ) → Premise
+  Is_last_claim : claims.Claim → Premise
 
-abbrev pub IsFreeFor : ObjectEdit → List MountEntry → Type 0
-IsFreeFor e ms = IfSome (mount_in e) (λ m. mount_answer m.dir ms ≡ Ok tt)
+abbrev pub premise_of : ObjectEdit → Premise
+premise_of (Mount m) = May_mount m.value.dir
+premise_of (UnmountLast dir) = Is_last_mount dir.value
+premise_of (ReleaseLast claim) = Is_last_claim claim.value
+premise_of _ = No_premise
+
+abbrev pub Holds : Premise → List MountEntry → List claims.Claim → Type 0
+Holds No_premise ms cs = Unit {0}
+Holds (May_mount dir) ms cs = mount_answer dir ms ≡ Ok tt
+Holds (Is_last_mount dir) ms cs = option_map (λ m. m.mount.dir) (last_of ms) ≡ Some dir
+Holds (Is_last_claim claim) ms cs = last_of cs ≡ Some claim
+
+-- the edit may be made of these mounts and claims
+abbrev pub IsFreeFor : ObjectEdit → List MountEntry → List claims.Claim → Type 0
+IsFreeFor e ms cs = Holds (premise_of e) ms cs
 
 -- the zone's state on its desk after a turn
 abbrev pub job_active : JobCase → Option ZoneState → Option ZoneState
@@ -193,20 +240,20 @@ turn_active (GoOn c) active = job_active c active
 turn_active _ active = active
 
 -- the change of which the brand of the request under way is asked next, if it is
-abbrev pub hook_of : desks.Job → Next → Option (List ℕ × Change)
-hook_of j (A_step (step.Hook change) rest) = Some (j.config.brand, change)
+abbrev pub hook_of : desks.Job → Next → Option (Option ℕ × Change)
+hook_of j (A_step (step.Hook change) rest) = Some (j.brand, change)
 hook_of j _ = None
 
-abbrev pub stage_hook : objects.Objects → desks.Job → Stage → Option (List ℕ × Change)
+abbrev pub stage_hook : objects.Objects → desks.Job → Stage → Option (Option ℕ × Change)
 stage_hook o j (Goes left) = hook_of j (next o left)
 stage_hook o j (Fails outcome undo) = None
 
-abbrev pub next_hook : objects.Objects → Option desks.Job → Option (List ℕ × Change)
+abbrev pub next_hook : objects.Objects → Option desks.Job → Option (Option ℕ × Change)
 next_hook o None = None
 next_hook o (Some j) = stage_hook o j j.stage
 
 -- what the brand answers; where it isn't asked that the change proceeds
-abbrev pub heard : List Tabled → Option (List ℕ × Change) → HookAnswer
+abbrev pub heard : List Tabled → Option (Option ℕ × Change) → HookAnswer
 heard brands None = Proceed
 heard brands (Some asked) = answer_of brands asked.0 asked.1
 

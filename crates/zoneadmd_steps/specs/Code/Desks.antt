@@ -29,6 +29,7 @@ abbrev pub as_job : Job → desks.Job
 as_job j = record {
   ticket = j.ticket;
   request = j.request;
+  brand = j.brand;
   config = j.config;
   done = record { place = j.place; made = made_of j.failure (reverse j.made.items) };
   stage = stage_of j.failure (drop j.at j.steps.items) (reverse j.made.items);

@@ -4,6 +4,7 @@ use datalink_table::Claim;
 use kernel_objects::Running;
 use loopback_mounts::Mount;
 use priv_sets::PrivSet;
+use std::snapshot::Snapshot;
 use zn_base::{AbsPath, Listing, Text, ZoneName};
 
 /// What comes with a grant. A process and an id take their number from there.
@@ -46,12 +47,16 @@ pub enum ObjectEdit {
     Mount(Box<Mount>),
     /// The mount at a directory goes.
     Unmount(AbsPath),
+    /// The last mount goes, which is at this directory.
+    UnmountLast(Snapshot<AbsPath>),
     /// The global zone holds the mount at a directory.
     Hold(AbsPath),
     /// The mount at a directory is free.
     Release(AbsPath),
     /// The latest claim ends.
     EndClaim,
+    /// The latest claim ends, which is this.
+    ReleaseLast(Snapshot<Claim>),
     /// The zone has these devices and no others.
     SetDevices(Listing<AbsPath>),
     /// The zone has no devices.

@@ -7,6 +7,6 @@ use Rattle.zoneadmd_laws.proofs.laws.what_ends_is_told.Goals as goal
 
 pub returns : goal.returns
 returns c = λ ms w j left job stage ends none go.
-    let is = run_told w.brands ms ms (λ k is. is) true w refl j.ticket j.request j.config j.done left (job ∙ ap (λ s. Some (J j.ticket j.request j.config j.done s)) stage) (ends, none) go in
+    let is = run_told w.brands ms ms (λ k is. is) true w refl j.ticket j.request (j.brand, j.config) j.done left (job ∙ ap (λ s. Some (J j.ticket j.request (j.brand, j.config) j.done s)) stage) (ends, none) go in
     let known = is.known refl in
     subst (λ (p : List (List ℕ) × List Claim). Tells j.ticket (bare_progress j.done) (in_full p.0 p.1 left) (Later w.brands ms j.ticket j.request) (told ms)) (λ i. (known.0 i, known.1 i)) is.tells

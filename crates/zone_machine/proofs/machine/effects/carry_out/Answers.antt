@@ -20,6 +20,6 @@ returns-clause-does c = λ z named opens.
     let ends : World → World = edits_world n (sweeps work.ended) in
     let g = came_common z came in
     does_then z (λ w. waits (objects (comes w))) ends g kept c0 c.sit_down.new.cell c.end_ticket.new.cell s0 c.sit_down.new.shared c.end_ticket.new.shared (kept_apart z)
-    (does_then z (λ w. objects (comes w)) waits g kept c0 c.edit_objects.new.cell c.sit_down.new.cell s0 c.edit_objects.new.shared c.sit_down.new.shared (kept_apart z)
-    (does_then z comes objects g kept c0 c0 c.edit_objects.new.cell s0 c.store_some.new.shared c.edit_objects.new.shared (kept_apart z) (c.store_some.ensures.does z named.stored) (c.edit_objects.ensures.does z n))
-    (c.sit_down.ensures.does z named.sits (rw (c.edit_objects.ensures.sessions, c.store_some.ensures.sessions) opens))) (c.end_ticket.ensures.does z n)
+    (does_then z (λ w. objects (comes w)) waits g kept c0 c.change_objects-gone.new.cell c.sit_down.new.cell s0 c.change_objects-gone.new.shared c.sit_down.new.shared (kept_apart z)
+    (does_then z comes objects g kept c0 c0 c.change_objects-gone.new.cell s0 c.store_some.new.shared c.change_objects-gone.new.shared (kept_apart z) (c.store_some.ensures.does z named.stored) (c.change_objects-gone.ensures.does z n))
+    (c.sit_down.ensures.does z named.sits (rw (c.change_objects-gone.ensures.sessions, c.store_some.ensures.sessions) opens))) (c.end_ticket.ensures.does z n)

@@ -1,8 +1,12 @@
 use Rattle.zoneadmd_steps.specs.Code.Desks.{as_desk}
-use Rattle.std.proofs.Common.{sym, ◌∙◌}
-use Rattle.zone_machine.proofs.Turned_laws.{settled_turn, works_same}
+use Rattle.std.proofs.Common.{ap, refl, sym, ◌∙◌}
+use Rattle.zoneadmd_steps.specs.Desks.{Desk}
+use Rattle.zone_machine.proofs.Turned_laws.{nothing_told, settled_turn, works_same}
 use Rattle.zoneadmd_steps.specs.Code.Cases.{turn_decision_of}
 use Rattle.zone_machine.proofs.machine.settling.settle.Goals as goal
+
+pub returns-in-Says-clause-works : goal.returns-in-Says-clause-works
+returns-in-Says-clause-works c = λ n v desk. rw (c.in-Says.is, c.saying.ensures) (record { came = refl; reply = nothing_told _; world = ap (λ (d : Desk). record v { desk = d }) (sym desk) })
 
 pub returns-in-Make-clause-works : goal.returns-in-Make-clause-works
 returns-in-Make-clause-works c = λ n v desk. rw c.in-Make.is (c.make.ensures.works n v (as_desk c.args.desk.now) desk)

@@ -1,6 +1,4 @@
-use Rattle.std.proofs.Common.{◌≡◌, ◌∙◌, ap, subst, sym}
-use Rattle.std.specs.Prelude.{IfSome, nat_eq}
-use Rattle.zone_pools.specs.Owners.{owner}
+use Rattle.std.proofs.Common.{◌≡◌, ◌∙◌, ap, subst}
 use Rattle.zone_machine.proofs.Acting.{opens_alike}
 use Rattle.zone_machine.proofs.Doing_laws.{acts_whole}
 use Rattle.zone_machine.proofs.Standing.{answered}

@@ -1,10 +1,10 @@
-use Rattle.std.proofs.Common.{◌≡◌, ◌∙◌, ap, subst, sym}
+use Rattle.std.proofs.Common.{◌∙◌, ap, subst}
 use Rattle.std.specs.Prelude.{nat_eq}
 use Rattle.zone_pools.specs.Owners.{owner}
 use Rattle.zoneadmd_steps.proofs.Results.{on_err, on_ok_both}
 use Rattle.zoneadmd_steps.specs.Arrivals.{in_kernel}
 use Rattle.zone_machine.proofs.Acting.{alike_both, alike_does, on_ok_always, same_sessions}
-use Rattle.zone_machine.specs.Code.Cases.{decision_of}
+use Rattle.zone_machine.proofs.Rooms_laws.{room_came}
 use Rattle.zone_machine.specs.Code.Cells.{Does, is_up_in, outside_in}
 use Rattle.zone_machine.specs.State.Worlds.{World}
 use Rattle.zone_machine.specs.declared.machine.cell.Cell.{Cell}
@@ -22,6 +22,11 @@ returns-clause-does c =
     (λ does is. alike_does z _ _ c0 c1 c2 s0 s1 s2 c.in_ok-make_room.ensures.alike
     (subst (λ (d : Decision). Does z (after_came_world (in_kernel (act_of d g).came)) (came_common z (in_kernel (act_of d g).came)) c1 s1 c2 s2) is does))
     c.come.ensures.does (on_ok_always c.come.result _ c.in_ok-make_room.ensures.same)
+
+pub returns-clause-room : goal.returns-clause-room
+returns-clause-room c =
+    on_ok_always c.come.result _
+    (room_came c.args.zone.now c.args.case.now c.make_room.new.cell c.come.new.cell c.make_room.new.shared c.come.new.shared c.come.ensures.cell c.come.ensures.shared c.come.ensures.objects c.in_ok-make_room.ensures.room)
 
 pub returns-clause-sessions : goal.returns-clause-sessions
 returns-clause-sessions c =
