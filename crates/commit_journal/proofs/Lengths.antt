@@ -1,5 +1,5 @@
 -- Lengths, part by part.
-use Rattle.std.proofs.Common.{◌≡◌, ◌<◌, ◌≤◌, ◌+◌, ◌/◌, ◌%◌, ℕ, zero, suc, Bool, true, false, nat_lt, List, [], ◌∷◌, ◌++◌, length, Option, Some, None, Result, Err, IsTrue, if◌then◌else◌, refl, ap, arith, length-append, codes}
+use Rattle.std.proofs.Common.{◌≡◌, ◌<◌, ◌≤◌, ◌+◌, ◌/◌, ◌%◌, ℕ, zero, suc, Bool, true, false, nat_lt, List, [], ◌∷◌, ◌++◌, length, Option, Some, None, Result, Err, IsTrue, if◌then◌else◌, refl, ap, sym, arith, length-append, codes, ◌∙◌}
 use Rattle.std.specs.Prelude.{◌==◌, is_ok, IfSome}
 use Rattle.std.proofs.lemmas.Bool.Decides.{nat_tests}
 use Rattle.uuid_text.specs.Text.{uuid_text}
@@ -15,6 +15,7 @@ use Rattle.commit_journal.specs.declared.records.Commit.{Commit}
 use Rattle.zone_config.specs.Export.{export_text}
 use Rattle.commit_journal.specs.declared.records.Record.{Record}
 use Rattle.commit_journal.specs.Bodies.{body_text, padded, record_text, stored_text, told, IsCommit, IsRecord}
+use Rattle.commit_journal.specs.Journal.{body_size}
 use Rattle.commit_journal.specs.Store.{change_text}
 
 pub padded-length : (k n : ℕ) → length (padded k n) ≡ k
@@ -34,6 +35,18 @@ record_parts row =
     let revision = told-length (codes "revision") (padded 10 row.revision) in
     let p = padded-length 10 row.revision in
     simp length-append (omega (arith, state, uuid, u, revision, p))
+
+pub zone_line : (z : List ℕ) → length (told (codes "zone") z) ≡ 6 + length z
+zone_line z = omega (arith, told-length (codes "zone") z)
+
+-- how long a record is doesn't hang on its number and its UUID
+pub same_length : (a b : Record) → a.state ≡ b.state → a.config ≡ b.config → length (record_text a) ≡ length (record_text b)
+same_length a b state config = record_parts a ∙ (λ i. 7 + length (state_text (state i)) + 42 + 20 + length (export_text (config i))) ∙ sym (record_parts b)
+
+-- a body has the length of its zone's line and of what is stored
+pub body_length : (z : List ℕ) (said : Option Record) → length (change_text z said) ≡ body_size z (length (stored_text said))
+unfolding body_text
+body_length z said = length-append (told (codes "zone") z) (stored_text said)
 
 pub body_parts : (z : List ℕ) (said : Option Record) → length (change_text z said) ≡ 6 + length z + length (stored_text said)
 unfolding body_text

@@ -15,6 +15,8 @@ mod uuids;
 
 pub use fault::StoreFault;
 pub use laws::{applies_one_by_one, one_commit_a_body, opens_store_one_way};
-pub use records::{Commit, Record};
-pub use store::Store;
+pub use records::{Commit, Record, Row};
+pub use rows::Zones;
+pub use sizes::{body_length, fits, record_length};
+pub use store::{Store, append_record};
 pub use uuids::uuid_of;

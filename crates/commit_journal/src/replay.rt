@@ -1,18 +1,29 @@
 //! Records applied one after the other.
-ghost use Rattle.std.specs.Prelude.{◌≡◌, ◌<◌, ◌^◌, false, IfErr, IfOk, IsTrue, Ok, length};
+ghost use Rattle.std.specs.Prelude.{◌≡◌, ◌<◌, ◌^◌, false, IfErr, IfOk, IfSome, IsTrue, Ok, length};
 ghost use Rattle.commit_journal.specs.declared.records.Commit.{Commit};
-ghost use Rattle.commit_journal.specs.Bodies.{body_text, IsCommit};
+ghost use Rattle.commit_journal.specs.Bodies.{body_text, IsCommit, IsRecord};
 ghost use Rattle.commit_journal.specs.Replay.{Stops, TakesIn};
 ghost use Rattle.commit_journal.specs.Store.{HasZones};
 ghost use Rattle.commit_journal.specs.Stored.{may_stand};
 ghost use Rattle.commit_journal.specs.Zones.{rows_of};
 
-use crate::StoreFault;
 use crate::reading::read_commit;
 use crate::rows::{Zones, apply, may_stand};
+use crate::{Record, Row, StoreFault};
 use indexmap::IndexMap;
 use std::alloc::{AllocError, Global};
 use zone_disk::Body;
+
+// The row of a record that is in form, where there is one.
+fn row_of(stored: Option<Record>) -> Option<Row>
+    requires { IfSome stored IsRecord }
+    ensures { result ≡ stored }
+{
+    match stored {
+        Some(record) => Some(Row::new(record)),
+        None => None,
+    }
+}
 
 // Applies what a body says, if it says something that may come next.
 fn take_in(alloc: Global, zones: &mut Zones, body: &[u8]) -> Result<bool, AllocError>
@@ -26,7 +37,7 @@ fn take_in(alloc: Global, zones: &mut Zones, body: &[u8]) -> Result<bool, AllocE
         return Ok(false);
     }
     zones.reserve(1)?;
-    apply(zones, commit.zone, commit.stored);
+    apply(zones, commit.zone, row_of(commit.stored));
     Ok(true)
 }
 

@@ -6,17 +6,17 @@ ghost use Rattle.commit_journal.specs.Store.{row_of};
 ghost use Rattle.commit_journal.specs.Stored.{holds, may_stand, with_stored, without};
 ghost use Rattle.commit_journal.specs.Zones.{rows_of};
 
-use crate::Record;
+use crate::{Record, Row};
 use indexmap::IndexMap;
 use zn_base::ZoneName;
 use zone_pools::ZONES_MAX;
 
 /// The stored zones by their names, each with its record.
-pub(crate) type Zones = IndexMap<ZoneName, Record>;
+pub type Zones = IndexMap<ZoneName, Row>;
 
 /// What is stored of a zone.
 #[tactic(auto, using(crate::proofs::Zones::row_is, crate::proofs::Zones::held_is))]
-pub(crate) fn row_of<'z>(zones: &'z Zones, zone: &ZoneName) -> Option<&'z Record>
+pub(crate) fn row_of<'z>(zones: &'z Zones, zone: &ZoneName) -> Option<&'z Row>
     ensures row { option_map (λ row. row.now) result ≡ row_of zone.now (rows_of zones.now.entries) }
     ensures held { IsSome result ↔ IsTrue (holds zone.now (rows_of zones.now.entries)) }
 {
@@ -43,7 +43,7 @@ pub(crate) fn may_stand(zones: &Zones, zone: &ZoneName, stored: Option<&Record>)
 }
 
 #[tactic(auto, using(crate::proofs::Zones::placed_is))]
-fn put(zones: &mut Zones, zone: ZoneName, row: Record)
+fn put(zones: &mut Zones, zone: ZoneName, row: Row)
     requires { 0 < spare zones.old }
     ensures { rows_of zones.new.entries ≡ placed zone row (rows_of zones.old.entries) }
 {
@@ -58,7 +58,7 @@ fn remove(zones: &mut Zones, zone: &ZoneName)
 }
 
 /// A zone's new record comes into its place, or at the end, or the zone goes. It takes no memory.
-pub(crate) fn apply(zones: &mut Zones, zone: ZoneName, stored: Option<Record>)
+pub(crate) fn apply(zones: &mut Zones, zone: ZoneName, stored: Option<Row>)
     requires { 0 < spare zones.old }
     ensures { rows_of zones.new.entries ≡ with_stored zone stored (rows_of zones.old.entries) }
 {

@@ -1,22 +1,21 @@
 //! The zones that are stored on a disk, changed by one record at a time.
 ghost use Rattle.std.specs.Prelude.{◌≡◌, ◌≢◌, ◌⊎◌, ◌*◌, ◌+◌, ◌<◌, ◌≤◌, ◌++◌, ◌↔◌, [], ◌∷◌, List, ℕ, length, option_map, slice_get, Some, true, false, IfOk, IfErr, OnOk, OnErr, IfSome, IsErrOf, IsSome, IsTrue};
-ghost use Rattle.std.specs.Option.{ForSome};
 ghost use Rattle.indexmap.specs.IndexMap.{spare};
 ghost use Rattle.zn_io.specs.Disk.{View, Leaves};
 ghost use Rattle.zn_io.specs.Streams.{Rose};
 ghost use Rattle.zone_disk.specs.Bank.{Formats, KeepsMeaning, IsBeforeOrAfter as IsOneMore};
 ghost use Rattle.zone_disk.specs.Image.{IsUnformatted, Stands};
-ghost use Rattle.commit_journal.specs.Bodies.{IsCommit, IsStorable};
 ghost use Rattle.commit_journal.specs.Journal.{has_room, Leave};
-ghost use Rattle.commit_journal.specs.Store.{change_text, outcome_by, row_of, HasZones, IsBeforeOrAfter, Says, Stores, StoresOneMore};
-ghost use Rattle.commit_journal.specs.Stored.{holds, may_stand, with_stored};
+ghost use Rattle.commit_journal.specs.Store.{change_text, outcome_by, row_of, HasZones, IsBeforeOrAfter, IsKept, Says, Stores, StoresOneMore};
+ghost use Rattle.commit_journal.specs.Stored.{Rows, holds, may_stand, with_stored};
 ghost use Rattle.commit_journal.specs.Zones.{rows_of};
 
 use crate::bodies::body_of;
+use crate::records::record_in;
 use crate::replay::replay;
 use crate::rows::{Zones, apply, row_of};
 use crate::sizes::body_length;
-use crate::{Record, StoreFault};
+use crate::{Row, StoreFault};
 use std::alloc::{AllocError, Global};
 use std::marker::Model;
 use zn_base::ZoneName;
@@ -55,29 +54,21 @@ fn count_of<D: Disk>(bank: &Bank<D>) -> usize
 }
 
 // Whether a body and the next gate fit after the bytes in use.
-fn has_room<D: Disk>(bank: &Bank<D>, zone: &ZoneName, stored: Option<&Record>) -> bool
+fn has_room<D: Disk>(bank: &Bank<D>, zone: &ZoneName, stored: Option<&Row>) -> bool
     ensures { result ≡ has_room bank.now.used (change_text zone.now (option_map (λ row. row.now) stored.entry)) }
 {
-    bank.used() as usize + 5 + body_length(zone, stored) <= BANK_BYTES
+    bank.used() as usize + 5 + body_length(zone, record_in(stored)) <= BANK_BYTES
 }
 
-// The body of a zone's record and a copy of the zone's name, with a place among the zones for one more.
-fn prepared(
-    alloc: Global,
-    zones: &mut Zones,
-    name: &ZoneName,
-    row: Option<&Record>,
-) -> Result<(Vec<u8>, ZoneName), AllocError>
+// A copy of the zone's name, with a place among the zones for one more.
+fn prepared(alloc: Global, zones: &mut Zones, name: &ZoneName) -> Result<ZoneName, AllocError>
     ensures same { zones.new.entries ≡ zones.old.entries }
     ensures room { OnOk result (0 < spare zones.new) }
-    ensures body { IfOk result (λ r. r.0.items ≡ change_text name.now (option_map (λ row. row.now) row.entry)) }
-    ensures zone { IfOk result (λ r. r.1 ≡ name.now) }
-    ensures commit { OnOk result (IfSome row.entry (λ row. IsStorable row.now) → IsCommit (record { zone = name.now; stored = option_map (λ row. row.now) row.entry })) }
+    ensures zone { IfOk result (λ zone. zone ≡ name.now) }
 {
-    let body = body_of(alloc, name, row)?;
     let zone = name.copy(alloc)?;
     zones.reserve(1)?;
-    Ok((body, zone))
+    Ok(zone)
 }
 
 // Appends a body for which there is room.
@@ -101,18 +92,57 @@ fn append<D: Disk>(bank: &mut Bank<D>, alloc: Global, body: &[u8]) -> Result<(),
     Ok(bank.append(alloc, body)?)
 }
 
+/// Writes the record of a zone to the disk, or its removal, for which there is room: what is stored of it from then on. It is on
+/// the disk before this answers, and all memory is taken before the disk is written. A crash at any moment meanwhile leaves the
+/// records from before, or these and the new one, whatever zones they leave. After `DiskFault` the bank isn't sound, and the disk
+/// is to be opened again; after `Memory` the bank is as it was.
+pub fn append_record<D: Disk>(
+    bank: &mut Bank<D>,
+    alloc: Global,
+    name: &ZoneName,
+    row: Option<&Row>,
+) -> Result<(), StoreFault>
+    requires sound { bank.old.sound ≡ true }
+    requires settled { (D.view bank.old.disk).Keeps → (image : List ℕ) → (D.view bank.old.disk).Now image → Stands image bank.old.records }
+    requires room { IsTrue (has_room bank.old.used (change_text name.now (option_map (λ row. row.now) row))) }
+
+    ensures records { OnOk result (bank.new.records ≡ bank.old.records ++ change_text name.now (option_map (λ row. row.now) row.entry) ∷ []) }
+    ensures same { OnErr result (bank.new.records ≡ bank.old.records) }
+    ensures sound { OnOk result (bank.new.sound ≡ true) }
+    ensures settled { bank.new.sound ≡ true → (D.view bank.new.disk).Keeps → (image : List ℕ) → (D.view bank.new.disk).Now image → Stands image bank.new.records }
+    ensures zones { OnOk result ((rows : Rows) → HasZones bank.old.records rows → IsTrue (may_stand name.now (option_map (λ row. row.now) row.entry) rows)
+        → HasZones bank.new.records (with_stored name.now (option_map (λ row. row.now) row.entry) rows)) }
+
+    ensures any_moment { (D.view bank.old.disk).Keeps → (rows : Rows) → HasZones bank.old.records rows → IsTrue (may_stand name.now (option_map (λ row. row.now) row.entry) rows)
+        → Leaves (D.view bank.old.disk) (D.view bank.new.disk) (IsBeforeOrAfter bank.old.records rows name.now (option_map (λ row. row.now) row.entry)) }
+    ensures lasts { (D.view bank.old.disk).Keeps → OnOk result ((rows : Rows) → HasZones bank.old.records rows → IsTrue (may_stand name.now (option_map (λ row. row.now) row.entry) rows)
+        → (image : List ℕ) → (D.view bank.new.disk).Now image → StoresOneMore bank.old.records rows name.now (option_map (λ row. row.now) row.entry) image) }
+    ensures either { (D.view bank.old.disk).Keeps → (rows : Rows) → HasZones bank.old.records rows → IsTrue (may_stand name.now (option_map (λ row. row.now) row.entry) rows)
+        → (image : List ℕ) → (D.view bank.new.disk).Now image → IsBeforeOrAfter bank.old.records rows name.now (option_map (λ row. row.now) row.entry) image }
+
+    ensures memory_same { IsErrOf result StoreFault.Memory → bank.new ≡ bank.old }
+    ensures fault { IsErrOf result StoreFault.DiskFault → Rose (D.view bank.old.disk).faults (D.view bank.new.disk).faults }
+    ensures unsound { IsErrOf result StoreFault.DiskFault ↔ (bank.new.sound ≡ false) }
+    ensures only { IfErr result (λ e. (e ≡ StoreFault.Memory) ⊎ (e ≡ StoreFault.DiskFault)) }
+    ensures model { (D.view bank.old.disk).Keeps ↔ (D.view bank.new.disk).Keeps }
+    ensures faults { (D.view bank.old.disk).faults ≤ (D.view bank.new.disk).faults }
+{
+    let body = body_of(alloc, name, record_in(row))?;
+    append(bank, alloc, &body)?;
+    Ok(())
+}
+
 // Writes the record of a zone to the disk, once all memory is taken that is then needed.
 fn write<D: Disk>(
     bank: &mut Bank<D>,
     zones: &mut Zones,
     alloc: Global,
     name: &ZoneName,
-    row: Option<&Record>,
+    row: Option<&Row>,
 ) -> Result<ZoneName, StoreFault>
     requires sound { bank.old.sound ≡ true }
     requires settled { (D.view bank.old.disk).Keeps → (image : List ℕ) → (D.view bank.old.disk).Now image → Stands image bank.old.records }
     requires zones { HasZones bank.old.records (rows_of zones.old.entries) }
-    requires row { ForSome (option_map (λ row. row.now) row) IsStorable }
     requires place { IsTrue (may_stand name.now (option_map (λ row. row.now) row) (rows_of zones.old.entries)) }
 
     ensures name { IfOk result (λ zone. zone ≡ name.now) }
@@ -141,8 +171,8 @@ fn write<D: Disk>(
     if !has_room(bank, name, row) {
         return Err(StoreFault::BankFull);
     }
-    let (body, zone) = prepared(alloc, zones, name, row)?;
-    append(bank, alloc, &body)?;
+    let zone = prepared(alloc, zones, name)?;
+    append_record(bank, alloc, name, row)?;
     Ok(zone)
 }
 
@@ -187,7 +217,7 @@ impl<D: Disk> Store<D> {
     }
 
     /// What is stored of a zone. It takes no memory.
-    pub fn get(&self, name: &ZoneName) -> Option<&Record>
+    pub fn get(&self, name: &ZoneName) -> Option<&Row>
         ensures row { option_map (λ row. row.now) result ≡ row_of name.now self.now.rows }
         ensures held { IsSome result ↔ IsTrue (holds name.now self.now.rows) }
     {
@@ -204,7 +234,7 @@ impl<D: Disk> Store<D> {
     }
 
     /// The zone at a place in the order of creation, from 0, and what is stored of it. It takes no memory.
-    pub fn at(&self, place: u32) -> (&ZoneName, &Record)
+    pub fn at(&self, place: u32) -> (&ZoneName, &Row)
         requires { place < length self.now.rows }
         ensures { slice_get self.now.rows place ≡ Some (record { zone = result.0.now; it = result.1.now }) }
     {
@@ -219,7 +249,7 @@ impl<D: Disk> Store<D> {
     }
 
     /// Whether the bank has room for a zone's record, or for its removal. It takes no memory.
-    pub fn room_for(&self, name: &ZoneName, row: Option<&Record>) -> bool
+    pub fn room_for(&self, name: &ZoneName, row: Option<&Row>) -> bool
         ensures { result ≡ has_room self.now.bank.used (change_text name.now (option_map (λ row. row.now) row.entry)) }
     {
         has_room(&self.bank, name, row)
@@ -233,10 +263,9 @@ impl<D: Disk> Store<D> {
         &mut self,
         alloc: Global,
         name: &ZoneName,
-        row: Option<Record>,
+        row: Option<Row>,
     ) -> Result<u32, StoreFault>
         requires sound { self.old.bank.sound ≡ true }
-        requires row { ForSome row IsStorable }
         requires place { IsTrue (may_stand name.now row self.old.rows) }
 
         ensures serial { IfOk result (λ serial. serial ≡ length self.old.bank.records + 1) }
@@ -269,6 +298,15 @@ impl<D: Disk> Store<D> {
         ensures { result ≡ self.now.bank.sound }
     {
         self.bank.sound()
+    }
+
+    /// The bank and the zones apart. They are as a store keeps them. It takes no memory.
+    pub fn into_parts(self) -> (Bank<D>, Zones)
+        ensures bank { result.0 ≡ self.bank }
+        ensures rows { rows_of result.1.entries ≡ self.rows }
+        ensures kept { IsKept (D.view self.bank.disk) self.bank.records self.bank.sound self.rows }
+    {
+        (self.bank, self.zones)
     }
 
     /// Hands the disk back. It takes no memory.

@@ -1,6 +1,6 @@
 //! What a zone has, in a few words a line.
 use crate::zone::Zone;
-use commit_journal::Record;
+use commit_journal::Row;
 use datalink_table::{ClaimCell, ClaimKind};
 use kernel_objects::KernelCell;
 use loopback_mounts::{Mount, MountCell};
@@ -14,7 +14,7 @@ fn push_line(out: &mut Vec<u8>, word: &[u8], text: &[u8]) -> Result<(), AllocErr
 }
 
 // The state, the revision and the zonepath of what is stored.
-fn push_row(out: &mut Vec<u8>, row: &Record) -> Result<(), AllocError> {
+fn push_row(out: &mut Vec<u8>, row: &Row) -> Result<(), AllocError> {
     push_both(out, b"stored ", row.state.text())?;
     push_numbered(out, b" ", row.revision as u64)?;
     push_line(out, b" ", row.config.shown(Property::Zonepath))

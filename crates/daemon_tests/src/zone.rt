@@ -1,8 +1,8 @@
 //! One zone with its desk and its objects, the shared parts, and the brands. What is done goes through helpers without
 //! contracts, so that no test's proof follows what a zone holds.
-ghost use Rattle.std.specs.Prelude.{◌≡◌, IfOk, OnOk};
+ghost use Rattle.std.specs.Prelude.{◌≡◌, IfOk, OnOk, true};
 ghost use Rattle.brand_hooks.specs.Tables.{answer_at};
-ghost use Rattle.zoneadmd_steps.specs.Code.Cases.{IsTurnOf};
+ghost use Rattle.zoneadmd_steps.specs.Code.Cases.{IsNumberedTurn, IsTurnOf};
 ghost use Rattle.zoneadmd_steps.specs.Code.Rooms.{HasTurnRoom};
 
 use crate::holdings::what_it_has;
@@ -10,7 +10,7 @@ use crate::printer::push_turn;
 use brand_hooks::{
     Brand, BrandFault, BrandTables, Brands, Change, ChangeKind, HookAnswer, HookTable,
 };
-use commit_journal::{Record, uuid_of};
+use commit_journal::{Record, Row, uuid_of};
 use datalink_table::{Claim, ClaimCell, ClaimKind, ClaimShared};
 use export_read::read_export;
 use kernel_objects::{KernelCell, KernelShared, Running};
@@ -20,7 +20,7 @@ use std::process::Abort;
 use std::str;
 use std::test::Fail;
 use zn_base::{AbsPath, Listing, Text, ZoneName, ZoneState};
-use zone_pools::Grant;
+use zone_pools::{Grant, number_in};
 use zoneadmd_steps::{
     Came, Desk, Gone, JobCase, Limits, ObjectEdit, Objects, QueuedRequest, Request, Stored, System,
     TurnCase, TurnReply, decide_turn, settle_turn,
@@ -33,7 +33,7 @@ pub struct Zone {
     pub mounts: MountCell,
     pub claims: ClaimCell,
     pub desk: Desk,
-    pub row: Option<Record>,
+    pub row: Option<Row>,
     pub kernels: KernelShared,
     pub items: ClaimShared,
     pub brands: BrandTables,
@@ -95,13 +95,50 @@ fn tables_of(alloc: Global, answering: &[Answering]) -> Result<BrandTables, Bran
     Ok(Brands::new(alloc, list)?.tables(alloc)?)
 }
 
-fn row_of(alloc: Global, name: &ZoneName, state: ZoneState, text: &[u8]) -> Result<Record, Fail> {
-    Ok(Record {
+// The row of a record, if that is in form.
+fn in_form(record: Record) -> Option<Row> {
+    if record.state.is_stored() && record.revision >= 1 && record.config.zonepath.is_some() {
+        Some(Row::new(record))
+    } else {
+        None
+    }
+}
+
+fn row_of(
+    alloc: Global,
+    name: &ZoneName,
+    state: ZoneState,
+    text: &[u8],
+) -> Result<Option<Row>, Fail> {
+    Ok(in_form(Record {
         state,
         uuid: uuid_of(name, 1),
         revision: 1,
         config: read_export(alloc, text)?,
-    })
+    }))
+}
+
+// Whether a record with another zonepath gets a number from 1 on.
+fn is_numbered(case: &TurnCase, grant: Grant) -> bool
+    ensures { result ≡ true → IsNumberedTurn case.now grant }
+{
+    match case {
+        TurnCase::GoOn(JobCase::Ask(Came::Moved(_, _, _), _)) => match number_in(grant) {
+            Ok(number) => number >= 1,
+            Err(_) => true,
+        },
+        TurnCase::GoOn(
+            JobCase::Ask(
+                Came::Process(_, _)
+                | Came::Id
+                | Came::Claim(_)
+                | Came::Record(_, _)
+                | Came::Source(_),
+                _,
+            ),
+        ) => true,
+        _ => true,
+    }
 }
 
 fn bare(alloc: Global, answering: &[Answering]) -> Result<Zone, Fail> {
@@ -129,7 +166,7 @@ pub fn branded(
 ) -> Result<Box<Zone>, Fail> {
     let mut zone = Box::new(alloc, bare(alloc, answering)?)?;
     let row = row_of(alloc, &zone.name, state, text)?;
-    zone.row = Some(row);
+    zone.row = row;
     Ok(zone)
 }
 
@@ -153,9 +190,13 @@ impl Zone {
     pub fn commit(&mut self, alloc: Global, text: &[u8]) -> Result<(), Fail> {
         let config = read_export(alloc, text)?;
         self.serial = self.serial.saturating_add(1);
-        if let Some(row) = &mut self.row {
-            row.config = config;
-            row.revision = self.serial;
+        if let Some(row) = &self.row {
+            self.row = in_form(Record {
+                state: row.state,
+                uuid: row.uuid,
+                revision: self.serial,
+                config,
+            });
         }
         Ok(())
     }
@@ -398,7 +439,8 @@ impl Zone {
         case: TurnCase,
         grant: Grant,
     ) -> Result<TurnReply, AllocError>
-        requires { IsTurnOf self.old.desk case }
+        requires of { IsTurnOf self.old.desk case }
+        requires numbered { IsNumberedTurn case grant }
     {
         self.desk.reserve_turn(&case)?;
         self.come(alloc, &case, grant)?;
@@ -412,6 +454,9 @@ impl Zone {
     pub fn turn(&mut self, alloc: Global) -> Result<TurnReply, AllocError> {
         let case = self.decide(alloc)?;
         let grant = self.grant_for(&case);
+        if !is_numbered(&case, grant) {
+            return Err(AllocError);
+        }
         self.perform(alloc, case, grant)
     }
 
@@ -465,10 +510,13 @@ impl Zone {
     }
 
     /// What is stored of the zone is in another state from now on.
-    pub fn put_state(&mut self, state: ZoneState) {
-        if let Some(row) = &mut self.row {
-            row.state = state;
+    pub fn put_state(&mut self, alloc: Global, state: ZoneState) -> Result<(), AllocError> {
+        if let Some(row) = &self.row
+            && state.is_stored()
+        {
+            self.row = Some(row.in_state(alloc, state)?);
         }
+        Ok(())
     }
 }
 

@@ -1,5 +1,5 @@
 //! Stores on disks in memory: their bytes, what is left after stops, and a store that another program wrote.
-use commit_journal::{Record, Store, StoreFault};
+use commit_journal::{Record, Row, Store, StoreFault};
 use export_read::read_export;
 use std::alloc::{AllocError, Global};
 use std::process::Abort;
@@ -70,7 +70,7 @@ fn changed(
 ) -> Result<u32, StoreFault> {
     assert!(rt; store.sound() && store.count() < 256);
     assert!(rt; row.state.is_stored() && row.revision >= 1 && row.config.zonepath.is_some());
-    store.change(alloc, name, Some(row))
+    store.change(alloc, name, Some(Row::new(row)))
 }
 
 // Opens the disk, stores web with a configuration, and says what came of it.

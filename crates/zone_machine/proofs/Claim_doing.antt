@@ -55,7 +55,7 @@ module _ (z : Name) (c : Cell) (s : Shared) (d : claims.Cell) (t : Claim_shared)
     world = λ a. ap (λ ds. cell_world (record (outside_in z s) { declared = record { items = ds; devices = s.kernel.devices } }) then_cell) declared ∙ world;
     common = λ a.
         common_by z (cell_world (outside_in z s) then_cell) (common_in s) then_shared (get nat_eq c.waits)
-        (same_pids z c s a) (same_zids z c s a) (held a) (same_sessions z c s a) (λ n. holds_wait (get nat_eq c.waits n)) refl refl refl refl refl
+        (same_pids z c s a) (same_zids z c s a) (held a) (same_sessions z c s a) (λ n. holds_wait (get nat_eq c.waits n)) refl refl refl refl refl refl
         (ap (λ ds. record { items = ds; devices = s.kernel.devices }) declared) refl refl
         ∙ (ap (λ k. holding z (cell_world (outside_in z s) then_cell) k) (sym keeps) ∙ ap (λ w. holding z w (g (common_in s))) world);
   }

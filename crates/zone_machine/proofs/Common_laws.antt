@@ -1,5 +1,9 @@
 -- What an event of one zone does to what is common, and what it takes from there. Nothing here opens a case of the machine.
-use Rattle.std.proofs.Common.{◌≡◌, ◌+◌, ◌∷◌, ◌++◌, [], ℕ, List, Bool, Option, Some, None, true, false, ◌&&◌, ◌||◌, not, length, refl, ap, sym, subst, ◌∙◌, length-append}
+use Rattle.std.proofs.lemmas.List.{map-append}
+use Rattle.commit_journal.specs.Journal.{body_size, fits_after}
+use Rattle.commit_journal.specs.Bodies.{body_text}
+use Rattle.zone_disk.specs.Image.{blocks, used_by}
+use Rattle.std.proofs.Common.{◌≡◌, ◌+◌, ◌∷◌, ◌++◌, [], ℕ, List, Bool, Option, Some, None, true, false, ◌&&◌, ◌||◌, not, length, refl, ap, sym, subst, ◌∙◌, length-append, arith}
 use Rattle.std.specs.Prelude.{bytes_eq, filter, is_some, if◌then◌else◌}
 use Rattle.std.specs.List.{list_any}
 use Rattle.std.proofs.lemmas.Bool.{false≢true, true≢false}
@@ -31,7 +35,7 @@ use Rattle.commit_journal.proofs.Applied.{stored-push}
 use Rattle.commit_journal.specs.Stored as rows
 use Rattle.commit_journal.specs.Stored.{Rows}
 use Rattle.zone_machine.specs.State.Declarations.{Declared}
-use Rattle.zone_machine.specs.State.{At, Idle, Session as Session_mode, State}
+use Rattle.zone_machine.specs.State.{At, Idle, Session as Session_mode, State, bodies_of, bytes_used}
 use Rattle.zone_machine.specs.State.Worlds.{World, doing, view, view_of, world}
 use Rattle.zone_machine.specs.declared.events.Event.{Event}
 use Rattle.zone_machine.specs.declared.events.Event.TheVariants.{Process as Call_of, Session, System, Turn}
@@ -42,16 +46,17 @@ use Rattle.commit_journal.specs.declared.records.Commit.{Commit}
 record Rest : Type 0 where
   rows : Rows
   serial : ℕ
+  used : ℕ
   last_pid : ℕ
   last_zid : ℕ
   declared : Declared
   brands : List Tabled
 
 abbrev rest : State → Rest
-rest S = record { rows = rows.stored S.commits; serial = length S.commits; last_pid = S.last_pid; last_zid = S.last_zid; declared = S.declared; brands = S.brands }
+rest S = record { rows = rows.stored S.commits; serial = length S.commits; used = bytes_used S.commits; last_pid = S.last_pid; last_zid = S.last_zid; declared = S.declared; brands = S.brands }
 
 abbrev rest_in : Common → Rest
-rest_in c = record { rows = c.rows; serial = c.serial; last_pid = c.last_pid; last_zid = c.last_zid; declared = c.declared; brands = c.brands }
+rest_in c = record { rows = c.rows; serial = c.serial; used = c.used; last_pid = c.last_pid; last_zid = c.last_zid; declared = c.declared; brands = c.brands }
 
 rest-edit : (z : Name) (n : Option ℕ) (e : Edit) (S : State) → rest (edit z n e S) ≡ rest S
 unfolding edit
@@ -61,6 +66,17 @@ rest-edit z n _ S = refl
 rest-edits : (z : Name) (n : Option ℕ) (es : List Edit) (S : State) → rest (edits z n es S) ≡ rest S
 rest-edits z n [] S = refl
 rest-edits z n (e ∷ es) S = rest-edits z n es (edit z n e S) ∙ rest-edit z n e S
+
+-- one record more
+blocks-push : (bodies : List (List ℕ)) (b : List ℕ) → length (blocks (bodies ++ b ∷ [])) ≡ length (blocks bodies) + 5 + length b
+blocks-push [] b = omega (arith, length-append b [])
+blocks-push (x ∷ xs) b = let ih = blocks-push xs b in omega (arith, ih, length-append x (blocks (xs ++ b ∷ [])), length-append x (blocks xs))
+
+used-push : (bodies : List (List ℕ)) (b : List ℕ) → used_by (bodies ++ b ∷ []) ≡ used_by bodies + 5 + length b
+used-push bodies b = let more = blocks-push bodies b in omega (arith, more)
+
+used-more : (commits : List Commit) (c : Commit) → bytes_used (commits ++ c ∷ []) ≡ bytes_used commits + 5 + length (body_text c)
+used-more commits c = ap used_by (map-append body_text commits (c ∷ [])) ∙ used-push (bodies_of commits) (body_text c)
 
 rest-came : (z : Name) (a : Option Arrival) (S : State) → rest (after_came z a S) ≡ rest_in (came_common z a (common S))
 unfolding comes
@@ -73,10 +89,11 @@ rest-came z (Some (New_record row)) S =
     let c : Commit = record { zone = z; stored = row } in
     let rows = stored-push S.commits c in
     let count : length (S.commits ++ c ∷ []) ≡ length S.commits + 1 = length-append S.commits (c ∷ []) in
-    λ i. record { rows = rows i; serial = count i; last_pid = S.last_pid; last_zid = S.last_zid; declared = S.declared; brands = S.brands }
+    let bytes = used-more S.commits c in
+    λ i. record { rows = rows i; serial = count i; used = bytes i; last_pid = S.last_pid; last_zid = S.last_zid; declared = S.declared; brands = S.brands }
 
 -- what comes is held only once its world shows it
-held-came : (z : Name) (a : Option Arrival) (S : State) → record (came_common z a (common S)) { rows = rows.stored S.commits; serial = length S.commits; last_pid = S.last_pid; last_zid = S.last_zid } ≡ common S
+held-came : (z : Name) (a : Option Arrival) (S : State) → record (came_common z a (common S)) { rows = rows.stored S.commits; serial = length S.commits; used = bytes_used S.commits; last_pid = S.last_pid; last_zid = S.last_zid } ≡ common S
 held-came z None S = refl
 held-came z (Some (New_process p)) S = refl
 held-came z (Some _) S = refl
@@ -103,6 +120,7 @@ common-acts z n a S own =
       up = λ y. (spread is_up y z n a S own ∙ ap (λ (c : Common). if bytes_eq z y then is_up w else c.up y) held) i;
       rows = (r i).rows;
       serial = (r i).serial;
+      used = (r i).used;
       last_pid = (r i).last_pid;
       last_zid = (r i).last_zid;
       declared = (r i).declared;
@@ -204,6 +222,7 @@ pools-common S T h = λ i. record {
   zones = length (h i).rows;
   path_taken = path_taken (h i).rows;
   serial = (h i).serial;
+  may_store = λ z size. fits_after (h i).used (body_size z size);
   may_hold = λ z pool item. of_kind (λ c. holds c (h i).declared.items && not (same-elsewhere (same_claim c) z S.claims T.claims (λ y. ap (λ k. k.claims y c) h) i)) (kind_of pool) item;
   may_clone = λ z. is_installed (row_of z (h i).rows) && not ((h i).up z);
 }

@@ -1,5 +1,6 @@
 -- Changes of a cell and the shared part.
-use Rattle.std.proofs.Common.{◌≡◌, ◌∷◌, ◌++◌, [], ℕ, List, Bool, Option, Some, None, true, false, not, ◌&&◌, ◌||◌, inl, inr, refl, ap, sym, subst, ◌∙◌, ◌+◌, map}
+use Rattle.commit_journal.specs.Store.{change_text}
+use Rattle.std.proofs.Common.{◌≡◌, ◌∷◌, ◌++◌, [], ℕ, List, Bool, Option, Some, None, true, false, not, ◌&&◌, ◌||◌, inl, inr, refl, ap, sym, subst, ◌∙◌, ◌+◌, map, length, arith}
 use Rattle.indexmap.specs.IndexMap.{get, get_by, insert_entry}
 use Rattle.std.specs.Prelude.{◌≢◌, bytes_eq, nat_eq, is_some, unwrap_or, if◌then◌else◌}
 use Rattle.std.specs.Cmp.{nat_eq_equiv}
@@ -71,9 +72,9 @@ pub common_by : (z : Name) (w : World) (g : Common) (t : Shared) (waits : ℕ �
     → ((y : Name) (k : Claim) → held_by (λ k. holder k t.claims) y k ≡ owners.holding z (holds_claim w) g.claims y k)
     → ((y : Name) (n : ℕ) → held_by (owner nat_eq t.sessions) y n ≡ owners.holding z (λ n. is_some (waits n)) g.sessions y n)
     → ((n : ℕ) → is_some (w.sessions n) ≡ is_some (waits n))
-    → is_up_in t ≡ g.up → rows_of t.rows.entries ≡ g.rows → t.serial ≡ g.serial → t.kernel.last_pid ≡ g.last_pid → t.kernel.last_zid ≡ g.last_zid → declared_in t ≡ g.declared → t.brands ≡ g.brands → t.started ≡ g.started
+    → is_up_in t ≡ g.up → rows_of t.rows.entries ≡ g.rows → t.serial ≡ g.serial → t.used ≡ g.used → t.kernel.last_pid ≡ g.last_pid → t.kernel.last_zid ≡ g.last_zid → declared_in t ≡ g.declared → t.brands ≡ g.brands → t.started ≡ g.started
     → common_in t ≡ holding z w g
-common_by z w g t waits pids zids claims sessions seen up rows serial last_pid last_zid declared brands started = λ i. record {
+common_by z w g t waits pids zids claims sessions seen up rows serial used last_pid last_zid declared brands started = λ i. record {
   pids = λ y n. pids y n i;
   zids = λ y n. zids y n i;
   claims = λ y k. claims y k i;
@@ -82,6 +83,7 @@ common_by z w g t waits pids zids claims sessions seen up rows serial last_pid l
   sessions = λ y n. (sessions y n ∙ ap (λ b. if bytes_eq z y then b else g.sessions y n) (sym (seen n))) i;
   rows = rows i;
   serial = serial i;
+  used = used i;
   last_pid = last_pid i;
   last_zid = last_zid i;
   declared = declared i;
@@ -99,7 +101,7 @@ does_sits z c d s t k x is_open taken h = record {
       (record s { sessions = t.sessions }) (get nat_eq d.waits) (same_pids z c s a) (same_zids z c s a) (same_claims z c s a)
       (column z (λ n. is_some (get nat_eq d.waits n)) (owner nat_eq s.sessions) (owner nat_eq t.sessions)
       (λ n. ap (is_owner z) (taken n) ∙ (here a n (nat_eq k n) ∙ sym (ap is_some (h n) ∙ more (nat_eq k n) (get nat_eq c.waits n)))) (λ y ne n. ap (is_owner y) (taken n) ∙ there y ne n (nat_eq k n) refl))
-      (λ n. ap is_some (sym (waits n)) ∙ holds_wait (get nat_eq d.waits n)) refl refl refl refl refl refl refl refl;
+      (λ n. ap is_some (sym (waits n)) ∙ holds_wait (get nat_eq d.waits n)) refl refl refl refl refl refl refl refl refl;
 }
   where
     mapped : (b : Bool) (o : Option ℕ) → option_map state.Awaiting (if b then Some x.ticket else o) ≡ (if b then Some (state.Awaiting x.ticket) else option_map state.Awaiting o)
@@ -135,7 +137,7 @@ does_ends z c d s t ticket h given n = record {
       (record s { sessions = t.sessions }) (get nat_eq d.waits) (same_pids z c s a) (same_zids z c s a) (same_claims z c s a)
       (gone_column z (λ n. is_some (get nat_eq c.waits n)) (λ n. is_some (get nat_eq d.waits n)) (λ n. is_wait_for ticket (get nat_eq c.waits n)) (owner nat_eq s.sessions) (owner nat_eq t.sessions)
       a.sessions (λ n. some_wait ticket (get nat_eq c.waits n)) given (λ n. ap is_some (h n) ∙ less (get nat_eq c.waits n)))
-      (λ n. ap is_some (sym (waits n)) ∙ holds_wait (get nat_eq d.waits n)) refl refl refl refl refl refl refl refl;
+      (λ n. ap is_some (sym (waits n)) ∙ holds_wait (get nat_eq d.waits n)) refl refl refl refl refl refl refl refl refl;
 }
   where
     mapped : (o : Option ℕ) → option_map state.Awaiting (unless_ended ticket o) ≡ swept_doing (ticket_ended ticket) (option_map state.Awaiting o)
@@ -159,12 +161,12 @@ does_ends z c d s t ticket h given n = record {
 
 -- a record is stored
 pub does_record : (z : Name) (c : Cell) (s t : Shared) (r : Record) → t.rows.entries ≡ insert_entry bytes_eq s.rows.entries z r → row_in z t ≡ Some r
-    → Does z (comes_world (New_record (Some r))) (came_common z (Some (New_record (Some r)))) c s c (record s { rows = t.rows; serial = s.serial + 1 })
+    → Does z (comes_world (New_record (Some r))) (came_common z (Some (New_record (Some r)))) c s c (record s { rows = t.rows; serial = s.serial + 1; used = s.used + (5 + length (change_text z (Some r))) })
 does_record z c s t r h found = record {
   world = λ a i. record (cell_world (outside_in z s) c) { stored = found i };
-  common = λ a. common_by z (record (cell_world (outside_in z s) c) { stored = Some r }) (record (common_in s) { rows = placed z r (rows_of s.rows.entries); serial = s.serial + 1 })
-      (record s { rows = t.rows; serial = s.serial + 1 }) (get nat_eq c.waits) (same_pids z c s a) (same_zids z c s a) (same_claims z c s a) (same_sessions z c s a) (λ n. holds_wait (get nat_eq c.waits n))
-      refl (ap rows_of h ∙ placed_is z r s.rows.entries) refl refl refl refl refl refl;
+  common = λ a. common_by z (record (cell_world (outside_in z s) c) { stored = Some r }) (record (common_in s) { rows = placed z r (rows_of s.rows.entries); serial = s.serial + 1; used = s.used + 5 + length (change_text z (Some r)) })
+      (record s { rows = t.rows; serial = s.serial + 1; used = s.used + (5 + length (change_text z (Some r))) }) (get nat_eq c.waits) (same_pids z c s a) (same_zids z c s a) (same_claims z c s a) (same_sessions z c s a) (λ n. holds_wait (get nat_eq c.waits n))
+      refl (ap rows_of h ∙ placed_is z r s.rows.entries) refl (omega arith) refl refl refl refl refl;
 }
 
 -- one after another

@@ -1,7 +1,11 @@
 -- What comes with a grant that the pools give, or that fits, is free.
-use Rattle.std.proofs.Common.{◌≡◌, ◌∷◌, ◌+◌, ◌-◌, ◌&&◌, [], ℕ, zero, suc, List, Bool, drop, true, false, Option, Some, None, Result, Ok as Right, Err, refl, sym, ◌∙◌, subst}
+use Rattle.commit_journal.specs.Bodies.{stored_text}
+use Rattle.commit_journal.specs.Uuids.{uuid_of}
+use Rattle.commit_journal.specs.declared.records.Record.{Record}
+use Rattle.zone_machine.proofs.Case_asks.{AsksWell, IsSizedFor, came, came_is}
+use Rattle.std.proofs.Common.{◌≡◌, ◌∷◌, ◌+◌, ◌-◌, ◌&&◌, [], ℕ, zero, suc, List, Bool, drop, true, false, Option, Some, None, Result, Ok as Right, Err, refl, sym, ◌∙◌, subst, IfOk, length, ap, arith, ◌≤◌}
 use Rattle.std.specs.Prelude.{nat_le, not, if◌then◌else◌}
-use Rattle.std.proofs.lemmas.Bool.{and_from, and_parts, false≢true}
+use Rattle.std.proofs.lemmas.Bool.{and_from, and_parts, false≢true, leb-true}
 use Rattle.datalink_table.specs.Claims.{pool_of}
 use Rattle.datalink_table.specs.declared.claims.Claim.{Claim}
 use Rattle.zone_pools.proofs.Owned_laws.{same_self}
@@ -11,7 +15,7 @@ use Rattle.zone_pools.proofs.Pools_laws.{said_one}
 use Rattle.zone_pools.specs.Asked.{A_path, A_pid, A_serial, A_zid, A_zone, An_item, Asked}
 use Rattle.zone_pools.specs.Decisions as decisions
 use Rattle.zone_pools.specs.Decisions.{Ask, Just, asked_of, number_in}
-use Rattle.zone_pools.specs.Pools.{Pools, first_free, fits_asked, has_place, has_room, next_free, numbered, or_else, said_by_all}
+use Rattle.zone_pools.specs.Pools.{Pools, first_free, fits_asked, has_place, has_room, next_free, numbered, or_else, said_by_all, has_serial}
 use Rattle.zone_pools.specs.declared.grant.Grant.{Grant}
 use Rattle.zone_pools.specs.declared.grant.Grant.TheVariants.{Nothing, Number, Yes, Denied}
 use Rattle.zone_pools.specs.declared.grant.Pool.{Pool}
@@ -24,8 +28,8 @@ use Rattle.zone_machine.specs.State.Decisions.{Decision, act_of, effects, turned
 use Rattle.zone_machine.specs.Code.Rooms.{HasRoomOf, HasRoomToStore, IsFreeOf}
 use Rattle.zone_machine.specs.Code.Steps.{IsGrantFor}
 use Rattle.zone_machine.specs.declared.machine.shared.Shared.{Shared}
-use Rattle.zoneadmd_steps.specs.Code.Cases.{asked_for, comes_of, edits_under, halt_begun, job_turn, object_edits, on_job, shown_under, turn_decision_of, undo_with}
-use Rattle.zone_machine.specs.Code.Cases.{decision_of}
+use Rattle.zoneadmd_steps.specs.Code.Cases.{asked_for, comes_of, edits_under, halt_begun, job_turn, object_edits, on_job, shown_under, turn_decision_of, undo_with, IsNumberedCame, IsNumberedTurn}
+use Rattle.zone_machine.specs.Code.Cases.{decision_of, IsNumbered}
 use Rattle.zoneadmd_steps.specs.Desks as desks
 use Rattle.zoneadmd_steps.specs.Code.Desks.{as_desk, as_job}
 use Rattle.zoneadmd_steps.specs.Objects.{Object_edit}
@@ -61,11 +65,6 @@ unused_next used low high last n h = at_upper (first_free used (last + 1) (high 
     at_upper (Some x) e h = unused_found used (last + 1) (high - last) n (e ∙ h)
     at_upper None e h = unused_found used low (high + 1 - low) n h
 
--- what comes under a grant
-abbrev came : Comes → Result ℕ Pool → Option Arrival
-came c (Right n) = Some (arrived c n)
-came c (Err pool) = None
-
 -- what the pools say is free
 module _ (P : Pools) (z : Name) where
   free_pid : (c : Comes) (p : ℕ → ℕ) (found : Option ℕ) → ((n : ℕ) → P.pid_used n ≡ false → IsFreeOf z (Some (arrived c n)) P) → next_free P.pid_used PID_MIN PID_MAX P.last_pid ≡ found
@@ -78,12 +77,12 @@ module _ (P : Pools) (z : Name) where
   free_zid c None is e = tt
   free_zid c (Some n) is e = is n (unused_next P.zid_used ZID_MIN ZID_MAX P.last_zid n e)
 
-  free_serial : (c : Comes) (room : Bool) → ((n : ℕ) → has_room P ≡ true → IsFreeOf z (Some (arrived c n)) P) → has_room P ≡ room
+  free_serial : (c : Comes) (size : ℕ → ℕ) (room : Bool) → ((n : ℕ) → has_room P z size n ≡ true → IsFreeOf z (Some (arrived c n)) P) → has_room P z size (P.serial + 1) ≡ room
       → IsFreeOf z (came c (number_in (if room then Number (P.serial + 1) else Denied Store))) P
-  free_serial c false is e = tt
-  free_serial c true is e = is (P.serial + 1) e
+  free_serial c size false is e = tt
+  free_serial c size true is e = is (P.serial + 1) e
 
-  free_zone : (c : Comes) (place taken room : Bool) → ((n : ℕ) → has_room P ≡ true → IsFreeOf z (Some (arrived c n)) P) → has_room P ≡ room
+  free_zone : (c : Comes) (size : ℕ → ℕ) (place taken room : Bool) → ((n : ℕ) → has_room P z size n ≡ true → IsFreeOf z (Some (arrived c n)) P) → has_room P z size (P.serial + 1) ≡ room
       → IsFreeOf z (came c (number_in (elim (if place then Yes else Denied Zones) as (λ g. Grant) [
         | Denied pool ↦ Denied pool
         | g ↦ elim (if taken then Denied Paths else Yes) as (λ g. Grant) [
@@ -91,19 +90,23 @@ module _ (P : Pools) (z : Name) where
           | g ↦ elim (if room then Number (P.serial + 1) else Denied Store) as (λ g. Grant) [ Denied pool ↦ Denied pool | g ↦ g ]
         ]
       ]))) P
-  free_zone c false taken room is e = tt
-  free_zone c true true room is e = tt
-  free_zone c true false false is e = tt
-  free_zone c true false true is e = is (P.serial + 1) e
+  free_zone c size false taken room is e = tt
+  free_zone c size true true room is e = tt
+  free_zone c size true false false is e = tt
+  free_zone c size true false true is e = is (P.serial + 1) e
 
-  free_path : (c : Comes) (taken room : Bool) → ((n : ℕ) → has_room P ≡ true → IsFreeOf z (Some (arrived c n)) P) → has_room P ≡ room
+  free_path : (c : Comes) (size : ℕ → ℕ) (taken room : Bool) → ((n : ℕ) → has_room P z size n ≡ true → IsFreeOf z (Some (arrived c n)) P) → has_room P z size (P.serial + 1) ≡ room
       → IsFreeOf z (came c (number_in (elim (if taken then Denied Paths else Yes) as (λ g. Grant) [
         | Denied pool ↦ Denied pool
         | g ↦ elim (if room then Number (P.serial + 1) else Denied Store) as (λ g. Grant) [ Denied pool ↦ Denied pool | g ↦ g ]
       ]))) P
-  free_path c true room is e = tt
-  free_path c false false is e = tt
-  free_path c false true is e = is (P.serial + 1) e
+  free_path c size true room is e = tt
+  free_path c size false false is e = tt
+  free_path c size false true is e = is (P.serial + 1) e
+
+  -- a record for which there is room under a number
+  room_free : (row : ℕ → Option Record) (size : ℕ → ℕ) → ((n : ℕ) → length (stored_text (row n)) ≡ size n) → (n : ℕ) → has_room P z size n ≡ true → IsFreeOf z (Some (New_record (row n))) P
+  room_free row size sized n room = let both = and_parts (has_serial P) (P.may_store z (size n)) room in (both.0, ap (P.may_store z) (sized n) ∙ both.1)
 
   free_item : (c : Claim) (may : Bool) → P.may_hold z (pool_of c.kind) c.item ≡ may → IsFreeOf z (came (A_claim c) (number_in (if may then Yes else Denied (pool_of c.kind)))) P
   free_item c false e = tt
@@ -116,15 +119,15 @@ module _ (P : Pools) (z : Name) where
   said_item : (c : Claim) → IsFreeOf z (came (A_claim c) (number_in (said_by_all P z (An_item (pool_of c.kind) c.item ∷ []) Nothing))) P
   said_item c = rw (said_one P z (An_item (pool_of c.kind) c.item)) (free_item c (P.may_hold z (pool_of c.kind) c.item) refl)
 
-  said_free : (c : Comes) (asked : List Asked) → is_asked_for c asked ≡ true → IsFreeOf z (came c (number_in (said_by_all P z asked Nothing))) P
-  said_free (A_process p) (A_pid ∷ []) h = rw (said_one P z A_pid) (free_pid (A_process p) (λ n. n) (next_free P.pid_used PID_MIN PID_MAX P.last_pid) (λ n e. e) refl)
-  said_free (An_id i) (A_zid ∷ []) h = rw (said_one P z A_zid) (free_zid (An_id i) (next_free P.zid_used ZID_MIN ZID_MAX P.last_zid) (λ n e. e) refl)
-  said_free (A_record row) (A_serial ∷ []) h = rw (said_one P z A_serial) (free_serial (A_record row) (has_room P) (λ n e. e) refl)
-  said_free (A_record row) (A_zone ∷ A_path path ∷ A_serial ∷ []) h = free_zone (A_record row) (has_place P) (P.path_taken z path) (has_room P) (λ n e. e) refl
-  said_free (A_record row) (A_path path ∷ A_serial ∷ []) h = free_path (A_record row) (P.path_taken z path) (has_room P) (λ n e. e) refl
-  said_free (A_claim c) asked h = subst (λ asked. IsFreeOf z (came (A_claim c) (number_in (said_by_all P z asked Nothing))) P) (sym (asked_item c asked h)) (said_item c)
-  said_free No_thing asked h = nothing_free (number_in (said_by_all P z asked Nothing))
-  said_free c asked h = absurd (false≢true h)
+  said_free : (c : Comes) (asked : List Asked) → is_asked_for c asked ≡ true → IsSizedFor c asked → IsFreeOf z (came c (number_in (said_by_all P z asked Nothing))) P
+  said_free (A_process p) (A_pid ∷ []) h sized = rw (said_one P z A_pid) (free_pid (A_process p) (λ n. n) (next_free P.pid_used PID_MIN PID_MAX P.last_pid) (λ n e. e) refl)
+  said_free (An_id i) (A_zid ∷ []) h sized = rw (said_one P z A_zid) (free_zid (An_id i) (next_free P.zid_used ZID_MIN ZID_MAX P.last_zid) (λ n e. e) refl)
+  said_free (A_record row) (A_serial size ∷ []) h sized = rw (said_one P z (A_serial size)) (free_serial (A_record row) size (has_room P z size (P.serial + 1)) (room_free row size sized) refl)
+  said_free (A_record row) (A_zone ∷ A_path path ∷ A_serial size ∷ []) h sized = free_zone (A_record row) size (has_place P) (P.path_taken z path) (has_room P z size (P.serial + 1)) (room_free row size sized) refl
+  said_free (A_record row) (A_path path ∷ A_serial size ∷ []) h sized = free_path (A_record row) size (P.path_taken z path) (has_room P z size (P.serial + 1)) (room_free row size sized) refl
+  said_free (A_claim c) asked h sized = subst (λ asked. IsFreeOf z (came (A_claim c) (number_in (said_by_all P z asked Nothing))) P) (sym (asked_item c asked h)) (said_item c)
+  said_free No_thing asked h sized = nothing_free (number_in (said_by_all P z asked Nothing))
+  said_free c asked h sized = absurd (false≢true h)
 
   -- and so is what fits
   last_of_three : (a b c : Bool) → ((a && b && not c) && true) ≡ true → c ≡ false
@@ -144,133 +147,140 @@ module _ (P : Pools) (z : Name) where
   room_of_zone true false b h = absurd (false≢true h)
   room_of_zone false a b h = absurd (false≢true h)
 
-  fit_free : (c : Comes) (asked : List Asked) (n : ℕ) → is_asked_for c asked ≡ true → fits_asked P z asked (Number n) ≡ true → IsFreeOf z (Some (arrived c n)) P
-  fit_free (A_process p) (A_pid ∷ []) n h fit = last_of_three (nat_le PID_MIN n) (nat_le n PID_MAX) (P.pid_used n) fit
-  fit_free (An_id i) (A_zid ∷ []) n h fit = last_of_three (nat_le ZID_MIN n) (nat_le n ZID_MAX) (P.zid_used n) fit
-  fit_free (A_record row) (A_serial ∷ []) n h fit = room_of_two (nat_le 1 n) (has_room P) fit
-  fit_free (A_record row) (A_zone ∷ A_path path ∷ A_serial ∷ []) n h fit = room_of_zone (has_place P) (nat_le 1 n) (has_room P) fit
-  fit_free (A_record row) (A_path path ∷ A_serial ∷ []) n h fit = room_of_two (nat_le 1 n) (has_room P) fit
-  fit_free (A_claim c) asked n h fit = absurd (false≢true (subst (λ asked. fits_asked P z asked (Number n) ≡ true) (asked_item c asked h) fit))
-  fit_free No_thing asked n h fit = tt
-  fit_free c asked n h fit = absurd (false≢true h)
+  fit_free : (c : Comes) (asked : List Asked) (n : ℕ) → is_asked_for c asked ≡ true → IsSizedFor c asked → fits_asked P z asked (Number n) ≡ true → IsFreeOf z (Some (arrived c n)) P
+  fit_free (A_process p) (A_pid ∷ []) n h sized fit = last_of_three (nat_le PID_MIN n) (nat_le n PID_MAX) (P.pid_used n) fit
+  fit_free (An_id i) (A_zid ∷ []) n h sized fit = last_of_three (nat_le ZID_MIN n) (nat_le n ZID_MAX) (P.zid_used n) fit
+  fit_free (A_record row) (A_serial size ∷ []) n h sized fit = room_free row size sized n (room_of_two (nat_le 1 n) (has_room P z size n) fit)
+  fit_free (A_record row) (A_zone ∷ A_path path ∷ A_serial size ∷ []) n h sized fit = room_free row size sized n (room_of_zone (has_place P) (nat_le 1 n) (has_room P z size n) fit)
+  fit_free (A_record row) (A_path path ∷ A_serial size ∷ []) n h sized fit = room_free row size sized n (room_of_two (nat_le 1 n) (has_room P z size n) fit)
+  fit_free (A_claim c) asked n h sized fit = absurd (false≢true (subst (λ asked. fits_asked P z asked (Number n) ≡ true) (asked_item c asked h) fit))
+  fit_free No_thing asked n h sized fit = tt
+  fit_free c asked n h sized fit = absurd (false≢true h)
 
   -- a yes is stated of an item that the zone may hold, and of what is cloned
   yes_free : (c : Comes) (asked : List Asked) → is_asked_for c asked ≡ true → fits_asked P z asked Yes ≡ true → IsFreeOf z (came c (number_in Yes)) P
   yes_free (A_process p) (A_pid ∷ []) h fit = absurd (false≢true fit)
   yes_free (An_id i) (A_zid ∷ []) h fit = absurd (false≢true fit)
-  yes_free (A_record row) (A_serial ∷ []) h fit = absurd (false≢true fit)
-  yes_free (A_record row) (A_path path ∷ A_serial ∷ []) h fit = absurd (false≢true fit)
-  yes_free (A_record row) (A_zone ∷ A_path path ∷ A_serial ∷ []) h fit = absurd (false≢true fit)
+  yes_free (A_record row) (A_serial size ∷ []) h fit = absurd (false≢true fit)
+  yes_free (A_record row) (A_path path ∷ A_serial size ∷ []) h fit = absurd (false≢true fit)
+  yes_free (A_record row) (A_zone ∷ A_path path ∷ A_serial size ∷ []) h fit = absurd (false≢true fit)
   yes_free (A_claim c) asked h fit = (and_parts (P.may_hold z (pool_of c.kind) c.item) true (subst (λ asked. fits_asked P z asked Yes ≡ true) (asked_item c asked h) fit)).0
   yes_free No_thing asked h fit = tt
   yes_free c asked h fit = absurd (false≢true h)
 
-  grant_free : (c : Comes) (asked : List Asked) (g : Grant) → is_asked_for c asked ≡ true → fits_asked P z asked g ≡ true → IsFreeOf z (came c (number_in g)) P
-  grant_free c asked (Number n) h fit = fit_free c asked n h fit
-  grant_free c asked Yes h fit = yes_free c asked h fit
-  grant_free c asked (Denied pool) h fit = tt
-  grant_free c asked Nothing h fit = tt
-
-came_is : {E : Type 0} (c : Comes) (asked : List Asked) (denied : Pool → E) (given : ℕ → E) (g : Grant) → (decisions.act_of arrived (Ask c asked denied given) g).came ≡ came c (number_in g)
-came_is c asked denied given g = at_number (number_in g)
-  where
-    at_number : (r : Result ℕ Pool) → (decisions.granted arrived c denied given r).came ≡ came c r
-    at_number (Right n) = refl
-    at_number (Err pool) = refl
+  grant_free : (c : Comes) (asked : List Asked) (g : Grant) → is_asked_for c asked ≡ true → IsSizedFor c asked → fits_asked P z asked g ≡ true → IsFreeOf z (came c (number_in g)) P
+  grant_free c asked (Number n) h sized fit = fit_free c asked n h sized fit
+  grant_free c asked Yes h sized fit = yes_free c asked h fit
+  grant_free c asked (Denied pool) h sized fit = tt
+  grant_free c asked Nothing h sized fit = tt
 
 -- what a decision brings under the grant that is taken
-pub freed : (P : Pools) (z : Name) (d : Decision) (stated : Option Grant) (g : Grant) → asks_rightly d ≡ true → IsGrantFor z P (asked_of d) stated g → IsFreeOf z (act_of d g).came P
+pub freed : (P : Pools) (z : Name) (d : Decision) (stated : Option Grant) (g : Grant) → AsksWell d → IsGrantFor z P (asked_of d) stated g → IsFreeOf z (act_of d g).came P
 freed P z (Just e) stated g h takes = tt
 freed P z (Ask c asked denied given) None g h takes =
-    subst (λ o. IsFreeOf z o P) (sym (came_is c asked denied given g)) (subst (λ g. IsFreeOf z (came c (number_in g)) P) (sym takes) (said_free P z c asked h))
+    subst (λ o. IsFreeOf z o P) (sym (came_is c asked denied given g)) (subst (λ g. IsFreeOf z (came c (number_in g)) P) (sym takes) (said_free P z c asked h.0 h.1))
 freed P z (Ask c asked denied given) (Some stated) g h takes =
-    subst (λ o. IsFreeOf z o P) (sym (came_is c asked denied given g)) (subst (λ g. IsFreeOf z (came c (number_in g)) P) (sym takes.0) (grant_free P z c asked stated h takes.1))
+    subst (λ o. IsFreeOf z o P) (sym (came_is c asked denied given g)) (subst (λ g. IsFreeOf z (came c (number_in g)) P) (sym takes.0) (grant_free P z c asked stated h.0 h.1 takes.1))
 
--- what comes to the kernel and what is stored is free as well, and where a record is stored there is room for it
-pub free_kernel : (z : Name) (a : Option Arrival) (P : Pools) → IsFreeOf z a P → IsFreeOf z (in_kernel a) P
-free_kernel z None P h = tt
-free_kernel z (Some (New_process p)) P h = h
-free_kernel z (Some (New_id i)) P h = h
-free_kernel z (Some (New_claim c)) P h = h
-free_kernel z (Some (New_record row)) P h = tt
-free_kernel z (Some No_new_thing) P h = tt
+-- the number of a record is 1 at least
+number_said : (n : ℕ) (room : Bool) → IfOk (number_in (if room then Number (n + 1) else Denied Store)) (λ n. 1 ≤ n)
+number_said n true = omega arith
+number_said n false = tt
 
-pub free_store : (z : Name) (a : Option Arrival) (P Q : Pools) → has_room Q ≡ has_room P → IsFreeOf z a P → IsFreeOf z (in_store a) Q
-free_store z None P Q same h = tt
-free_store z (Some (New_process p)) P Q same h = tt
-free_store z (Some (New_id i)) P Q same h = tt
-free_store z (Some (New_claim c)) P Q same h = tt
-free_store z (Some (New_record row)) P Q same h = same ∙ h
-free_store z (Some No_new_thing) P Q same h = tt
+module _ (P : Pools) (z : Name) (row : ℕ → Option Record) where
+  said_number : (asked : List Asked) → is_asked_for (A_record row) asked ≡ true → IfOk (number_in (said_by_all P z asked Nothing)) (λ n. 1 ≤ n)
+  said_number (A_serial size ∷ []) h = rw (said_one P z (A_serial size)) (number_said P.serial (has_room P z size (P.serial + 1)))
+  said_number (A_zone ∷ A_path path ∷ A_serial size ∷ []) h = at_place (has_place P) (P.path_taken z path) (has_room P z size (P.serial + 1))
+    where
+      at_place : (place taken room : Bool) → IfOk (number_in (elim (if place then Yes else Denied Zones) as (λ g. Grant) [
+        | Denied pool ↦ Denied pool
+        | g ↦ elim (if taken then Denied Paths else Yes) as (λ g. Grant) [
+          | Denied pool ↦ Denied pool
+          | g ↦ elim (if room then Number (P.serial + 1) else Denied Store) as (λ g. Grant) [ Denied pool ↦ Denied pool | g ↦ g ]
+        ]
+      ])) (λ n. 1 ≤ n)
+      at_place false taken room = tt
+      at_place true true room = tt
+      at_place true false false = tt
+      at_place true false true = omega arith
+  said_number (A_path path ∷ A_serial size ∷ []) h = at_path (P.path_taken z path) (has_room P z size (P.serial + 1))
+    where
+      at_path : (taken room : Bool) → IfOk (number_in (elim (if taken then Denied Paths else Yes) as (λ g. Grant) [
+        | Denied pool ↦ Denied pool
+        | g ↦ elim (if room then Number (P.serial + 1) else Denied Store) as (λ g. Grant) [ Denied pool ↦ Denied pool | g ↦ g ]
+      ])) (λ n. 1 ≤ n)
+      at_path true room = tt
+      at_path false false = tt
+      at_path false true = omega arith
+  said_number asked h = absurd (false≢true h)
 
-room_came : (c : Comes) (asked : List Asked) (r : Result ℕ Pool) (s : Shared) → is_asked_for c asked ≡ true → HasRoomToStore asked s → HasRoomOf (in_store (came c r)) s
-room_came c asked (Err pool) s h room = tt
-room_came (A_process p) (A_pid ∷ []) (Right n) s h room = tt
-room_came (An_id i) (A_zid ∷ []) (Right n) s h room = tt
-room_came (A_record row) (A_serial ∷ []) (Right n) s h room = room
-room_came (A_record row) (A_zone ∷ A_path path ∷ A_serial ∷ []) (Right n) s h room = room
-room_came (A_record row) (A_path path ∷ A_serial ∷ []) (Right n) s h room = room
-room_came (A_claim c) asked (Right n) s h room = tt
-room_came No_thing asked (Right n) s h room = tt
-room_came c asked (Right n) s h room = absurd (false≢true h)
+  first_of_two : (a b : Bool) → ((a && b) && true) ≡ true → a ≡ true
+  first_of_two true b h = refl
+  first_of_two false b h = absurd (false≢true h)
 
-pub roomy : (d : Decision) (g : Grant) (s : Shared) → asks_rightly d ≡ true → HasRoomToStore (asked_of d) s → HasRoomOf (in_store (act_of d g).came) s
-roomy (Just e) g s h room = tt
-roomy (Ask c asked denied given) g s h room = subst (λ o. HasRoomOf (in_store o) s) (sym (came_is c asked denied given g)) (room_came c asked (number_in g) s h room)
+  first_of_zone : (p a b : Bool) → (p && (true && ((a && b) && true))) ≡ true → a ≡ true
+  first_of_zone true true b h = refl
+  first_of_zone true false b h = absurd (false≢true h)
+  first_of_zone false a b h = absurd (false≢true h)
 
--- what a case of the code asks goes with what comes
-asks_turn : (d : Turn_decision) → asks_rightly d ≡ true → asks_rightly (effects turned d) ≡ true
-asks_turn (Just t) h = h
-asks_turn (Ask c asked denied given) h = h
+  fit_number : (asked : List Asked) (n : ℕ) → is_asked_for (A_record row) asked ≡ true → fits_asked P z asked (Number n) ≡ true → 1 ≤ n
+  fit_number (A_serial size ∷ []) n h fit = leb-true 1 n (first_of_two (nat_le 1 n) (has_room P z size n) fit)
+  fit_number (A_zone ∷ A_path path ∷ A_serial size ∷ []) n h fit = leb-true 1 n (first_of_zone (has_place P) (nat_le 1 n) (has_room P z size n) fit)
+  fit_number (A_path path ∷ A_serial size ∷ []) n h fit = leb-true 1 n (first_of_two (nat_le 1 n) (has_room P z size n) fit)
+  fit_number asked n h fit = absurd (false≢true h)
 
-asks_came : (d : desks.Desk) (j : desks.Job) (rest : List Step) (c : Came) → asks_rightly (asking d j rest (comes_of c) (asked_for c) (edits_under c) (shown_under c)) ≡ true
-asks_came d j rest (came_type.Process p args) = refl
-asks_came d j rest came_type.Id = refl
-asks_came d j rest (came_type.Claim c) = and_from _ _ ((pool-Decides (pool_of c.kind) (pool_of c.kind)).1 refl) (same_self c.item)
-asks_came d j rest (came_type.Record r owner) = refl
-asks_came d j rest (came_type.Moved r owner new) = at_path new
+  no_yes : (asked : List Asked) → is_asked_for (A_record row) asked ≡ true → fits_asked P z asked Yes ≡ true → false ≡ true
+  no_yes (A_serial size ∷ []) h fit = fit
+  no_yes (A_zone ∷ A_path path ∷ A_serial size ∷ []) h fit = fit
+  no_yes (A_path path ∷ A_serial size ∷ []) h fit = fit
+  no_yes asked h fit = h
+
+  fits_number : (asked : List Asked) (g : Grant) → is_asked_for (A_record row) asked ≡ true → fits_asked P z asked g ≡ true → IfOk (number_in g) (λ n. 1 ≤ n)
+  fits_number asked (Number n) h fit = fit_number asked n h fit
+  fits_number asked Yes h fit = absurd (false≢true (no_yes asked h fit))
+  fits_number asked (Denied pool) h fit = tt
+  fits_number asked Nothing h fit = tt
+
+  pub record_number : (asked : List Asked) (stated : Option Grant) (g : Grant) → is_asked_for (A_record row) asked ≡ true → IsGrantFor z P asked stated g → IfOk (number_in g) (λ n. 1 ≤ n)
+  record_number asked None g h takes = subst (λ g. IfOk (number_in g) (λ n. 1 ≤ n)) (sym takes) (said_number asked h)
+  record_number asked (Some stated) g h takes = subst (λ g. IfOk (number_in g) (λ n. 1 ≤ n)) (sym takes.0) (fits_number asked stated h takes.1)
+
+-- where nothing is asked, nothing is given
+no_number : (P : Pools) (z : Name) (stated : Option Grant) (g : Grant) → IsGrantFor z P [] stated g → IfOk (number_in g) (λ n. 1 ≤ n)
+no_number P z None g takes = subst (λ g. IfOk (number_in g) (λ n. 1 ≤ n)) (sym takes) tt
+no_number P z (Some stated) g takes = subst (λ g. IfOk (number_in g) (λ n. 1 ≤ n)) (sym takes.0) (at_grant stated takes.1)
   where
-    at_path : (b : Bool) → is_asked_for (comes_of (came_type.Moved r owner b)) (asked_for (came_type.Moved r owner b)) ≡ true
-    at_path true = refl
-    at_path false = refl
-asks_came d j rest (came_type.Source source) = refl
+    at_grant : (g : Grant) → fits_asked P z [] g ≡ true → IfOk (number_in g) (λ n. 1 ≤ n)
+    at_grant Nothing fit = tt
+    at_grant g fit = absurd (false≢true fit)
 
-asks_undo : (d : desks.Desk) (j : desks.Job) (edits : List Object_edit) (stage : desks.Stage) → asks_rightly (undo_with d j edits stage) ≡ true
-asks_undo d j edits (desks.Goes left) = refl
-asks_undo d j edits (desks.Fails outcome []) = refl
-asks_undo d j edits (desks.Fails outcome (s ∷ rest)) = refl
+-- and so is that of the record of a case
+module _ (P : Pools) (z : Name) (stated : Option Grant) (g : Grant) where
+  weaker_number : (M : Type 0) (r : Result ℕ Pool) → IfOk r (λ n. 1 ≤ n) → IfOk r (λ n. M → 1 ≤ n)
+  weaker_number M (Right n) h = λ m. h
+  weaker_number M (Err pool) h = tt
 
-asks_job : (d : desks.Desk) (j : Job) (c : JobCase) → asks_rightly (job_turn d j c) ≡ true
-asks_job d j (jobs.Finish outcome) = refl
-asks_job d j (jobs.Pass p) = refl
-asks_job d j (jobs.Unmounts dir next) = refl
-asks_job d j (jobs.Releases claim next) = refl
-asks_job d j (jobs.Ask it next) = asks_came d (as_job j) (drop next j.steps.items) it
-asks_job d j (jobs.Fail f) = refl
-asks_job d j jobs.Stuck = refl
-asks_job d j (jobs.Undo objects) = asks_undo d (as_job j) (object_edits objects) (as_job j).stage
+  not_moved : (r : Result ℕ Pool) → IfOk r (λ n. ⊥ → 1 ≤ n)
+  not_moved (Right n) = λ m. absurd m
+  not_moved (Err pool) = tt
 
-asks_on : (d : Desk) (o : Option Job) (c : JobCase) → asks_rightly (on_job d o c) ≡ true
-asks_on d None c = refl
-asks_on d (Some j) c = asks_job (as_desk d) j c
+  numbered_came : (d : Desk) (o : Option Job) (it : Came) (next : ℕ) → IsGrantFor z P (asked_of (on_job d o (jobs.Ask it next))) stated g → IsNumberedCame it g
+  numbered_came d None (came_type.Moved r owner new) next takes = weaker_number (Unit {0}) (number_in g) (no_number P z stated g takes)
+  numbered_came d (Some j) (came_type.Moved r owner true) next takes =
+      weaker_number (Unit {0}) (number_in g) (record_number P z (λ n. Some (record r.value { revision = n })) (asked_for (came_type.Moved r owner true)) stated g refl takes)
+  numbered_came d (Some j) (came_type.Moved r owner false) next takes =
+      weaker_number (Unit {0}) (number_in g) (record_number P z (λ n. Some (record r.value { revision = n })) (asked_for (came_type.Moved r owner false)) stated g refl takes)
+  numbered_came d o it next takes = not_moved (number_in g)
 
-asks_first : (d : Desk) (waiting : List (ℕ × Request)) (brand : Option ℕ) → asks_rightly (halt_begun d waiting brand) ≡ true
-asks_first d [] brand = refl
-asks_first d (first ∷ rest) brand = refl
+  numbered_turn : (d : Desk) (c : TurnCase) → IsGrantFor z P (asked_of (turn_decision_of d c)) stated g → IsNumberedTurn c g
+  numbered_turn d (turns.GoOn (jobs.Ask it next)) takes = numbered_came d d.job it next takes
+  numbered_turn d _ takes = tt
 
-asks_turn_case : (d : Desk) (c : TurnCase) → asks_rightly (turn_decision_of d c) ≡ true
-asks_turn_case d turns.Idle = refl
-asks_turn_case d (turns.Begin job) = refl
-asks_turn_case d (turns.BeginHalt brand) = asks_first d d.waiting.items brand
-asks_turn_case d (turns.Refuse ticket outcome) = refl
-asks_turn_case d (turns.Again job) = refl
-asks_turn_case d (turns.GoOn c) = asks_on d d.job c
+  asks_same : (d : Turn_decision) → asked_of (effects turned d) ≡ asked_of d
+  asks_same (Just t) = refl
+  asks_same (Ask c asked denied given) = refl
 
-pub asks_case : (d : Desk) (c : Case) → asks_rightly (decision_of d c) ≡ true
-asks_case d (cases.Says head) = refl
-asks_case d (cases.Tells body) = refl
-asks_case d (cases.Change edit) = refl
-asks_case d (cases.Fork p) = refl
-asks_case d (cases.Make row owner) = refl
-asks_case d (cases.Put kind owner) = refl
-asks_case d (cases.Turn c) = asks_turn (turn_decision_of d c) (asks_turn_case d c)
+  pub numbered_case : (d : Desk) (case : Case) → IsGrantFor z P (asked_of (decision_of d case)) stated g → IsNumbered case g
+  numbered_case d (cases.Make row owner) takes = record_number P z (λ n. Some (record row.value { uuid = uuid_of owner n; revision = n })) (asked_of (decision_of d (cases.Make row owner))) stated g refl takes
+  numbered_case d (cases.Turn c) takes = numbered_turn d c (subst (λ asked. IsGrantFor z P asked stated g) (asks_same (turn_decision_of d c)) takes)
+  numbered_case d _ takes = tt

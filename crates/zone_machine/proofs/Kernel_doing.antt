@@ -84,7 +84,7 @@ module _ (z : Name) (c : Cell) (s : Shared) (k : Kernel) (t : Kernel_shared) whe
     world = λ a. ap (λ ds. cell_world (record (outside_in z s) { declared = record { items = s.claims.declared; devices = ds } }) then_cell) devices ∙ world a;
     common = λ a.
         common_by z (cell_world (outside_in z s) then_cell) (with_kernel s t) then_shared (get nat_eq c.waits)
-        (pids a) (zids a) (same_claims z c s a) (same_sessions z c s a) (λ n. holds_wait (get nat_eq c.waits n)) refl refl refl refl refl refl refl refl
+        (pids a) (zids a) (same_claims z c s a) (same_sessions z c s a) (λ n. holds_wait (get nat_eq c.waits n)) refl refl refl refl refl refl refl refl refl
         ∙ (ap (λ g. holding z (cell_world (outside_in z s) then_cell) g) last ∙ ap (λ w. holding z w (g (common_in s))) (world a));
   }
 

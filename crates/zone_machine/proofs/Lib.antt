@@ -5,6 +5,8 @@ pub mod Acts_laws
 pub mod Own_worlds
 pub mod Turned_laws
 pub mod Asking
+pub mod Case_asks
+mod Sizes
 pub mod Freeing
 pub mod Common_laws
 pub mod Local_laws

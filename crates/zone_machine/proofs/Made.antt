@@ -1,5 +1,8 @@
 -- A word that is no text is no value of a property, so no zone is made with it.
-use Rattle.std.proofs.Common.{◌≡◌, ℕ, List, Bool, true, false, None, Err, Ok, refl, sym, ◌∙◌}
+use Rattle.std.proofs.Common.{◌≡◌, ◌++◌, ℕ, List, Bool, true, false, None, Err, Ok, IsSome, is_some, refl, sym, ◌∙◌}
+use Rattle.config_verify.specs.Flaws.{first, flaws, unless}
+use Rattle.config_verify.specs.declared.flaw.Flaw.{Flaw}
+use Rattle.config_verify.specs.declared.flaw.Flaw.TheVariants.{NoZonepath}
 use Rattle.std.proofs.lemmas.Bool.{true≢false}
 use Rattle.std.specs.Prelude.{Result, codes}
 use Rattle.std.specs.Result.{result_ok}
@@ -32,3 +35,12 @@ no_name brand (Ok config) h = simp (no_value ShortName brand tt h)
 
 pub no_brand : (path brand : List ℕ) → is_text brand ≡ false → result_ok (made_config path brand) ≡ None
 no_brand path brand h = no_name brand _ h
+
+-- a configuration without a flaw has a zonepath
+no_flaw : (b : Bool) (rest : List Flaw) → first (unless b NoZonepath ++ rest) ≡ Ok tt → b ≡ true
+no_flaw true rest h = refl
+no_flaw false rest h = absurd (cc)
+
+pub has_zonepath : (brands : List (List ℕ)) (c : Contents) → first (flaws brands c) ≡ Ok tt → IsSome c.zonepath
+unfolding flaws
+has_zonepath brands c h = no_flaw (is_some c.zonepath) _ h

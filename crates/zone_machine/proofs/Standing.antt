@@ -77,9 +77,9 @@ held_nowhere : {K : Type 0} (o : K → Option Name) → ((k : K) → o k ≡ Non
 held_nowhere o none z k = sym (ap (is_owner z) (none k))
 
 pub nothing-shared : (s : Shared) (brands : List Tabled) → ((n : ℕ) → pid_owner s.kernel n ≡ None) → ((n : ℕ) → zid_owner s.kernel n ≡ None) → ((k : Claim) → claims.holder k s.claims ≡ None)
-    → ((n : ℕ) → owner nat_eq s.sessions n ≡ None) → s.ups.entries ≡ [] → s.rows.entries ≡ [] → s.serial ≡ 0 → s.kernel.last_pid ≡ 1 → s.kernel.last_zid ≡ 0 → s.claims.declared ≡ []
+    → ((n : ℕ) → owner nat_eq s.sessions n ≡ None) → s.ups.entries ≡ [] → s.rows.entries ≡ [] → s.serial ≡ 0 → s.used ≡ 1 → s.kernel.last_pid ≡ 1 → s.kernel.last_zid ≡ 0 → s.claims.declared ≡ []
     → s.kernel.devices ≡ [] → s.brands ≡ brands → s.started ≡ false → SharedOf s (common (opening brands []))
-nothing-shared s brands pids zids held sessions ups rows serial last_pid last_zid items devices brands-are started = λ i. record {
+nothing-shared s brands pids zids held sessions ups rows serial used last_pid last_zid items devices brands-are started = λ i. record {
   pids = λ z n. held_nowhere (pid_owner s.kernel) pids z n i;
   zids = λ z n. held_nowhere (zid_owner s.kernel) zids z n i;
   claims = λ z k. held_nowhere (λ k. claims.holder k s.claims) held z k i;
@@ -87,6 +87,7 @@ nothing-shared s brands pids zids held sessions ups rows serial last_pid last_zi
   up = λ z. unwrap_or (lookup (bytes_eq z) (sym ups i)) false;
   rows = ap rows_of (sym rows) i;
   serial = sym serial i;
+  used = sym used i;
   last_pid = sym last_pid i;
   last_zid = sym last_zid i;
   declared = record { items = sym items i; devices = sym devices i };

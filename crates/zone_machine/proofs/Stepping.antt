@@ -1,4 +1,5 @@
 -- What the machine's parts say of a state that they stand for, and a step of them.
+use Rattle.commit_journal.specs.Journal.{body_size, fits_after}
 use Rattle.std.proofs.Common.{◌≡◌, ◌∷◌, ◌<◌, ℕ, List, Bool, Option, Some, None, Result, Ok as Right, Err, true, false, get_or, length, refl, ap, sym, subst, ◌∙◌, []}
 use Rattle.indexmap.proofs.CallerLemmas.{updates-with_value_at}
 use Rattle.indexmap.specs.IndexMap.{IsUnique, get, get_by, index_of_by, keys, with_value_at, values}
@@ -61,8 +62,9 @@ use Rattle.kernel_objects.specs.Shared.{Shared as Kernel, pid_owner, zid_owner}
 use Rattle.zoneadmd_steps.specs.Objects.{has_zid}
 use Rattle.zoneadmd_steps.specs.Desks.{state_of}
 use Rattle.zone_machine.specs.State.Decisions.{Decision, act_of}
-use Rattle.zone_machine.proofs.Freeing.{asks_case, freed}
-use Rattle.zone_machine.specs.Code.Cases.{decision_of}
+use Rattle.zone_machine.proofs.Case_asks.{asks_case}
+use Rattle.zone_machine.proofs.Freeing.{freed, numbered_case}
+use Rattle.zone_machine.specs.Code.Cases.{IsNumbered, decision_of}
 use Rattle.zone_machine.specs.Code.Decided.{IsCaseIn, IsCellAt, IsHeard, IsNextHook}
 use Rattle.brand_hooks.specs.Brands.{Tabled}
 use Rattle.brand_hooks.specs.declared.change.Change.{Change}
@@ -147,6 +149,7 @@ pools-stand S s h = λ i. record {
   zones = length (h i).rows;
   path_taken = path_taken (h i).rows;
   serial = (h i).serial;
+  may_store = λ z size. fits_after (h i).used (body_size z size);
   may_hold = λ z pool item. of_kind (λ c. holds c (h i).declared.items && may-stands (same_claim c) z S.claims (holder c s.claims) (λ y. ap (λ k. k.claims y c) h) i) (kind_of pool) item;
   may_clone = λ z. is_installed (stored-stands S s z h i) && not ((h i).up z);
 }
@@ -357,6 +360,9 @@ left_so (Err BadGrant) stated m e h = h refl
 -- what comes with it is free
 pub case_freed : (P : Pools) (z : Name) (d : Desk) (case : Case) (stated : Option Grant) (g : Grant) → IsGrantFor z P (asked_of (decision_of d case)) stated g → IsFreeOf z (act_of (decision_of d case) g).came P
 case_freed P z d case stated g takes = freed P z (decision_of d case) stated g (asks_case d case) takes
+
+pub case_numbered : (P : Pools) (z : Name) (d : Desk) (case : Case) (stated : Option Grant) (g : Grant) → IsGrantFor z P (asked_of (decision_of d case)) stated g → IsNumbered case g
+case_numbered P z d case stated g takes = numbered_case P z stated g d case takes
 
 -- the cell at an index is the zone's
 pub here_at : (m : Parts) (z : Name) (i : ℕ) (c : Cell) → IsCellAt m i z → slice_get (values m.cells) i ≡ Some c → cell_at z m ≡ Some c

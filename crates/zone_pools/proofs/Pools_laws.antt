@@ -59,23 +59,23 @@ fits-zid : (P : Pools) (z : Name) (found : Option ℕ) → next_free P.zid_used 
 fits-zid P z None e = refl
 fits-zid P z (Some n) e = and_from _ _ (free-fits P.zid_used ZID_MIN ZID_MAX n (next-found P.zid_used ZID_MIN ZID_MAX P.last_zid n (omega arith) e)) refl
 
-fits-serial : (P : Pools) (z : Name) (room : Bool) → has_room P ≡ room → fits_asked P z (A_serial ∷ []) (if room then Number (P.serial + 1) else Denied Store) ≡ true
-fits-serial P z true e = and_from _ _ (and_from _ _ (le-leb 1 (P.serial + 1) (omega arith)) e) refl
-fits-serial P z false e = refl
+fits-serial : (P : Pools) (z : Name) (size : ℕ → ℕ) (room : Bool) → has_room P z size (P.serial + 1) ≡ room → fits_asked P z (A_serial size ∷ []) (if room then Number (P.serial + 1) else Denied Store) ≡ true
+fits-serial P z size true e = and_from _ _ (and_from _ _ (le-leb 1 (P.serial + 1) (omega arith)) e) refl
+fits-serial P z size false e = refl
 
 -- the pools of a new zone, by whether each of them has room for it
-fits-zone : (P : Pools) (z : Name) (path : List ℕ) (place taken room : Bool) → has_place P ≡ place → has_room P ≡ room
-    → fits_asked P z (A_zone ∷ A_path path ∷ A_serial ∷ []) (elim (if place then Yes else Denied Zones) as (λ g. Grant) [
+fits-zone : (P : Pools) (z : Name) (path : List ℕ) (size : ℕ → ℕ) (place taken room : Bool) → has_place P ≡ place → has_room P z size (P.serial + 1) ≡ room
+    → fits_asked P z (A_zone ∷ A_path path ∷ A_serial size ∷ []) (elim (if place then Yes else Denied Zones) as (λ g. Grant) [
       | Denied pool ↦ Denied pool
       | g ↦ elim (if taken then Denied Paths else Yes) as (λ g. Grant) [
         | Denied pool ↦ Denied pool
         | g ↦ elim (if room then Number (P.serial + 1) else Denied Store) as (λ g. Grant) [ Denied pool ↦ Denied pool | g ↦ g ]
       ]
     ]) ≡ true
-fits-zone P z path false taken room a b = refl
-fits-zone P z path true true room a b = refl
-fits-zone P z path true false false a b = refl
-fits-zone P z path true false true a b = and_from _ _ a (fits-serial P z true b)
+fits-zone P z path size false taken room a b = refl
+fits-zone P z path size true true room a b = refl
+fits-zone P z path size true false false a b = refl
+fits-zone P z path size true false true a b = and_from _ _ a (fits-serial P z size true b)
 
 pub pid-fits : (P : Pools) (z : Name) → 1 ≤ P.last_pid → fits_asked P z (A_pid ∷ []) (said_by_all P z (A_pid ∷ []) Nothing) ≡ true
 pid-fits P z last = rw (said_one P z A_pid) (fits-pid P z (next_free P.pid_used PID_MIN PID_MAX P.last_pid) refl last)
@@ -83,24 +83,24 @@ pid-fits P z last = rw (said_one P z A_pid) (fits-pid P z (next_free P.pid_used 
 pub zid-fits : (P : Pools) (z : Name) → fits_asked P z (A_zid ∷ []) (said_by_all P z (A_zid ∷ []) Nothing) ≡ true
 zid-fits P z = rw (said_one P z A_zid) (fits-zid P z (next_free P.zid_used ZID_MIN ZID_MAX P.last_zid) refl)
 
-pub serial-fits : (P : Pools) (z : Name) → fits_asked P z (A_serial ∷ []) (said_by_all P z (A_serial ∷ []) Nothing) ≡ true
-serial-fits P z = rw (said_one P z A_serial) (fits-serial P z (has_room P) refl)
+pub serial-fits : (P : Pools) (z : Name) (size : ℕ → ℕ) → fits_asked P z (A_serial size ∷ []) (said_by_all P z (A_serial size ∷ []) Nothing) ≡ true
+serial-fits P z size = rw (said_one P z (A_serial size)) (fits-serial P z size (has_room P z size (P.serial + 1)) refl)
 
-pub zone-fits : (P : Pools) (z : Name) (path : List ℕ) → fits_asked P z (A_zone ∷ A_path path ∷ A_serial ∷ []) (said_by_all P z (A_zone ∷ A_path path ∷ A_serial ∷ []) Nothing) ≡ true
-zone-fits P z path = fits-zone P z path (has_place P) (P.path_taken z path) (has_room P) refl refl
+pub zone-fits : (P : Pools) (z : Name) (path : List ℕ) (size : ℕ → ℕ) → fits_asked P z (A_zone ∷ A_path path ∷ A_serial size ∷ []) (said_by_all P z (A_zone ∷ A_path path ∷ A_serial size ∷ []) Nothing) ≡ true
+zone-fits P z path size = fits-zone P z path size (has_place P) (P.path_taken z path) (has_room P z size (P.serial + 1)) refl refl
 
 -- a record that asks for a path, as a move does
-path_serial : (P : Pools) (z : Name) (path : List ℕ) (taken room : Bool) → has_room P ≡ room
-    → fits_asked P z (A_path path ∷ A_serial ∷ []) (elim (if taken then Denied Paths else Yes) as (λ g. Grant) [
+path_serial : (P : Pools) (z : Name) (path : List ℕ) (size : ℕ → ℕ) (taken room : Bool) → has_room P z size (P.serial + 1) ≡ room
+    → fits_asked P z (A_path path ∷ A_serial size ∷ []) (elim (if taken then Denied Paths else Yes) as (λ g. Grant) [
       | Denied pool ↦ Denied pool
       | g ↦ elim (if room then Number (P.serial + 1) else Denied Store) as (λ g. Grant) [ Denied pool ↦ Denied pool | g ↦ g ]
     ]) ≡ true
-path_serial P z path true room b = refl
-path_serial P z path false false b = refl
-path_serial P z path false true b = fits-serial P z true b
+path_serial P z path size true room b = refl
+path_serial P z path size false false b = refl
+path_serial P z path size false true b = fits-serial P z size true b
 
-pub path-fits : (P : Pools) (z : Name) (path : List ℕ) → fits_asked P z (A_path path ∷ A_serial ∷ []) (said_by_all P z (A_path path ∷ A_serial ∷ []) Nothing) ≡ true
-path-fits P z path = path_serial P z path (P.path_taken z path) (has_room P) refl
+pub path-fits : (P : Pools) (z : Name) (path : List ℕ) (size : ℕ → ℕ) → fits_asked P z (A_path path ∷ A_serial size ∷ []) (said_by_all P z (A_path path ∷ A_serial size ∷ []) Nothing) ≡ true
+path-fits P z path size = path_serial P z path size (P.path_taken z path) (has_room P z size (P.serial + 1)) refl
 
 fits_item : (P : Pools) (z : Name) (pool : Pool) (item : List ℕ) (b : Bool) → P.may_hold z pool item ≡ b → fits_asked P z (An_item pool item ∷ []) (if b then Yes else Denied pool) ≡ true
 fits_item P z pool item true e = and_from _ _ e refl

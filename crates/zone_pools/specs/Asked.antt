@@ -9,7 +9,8 @@ pub data Asked : Type 0 where
   A_zid : Asked
   A_zone : Asked
   A_path : List ℕ → Asked
-  A_serial : Asked
+  -- a record's number, by how many bytes what is stored has under each number
+  A_serial : (ℕ → ℕ) → Asked
   -- an item of the pool of its kind: a link, an address or a dataset
   An_item : Pool → List ℕ → Asked
   -- the zone of a name, to be cloned
@@ -20,6 +21,6 @@ pool_of A_pid = Pids
 pool_of A_zid = Zids
 pool_of A_zone = Zones
 pool_of (A_path path) = Paths
-pool_of A_serial = Store
+pool_of (A_serial size) = Store
 pool_of (An_item pool item) = pool
 pool_of (A_source source) = Source

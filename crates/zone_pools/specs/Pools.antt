@@ -27,8 +27,8 @@ abbrev pub next_free : (ℕ → Bool) → (low high last : ℕ) → Option ℕ
 next_free used low high last = or_else (first_free used (last + 1) (high - last)) (first_free used low (high + 1 - low))
 
 -- what the pools know: which numbers are used and which was given last, how many zones are stored, whether a zone
--- other than this one has a path, how many records there are, whether a zone may hold an item of a pool, and whether a zone
--- may be cloned
+-- other than this one has a path, how many records there are, whether the store has room for so many bytes of a zone, whether
+-- a zone may hold an item of a pool, and whether a zone may be cloned
 pub record Pools : Type 0 where
   pub pid_used : ℕ → Bool
   pub zid_used : ℕ → Bool
@@ -37,14 +37,19 @@ pub record Pools : Type 0 where
   pub zones : ℕ
   pub path_taken : Name → List ℕ → Bool
   pub serial : ℕ
+  pub may_store : Name → ℕ → Bool
   pub may_hold : Name → Pool → List ℕ → Bool
   pub may_clone : Name → Bool
 
 abbrev pub has_place : Pools → Bool
 has_place P = nat_lt P.zones ZONES_MAX
 
-abbrev pub has_room : Pools → Bool
-has_room P = nat_lt P.serial SERIAL_MAX
+abbrev pub has_serial : Pools → Bool
+has_serial P = nat_lt P.serial SERIAL_MAX
+
+-- there is a number for a record of z, and room for it under the number n
+abbrev pub has_room : Pools → Name → (ℕ → ℕ) → ℕ → Bool
+has_room P z size n = has_serial P && P.may_store z (size n)
 
 abbrev pub numbered : Pool → Option ℕ → Grant
 numbered pool None = Denied pool
@@ -56,7 +61,7 @@ said_by P z A_pid = numbered Pids (next_free P.pid_used PID_MIN PID_MAX P.last_p
 said_by P z A_zid = numbered Zids (next_free P.zid_used ZID_MIN ZID_MAX P.last_zid)
 said_by P z A_zone = if has_place P then Yes else Denied Zones
 said_by P z (A_path path) = if P.path_taken z path then Denied Paths else Yes
-said_by P z A_serial = if has_room P then Number (P.serial + 1) else Denied Store
+said_by P z (A_serial size) = if has_room P z size (P.serial + 1) then Number (P.serial + 1) else Denied Store
 said_by P z (An_item pool item) = if P.may_hold z pool item then Yes else Denied pool
 said_by P z (A_source source) = if P.may_clone source then Yes else Denied Source
 
@@ -68,15 +73,15 @@ said_by_all P z (a ∷ asked) g = elim (said_by P z a) as (λ g. Grant) [
   | g ↦ said_by_all P z asked g
 ]
 
--- whether a number may be stated for a pool. A stated path isn't looked at again
-abbrev pub fits_pool : Pools → ℕ → Asked → Bool
-fits_pool P n A_pid = nat_le PID_MIN n && nat_le n PID_MAX && not (P.pid_used n)
-fits_pool P n A_zid = nat_le ZID_MIN n && nat_le n ZID_MAX && not (P.zid_used n)
-fits_pool P n A_zone = has_place P
-fits_pool P n (A_path path) = true
-fits_pool P n A_serial = nat_le 1 n && has_room P
-fits_pool P n (An_item pool item) = false
-fits_pool P n (A_source source) = false
+-- whether a number may be stated to an event of z for a pool. A stated path isn't looked at again
+abbrev pub fits_pool : Pools → Name → ℕ → Asked → Bool
+fits_pool P z n A_pid = nat_le PID_MIN n && nat_le n PID_MAX && not (P.pid_used n)
+fits_pool P z n A_zid = nat_le ZID_MIN n && nat_le n ZID_MAX && not (P.zid_used n)
+fits_pool P z n A_zone = has_place P
+fits_pool P z n (A_path path) = true
+fits_pool P z n (A_serial size) = nat_le 1 n && has_room P z size n
+fits_pool P z n (An_item pool item) = false
+fits_pool P z n (A_source source) = false
 
 -- whether a yes may be stated to an event of z: of an item where the pool says it now, of what is cloned always
 abbrev pub fits_yes : Pools → Name → Asked → Bool
@@ -90,7 +95,7 @@ is_pool pool a = same_pool pool (pool_of a)
 abbrev pub fits_asked : Pools → Name → List Asked → Grant → Bool
 fits_asked P z [] Nothing = true
 fits_asked P z [] g = false
-fits_asked P z (a ∷ asked) (Number n) = list_all (fits_pool P n) (a ∷ asked)
+fits_asked P z (a ∷ asked) (Number n) = list_all (fits_pool P z n) (a ∷ asked)
 fits_asked P z (a ∷ asked) Yes = list_all (fits_yes P z) (a ∷ asked)
 fits_asked P z (a ∷ asked) (Denied pool) = list_any (is_pool pool) (a ∷ asked)
 fits_asked P z (a ∷ asked) g = false

@@ -104,14 +104,14 @@ module _ (k : Claim) where
       let fit : list_all (fits_yes (pools_of S) z) (An_item (pool_of c.kind) c.item ∷ []) ≡ true = subst (λ xs. list_all (fits_yes (pools_of S) z) xs ≡ true) is h in
       may_claim S z c.kind c.item (and_parts (fits_yes (pools_of S) z (An_item (pool_of c.kind) c.item)) true fit).0
 
-  unfit-number : (S : State) (n : ℕ) (c : Claim) (asked : List Asked) → asked ≡ An_item (pool_of c.kind) c.item ∷ [] → list_all (fits_pool (pools_of S) n) asked ≡ true → false ≡ true
-  unfit-number S n c asked is h = subst (λ xs. list_all (fits_pool (pools_of S) n) xs ≡ true) is h
+  unfit-number : (S : State) (z : Name) (n : ℕ) (c : Claim) (asked : List Asked) → asked ≡ An_item (pool_of c.kind) c.item ∷ [] → list_all (fits_pool (pools_of S) z n) asked ≡ true → false ≡ true
+  unfit-number S z n c asked is h = subst (λ xs. list_all (fits_pool (pools_of S) z n) xs ≡ true) is h
 
   came-fits : (S : State) (z : Name) (d : Decision) (g : Grant) → asks_rightly d ≡ true → fits_asked (pools_of S) z (asked_of d) g ≡ true → (act_of d g).came ≡ Some (New_claim k) → may_hold S z k ≡ true
   came-fits S z (Just e) g a f h = cc
   came-fits S z (Ask c [] denied given) (Number n) a f h = absurd (false≢true f)
   came-fits S z (Ask c [] denied given) Yes a f h = absurd (false≢true f)
-  came-fits S z (Ask (A_claim c) (x ∷ asked) denied given) (Number n) a f h = absurd (false≢true (unfit-number S n c (x ∷ asked) (asked_item c (x ∷ asked) a) f))
+  came-fits S z (Ask (A_claim c) (x ∷ asked) denied given) (Number n) a f h = absurd (false≢true (unfit-number S z n c (x ∷ asked) (asked_item c (x ∷ asked) a) f))
   came-fits S z (Ask (A_claim c) (x ∷ asked) denied given) Yes a f h = let same : c ≡ k = cc in subst (λ c. may_hold S z c ≡ true) same (fit-claim S z c (x ∷ asked) (asked_item c (x ∷ asked) a) f)
   came-fits S z (Ask c asked denied given) (Denied pool) a f h = cc
   came-fits S z (Ask c asked denied given) Nothing a f h = cc

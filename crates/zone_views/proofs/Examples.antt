@@ -22,6 +22,8 @@ use Rattle.zone_machine.specs.Machine.Histories.{after, any_grant, asked, histor
 use Rattle.zone_machine.specs.Session.Lines.{line_of}
 use Rattle.zone_machine.specs.Machine.{decide, one, opening, subject}
 use Rattle.zone_machine.specs.Machine.Pools.{allowed, fits}
+use Rattle.commit_journal.specs.Bodies.{body_text, padded, record_text}
+use Rattle.uuid.specs.Text.{by_index}
 use Rattle.zone_pools.specs.Pools.{first_free}
 use Rattle.zone_machine.specs.Machine.Same.{same_reply, same_subject}
 use Rattle.zone_machine.specs.State.{State, zone_state}
@@ -66,20 +68,20 @@ abbrev told_to : List ℕ → List Head
 told_to zone = map (λ r. r.head) (replies zone entries)
 
 told_to_a : told_to (codes "a") ≡ Ok ∷ Ticket 1 ∷ Turned (Finished 1 (WrongState Configured)) ∷ []
-unfolding line_of typed turn local_turn view decide subject one first_free allowed edit comes with_property setting_named obeys setting export_text flaws limit_of judged set_of_words words_from rule_of named default_set all_of both_of has set_of union without is_of privileges
+unfolding line_of typed turn local_turn view decide subject one first_free record_text body_text padded by_index allowed edit comes with_property setting_named obeys setting export_text flaws limit_of judged set_of_words words_from rule_of named default_set all_of both_of has set_of union without is_of privileges
 told_to_a = refl
 
 told_to_b : told_to (codes "b") ≡ Ok ∷ Turned Idle ∷ []
-unfolding line_of typed turn local_turn view decide subject one first_free allowed edit comes with_property setting_named obeys setting export_text flaws limit_of judged set_of_words words_from rule_of named default_set all_of both_of has set_of union without is_of privileges
+unfolding line_of typed turn local_turn view decide subject one first_free record_text body_text padded by_index allowed edit comes with_property setting_named obeys setting export_text flaws limit_of judged set_of_words words_from rule_of named default_set all_of both_of has set_of union without is_of privileges
 told_to_b = refl
 
 -- without the other zone's entries and those of none
 purged : asked (only (codes "a") entries) ≡ (make 1 (codes "a"), Number 1) ∷ (boot_a, Nothing) ∷ (Turn (codes "a"), Nothing) ∷ []
-unfolding line_of typed turn local_turn view decide subject one first_free allowed edit comes with_property setting_named obeys setting export_text flaws limit_of judged set_of_words words_from rule_of named default_set all_of both_of has set_of union without is_of privileges
+unfolding line_of typed turn local_turn view decide subject one first_free record_text body_text padded by_index allowed edit comes with_property setting_named obeys setting export_text flaws limit_of judged set_of_words words_from rule_of named default_set all_of both_of has set_of union without is_of privileges
 purged = refl
 
 states : map (λ zone. zone_state zone (after (opening brands []) entries)) (codes "a" ∷ codes "b" ∷ codes "c" ∷ []) ≡ Some Configured ∷ Some Configured ∷ None ∷ []
-unfolding line_of typed turn local_turn view decide subject one first_free allowed edit comes with_property setting_named obeys setting export_text flaws limit_of judged set_of_words words_from rule_of named default_set all_of both_of has set_of union without is_of privileges
+unfolding line_of typed turn local_turn view decide subject one first_free record_text body_text padded by_index allowed edit comes with_property setting_named obeys setting export_text flaws limit_of judged set_of_words words_from rule_of named default_set all_of both_of has set_of union without is_of privileges
 states = refl
 
 -- a stated grant may be another than the pools give, and then the history isn't legal
@@ -87,7 +89,7 @@ abbrev stated : Grant → List Entry
 stated g = run (opening brands []) ((make 1 (codes "a"), g) ∷ [])
 
 legal : map (λ n. is_legal (opening brands []) (stated (Number n))) (1 ∷ 2 ∷ []) ≡ true ∷ false ∷ []
-unfolding line_of typed turn local_turn view decide subject one first_free allowed edit comes same_reply same_subject with_property setting_named obeys setting export_text flaws limit_of judged set_of_words words_from rule_of named default_set all_of both_of has set_of union without is_of privileges
+unfolding line_of typed turn local_turn view decide subject one first_free record_text body_text padded by_index allowed edit comes same_reply same_subject with_property setting_named obeys setting export_text flaws limit_of judged set_of_words words_from rule_of named default_set all_of both_of has set_of union without is_of privileges
 legal = refl
 
 -- a reply to another event is no history
@@ -95,7 +97,7 @@ abbrev to_boot : Entry → Entry
 to_boot e = record e { event = boot_a }
 
 told_of_another : is_history any_grant (opening brands []) (map to_boot (stated (Number 1))) ≡ false
-unfolding line_of typed turn local_turn view decide subject one first_free allowed edit comes same_reply same_subject with_property setting_named obeys setting export_text flaws limit_of judged set_of_words words_from rule_of named default_set all_of both_of has set_of union without is_of privileges
+unfolding line_of typed turn local_turn view decide subject one first_free record_text body_text padded by_index allowed edit comes same_reply same_subject with_property setting_named obeys setting export_text flaws limit_of judged set_of_words words_from rule_of named default_set all_of both_of has set_of union without is_of privileges
 told_of_another = refl
 
 -- two installed zones boot, up to the turn that starts init
@@ -112,16 +114,16 @@ abbrev booted : State
 booted = after both (history both (boot 1 (codes "a") ++ boot 2 (codes "b")))
 
 process_numbers : pids booted ≡ 2 ∷ 3 ∷ []
-unfolding line_of typed turn local_turn view decide subject one first_free allowed edit comes with_property setting_named obeys setting export_text flaws limit_of judged set_of_words words_from rule_of named default_set all_of both_of has set_of union without is_of privileges
+unfolding line_of typed turn local_turn view decide subject one first_free record_text body_text padded by_index allowed edit comes with_property setting_named obeys setting export_text flaws limit_of judged set_of_words words_from rule_of named default_set all_of both_of has set_of union without is_of privileges
 process_numbers = refl
 
 zone_numbers : zids booted ≡ 1 ∷ 2 ∷ []
-unfolding line_of typed turn local_turn view decide subject one first_free allowed edit comes with_property setting_named obeys setting export_text flaws limit_of judged set_of_words words_from rule_of named default_set all_of both_of has set_of union without is_of privileges
+unfolding line_of typed turn local_turn view decide subject one first_free record_text body_text padded by_index allowed edit comes with_property setting_named obeys setting export_text flaws limit_of judged set_of_words words_from rule_of named default_set all_of both_of has set_of union without is_of privileges
 zone_numbers = refl
 
 -- a signal that a session sends is of the zone that has the process
 signal_subjects : map (λ text. subject booted (Session 3 text)) (codes "kill 9 2" ∷ codes "kill 9 3" ∷ codes "kill 9 4" ∷ []) ≡ Zone (codes "a") ∷ Zone (codes "b") ∷ Global ∷ []
-unfolding line_of typed turn local_turn view decide subject one first_free allowed edit comes with_property setting_named obeys setting export_text flaws limit_of judged set_of_words words_from rule_of named default_set all_of both_of has set_of union without is_of privileges decimal_of
+unfolding line_of typed turn local_turn view decide subject one first_free record_text body_text padded by_index allowed edit comes with_property setting_named obeys setting export_text flaws limit_of judged set_of_words words_from rule_of named default_set all_of both_of has set_of union without is_of privileges decimal_of
 signal_subjects = refl
 
 -- the first process of a gives up a privilege, forks, and another's signal ends that of b
@@ -129,11 +131,11 @@ abbrev called_on : State
 called_on = after booted (history booted (Call_of (codes "a") 2 (Drop PROC_EXEC) ∷ Call_of (codes "a") 2 (Fork (codes "sh")) ∷ Session 3 (codes "kill 9 3") ∷ []))
 
 processes_left : pids called_on ≡ 2 ∷ 4 ∷ []
-unfolding line_of typed turn local_turn view decide subject one first_free allowed edit comes with_property setting_named obeys setting export_text flaws limit_of judged set_of_words words_from rule_of named default_set all_of both_of has set_of union without is_of privileges called decimal_of the_one
+unfolding line_of typed turn local_turn view decide subject one first_free record_text body_text padded by_index allowed edit comes with_property setting_named obeys setting export_text flaws limit_of judged set_of_words words_from rule_of named default_set all_of both_of has set_of union without is_of privileges called decimal_of the_one
 processes_left = refl
 
 may_fork_not_exec : map (λ o. may_fork o.it && not (may_exec o.it)) called_on.processes ≡ true ∷ true ∷ []
-unfolding line_of typed turn local_turn view decide subject one first_free allowed edit comes with_property setting_named obeys setting export_text flaws limit_of judged set_of_words words_from rule_of named default_set all_of both_of has set_of union without is_of privileges called decimal_of the_one
+unfolding line_of typed turn local_turn view decide subject one first_free record_text body_text padded by_index allowed edit comes with_property setting_named obeys setting export_text flaws limit_of judged set_of_words words_from rule_of named default_set all_of both_of has set_of union without is_of privileges called decimal_of the_one
 may_fork_not_exec = refl
 
 -- a halts, but for its root, which the global zone holds for a while
@@ -141,7 +143,7 @@ abbrev halts : List Event
 halts = replicate 3 (Turn (codes "a")) ++ Session 3 (codes "fhold -z a /") ∷ Session 3 (codes "zoneadm -z a halt") ∷ replicate 5 (Turn (codes "a")) ++ Session 4 (codes "frelease -z a /") ∷ Turn (codes "a") ∷ []
 
 waits_for_the_hold : map (λ e. e.reply.head) (drop 9 (history booted halts)) ≡ Turned Stuck ∷ Ok ∷ Turned (Stepped (Unmount (Some (codes "/")))) ∷ []
-unfolding line_of typed turn local_turn view decide subject one first_free allowed edit comes with_property setting_named obeys setting export_text flaws limit_of judged set_of_words words_from rule_of named default_set all_of both_of has set_of union without is_of privileges
+unfolding line_of typed turn local_turn view decide subject one first_free record_text body_text padded by_index allowed edit comes with_property setting_named obeys setting export_text flaws limit_of judged set_of_words words_from rule_of named default_set all_of both_of has set_of union without is_of privileges
 waits_for_the_hold = refl
 
 -- a device is declared once, whatever zones do in between
@@ -149,7 +151,7 @@ abbrev declare : Event
 declare = System (Device (codes "/dev/zero"))
 
 told_to_all : map (λ r. r.head) (whole_replies (history booted (declare ∷ Turn (codes "a") ∷ declare ∷ []))) ≡ Ok ∷ Refused Duplicate ∷ []
-unfolding line_of typed turn local_turn view decide subject one first_free allowed edit comes with_property setting_named obeys setting export_text flaws limit_of judged set_of_words words_from rule_of named default_set all_of both_of has set_of union without is_of privileges
+unfolding line_of typed turn local_turn view decide subject one first_free record_text body_text padded by_index allowed edit comes with_property setting_named obeys setting export_text flaws limit_of judged set_of_words words_from rule_of named default_set all_of both_of has set_of union without is_of privileges
 told_to_all = refl
 
 -- grants that don't fit may give one number twice, and after a process number of 0 the pools give 1, which doesn't fit
@@ -160,12 +162,12 @@ abbrev left_by : List (Event × Grant) → State
 left_by es = after both (run both es)
 
 same_number : pids (left_by (readied 1 (codes "a") ++ readied 2 (codes "b") ++ (Turn (codes "a"), Number 7) ∷ (Turn (codes "b"), Number 7) ∷ [])) ≡ 7 ∷ 7 ∷ []
-unfolding line_of typed turn local_turn view decide subject one first_free allowed edit comes with_property setting_named obeys setting export_text flaws limit_of judged set_of_words words_from rule_of named default_set all_of both_of has set_of union without is_of privileges
+unfolding line_of typed turn local_turn view decide subject one first_free record_text body_text padded by_index allowed edit comes with_property setting_named obeys setting export_text flaws limit_of judged set_of_words words_from rule_of named default_set all_of both_of has set_of union without is_of privileges
 same_number = refl
 
 unfit_number : let S = left_by (readied 1 (codes "a") ++ readied 2 (codes "b") ++ (Turn (codes "a"), Number 0) ∷ []) in
     let e = Turn (codes "b") in (same_grant (allowed S e) (Number 1) && not (fits S e (allowed S e))) ≡ true
-unfolding line_of typed turn local_turn view decide subject one first_free allowed fits edit comes with_property setting_named obeys setting export_text flaws limit_of judged set_of_words words_from rule_of named default_set all_of both_of has set_of union without is_of privileges
+unfolding line_of typed turn local_turn view decide subject one first_free record_text body_text padded by_index allowed fits edit comes with_property setting_named obeys setting export_text flaws limit_of judged set_of_words words_from rule_of named default_set all_of both_of has set_of union without is_of privileges
 unfit_number = refl
 
 -- two zones want one dataset, which is declared: the first has it, and the other's turn is denied it. Under grants that don't fit
@@ -189,15 +191,15 @@ abbrev claimed_in : List Entry → List (List ℕ)
 claimed_in h = map (λ o. o.zone) (after want h).claims
 
 one_has_it : claimed_in (history want asking) ≡ codes "a" ∷ []
-unfolding line_of typed turn local_turn view decide subject one first_free allowed edit comes with_property setting_named obeys setting export_text flaws flaws_of_dataset limit_of judged set_of_words words_from rule_of named default_set all_of both_of has set_of union without is_of privileges
+unfolding line_of typed turn local_turn view decide subject one first_free record_text body_text padded by_index allowed edit comes with_property setting_named obeys setting export_text flaws flaws_of_dataset limit_of judged set_of_words words_from rule_of named default_set all_of both_of has set_of union without is_of privileges
 one_has_it = refl
 
 the_other_is_denied : map (λ e. e.reply.head) (drop 16 (history want asking)) ≡ Turned (Failed 6 (Was_denied Datasets)) ∷ []
-unfolding line_of typed turn local_turn view decide subject one first_free allowed edit comes with_property setting_named obeys setting export_text flaws flaws_of_dataset limit_of judged set_of_words words_from rule_of named default_set all_of both_of has set_of union without is_of privileges
+unfolding line_of typed turn local_turn view decide subject one first_free record_text body_text padded by_index allowed edit comes with_property setting_named obeys setting export_text flaws flaws_of_dataset limit_of judged set_of_words words_from rule_of named default_set all_of both_of has set_of union without is_of privileges
 the_other_is_denied = refl
 
 both_have_it : claimed_in (run want (map (λ e. (e, Yes)) asking)) ≡ codes "a" ∷ codes "b" ∷ []
-unfolding line_of typed turn local_turn view decide subject one first_free allowed edit comes with_property setting_named obeys setting export_text flaws flaws_of_dataset limit_of judged set_of_words words_from rule_of named default_set all_of both_of has set_of union without is_of privileges
+unfolding line_of typed turn local_turn view decide subject one first_free record_text body_text padded by_index allowed edit comes with_property setting_named obeys setting export_text flaws flaws_of_dataset limit_of judged set_of_words words_from rule_of named default_set all_of both_of has set_of union without is_of privileges
 both_have_it = refl
 
 -- a zone is detached and attached, and then uninstalled, and its state is what the table says
@@ -210,5 +212,5 @@ asks_a text turns = Session 1 (codes "zoneadm -z a " ++ text) ∷ replicate turn
 
 states_on_the_way : goes_through both (asks_a (codes "detach") 5 ++ asks_a (codes "attach") 5 ++ asks_a (codes "uninstall -F") 9)
     ≡ replicate 4 (Some Installed) ++ replicate 6 (Some Configured) ++ replicate 6 (Some Installed) ++ replicate 5 (Some Incomplete) ++ replicate 2 (Some Configured)
-unfolding line_of typed turn local_turn view decide subject one first_free allowed edit comes with_property setting_named obeys setting export_text flaws limit_of judged set_of_words words_from rule_of named default_set all_of both_of has set_of union without is_of privileges
+unfolding line_of typed turn local_turn view decide subject one first_free record_text body_text padded by_index allowed edit comes with_property setting_named obeys setting export_text flaws limit_of judged set_of_words words_from rule_of named default_set all_of both_of has set_of union without is_of privileges
 states_on_the_way = refl

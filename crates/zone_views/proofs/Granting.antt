@@ -14,9 +14,9 @@ use Rattle.zone_pools.specs.Pools.{Pools, fits_asked, said_by_all}
 pub said-fits : (P : Pools) (z : Name) (c : Comes) (asked : List Asked) → is_asked_for c asked ≡ true → 1 ≤ P.last_pid → fits_asked P z asked (said_by_all P z asked Nothing) ≡ true
 said-fits P z (A_process p) (A_pid ∷ []) h last = pid-fits P z last
 said-fits P z (An_id i) (A_zid ∷ []) h last = zid-fits P z
-said-fits P z (A_record row) (A_serial ∷ []) h last = serial-fits P z
-said-fits P z (A_record row) (A_zone ∷ A_path path ∷ A_serial ∷ []) h last = zone-fits P z path
-said-fits P z (A_record row) (A_path path ∷ A_serial ∷ []) h last = path-fits P z path
+said-fits P z (A_record row) (A_serial size ∷ []) h last = serial-fits P z size
+said-fits P z (A_record row) (A_zone ∷ A_path path ∷ A_serial size ∷ []) h last = zone-fits P z path size
+said-fits P z (A_record row) (A_path path ∷ A_serial size ∷ []) h last = path-fits P z path size
 said-fits P z (A_claim c) (An_item pool item ∷ []) h last = item-fits P z pool item
 said-fits P z No_thing (A_source source ∷ []) h last = source-fits P z source
 said-fits P z c asked h last = absurd (false≢true h)

@@ -68,7 +68,7 @@ numbered-edits z n [] S h = h
 numbered-edits z n (e ∷ es) S h = numbered-edits z n es (edit z n e S) (numbered-edit z n e S h)
 
 -- what comes has a number that fits
-numbered-comes : (z : Name) (c : Comes) (asked : List Asked) (n : ℕ) (S : State) → is_asked_for c asked ≡ true → list_all (fits_pool (pools_of S) n) asked ≡ true → AreNumbered S → AreNumbered (comes z (arrived c n) S)
+numbered-comes : (z : Name) (c : Comes) (asked : List Asked) (n : ℕ) (S : State) → is_asked_for c asked ≡ true → list_all (fits_pool (pools_of S) z n) asked ≡ true → AreNumbered S → AreNumbered (comes z (arrived c n) S)
 unfolding comes
 numbered-comes z (A_process p) (A_pid ∷ []) n S a f h =
     let range = (and_parts (nat_le 2 n && nat_le n 29999) (not ((pools_of S).pid_used n)) (and_parts _ true f).0) in

@@ -10,3 +10,4 @@ pub mod Of_turns
 pub mod Keeping
 pub mod Halting
 pub mod Telling
+pub mod Storing

@@ -27,7 +27,7 @@ use Rattle.zone_pools.specs.Firsts.{is_nil}
 use Rattle.zone_pools.specs.Owned_lists.{Put}
 use Rattle.zone_pools.specs.Same.{same_pool}
 use Rattle.zone_pools.specs.declared.grant.Pool.{Pool}
-use Rattle.zoneadmd_steps.specs.Arrivals.{A_claim, A_process, A_record, An_id, Comes, No_thing}
+use Rattle.zoneadmd_steps.specs.Arrivals.{A_claim, A_process, A_record, An_id, Comes, No_thing, record_asked}
 use Rattle.zoneadmd_steps.specs.Configs.{fs_mount, moved_record, root_dir, root_mount, with_zonepath}
 use Rattle.zoneadmd_steps.specs.Desks.{Desk, Fails, Goes, Job, Stage, state_now}
 use Rattle.zoneadmd_steps.specs.Local.{is_idle, is_local_reply, is_of_own}
@@ -45,9 +45,9 @@ abbrev pub is_asked_for : Comes → List Asked → Bool
 is_asked_for (A_process p) (A_pid ∷ []) = true
 is_asked_for (An_id i) (A_zid ∷ []) = true
 is_asked_for (A_claim c) (An_item pool item ∷ []) = same_pool pool (pool_of c.kind) && bytes_eq item c.item
-is_asked_for (A_record row) (A_serial ∷ []) = true
-is_asked_for (A_record row) (A_path path ∷ A_serial ∷ []) = true
-is_asked_for (A_record row) (A_zone ∷ A_path path ∷ A_serial ∷ []) = true
+is_asked_for (A_record row) (A_serial size ∷ []) = true
+is_asked_for (A_record row) (A_path path ∷ A_serial size ∷ []) = true
+is_asked_for (A_record row) (A_zone ∷ A_path path ∷ A_serial size ∷ []) = true
 is_asked_for No_thing (A_source z ∷ []) = true
 is_asked_for _ _ = false
 
@@ -161,13 +161,16 @@ module _ (P : Turn_decision → Type 0) (done : (t : Turned) → is_idle t.reply
     (asks : (d : Desk) (j : Job) (rest : List Step) (c : Comes) (asked : List Asked) (edits : List Object_edit) (shown : ℕ → Step) → is_asked_for c asked ≡ true → P (asking d j rest c asked edits shown)) where
   of_state : (d : Desk) (j : Job) (rest : List Step) (s : ZoneState) (row : Option Record) → (row ≡ None → P (nothing_done d)) → P (record_state d j rest s row)
   of_state d j rest s None rested = rested refl
-  of_state d j rest s (Some row) rested = asks d j rest (A_record (λ n. Some (record row { state = s }))) (A_serial ∷ []) [] (λ n. Record_step s) refl
+  of_state d j rest s (Some row) rested = asks d j rest (A_record (λ n. Some (record row { state = s }))) (record_asked (λ n. Some (record row { state = s })) ∷ []) [] (λ n. Record_step s) refl
 
   of_config : (d : Desk) (j : Job) (rest : List Step) (path : List ℕ) (row : Record) (r : Result Contents ConfigFault) → P (record_config d j rest path row r)
   of_config d j rest path row (Err fault) = done _ refl
-  of_config d j rest path row (Ok config) = asks d j rest (A_record (λ n. Some (moved_record config row n))) (path_asked path row.config) [] (λ n. Moved) (at_path (bytes_eq path (path_text row.config.zonepath)))
+  of_config d j rest path row (Ok config) = asks d j rest (A_record moved) (path_asked path row.config (record_asked moved)) [] (λ n. Moved) (at_path (bytes_eq path (path_text row.config.zonepath)))
     where
-      at_path : (b : Bool) → is_asked_for (A_record (λ n. Some (moved_record config row n))) (if b then A_serial ∷ [] else A_path path ∷ A_serial ∷ []) ≡ true
+      moved : ℕ → Option Record
+      moved n = Some (moved_record config row n)
+
+      at_path : (b : Bool) → is_asked_for (A_record moved) (if b then record_asked moved ∷ [] else A_path path ∷ record_asked moved ∷ []) ≡ true
       at_path true = refl
       at_path false = refl
 

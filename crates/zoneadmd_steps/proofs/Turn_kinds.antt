@@ -35,10 +35,10 @@ apart_of brands o d j (A_step s rest) h = left_of brands o d j rest s h
 apart_of brands o d j (A_mount m left) h = absurd (cc)
 apart_of brands o d j (A_claim_left c left) h = refl
 
-pub apart : (brands : List Tabled) (o : Objects) (d : Desk) (j : Job) → local_turn brands o (as_desk d) ≡ None → d.job ≡ Some j → j.failure ≡ None → is_apart (next o (drop j.at j.steps.items)) ≡ true
+pub apart : (brands : List Tabled) (o : Objects) (d : Desk) (j : Job) → local_turn brands o (as_desk d) ≡ None → d.job ≡ Some j → j.failure ≡ None → is_apart (next o (drop j.at j.steps)) ≡ true
 unfolding local_turn
 apart brands o d j h is goes =
-    apart_of brands o (as_desk d) (as_job j) _ (ap (λ f. local_stage brands o (as_desk d) (as_job j) (stage_of f (drop j.at j.steps.items) (reverse j.made.items))) (sym goes) ∙ (ap (λ q. local_job brands o (as_desk d) (option_map as_job q)) (sym is) ∙ h))
+    apart_of brands o (as_desk d) (as_job j) _ (ap (λ f. local_stage brands o (as_desk d) (as_job j) (stage_of f (drop j.at j.steps) (reverse j.made.items))) (sym goes) ∙ (ap (λ q. local_job brands o (as_desk d) (option_map as_job q)) (sym is) ∙ h))
 
 pub if_local : (v : Seen) (d : Turn_decision) → IsSomeAnd (local_turn v.brands v.objects v.desk) (λ t. Just t ≡ d) → turn v ≡ d
 unfolding turn

@@ -1,5 +1,5 @@
 -- Another zonepath of a configuration.
-use Rattle.std.proofs.Common.{◌≡◌, ◌∙◌, ◌+◌, ◌<◌, ◌≤◌, ◌^◌, ◌++◌, ◌∷◌, [], ℕ, Bool, List, Result, Ok, Err, IfOk, true, false, not, nat_lt, length, codes, bytes_eq, refl, subst, sym, arith, length-append}
+use Rattle.std.proofs.Common.{◌≡◌, ◌∙◌, ◌+◌, ◌<◌, ◌≤◌, ◌^◌, ◌++◌, ◌∷◌, [], ℕ, Bool, List, Result, Ok, Err, IfOk, IsSome, true, false, not, nat_lt, length, codes, bytes_eq, refl, subst, sym, arith, length-append}
 use Rattle.std.specs.Prelude.{if◌then◌else◌}
 use Rattle.std.specs.List.{list_all, position_or_len}
 use Rattle.std.proofs.lemmas.Bool.{false≢true, ltb-false}
@@ -18,9 +18,10 @@ use Rattle.zone_config.specs.declared.terms.Contents.{Contents}
 use Rattle.zone_config.specs.declared.terms.Property.TheVariants.{Zonepath}
 use Rattle.zone_config.specs.Edits.{property_set, with_property}
 use Rattle.zone_config.specs.Export.{export_text, sized}
+use Rattle.config_terms.specs.Edits.{kept_path}
 use Rattle.zone_config.specs.Property.{setting_named, with_value}
 use Rattle.zone_config.specs.Sound.{IsSound}
-use Rattle.zone_pools.specs.Asked.{A_path, A_serial}
+use Rattle.zone_pools.specs.Asked.{A_path, Asked}
 use Rattle.zoneadmd_steps.specs.Configs.{with_zonepath}
 use Rattle.zoneadmd_steps.specs.Turns.{path_asked, size_in}
 
@@ -98,11 +99,31 @@ path_shown path c new h = subst (λ r. IfOk r (λ new. path_text new.zonepath �
     at_rule true e = rw e (shown_ok path (with_value Zonepath path c) (shown_obeyed Zonepath path c e))
     at_rule false e = rw e tt
 
--- a path that is new to the zone is asked for
-pub asked_path : (path : List ℕ) (own config : Contents) (is_new : Bool) → is_new ≡ not (bytes_eq path (path_text own.zonepath)) → path_text config.zonepath ≡ path
-    → path_asked path own ≡ (if is_new then A_path (path_text config.zonepath) ∷ A_serial ∷ [] else A_serial ∷ [])
-asked_path path own config is_new is shows = rw (is, shows) (at_test (bytes_eq path (path_text own.zonepath)) refl)
+-- it has one
+kept_some : (path : List ℕ) → obeys OwnPath path ≡ true → IsSome (kept_path path)
+unfolding obeys
+kept_some [] h = absurd (false≢true h)
+kept_some (b ∷ path) h = refl
+
+set_ok : (x : Contents) → IsSome x.zonepath → IfOk (sized x) (λ new. IsSome new.zonepath)
+set_ok x has = at_size (nat_lt 32768 (length (export_text x))) refl
   where
-    at_test : (b : Bool) → bytes_eq path (path_text own.zonepath) ≡ b → path_asked path own ≡ (if not (bytes_eq path (path_text own.zonepath)) then A_path path ∷ A_serial ∷ [] else A_serial ∷ [])
+    at_size : (b : Bool) → nat_lt 32768 (length (export_text x)) ≡ b → IfOk (sized x) (λ new. IsSome new.zonepath)
+    at_size true e = rw e tt
+    at_size false e = rw e has
+
+pub path_is_set : (path : List ℕ) (c new : Contents) → with_zonepath path c ≡ Ok new → IsSome new.zonepath
+path_is_set path c new h = subst (λ r. IfOk r (λ new. IsSome new.zonepath)) (sym (set_path path c) ∙ h) (at_rule (obeys OwnPath path) refl)
+  where
+    at_rule : (b : Bool) → obeys OwnPath path ≡ b → IfOk (property_set Zonepath path c) (λ new. IsSome new.zonepath)
+    at_rule true e = rw e (set_ok (with_value Zonepath path c) (kept_some path e))
+    at_rule false e = rw e tt
+
+-- a path that is new to the zone is asked for
+pub asked_path : (path : List ℕ) (own config : Contents) (is_new : Bool) (serial : Asked) → is_new ≡ not (bytes_eq path (path_text own.zonepath)) → path_text config.zonepath ≡ path
+    → path_asked path own serial ≡ (if is_new then A_path (path_text config.zonepath) ∷ serial ∷ [] else serial ∷ [])
+asked_path path own config is_new serial is shows = rw (is, shows) (at_test (bytes_eq path (path_text own.zonepath)) refl)
+  where
+    at_test : (b : Bool) → bytes_eq path (path_text own.zonepath) ≡ b → path_asked path own serial ≡ (if not (bytes_eq path (path_text own.zonepath)) then A_path path ∷ serial ∷ [] else serial ∷ [])
     at_test true e = rw e refl
     at_test false e = rw e refl

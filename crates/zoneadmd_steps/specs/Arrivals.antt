@@ -1,9 +1,11 @@
 -- What comes with a grant: nothing else can make these. A process, an id and a record take their number from there.
-use Rattle.std.specs.Prelude.{ℕ, Option, Some, None}
+use Rattle.std.specs.Prelude.{ℕ, Option, Some, None, length}
 use Rattle.datalink_table.specs.declared.claims.Claim.{Claim}
 use Rattle.kernel_objects.specs.Processes.{Process}
 use Rattle.kernel_objects.specs.declared.objects.Id.{Id}
+use Rattle.commit_journal.specs.Bodies.{stored_text}
 use Rattle.commit_journal.specs.declared.records.Record.{Record}
+use Rattle.zone_pools.specs.Asked.{A_serial, Asked}
 
 pub data Comes : Type 0 where
   A_process : Process → Comes
@@ -11,6 +13,10 @@ pub data Comes : Type 0 where
   A_claim : Claim → Comes
   A_record : (ℕ → Option Record) → Comes
   No_thing : Comes
+
+-- what is asked for a record: its number, and room in the store for what is stored under that number
+abbrev pub record_asked : (ℕ → Option Record) → Asked
+record_asked row = A_serial (λ n. length (stored_text (row n)))
 
 -- what came, with its number
 pub data Arrival : Type 0 where

@@ -1,4 +1,4 @@
--- The turns of a halt, which take no memory: a zone whose halt was accepted is not kept from going down.
+-- The turns of a halt, which take no memory: a zone whose halt was accepted is not kept from going down by its daemon.
 use Rattle.std.specs.Prelude.{ℕ, List, [], ◌∷◌, ◌&&◌, Bool, true, false, Option, Some, None}
 use Rattle.std.specs.List.{list_all}
 use Rattle.zone_pools.specs.Firsts.{is_nil}

@@ -7,6 +7,7 @@ use Rattle.config_verify.specs.Flaws.{first, flaws}
 use Rattle.config_verify.specs.declared.flaw.Flaw.{Flaw}
 use Rattle.priv_sets.specs.Limit.{limit_of}
 use Rattle.priv_sets.specs.declared.limit.PrivFault.{PrivFault}
+use Rattle.zn_base.specs.States.{is_stored}
 use Rattle.zn_base.specs.declared.state.ZoneState.{ZoneState}
 use Rattle.zn_base.specs.declared.state.ZoneState.TheVariants.{Configured, Incomplete, Installed, Ready, Running, ShuttingDown, Down}
 use Rattle.zone_config.specs.Property.{blank}
@@ -85,6 +86,11 @@ refusal brands k s c =
     (if is_verified k s then unverified (first (flaws (tabled_names brands) c)) else None)
     (if is_limited k s then unlimited (limit_of c.limitpriv) else None)
     else Some (WrongState s)
+
+-- a state that a step records is one in which a zone is stored
+abbrev pub has_stored_state : Step → Bool
+has_stored_state (Record s) = is_stored s
+has_stored_state s = true
 
 abbrev pub hook_before : ChangeKind → Step
 hook_before k = Hook (record { before = true; kind = k })

@@ -18,12 +18,12 @@ use Rattle.loopback_mounts.specs.declared.mount.MountEntry.{MountEntry}
 use Rattle.zn_base.specs.declared.state.ZoneState.{ZoneState}
 use Rattle.zn_base.specs.declared.state.ZoneState.TheVariants.{Installed}
 use Rattle.zone_config.specs.declared.terms.Contents.{Contents}
-use Rattle.zone_pools.specs.Asked.{A_path, A_pid, A_serial, A_source, A_zid, An_item, Asked}
+use Rattle.zone_pools.specs.Asked.{A_path, A_pid, A_source, A_zid, An_item, Asked}
 use Rattle.zone_pools.specs.Decisions as decisions
 use Rattle.zone_pools.specs.Decisions.{Ask, Just}
 use Rattle.zone_pools.specs.Firsts.{is_nil}
 use Rattle.zone_pools.specs.Owned_lists.{Go, Put}
-use Rattle.zoneadmd_steps.specs.Arrivals.{A_claim, A_process, A_record, An_id, Comes, No_thing}
+use Rattle.zoneadmd_steps.specs.Arrivals.{A_claim, A_process, A_record, An_id, Comes, No_thing, record_asked}
 use Rattle.zoneadmd_steps.specs.Configs.{devices_by, fs_mount, limits_by, moved_record, root_dir, root_mount, with_zonepath}
 use Rattle.zoneadmd_steps.specs.Desks.{Desk, Fails, Goes, Job, Progress, Stage, next_place, state_now}
 use Rattle.zoneadmd_steps.specs.Objects.{Devices_are, Ids_change, Ids_go, Last_claim_goes, Object_edit, Objects, Of_mounts, Processes_go, all_of, kernel_of, zid_of}
@@ -180,15 +180,15 @@ nothing_done d = Just (rests d)
 
 abbrev pub record_state : Desk → Job → List Step → ZoneState → Option Record → Turn_decision
 record_state d j rest s None = nothing_done d
-record_state d j rest s (Some row) = asking d j rest (A_record (λ n. Some (record row { state = s }))) (A_serial ∷ []) [] (λ n. Record_step s)
+record_state d j rest s (Some row) = asking d j rest (A_record (λ n. Some (record row { state = s }))) (record_asked (λ n. Some (record row { state = s })) ∷ []) [] (λ n. Record_step s)
 
 abbrev pub new_path : Request → List ℕ
 new_path (request.Move path) = path
 new_path r = []
 
 -- a path that is the zone's own already is asked of no pool
-abbrev pub path_asked : List ℕ → Contents → List Asked
-path_asked path c = if bytes_eq path (path_text c.zonepath) then A_serial ∷ [] else A_path path ∷ A_serial ∷ []
+abbrev pub path_asked : List ℕ → Contents → (serial : Asked) → List Asked
+path_asked path c serial = if bytes_eq path (path_text c.zonepath) then serial ∷ [] else A_path path ∷ serial ∷ []
 
 -- a path other than `/` fails for the length of the export text alone
 abbrev pub size_in : ConfigFault → ℕ
@@ -197,7 +197,8 @@ size_in fault = 0
 
 abbrev pub record_config : Desk → Job → List Step → List ℕ → Record → Result Contents ConfigFault → Turn_decision
 record_config d j rest path row (Err fault) = Just (failed d j (TooLarge (size_in fault)))
-record_config d j rest path row (Ok config) = asking d j rest (A_record (λ n. Some (moved_record config row n))) (path_asked path row.config) [] (λ n. Moved)
+record_config d j rest path row (Ok config) =
+    asking d j rest (A_record (λ n. Some (moved_record config row n))) (path_asked path row.config (record_asked (λ n. Some (moved_record config row n)))) [] (λ n. Moved)
 
 abbrev pub record_moved : Desk → Job → List Step → List ℕ → Option Record → Turn_decision
 record_moved d j rest path None = nothing_done d

@@ -70,7 +70,7 @@ impl Desk {
         if job.failure.is_some() {
             return None;
         }
-        match find_ahead(&job.steps, job.at, mounts, claims) {
+        match find_ahead(job.steps.as_slice(), job.at, mounts, claims) {
             Ahead::Step(Step::Hook(change), _) => Some((job.brand, *change)),
             _ => None,
         }

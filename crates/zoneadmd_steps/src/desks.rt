@@ -8,10 +8,10 @@ ghost use Rattle.zoneadmd_steps.specs.Code.Desks.{as_desk, as_job, as_outcome};
 ghost use Rattle.zoneadmd_steps.specs.Plans.{made_after};
 
 use crate::cases::{JobCase, TurnCase};
+use crate::plan_steps::Plan;
 use crate::queued::QueuedRequest;
 use crate::requests::{Failure, Request, Step};
 use std::alloc::{AllocError, Global};
-use std::mem;
 use zn_base::ZoneState;
 use zone_config::ZoneConfig;
 
@@ -31,7 +31,7 @@ pub struct Job {
     /// The configuration as the request last began. A halt keeps none.
     pub(crate) config: ZoneConfig,
     /// The whole plan, and the place of the next step in it. A step that a failure undoes is taken out once it is done.
-    pub(crate) steps: Vec<Step>,
+    pub(crate) steps: Plan,
     pub(crate) at: usize,
     /// The number of the next step, from 1. It stands still at its type's end.
     pub(crate) place: u32,
@@ -151,22 +151,12 @@ fn takes_room(case: &JobCase) -> bool
 }
 
 impl Job {
-    // The step before a place is taken out of the plan, where nothing looks at it any more.
-    fn take_step(&mut self, next: usize) -> Step
-        requires bound { (0 < next) × (next ≤ length self.old.steps.items) }
-        ensures step { slice_get self.old.steps.items (next - 1) ≡ Some result }
-        ensures rest { drop next self.new.steps.items ≡ drop next self.old.steps.items }
-        ensures same { self.new ≡ record self.old { steps = self.new.steps } }
-    {
-        mem::replace(&mut self.steps[next - 1], Step::Moved)
-    }
-
     // What a failure undoes of a step that is done.
     fn keep(&mut self, next: usize, shown: &Step)
         requires room { HasRoomToKeep self.old shown.now }
-        requires planned { IsInPlan self.old.steps.items next shown.now }
+        requires planned { IsInPlan self.old.steps next shown.now }
         ensures made { reverse self.new.made.items ≡ made_after shown.now (reverse self.old.made.items) }
-        ensures rest { drop next self.new.steps.items ≡ drop next self.old.steps.items }
+        ensures rest { drop next self.new.steps ≡ drop next self.old.steps }
         ensures same { self.new ≡ record self.old { steps = self.new.steps; made = self.new.made } }
     {
         match shown {
@@ -175,7 +165,7 @@ impl Job {
             Step::Devices(count) => self.made.push_reserved(Step::Devices(*count)),
             Step::Root => self.made.push_reserved(Step::Root),
             Step::Mounted(_) | Step::Claimed(_) => {
-                let done = self.take_step(next);
+                let done = self.steps.take(next);
                 self.made.push_reserved(done);
             }
             Step::State(ZoneState::Ready) => self.made.clear(),
@@ -187,8 +177,8 @@ impl Job {
     pub(crate) fn pass(&mut self, next: usize, shown: &Step)
         requires goes { self.old.failure ≡ None }
         requires room { HasRoomToKeep self.old shown.now }
-        requires planned { IsInPlan self.old.steps.items next shown.now }
-        ensures { as_job self.new ≡ record (as_job self.old) { done = with_step shown.now (as_job self.old).done; stage = Goes (drop next self.old.steps.items) } }
+        requires planned { IsInPlan self.old.steps next shown.now }
+        ensures { as_job self.new ≡ record (as_job self.old) { done = with_step shown.now (as_job self.old).done; stage = Goes (drop next self.old.steps) } }
     {
         self.keep(next, shown);
         self.place = self.place.saturating_add(1);

@@ -13,6 +13,7 @@ mod configs;
 mod desks;
 mod local_cases;
 mod objects;
+mod plan_steps;
 mod plans;
 mod queued;
 mod requests;

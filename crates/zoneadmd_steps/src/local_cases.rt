@@ -57,7 +57,7 @@ pub(crate) fn passed(next: usize, shown: Step) -> JobCase
 
 // The brand lets the change proceed, or refuses it.
 fn hooked(next: usize, change: Change, answer: HookAnswer) -> JobCase
-    ensures decides { (d : desks.Desk) (j : job_types.Job) → Just (hooked d (as_job j) (drop next j.steps.items) change answer) ≡ job_turn d j result }
+    ensures decides { (d : desks.Desk) (j : job_types.Job) → Just (hooked d (as_job j) (drop next j.steps) change answer) ≡ job_turn d j result }
     ensures of { (j : job_types.Job) → j.failure ≡ None → IsJobCase j result }
     ensures free { (ms : List entries.MountEntry) (cs : List claim_types.Claim) → IsFreeFor (job_objects result) ms cs }
     ensures own { list_all is_of_own (object_edits (job_objects result)) ≡ true }
@@ -73,7 +73,7 @@ fn hooked(next: usize, change: Change, answer: HookAnswer) -> JobCase
 // The zone's limits are set.
 #[inline(never)]
 fn set_limits(alloc: Global, next: usize, config: &ZoneConfig) -> Result<JobCase, AllocError>
-    ensures decides { IfOk result (λ c. (d : desks.Desk) (j : job_types.Job) → Just (advance d (as_job j) (drop next j.steps.items) (Ids_change (limits_by config.now) ∷ []) Step.Limits) ≡ job_turn d j c) }
+    ensures decides { IfOk result (λ c. (d : desks.Desk) (j : job_types.Job) → Just (advance d (as_job j) (drop next j.steps) (Ids_change (limits_by config.now) ∷ []) Step.Limits) ≡ job_turn d j c) }
     ensures of { IfOk result (λ c. (j : job_types.Job) → j.failure ≡ None → IsJobCase j c) }
     ensures free { IfOk result (λ c. (ms : List entries.MountEntry) (cs : List claim_types.Claim) → IsFreeFor (job_objects c) ms cs) }
     ensures own { IfOk result (λ c. list_all is_of_own (object_edits (job_objects c)) ≡ true) }
@@ -105,7 +105,7 @@ fn mount_root(
     config: &ZoneConfig,
     mounts: &MountCell,
 ) -> Result<JobCase, AllocError>
-    ensures decides { IfOk result (λ c. (d : desks.Desk) (j : job_types.Job) → Just (advance d (as_job j) (drop next j.steps.items) (mounting (root_mount config.now) mounts.now.list) Step.Root) ≡ job_turn d j c) }
+    ensures decides { IfOk result (λ c. (d : desks.Desk) (j : job_types.Job) → Just (advance d (as_job j) (drop next j.steps) (mounting (root_mount config.now) mounts.now.list) Step.Root) ≡ job_turn d j c) }
     ensures of { IfOk result (λ c. (j : job_types.Job) → j.failure ≡ None → IsJobCase j c) }
     ensures free { IfOk result (λ c. (cs : List claim_types.Claim) → IsFreeFor (job_objects c) mounts.now.list cs) }
     ensures own { IfOk result (λ c. list_all is_of_own (object_edits (job_objects c)) ≡ true) }
@@ -125,8 +125,8 @@ fn mount_fs(
     dir: &AbsPath,
     mounts: &MountCell,
 ) -> Result<JobCase, AllocError>
-    ensures decides { IfOk result (λ c. (d : desks.Desk) (j : job_types.Job) → Just (advance d (as_job j) (drop next j.steps.items) (mounting (fs_mount config.now dir.now) mounts.now.list) (Step.Mounted dir.now)) ≡ job_turn d j c) }
-    ensures of { IfOk result (λ c. (j : job_types.Job) → j.failure ≡ None → IsInPlan j.steps.items next (Step.Mounted dir.now) → IsJobCase j c) }
+    ensures decides { IfOk result (λ c. (d : desks.Desk) (j : job_types.Job) → Just (advance d (as_job j) (drop next j.steps) (mounting (fs_mount config.now dir.now) mounts.now.list) (Step.Mounted dir.now)) ≡ job_turn d j c) }
+    ensures of { IfOk result (λ c. (j : job_types.Job) → j.failure ≡ None → IsInPlan j.steps next (Step.Mounted dir.now) → IsJobCase j c) }
     ensures free { IfOk result (λ c. (cs : List claim_types.Claim) → IsFreeFor (job_objects c) mounts.now.list cs) }
     ensures own { IfOk result (λ c. list_all is_of_own (object_edits (job_objects c)) ≡ true) }
     ensures active { IfOk result (λ c. (a : Option states.ZoneState) → job_active c a ≡ a) }
@@ -147,11 +147,11 @@ fn step_case(
     answer: HookAnswer,
 ) -> Result<Option<JobCase>, AllocError>
     requires goes { job.now.failure ≡ None }
-    requires planned { (0 < next) × (slice_get job.now.steps.items (next - 1) ≡ Some planned.now) }
+    requires planned { (0 < next) × (slice_get job.now.steps (next - 1) ≡ Some planned.now) }
     ensures some { IfOk result (λ o. IfSome o (λ c. (brands : List Tabled) (x : objects.Objects) (d : desks.Desk) → x.mounts ≡ mounts.now.list
-        → answer ≡ heard brands (hook_of (as_job job.now) (A_step planned.now (drop next job.now.steps.items)))
-        → IsLocal d job.now c (local_step brands x d (as_job job.now) (drop next job.now.steps.items) planned.now))) }
-    ensures none { IfOk result (λ o. o ≡ None → (brands : List Tabled) (x : objects.Objects) (d : desks.Desk) → local_step brands x d (as_job job.now) (drop next job.now.steps.items) planned.now ≡ None) }
+        → answer ≡ heard brands (hook_of (as_job job.now) (A_step planned.now (drop next job.now.steps)))
+        → IsLocal d job.now c (local_step brands x d (as_job job.now) (drop next job.now.steps) planned.now))) }
+    ensures none { IfOk result (λ o. o ≡ None → (brands : List Tabled) (x : objects.Objects) (d : desks.Desk) → local_step brands x d (as_job job.now) (drop next job.now.steps) planned.now ≡ None) }
     ensures of { IfOk result (λ o. IfSome o (IsJobCase job.now)) }
     ensures free { IfOk result (λ o. IfSome o (λ c. (cs : List claim_types.Claim) → IsFreeFor (job_objects c) mounts.now.list cs)) }
     ensures own { IfOk result (λ o. IfSome o (λ c. list_all is_of_own (object_edits (job_objects c)) ≡ true)) }
@@ -171,7 +171,7 @@ fn step_case(
 
 // The last mount goes, unless it is held, and the plan stays where it is.
 fn unmount_case(at: usize, entry: &MountEntry) -> JobCase
-    ensures decides { (d : desks.Desk) (j : job_types.Job) → Just (unmount_last d (as_job j) (drop at j.steps.items) entry.now) ≡ job_turn d j result }
+    ensures decides { (d : desks.Desk) (j : job_types.Job) → Just (unmount_last d (as_job j) (drop at j.steps) entry.now) ≡ job_turn d j result }
     ensures of { (j : job_types.Job) → j.failure ≡ None → IsJobCase j result }
     ensures free { (ms : List entries.MountEntry) (cs : List claim_types.Claim) → last_of ms ≡ Some entry.now → IsFreeFor (job_objects result) ms cs }
     ensures own { list_all is_of_own (object_edits (job_objects result)) ≡ true }
@@ -195,17 +195,17 @@ fn plan_case(
 ) -> Result<Option<JobCase>, AllocError>
     requires goes { job.now.failure ≡ None }
     ensures some { IfOk result (λ o. IfSome o (λ c. (brands : List Tabled) (x : objects.Objects) (d : desks.Desk) → x.mounts ≡ mounts.now.list → x.claims ≡ claims.now.claims
-        → answer ≡ heard brands (hook_of (as_job job.now) (next x (drop job.now.at job.now.steps.items)))
-        → IsLocal d job.now c (local_next brands x d (as_job job.now) (next x (drop job.now.at job.now.steps.items))))) }
+        → answer ≡ heard brands (hook_of (as_job job.now) (next x (drop job.now.at job.now.steps)))
+        → IsLocal d job.now c (local_next brands x d (as_job job.now) (next x (drop job.now.at job.now.steps))))) }
     ensures none { IfOk result (λ o. o ≡ None → (brands : List Tabled) (x : objects.Objects) (d : desks.Desk) → x.mounts ≡ mounts.now.list → x.claims ≡ claims.now.claims
-        → local_next brands x d (as_job job.now) (next x (drop job.now.at job.now.steps.items)) ≡ None) }
+        → local_next brands x d (as_job job.now) (next x (drop job.now.at job.now.steps)) ≡ None) }
     ensures of { IfOk result (λ o. IfSome o (IsJobCase job.now)) }
     ensures free { IfOk result (λ o. IfSome o (λ c. IsFreeFor (job_objects c) mounts.now.list claims.now.claims)) }
     ensures own { IfOk result (λ o. IfSome o (λ c. list_all is_of_own (object_edits (job_objects c)) ≡ true)) }
     ensures active { IfOk result (λ o. IfSome o (λ c. (a : Option states.ZoneState) → job_active c a ≡ a)) }
-    ensures room { list_all is_of_halt (drop job.now.at job.now.steps.items) ≡ true → IsSomeFree takes_room result }
+    ensures room { list_all is_of_halt (drop job.now.at job.now.steps) ≡ true → IsSomeFree takes_room result }
 {
-    match find_ahead(&job.steps, job.at, mounts, claims) {
+    match find_ahead(job.steps.as_slice(), job.at, mounts, claims) {
         Ahead::Step(planned, next) => step_case(alloc, job, planned, next, mounts, answer),
         Ahead::Mount(entry, at) => Ok(Some(unmount_case(at, entry))),
         Ahead::Nothing | Ahead::Claim(_, _) => Ok(None),

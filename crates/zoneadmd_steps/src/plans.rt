@@ -7,6 +7,7 @@ ghost use Rattle.zone_pools.specs.Owned_lists.{put};
 ghost use Rattle.zoneadmd_steps.specs.Configs.{claims_of, dataset_claim, fs_dirs, in_order, net_claim, net_kind};
 ghost use Rattle.zoneadmd_steps.specs.Plans.{attach_part, boot_part, boot_plan, clone_part, copying, detach_part, erasing, halt_part, hook_after, hook_before, install_part, is_limited, is_verified, may_begin, plan, ready_part, uninstall_part};
 
+use crate::plan_steps::Plan;
 use crate::requests::{Request, RequestKind, Step};
 use brand_hooks::{Change, ChangeKind};
 use config_terms::{Fs, IpType, Net};
@@ -128,8 +129,8 @@ fn detach_part(alloc: Global) -> Result<Vec<Step>, AllocError>
     ]?)
 }
 
-/// The plan of a halt. Its unmounts and releases are as many as there are mounts and claims, and each stands for all.
-pub(crate) fn halt_part(alloc: Global) -> Result<Vec<Step>, AllocError>
+// Its unmounts and releases are as many as there are mounts and claims, and each stands for all.
+fn halt_part(alloc: Global) -> Result<Vec<Step>, AllocError>
     ensures { IfOk result (λ steps. steps.items ≡ halt_part) }
 {
     Ok(vec![in alloc;
@@ -309,8 +310,8 @@ fn uninstall_part(alloc: Global, state: ZoneState) -> Result<Vec<Step>, AllocErr
     Ok(steps)
 }
 
-/// The steps of a request that begins in a state.
-pub(crate) fn plan(
+// The steps of a request that begins in a state.
+fn steps_of(
     alloc: Global,
     request: &Request,
     state: ZoneState,
@@ -330,4 +331,24 @@ pub(crate) fn plan(
         Request::Boot(_) => boot_plan(alloc, state, config),
         Request::Halt | Request::Reboot(_) => halt_part(alloc),
     }
+}
+
+/// The plan of a request that begins in a state.
+#[tactic(auto, using(crate::proofs::Storing::plan_stores))]
+pub(crate) fn plan(
+    alloc: Global,
+    request: &Request,
+    state: ZoneState,
+    config: &ZoneConfig,
+) -> Result<Plan, AllocError>
+    ensures { IfOk result (λ steps. steps ≡ plan request.now state config.now) }
+{
+    Ok(Plan::of(steps_of(alloc, request, state, config)?))
+}
+
+/// The plan of a halt.
+pub(crate) fn halt_plan(alloc: Global) -> Result<Plan, AllocError>
+    ensures { IfOk result (λ steps. steps ≡ halt_part) }
+{
+    Ok(Plan::of(halt_part(alloc)?))
 }

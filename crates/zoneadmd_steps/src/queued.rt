@@ -3,8 +3,9 @@ ghost use Rattle.std.specs.Prelude.{◌≡◌, IfOk};
 ghost use Rattle.zoneadmd_steps.specs.Code.Queues.{room_of};
 ghost use Rattle.zoneadmd_steps.specs.Plans.{halt_part};
 
-use crate::plans::halt_part;
-use crate::requests::{Request, Step};
+use crate::plan_steps::Plan;
+use crate::plans::halt_plan;
+use crate::requests::Request;
 use std::alloc::{AllocError, Global};
 use std::marker::Model;
 
@@ -13,7 +14,7 @@ use std::marker::Model;
 #[derive(Drop)]
 pub struct QueuedRequest {
     request: Request,
-    plan: Vec<Step>,
+    plan: Plan,
 }
 
 impl Model for QueuedRequest {
@@ -25,16 +26,16 @@ impl Model for QueuedRequest {
 
     ghost view = { λ q. q.request };
 
-    ghost invariant = { λ q. q.plan.items ≡ room_of q.request };
+    ghost invariant = { λ q. q.plan ≡ room_of q.request };
 }
 
 // The plan of a halt, and of no other request.
-fn room_of(alloc: Global, request: &Request) -> Result<Vec<Step>, AllocError>
-    ensures { IfOk result (λ plan. plan.items ≡ room_of request.now) }
+fn room_of(alloc: Global, request: &Request) -> Result<Plan, AllocError>
+    ensures { IfOk result (λ plan. plan ≡ room_of request.now) }
 {
     match request {
-        Request::Halt => halt_part(alloc),
-        _ => Ok(Vec::new(alloc)),
+        Request::Halt => halt_plan(alloc),
+        _ => Ok(Plan::of(Vec::new(alloc))),
     }
 }
 
@@ -55,9 +56,9 @@ impl QueuedRequest {
     }
 
     /// The plan of a halt.
-    pub(crate) fn into_halt_plan(self) -> Vec<Step>
+    pub(crate) fn into_halt_plan(self) -> Plan
         requires { self ≡ Request.Halt }
-        ensures { result.items ≡ halt_part }
+        ensures { result ≡ halt_part }
     {
         self.plan
     }

@@ -1,9 +1,9 @@
 //! How a turn is settled: the desk changes, and what else is to be done is told. No memory is taken, and nothing fails.
-ghost use Rattle.std.specs.Prelude.{◌<◌, ◌≡◌, ◌∷◌, IfSome, None, Option, Some, drop, length, true, ℕ};
+ghost use Rattle.std.specs.Prelude.{◌<◌, ◌≤◌, ◌≡◌, ◌∷◌, IfSome, None, Option, Some, drop, length, true, ℕ};
 ghost use Rattle.zn_base.specs.Names.{Name};
 ghost use Rattle.zone_pools.specs.Decisions as decisions;
 ghost use Rattle.zoneadmd_steps.specs.Arrivals.{arrived, in_store};
-ghost use Rattle.zoneadmd_steps.specs.Code.Cases.{IsJobCase, IsNamedCame, IsNamedJobCase, IsNamedTurn, IsTurnOf, IsHaltFirst, No_premise, active_with, comes_of, edits_under, halt_begun, job_active, job_objects, job_turn, object_edits, premise_of, shown_under, turn_active, turn_decision_of, turn_objects};
+ghost use Rattle.zoneadmd_steps.specs.Code.Cases.{IsJobCase, IsMoved, IsNamedCame, IsNamedJobCase, IsNamedTurn, IsNumberedCame, IsNumberedJobCase, IsNumberedTurn, IsTurnOf, IsHaltFirst, No_premise, active_with, comes_of, edits_under, halt_begun, job_active, job_objects, job_turn, object_edits, premise_of, shown_under, turn_active, turn_decision_of, turn_objects};
 ghost use Rattle.zoneadmd_steps.specs.Code.Desks.{as_desk, as_job};
 ghost use Rattle.zoneadmd_steps.specs.Code.Rooms.{HasJobRoom, HasMadeRoom, HasTurnRoom};
 ghost use Rattle.zoneadmd_steps.specs.Code.Works.{arrival_of, rest_of_turn, turn_work, unless_ended};
@@ -18,7 +18,7 @@ use crate::desks::{Desk, Job};
 use crate::objects::changes::{Came, ObjectEdit};
 use crate::queued::QueuedRequest;
 use crate::requests::{Failure, Outcome, Request, RequestKind, Step, TurnReply};
-use commit_journal::Record;
+use commit_journal::Row;
 use std::alloc::Global;
 use zn_base::{ZoneName, ZoneState};
 use zone_config::blank;
@@ -27,7 +27,7 @@ use zone_pools::{Grant, number_in};
 /// A record that is stored, and the name of the zone whose it is.
 #[derive(Drop)]
 pub struct Stored {
-    pub row: Box<Record>,
+    pub row: Box<Row>,
     pub owner: ZoneName,
 }
 
@@ -90,6 +90,7 @@ fn active_with(shown: &Step, active: Option<ZoneState>) -> Option<ZoneState>
 // The step that asked for what comes, as it is told under the number, what it does beside, and what is stored. A process, an id
 // and a claim have come to the kernel already.
 fn given(it: Came, number: u32) -> (Step, ObjectEdit, Option<Stored>)
+    requires { IsMoved it → 1 ≤ number }
     ensures shown { result.0 ≡ shown_under it number }
     ensures edits { object_edits result.1 ≡ edits_under it }
     ensures premise { premise_of result.1 ≡ No_premise }
@@ -111,7 +112,7 @@ fn given(it: Came, number: u32) -> (Step, ObjectEdit, Option<Stored>)
             Some(Stored { row, owner }),
         ),
         Came::Moved(mut row, owner, _) => {
-            row.revision = number;
+            row.set_revision(number);
             (
                 Step::Moved,
                 ObjectEdit::Nothing,
@@ -126,6 +127,7 @@ fn given(it: Came, number: u32) -> (Step, ObjectEdit, Option<Stored>)
 fn ask(job: &mut Job, it: Came, next: usize, grant: Grant) -> TurnWork
     requires of { IsJobCase job.old (JobCase.Ask it next) }
     requires room { HasMadeRoom job.old }
+    requires numbered { IsNumberedCame it grant }
     ensures act { (d : desks.Desk) → rest_of_turn (decisions.act_of arrived (job_turn d job.old (JobCase.Ask it next)) grant) ≡ turn_work result (record d { job = unless_ended result.ended (as_job job.new) }) }
     ensures premise { premise_of result.objects ≡ No_premise }
     ensures own { list_all is_of_own (object_edits result.objects) ≡ true }
@@ -161,6 +163,7 @@ fn settle_job(
 ) -> TurnWork
     requires of { IsJobCase job.old case }
     requires room { HasJobRoom job.old case }
+    requires numbered { IsNumberedJobCase case grant }
     ensures act { (d : desks.Desk) → d.job ≡ Some (as_job job.old) → d.active ≡ active.old → rest_of_turn (decisions.act_of arrived (job_turn d job.old case) grant) ≡ turn_work result (record d { job = unless_ended result.ended (as_job job.new); active = active.new }) }
     ensures premise { premise_of result.objects ≡ premise_of (job_objects case) }
     ensures own { list_all is_of_own (object_edits (job_objects case)) ≡ true → list_all is_of_own (object_edits result.objects) ≡ true }
@@ -271,6 +274,7 @@ fn end_job(desk: &mut Desk)
 pub fn settle_turn(alloc: Global, desk: &mut Desk, case: TurnCase, grant: Grant) -> TurnWork
     requires of { IsTurnOf desk.old case }
     requires room { HasTurnRoom desk.old case }
+    requires numbered { IsNumberedTurn case grant }
     ensures act { rest_of_turn (decisions.act_of arrived (turn_decision_of desk.old case) grant) ≡ turn_work result (as_desk desk.new) }
     ensures premise { premise_of result.objects ≡ premise_of (turn_objects case) }
     ensures own { list_all is_of_own (object_edits (turn_objects case)) ≡ true → list_all is_of_own (object_edits result.objects) ≡ true }

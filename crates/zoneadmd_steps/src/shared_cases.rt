@@ -1,5 +1,5 @@
 //! What the steps of a request's plan come to that look at what zones share, or change it.
-ghost use Rattle.std.specs.Prelude.{◌≡◌, ◌<◌, ◌≤◌, ◌-◌, ◌∷◌, [], Err, IfOk, IfSome, List, None, Ok, Some, bytes_eq, drop, false, length, not, slice_get, true};
+ghost use Rattle.std.specs.Prelude.{◌≡◌, ◌<◌, ◌≤◌, ◌-◌, ◌∷◌, [], Err, IfOk, IfSome, IsSome, IsTrue, List, None, Ok, Some, bytes_eq, drop, false, length, not, slice_get, true};
 ghost use Rattle.std.specs.Option.{option_map};
 ghost use Rattle.config_terms.specs.Fields.{path_text};
 ghost use Rattle.datalink_table.specs.declared.claims.Claim as claim_types;
@@ -8,6 +8,7 @@ ghost use Rattle.kernel_objects.specs.Processes.{count_of};
 ghost use Rattle.loopback_mounts.specs.Mounts.{last_of};
 ghost use Rattle.loopback_mounts.specs.declared.mount.MountEntry as entries;
 ghost use Rattle.zn_base.specs.Names.{Name};
+ghost use Rattle.zn_base.specs.States.{is_stored};
 ghost use Rattle.zn_base.specs.Text.{is_text};
 ghost use Rattle.zone_config.specs.Sound.{IsSound};
 ghost use Rattle.zone_pools.specs.Asked.{A_pid};
@@ -23,6 +24,7 @@ ghost use Rattle.zoneadmd_steps.specs.Desks as desks;
 ghost use Rattle.zoneadmd_steps.specs.Halts.{is_of_halt};
 ghost use Rattle.zoneadmd_steps.specs.Objects as objects;
 ghost use Rattle.zoneadmd_steps.specs.Objects.{Ids_change, Last_claim_goes, ids_of, kernel_of, zid_of};
+ghost use Rattle.zoneadmd_steps.specs.Plans.{has_stored_state};
 ghost use Rattle.zoneadmd_steps.specs.Turns as turns;
 ghost use Rattle.zoneadmd_steps.specs.Turns.{advance, args_or, asking, bootargs_of, init_process, new_path, record_config, record_state, shared_step, size_in};
 ghost use Rattle.zoneadmd_steps.specs.declared.desks.Job as job_types;
@@ -33,7 +35,7 @@ use crate::local_cases::{changed, passed};
 use crate::objects::changes::{Came, ObjectEdit};
 use crate::objects::{Objects, System};
 use crate::requests::{Failure, Request, Step};
-use commit_journal::Record;
+use commit_journal::{Record, Row};
 use config_terms::ConfigFault;
 use datalink_table::Claim;
 use kernel_objects::{KernelCell, KernelShared};
@@ -58,17 +60,16 @@ fn store_state(
     alloc: Global,
     zone: &ZoneName,
     next: usize,
-    row: &Record,
+    row: &Row,
     to: ZoneState,
 ) -> Result<JobCase, AllocError>
-    ensures decides { IfOk result (λ c. (d : desks.Desk) (j : job_types.Job) → record_state d (as_job j) (drop next j.steps.items) to (Some row.now) ≡ job_turn d j c) }
+    requires { IsTrue (is_stored to) }
+    ensures decides { IfOk result (λ c. (d : desks.Desk) (j : job_types.Job) → record_state d (as_job j) (drop next j.steps) to (Some row.now) ≡ job_turn d j c) }
     ensures of { IfOk result (λ c. (j : job_types.Job) → j.failure ≡ None → IsJobCase j c) }
     ensures free { IfOk result (λ c. (ms : List entries.MountEntry) (cs : List claim_types.Claim) → IsFreeFor (job_objects c) ms cs) }
     ensures named { IfOk result (IsNamedJobCase zone.now) }
 {
-    let mut stored = row.copy(alloc)?;
-    stored.state = to;
-    let stored = Box::new(alloc, stored)?;
+    let stored = Box::new(alloc, row.in_state(alloc, to)?)?;
     let owner = zone.copy(alloc)?;
     Ok(JobCase::Ask(Came::Record(stored, owner), next))
 }
@@ -137,29 +138,32 @@ fn is_other(config: &ZoneConfig, path: &[u8]) -> bool
 }
 
 // The record with another configuration.
-fn with_config(row: &Record, config: ZoneConfig) -> Record
+fn with_config(row: &Row, config: ZoneConfig) -> Row
+    requires { IsSome config.zonepath }
     ensures { result ≡ record row.now { config = config } }
 {
-    Record {
+    let row = row.record();
+    Row::new(Record {
         state: row.state,
         uuid: row.uuid,
         revision: row.revision,
         config,
-    }
+    })
 }
 
 // The record with this configuration is stored.
 #[inline(never)]
+#[tactic(auto, using(crate::proofs::Zonepaths::path_is_set))]
 fn store_moved(
     alloc: Global,
     zone: &ZoneName,
     next: usize,
-    row: &Record,
+    row: &Row,
     path: &Text,
     config: ZoneConfig,
 ) -> Result<JobCase, AllocError>
     requires { with_zonepath path.now row.now.config ≡ Ok config }
-    ensures decides { IfOk result (λ c. (d : desks.Desk) (j : job_types.Job) → record_config d (as_job j) (drop next j.steps.items) path.now row.now (Ok config) ≡ job_turn d j c) }
+    ensures decides { IfOk result (λ c. (d : desks.Desk) (j : job_types.Job) → record_config d (as_job j) (drop next j.steps) path.now row.now (Ok config) ≡ job_turn d j c) }
     ensures of { IfOk result (λ c. (j : job_types.Job) → j.failure ≡ None → IsJobCase j c) }
     ensures free { IfOk result (λ c. (ms : List entries.MountEntry) (cs : List claim_types.Claim) → IsFreeFor (job_objects c) ms cs) }
     ensures named { IfOk result (IsNamedJobCase zone.now) }
@@ -175,10 +179,10 @@ fn store_path(
     alloc: Global,
     zone: &ZoneName,
     next: usize,
-    row: &Record,
+    row: &Row,
     path: &Text,
 ) -> Result<JobCase, AllocError>
-    ensures decides { IfOk result (λ c. (d : desks.Desk) (j : job_types.Job) → record_config d (as_job j) (drop next j.steps.items) path.now row.now (with_zonepath path.now row.now.config) ≡ job_turn d j c) }
+    ensures decides { IfOk result (λ c. (d : desks.Desk) (j : job_types.Job) → record_config d (as_job j) (drop next j.steps) path.now row.now (with_zonepath path.now row.now.config) ≡ job_turn d j c) }
     ensures of { IfOk result (λ c. (j : job_types.Job) → j.failure ≡ None → IsJobCase j c) }
     ensures free { IfOk result (λ c. (ms : List entries.MountEntry) (cs : List claim_types.Claim) → IsFreeFor (job_objects c) ms cs) }
     ensures named { IfOk result (IsNamedJobCase zone.now) }
@@ -196,11 +200,12 @@ fn stored_case(
     job: &Job,
     planned: &Step,
     next: usize,
-    row: Option<&Record>,
+    row: Option<&Row>,
 ) -> Result<Option<JobCase>, AllocError>
     requires goes { job.now.failure ≡ None }
     requires planned { is_of_store planned.now ≡ true }
-    ensures decides { IfOk result (λ o. (v : turns.Seen) → v.stored ≡ option_map (λ r. r.now) row.entry → shared_step v (as_job job.now) (drop next job.now.steps.items) planned.now ≡ case_turn v.desk job.now o) }
+    requires stored { has_stored_state planned.now ≡ true }
+    ensures decides { IfOk result (λ o. (v : turns.Seen) → v.stored ≡ option_map (λ r. r.now) row.entry → shared_step v (as_job job.now) (drop next job.now.steps) planned.now ≡ case_turn v.desk job.now o) }
     ensures of { IfOk result (λ o. IfSome o (IsJobCase job.now)) }
     ensures free { IfOk result (λ o. IfSome o (λ c. (ms : List entries.MountEntry) (cs : List claim_types.Claim) → IsFreeFor (job_objects c) ms cs)) }
     ensures named { IfOk result (λ o. IfSome o (IsNamedJobCase zone.now)) }
@@ -292,7 +297,7 @@ fn start_init(
     args: Text,
 ) -> Result<JobCase, AllocError>
     ensures decides { IfOk result (λ c. (o : objects.Objects) (d : desks.Desk) (j : job_types.Job) → kernel_of o ≡ kernel.now
-        → asking d (as_job j) (drop next j.steps.items) (A_process (init_process o)) (A_pid ∷ []) (Ids_change (with_bootargs args) ∷ []) (λ n. Step.Init (Some n)) ≡ job_turn d j c) }
+        → asking d (as_job j) (drop next j.steps) (A_process (init_process o)) (A_pid ∷ []) (Ids_change (with_bootargs args) ∷ []) (λ n. Step.Init (Some n)) ≡ job_turn d j c) }
     ensures of { IfOk result (λ c. (j : job_types.Job) → j.failure ≡ None → IsJobCase j c) }
     ensures free { IfOk result (λ c. (ms : List entries.MountEntry) (cs : List claim_types.Claim) → IsFreeFor (job_objects c) ms cs) }
     ensures named { IfOk result (λ c. (z : Name) → IsNamedJobCase z c) }
@@ -305,7 +310,7 @@ fn start_init(
 // The first process begins with the arguments of the boot.
 fn boot(alloc: Global, job: &Job, next: usize, kernel: &KernelCell) -> Result<JobCase, AllocError>
     ensures decides { IfOk result (λ c. (o : objects.Objects) (d : desks.Desk) → kernel_of o ≡ kernel.now
-        → asking d (as_job job.now) (drop next job.now.steps.items) (A_process (init_process o)) (A_pid ∷ []) (Ids_change (with_bootargs (bootargs_of job.now.request job.now.config)) ∷ []) (λ n. Step.Init (Some n)) ≡ job_turn d job.now c) }
+        → asking d (as_job job.now) (drop next job.now.steps) (A_process (init_process o)) (A_pid ∷ []) (Ids_change (with_bootargs (bootargs_of job.now.request job.now.config)) ∷ []) (λ n. Step.Init (Some n)) ≡ job_turn d job.now c) }
     ensures of { IfOk result (λ c. (j : job_types.Job) → j.failure ≡ None → IsJobCase j c) }
     ensures free { IfOk result (λ c. (ms : List entries.MountEntry) (cs : List claim_types.Claim) → IsFreeFor (job_objects c) ms cs) }
     ensures named { IfOk result (λ c. (z : Name) → IsNamedJobCase z c) }
@@ -341,10 +346,10 @@ fn object_case(
     system: System<'_>,
 ) -> Result<JobCase, AllocError>
     requires goes { job.now.failure ≡ None }
-    requires planned { (0 < next) × (slice_get job.now.steps.items (next - 1) ≡ Some planned.now) }
+    requires planned { (0 < next) × (slice_get job.now.steps (next - 1) ≡ Some planned.now) }
     requires kind { is_of_objects planned.now ≡ true }
     ensures decides { IfOk result (λ c. (v : turns.Seen) → v.objects ≡ as_objects objects.entry → v.declared ≡ system.entry.kernel.now.devices
-        → shared_step v (as_job job.now) (drop next job.now.steps.items) planned.now ≡ job_turn v.desk job.now c) }
+        → shared_step v (as_job job.now) (drop next job.now.steps) planned.now ≡ job_turn v.desk job.now c) }
     ensures of { IfOk result (IsJobCase job.now) }
     ensures free { IfOk result (λ c. (ms : List entries.MountEntry) (cs : List claim_types.Claim) → IsFreeFor (job_objects c) ms cs) }
     ensures named { IfOk result (λ c. (z : Name) → IsNamedJobCase z c) }
@@ -379,16 +384,17 @@ pub(crate) fn step_case(
     job: &Job,
     planned: &Step,
     next: usize,
-    row: Option<&Record>,
+    row: Option<&Row>,
     objects: Objects<'_>,
     system: System<'_>,
 ) -> Result<Option<JobCase>, AllocError>
     requires goes { job.now.failure ≡ None }
-    requires planned { (0 < next) × (slice_get job.now.steps.items (next - 1) ≡ Some planned.now) }
+    requires planned { (0 < next) × (slice_get job.now.steps (next - 1) ≡ Some planned.now) }
     requires alone { is_for_all planned.now ≡ false }
     requires left { is_left planned.now ≡ true }
+    requires stored { has_stored_state planned.now ≡ true }
     ensures decides { IfOk result (λ o. (v : turns.Seen) → v.stored ≡ option_map (λ r. r.now) row.entry → v.objects ≡ as_objects objects.entry → v.declared ≡ system.entry.kernel.now.devices
-        → shared_step v (as_job job.now) (drop next job.now.steps.items) planned.now ≡ case_turn v.desk job.now o) }
+        → shared_step v (as_job job.now) (drop next job.now.steps) planned.now ≡ case_turn v.desk job.now o) }
     ensures of { IfOk result (λ o. IfSome o (IsJobCase job.now)) }
     ensures free { IfOk result (λ o. IfSome o (λ c. (ms : List entries.MountEntry) (cs : List claim_types.Claim) → IsFreeFor (job_objects c) ms cs)) }
     ensures named { IfOk result (λ o. IfSome o (IsNamedJobCase zone.now)) }
@@ -402,7 +408,7 @@ pub(crate) fn step_case(
 
 /// The last claim ends, and the plan stays where it is.
 pub(crate) fn release(at: usize, claim: &Claim) -> JobCase
-    ensures decides { (d : desks.Desk) (j : job_types.Job) → Just (advance d (as_job j) (drop at j.steps.items) (Last_claim_goes ∷ []) (Step.Release (Some claim.now))) ≡ job_turn d j result }
+    ensures decides { (d : desks.Desk) (j : job_types.Job) → Just (advance d (as_job j) (drop at j.steps) (Last_claim_goes ∷ []) (Step.Release (Some claim.now))) ≡ job_turn d j result }
     ensures of { (j : job_types.Job) → j.failure ≡ None → IsJobCase j result }
     ensures free { (ms : List entries.MountEntry) (cs : List claim_types.Claim) → last_of cs ≡ Some claim.now → IsFreeFor (job_objects result) ms cs }
     ensures named { (z : Name) → IsNamedJobCase z result }

@@ -32,7 +32,7 @@ use crate::queued::QueuedRequest;
 use crate::requests::{Failure, Outcome, Request, RequestKind, Step};
 use crate::shared_cases::{copy_config, release, step_case};
 use brand_hooks::{BrandTables, HookAnswer};
-use commit_journal::Record;
+use commit_journal::Row;
 use std::alloc::{AllocError, Global};
 use zn_base::{Text, ZoneName, ZoneState};
 
@@ -44,7 +44,7 @@ fn new_job(
     ticket: u32,
     request: Request,
     state: ZoneState,
-    row: &Record,
+    row: &Row,
 ) -> Result<Box<Job>, AllocError>
     ensures { IfOk result (λ job. as_job job.value ≡ record { ticket = ticket; request = request; brand = place_of row.now.config.brand brands.now; config = row.now.config; done = no_progress; stage = Goes (plan request state row.now.config) }) }
 {
@@ -72,7 +72,7 @@ fn begin(
     ticket: u32,
     request: Request,
     state: ZoneState,
-    row: &Record,
+    row: &Row,
 ) -> Result<Result<Box<Job>, Outcome>, AllocError>
     requires { is_halt request ≡ false }
     ensures { IfOk result (λ r. (d : desks.Desk) → started brands.now d ticket request state row.now (refusal brands.now (kind_of request) state row.now.config) ≡ begun_or d ticket r) }
@@ -94,7 +94,7 @@ fn first_waiting(waiting: &[(u32, QueuedRequest)]) -> Option<(u32, &Request)>
 
 // A halt is the first request that waits: it begins, or doesn't. It takes no memory.
 #[inline(never)]
-fn halt_case(desk: &Desk, ticket: u32, row: &Record, brands: &BrandTables) -> TurnCase
+fn halt_case(desk: &Desk, ticket: u32, row: &Row, brands: &BrandTables) -> TurnCase
     requires { desk.now.waiting.items ≡ (ticket, Request.Halt) ∷ drop 1 desk.now.waiting.items }
     ensures decides { next_request brands.now (as_desk desk.now) (as_desk desk.now).waiting (Some row.now) ≡ turn_decision_of desk.now result }
     ensures of { IsTurnOf desk.now result }
@@ -117,7 +117,7 @@ fn begin_case(
     desk: &Desk,
     ticket: u32,
     request: &Request,
-    row: &Record,
+    row: &Row,
     brands: &BrandTables,
 ) -> Result<TurnCase, AllocError>
     requires first { desk.now.waiting.items ≡ (ticket, request.now) ∷ drop 1 desk.now.waiting.items }
@@ -139,7 +139,7 @@ fn begin_case(
 fn first_case(
     alloc: Global,
     desk: &Desk,
-    row: &Record,
+    row: &Row,
     brands: &BrandTables,
 ) -> Result<TurnCase, AllocError>
     ensures decides { IfOk result (λ c. next_request brands.now (as_desk desk.now) (as_desk desk.now).waiting (Some row.now) ≡ turn_decision_of desk.now c) }
@@ -163,7 +163,7 @@ fn again(
     desk: &Desk,
     job: &Job,
     args: &Text,
-    row: &Record,
+    row: &Row,
     brands: &BrandTables,
 ) -> Result<TurnCase, AllocError>
     requires { desk.now.job ≡ Some job.now }
@@ -186,7 +186,7 @@ fn over_case(
     alloc: Global,
     desk: &Desk,
     job: &Job,
-    row: Option<&Record>,
+    row: Option<&Row>,
     brands: &BrandTables,
 ) -> Result<TurnCase, AllocError>
     requires { desk.now.job ≡ Some job.now }
@@ -222,20 +222,20 @@ fn plan_turn(
     zone: &ZoneName,
     desk: &Desk,
     job: &Job,
-    row: Option<&Record>,
+    row: Option<&Row>,
     objects: Objects<'_>,
     system: System<'_>,
 ) -> Result<TurnCase, AllocError>
     requires job { desk.now.job ≡ Some job.now }
     requires goes { job.now.failure ≡ None }
-    requires apart { is_apart (next (as_objects objects) (drop job.now.at job.now.steps.items)) ≡ true }
-    ensures decides { IfOk result (λ c. shared_next (seen_by desk.now (option_map (λ r. r.now) row.entry) objects.entry system.entry) (as_job job.now) (next (as_objects objects.entry) (drop job.now.at job.now.steps.items)) ≡ turn_decision_of desk.now c) }
+    requires apart { is_apart (next (as_objects objects) (drop job.now.at job.now.steps)) ≡ true }
+    ensures decides { IfOk result (λ c. shared_next (seen_by desk.now (option_map (λ r. r.now) row.entry) objects.entry system.entry) (as_job job.now) (next (as_objects objects.entry) (drop job.now.at job.now.steps)) ≡ turn_decision_of desk.now c) }
     ensures of { IfOk result (IsTurnOf desk.now) }
     ensures free { IfOk result (λ c. (ms : List entries.MountEntry) → IsFreeFor (turn_objects c) ms objects.entry.claims.now.claims) }
     ensures named { IfOk result (IsNamedTurn zone.now) }
-    ensures room { is_halt job.now.request ≡ true → list_all is_of_halt (drop job.now.at job.now.steps.items) ≡ true → IsFree turn_takes_room result }
+    ensures room { is_halt job.now.request ≡ true → list_all is_of_halt (drop job.now.at job.now.steps) ≡ true → IsFree turn_takes_room result }
 {
-    match find_ahead(&job.steps, job.at, objects.mounts, objects.claims) {
+    match find_ahead(job.steps.as_slice(), job.at, objects.mounts, objects.claims) {
         Ahead::Nothing => over_case(alloc, desk, job, row, system.brands),
         Ahead::Step(planned, next) => {
             let case = step_case(alloc, zone, job, planned, next, row, objects, system)?;
@@ -280,12 +280,12 @@ fn job_turn(
     zone: &ZoneName,
     desk: &Desk,
     job: &Job,
-    row: Option<&Record>,
+    row: Option<&Row>,
     objects: Objects<'_>,
     system: System<'_>,
 ) -> Result<TurnCase, AllocError>
     requires job { desk.now.job ≡ Some job.now }
-    requires apart { job.now.failure ≡ None → is_apart (next (as_objects objects) (drop job.now.at job.now.steps.items)) ≡ true }
+    requires apart { job.now.failure ≡ None → is_apart (next (as_objects objects) (drop job.now.at job.now.steps)) ≡ true }
     ensures decides { IfOk result (λ c. shared_stage (seen_by desk.now (option_map (λ r. r.now) row.entry) objects.entry system.entry) (as_job job.now) (as_job job.now).stage ≡ turn_decision_of desk.now c) }
     ensures of { IfOk result (IsTurnOf desk.now) }
     ensures free { IfOk result (λ c. (ms : List entries.MountEntry) → IsFreeFor (turn_objects c) ms objects.entry.claims.now.claims) }
@@ -304,7 +304,7 @@ fn shared_case(
     alloc: Global,
     zone: &ZoneName,
     desk: &Desk,
-    row: Option<&Record>,
+    row: Option<&Row>,
     objects: Objects<'_>,
     system: System<'_>,
 ) -> Result<TurnCase, AllocError>
@@ -326,12 +326,12 @@ fn shared_case(
 
 /// What the next turn of a zone's daemon comes to, by the zone's desk and objects, what is stored of it, and what its daemon
 /// finds on the system. The brand of the request under way answers `answer` where it is asked. On the turns of a halt it takes
-/// no memory, and nor does what comes of it: a zone whose halt was accepted is not kept from going down.
+/// no memory, and nor does what comes of it: a zone whose halt was accepted is not kept from going down by its daemon.
 pub fn decide_turn(
     alloc: Global,
     zone: &ZoneName,
     desk: &Desk,
-    row: Option<&Record>,
+    row: Option<&Row>,
     objects: Objects<'_>,
     system: System<'_>,
     answer: HookAnswer,

@@ -1,13 +1,14 @@
 -- What the code's cases decide, as the definitions have it.
-use Rattle.std.specs.Prelude.{◌≡◌, ◌+◌, [], ◌∷◌, map, false, Option, Some}
+use Rattle.std.specs.Prelude.{◌≡◌, ◌≤◌, ◌+◌, [], ◌∷◌, map, false, IfOk, Option, Some}
+use Rattle.zone_pools.specs.declared.grant.Grant.{Grant}
 use Rattle.zn_base.specs.Names.{Name}
-use Rattle.zone_pools.specs.Asked.{A_path, A_pid, A_serial, A_zone}
+use Rattle.zone_pools.specs.Asked.{A_path, A_pid, A_zone}
 use Rattle.zone_pools.specs.Decisions as decisions
-use Rattle.zoneadmd_steps.specs.Arrivals.{A_process, A_record}
+use Rattle.zoneadmd_steps.specs.Arrivals.{A_process, A_record, record_asked}
 use Rattle.zone_machine.specs.State.Decisions.{Decision, done_saying, effects, refused, tells, turned}
 use Rattle.kernel_objects.specs.Processes.{process_of}
 use Rattle.zone_machine.specs.declared.replies.Body.TheVariants.{Child}
-use Rattle.zoneadmd_steps.specs.Code.Cases.{IsNamedTurn, IsTurnOf, object_edits, turn_decision_of}
+use Rattle.zoneadmd_steps.specs.Code.Cases.{IsNamedTurn, IsNumberedTurn, IsTurnOf, object_edits, turn_decision_of}
 use Rattle.zoneadmd_steps.specs.Code.Desks.{as_desk}
 use Rattle.zone_machine.specs.State.Edits.{Here, Of_objects, Set_desk}
 use Rattle.zone_machine.specs.State.{Awaiting}
@@ -26,7 +27,8 @@ use Rattle.zone_machine.specs.declared.replies.Refusal.TheVariants.{Denied}
 -- a zone is made, and its record takes its UUID and its revision from the number
 abbrev pub made : Name → records.Record → Decision
 made z row =
-    decisions.Ask (A_record (λ n. Some (record row { uuid = uuid_of z n; revision = n }))) (A_zone ∷ A_path (path_text row.config.zonepath) ∷ A_serial ∷ [])
+    decisions.Ask (A_record (λ n. Some (record row { uuid = uuid_of z n; revision = n })))
+    (A_zone ∷ A_path (path_text row.config.zonepath) ∷ record_asked (λ n. Some (record row { uuid = uuid_of z n; revision = n })) ∷ [])
     (λ pool. refused (Denied pool)) (λ n. done_saying [] Ok)
 
 -- what an event decides
@@ -44,6 +46,12 @@ abbrev pub IsCaseOf : Desk → Case → Type 0
 IsCaseOf d (Put request owner) = is_full (as_desk d) ≡ false
 IsCaseOf d (Turn c) = IsTurnOf d c
 IsCaseOf d _ = Unit {0}
+
+-- the grant of a case with a new record gives it a number from 1 on
+abbrev pub IsNumbered : Case → Grant → Type 0
+IsNumbered (Make row owner) g = IfOk (decisions.number_in g) (λ n. 1 ≤ n)
+IsNumbered (Turn c) g = IsNumberedTurn c g
+IsNumbered _ g = Unit {0}
 
 abbrev pub IsNamedCase : Name → Case → Type 0
 IsNamedCase z (Make row owner) = owner ≡ z

@@ -92,6 +92,7 @@ common_in s = record {
   up = is_up_in s;
   rows = rows_of s.rows.entries;
   serial = s.serial;
+  used = s.used;
   last_pid = s.kernel.last_pid;
   last_zid = s.kernel.last_zid;
   declared = declared_in s;

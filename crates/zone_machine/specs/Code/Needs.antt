@@ -9,18 +9,23 @@ use Rattle.zone_machine.specs.declared.machine.needs.Need.TheVariants.{Item, Mov
 use Rattle.zn_base.specs.Names.{Name}
 use Rattle.kernel_objects.specs.Shared.{pid_used, zid_used}
 use Rattle.zone_pools.specs.Pools.{Pools}
+use Rattle.commit_journal.specs.Journal.{body_size, fits_after}
 use Rattle.commit_journal.specs.Zones.{rows_of}
 use Rattle.zone_machine.specs.Machine.Pools.{is_installed, is_path, kind_of, of_kind, path_taken}
 use Rattle.commit_journal.specs.declared.records.Record as records
 use Rattle.zone_machine.specs.declared.machine.shared.Shared.{Shared}
 
+-- a record whose length doesn't hang on its number
+abbrev pub sized : ℕ → Asked
+sized size = A_serial (λ n. size)
+
 abbrev pub asked_by : Need → List Asked
 asked_by Nothing = []
 asked_by Pid = A_pid ∷ []
 asked_by Zid = A_zid ∷ []
-asked_by Record = A_serial ∷ []
-asked_by (Moved path) = A_path path.now ∷ A_serial ∷ []
-asked_by (NewZone path) = A_zone ∷ A_path path.now ∷ A_serial ∷ []
+asked_by (Record size) = sized size ∷ []
+asked_by (Moved path size) = A_path path.now ∷ sized size ∷ []
+asked_by (NewZone path size) = A_zone ∷ A_path path.now ∷ sized size ∷ []
 asked_by (Item c) = An_item (pool_of c.now.kind) c.now.item ∷ []
 asked_by (Source z) = A_source z.now ∷ []
 
@@ -39,6 +44,7 @@ pools_in s = record {
   zones = length (rows_of s.rows.entries);
   path_taken = path_taken (rows_of s.rows.entries);
   serial = s.serial;
+  may_store = λ z size. fits_after s.used (body_size z size);
   may_hold = λ z pool item. of_kind (λ c. allows z c s.claims) (kind_of pool) item;
   may_clone = λ z. is_installed (row_in z s) && not (is_up_in s z);
 }

@@ -1,5 +1,5 @@
 -- Room that is taken before anything is changed, and that nothing is changed by taking it.
-use Rattle.std.specs.Prelude.{◌≡◌, ◌⊎◌, ◌<◌, List, [], ◌∷◌, Option, Some, None, bytes_eq, is_some, false, true}
+use Rattle.std.specs.Prelude.{◌≡◌, ◌⊎◌, ◌<◌, List, [], ◌∷◌, length, Option, Some, None, bytes_eq, is_some, false, true}
 use Rattle.datalink_table.specs.Claims.{pool_of}
 use Rattle.indexmap.specs.IndexMap.{get_by, spare}
 use Rattle.loopback_mounts.specs.Mounts.{Mounts}
@@ -7,7 +7,8 @@ use Rattle.zn_base.specs.Names.{Name}
 use Rattle.zone_pools.specs.Asked.{A_pid, A_source, A_zid, An_item, Asked}
 use Rattle.zone_pools.specs.Decisions.{asked_of}
 use Rattle.zone_pools.specs.Owners.{owner}
-use Rattle.zone_pools.specs.Pools.{Pools, has_room}
+use Rattle.zone_pools.specs.Pools.{Pools, has_serial}
+use Rattle.commit_journal.specs.Bodies.{stored_text}
 use Rattle.zoneadmd_steps.specs.Arrivals.{Arrival, New_claim, New_id, New_process, New_record, No_new_thing}
 use Rattle.zone_machine.specs.Code.Cases.{case_active, decision_of}
 use Rattle.zoneadmd_steps.specs.Code.Cases.{IsFreeFor, May_mount, Premise, premise_of}
@@ -50,13 +51,13 @@ abbrev pub HasRoomOf : Option Arrival → Shared → Type 0
 HasRoomOf (Some (New_record row)) s = 0 < spare s.rows
 HasRoomOf _ s = Unit {0}
 
--- no zone holds the number of what came to z, z may hold the item, and a record can be counted
+-- no zone holds the number of what came to z, z may hold the item, and a record can be counted and has room in the store
 abbrev pub IsFreeOf : Name → Option Arrival → Pools → Type 0
 IsFreeOf z None P = Unit {0}
 IsFreeOf z (Some (New_process p)) P = P.pid_used p.pid ≡ false
 IsFreeOf z (Some (New_id i)) P = P.zid_used i.zid ≡ false
 IsFreeOf z (Some (New_claim c)) P = P.may_hold z (pool_of c.kind) c.item ≡ true
-IsFreeOf z (Some (New_record row)) P = has_room P ≡ true
+IsFreeOf z (Some (New_record row)) P = (has_serial P ≡ true) × (P.may_store z (length (stored_text row)) ≡ true)
 IsFreeOf z (Some No_new_thing) P = Unit {0}
 
 -- room for what becomes of the zone's objects, where nothing refuses a mount, and what goes as the last is the last

@@ -11,8 +11,9 @@ use Rattle.zoneadmd_steps.specs.Arrivals.{Arrival, New_claim, New_id, New_proces
 use Rattle.zone_machine.specs.State.Decisions.{Act, acts_world}
 use Rattle.kernel_objects.specs.Processes.{has_pid}
 use Rattle.zoneadmd_steps.specs.Objects.{has_zid}
+use Rattle.commit_journal.specs.Store.{change_text}
 use Rattle.commit_journal.specs.Stored.{Rows, stored, with_stored}
-use Rattle.zone_machine.specs.State.{State}
+use Rattle.zone_machine.specs.State.{State, bytes_used}
 use Rattle.zone_machine.specs.State.Declarations.{Declared}
 use Rattle.zone_machine.specs.State.Worlds.{World, world}
 
@@ -26,6 +27,8 @@ pub record Common : Type 0 where
   pub up : Name → Bool
   pub rows : Rows
   pub serial : ℕ
+  -- how many bytes of the bank are in use
+  pub used : ℕ
   pub last_pid : ℕ
   pub last_zid : ℕ
   pub declared : Declared
@@ -61,6 +64,7 @@ common S = record {
   up = λ z. is_up (world z S);
   rows = stored S.commits;
   serial = length S.commits;
+  used = bytes_used S.commits;
   last_pid = S.last_pid;
   last_zid = S.last_zid;
   declared = S.declared;
@@ -88,7 +92,7 @@ came_common z (Some (New_process p)) c = record c { last_pid = p.pid }
 came_common z (Some (New_id i)) c = record c { last_zid = i.zid }
 came_common z (Some (New_claim k)) c = c
 came_common z (Some No_new_thing) c = c
-came_common z (Some (New_record row)) c = record c { rows = with_stored z row c.rows; serial = c.serial + 1 }
+came_common z (Some (New_record row)) c = record c { rows = with_stored z row c.rows; serial = c.serial + 1; used = c.used + 5 + length (change_text z row) }
 
 -- an act of an event of z, from z's world and what was common
 abbrev pub acts_common : Name → Option ℕ → Act → World → Common → Common

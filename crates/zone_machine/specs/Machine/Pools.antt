@@ -18,8 +18,9 @@ use Rattle.zone_pools.specs.Same.{same_grant}
 use Rattle.zone_pools.specs.declared.grant.Grant.{Grant}
 use Rattle.zone_pools.specs.declared.grant.Grant.TheVariants.{Nothing}
 use Rattle.zone_machine.specs.Machine.{decide, subject}
+use Rattle.commit_journal.specs.Journal.{body_size, fits_after}
 use Rattle.commit_journal.specs.Stored.{Rows, stored}
-use Rattle.zone_machine.specs.State.{State, stored as stored_of}
+use Rattle.zone_machine.specs.State.{State, bytes_used, stored as stored_of}
 use Rattle.kernel_objects.specs.Processes.{has_pid}
 use Rattle.zoneadmd_steps.specs.Objects.{has_zid}
 use Rattle.zone_machine.specs.State.Worlds.{view}
@@ -76,6 +77,7 @@ pools_of S = record {
   zones = length (stored S.commits);
   path_taken = path_taken (stored S.commits);
   serial = length S.commits;
+  may_store = λ z size. fits_after (bytes_used S.commits) (body_size z size);
   may_hold = λ z pool item. of_kind (may_hold S z) (kind_of pool) item;
   may_clone = may_clone S;
 }

@@ -5,9 +5,9 @@ use Rattle.zn_base.specs.Names.{Name, name_of}
 use Rattle.zn_base.specs.declared.values.Value.TheVariants.{Simple}
 use Rattle.zn_base.specs.declared.state.ZoneState.TheVariants.{Configured}
 use Rattle.zone_machine.specs.State.Decisions.{Decision, Effect, done_saying, refused, says}
-use Rattle.zone_pools.specs.Asked.{A_path, A_serial, A_zone}
+use Rattle.zone_pools.specs.Asked.{A_path, A_zone}
 use Rattle.zone_pools.specs.Decisions.{Ask, Just}
-use Rattle.zoneadmd_steps.specs.Arrivals.{A_record}
+use Rattle.zoneadmd_steps.specs.Arrivals.{A_record, record_asked}
 use Rattle.zoneadmd_steps.specs.Desks.{Desk, is_full, with_request}
 use Rattle.zone_machine.specs.State.Edits.{Here, Set_desk}
 use Rattle.loopback_mounts.specs.Mounts.{at_dir, hold_answer, release_answer, with_hold}
@@ -55,7 +55,7 @@ new_record z config n = record { state = Configured; uuid = uuid_of z n; revisio
 abbrev pub make_unless : Name → Contents → Result (Unit {0}) Flaw → Decision
 make_unless z config (Err flaw) = Just (refused (Flawed flaw))
 make_unless z config (Right fine) =
-    Ask (A_record (λ n. Some (new_record z config n))) (A_zone ∷ A_path (path_text config.zonepath) ∷ A_serial ∷ [])
+    Ask (A_record (λ n. Some (new_record z config n))) (A_zone ∷ A_path (path_text config.zonepath) ∷ record_asked (λ n. Some (new_record z config n)) ∷ [])
     (λ pool. refused (Denied pool)) (λ n. done_saying [] Ok)
 
 -- what is committed has no flaw

@@ -4,8 +4,7 @@ ghost use Rattle.std.specs.Prelude.{◌≡◌, ◌<◌, ℕ, IfSome, None, Optio
 ghost use Rattle.indexmap.specs.IndexMap.{spare};
 ghost use Rattle.zn_base.specs.Names.{Name};
 ghost use Rattle.zone_pools.specs.Owners.{owner};
-ghost use Rattle.zone_pools.specs.Pools.{has_room};
-ghost use Rattle.zone_machine.specs.Code.Cases.{IsCaseOf, IsNamedCase, decision_of};
+ghost use Rattle.zone_machine.specs.Code.Cases.{IsCaseOf, IsNamedCase, IsNumbered, decision_of};
 ghost use Rattle.zoneadmd_steps.specs.Code.Cases.{object_edits};
 ghost use Rattle.zone_machine.specs.Code.Works.{IsNamedWork, rest_of, sits, told_by, work_world};
 ghost use Rattle.zoneadmd_steps.specs.Code.Works.{arrival_of, gone_by};
@@ -32,6 +31,7 @@ use crate::machine::work::{Sitting, Work};
 use crate::maps::put;
 use crate::replies::Reply;
 use crate::session::waits::{end_waits, wait};
+use commit_journal::body_length;
 use datalink_table::Claim;
 use loopback_mounts::Mount;
 use std::alloc::Global;
@@ -43,20 +43,22 @@ use zoneadmd_steps::{Gone, Limits, ObjectEdit, Stored};
 // What is stored of the zone from now on.
 #[inline(never)]
 fn store(cell: &Cell, shared: &mut Shared, stored: Stored)
-    requires free { has_room (pools_in shared.old) ≡ true }
+    requires free { IsFreeOf stored.owner (Some (New_record (Some stored.row.value))) (pools_in shared.old) }
     requires room { 0 < spare shared.old.rows }
     ensures does { Does stored.owner (comes_world (New_record (Some stored.row.value))) (came_common stored.owner (Some (New_record (Some stored.row.value)))) cell.now shared.old cell.now shared.new }
     ensures sessions { shared.new.sessions ≡ shared.old.sessions }
     ensures ups { shared.new.ups ≡ shared.old.ups }
     ensures brands { shared.new.brands ≡ shared.old.brands }
 {
-    put(&mut shared.rows, stored.owner, Box::into_inner(stored.row));
+    let row = Box::into_inner(stored.row);
+    shared.used += 5 + body_length(&stored.owner, Some(row.record())) as u32;
     shared.serial += 1;
+    put(&mut shared.rows, stored.owner, row);
 }
 
 // What is stored of the zone, if that changes.
 fn store_some(cell: &Cell, shared: &mut Shared, stored: Option<Stored>)
-    requires free { (z : Name) → IsFreeOf z (arrival_of stored) (pools_in shared.old) }
+    requires free { IfSome stored (λ s. IsFreeOf s.owner (arrival_of stored) (pools_in shared.old)) }
     requires room { HasRoomOf (arrival_of stored) shared.old }
     ensures does { (z : Name) → IfSome stored (λ s. s.owner ≡ z) → Does z (after_came_world (arrival_of stored)) (came_common z (arrival_of stored)) cell.now shared.old cell.now shared.new }
     ensures sessions { shared.new.sessions ≡ shared.old.sessions }
@@ -379,7 +381,7 @@ fn carry_out(
     number: Option<u8>,
     work: Work,
 ) -> Reply
-    requires free { (z : Name) → IsFreeOf z (arrival_of work.stored) (pools_in shared.old) }
+    requires free { IfSome work.stored (λ s. IsFreeOf s.owner (arrival_of work.stored) (pools_in shared.old)) }
     requires stored { HasRoomOf (arrival_of work.stored) shared.old }
     requires objects { HasRoomToChange work.objects cell.old }
     requires sits { IfSome work.sits (λ s. HasRoomToSit cell.old shared.old) }
@@ -408,6 +410,8 @@ pub(crate) fn perform(
 ) -> Reply
     requires of { IsCaseOf cell.old.desk case }
     requires room { HasRoom zone.now case cell.old shared.old }
+    requires named { IsNamedCase zone.now case }
+    requires numbered { IsNumbered case grant }
     requires free { IsFreeOf zone.now (in_store (act_of (decision_of cell.old.desk case) grant).came) (pools_in shared.old) }
     ensures reply { result ≡ (act_of (decision_of cell.old.desk case) grant).effect.reply }
     ensures does { IsNamedCase zone.now case → IfSome number (λ n. IsOpenTo zone.now (owner nat_eq shared.old.sessions n))

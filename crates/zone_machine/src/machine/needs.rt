@@ -1,4 +1,9 @@
 //! What a case asks of the pools.
+ghost use Rattle.commit_journal.specs.Uuids.{uuid_of};
+ghost use Rattle.config_terms.specs.Fields.{path_text};
+ghost use Rattle.zn_base.specs.Names.{Name};
+ghost use Rattle.zone_pools.specs.Asked.{A_path, A_zone};
+ghost use Rattle.zoneadmd_steps.specs.Arrivals.{record_asked};
 ghost use Rattle.std.specs.Prelude.{◌∷◌, ◌≡◌, []};
 ghost use Rattle.zone_pools.specs.Decisions.{asked_of};
 ghost use Rattle.zone_machine.specs.Code.Cases.{IsCaseOf, decision_of};
@@ -9,6 +14,7 @@ ghost use Rattle.zoneadmd_steps.specs.declared.desks.Desk as desk_types;
 ghost use Rattle.zoneadmd_steps.specs.declared.desks.Job as job_types;
 
 use crate::cases::Case;
+use commit_journal::{Row, record_length};
 use datalink_table::Claim;
 use zn_base::ZoneName;
 use zone_config::Property;
@@ -20,16 +26,46 @@ pub(crate) enum Need<'c> {
     Nothing,
     Pid,
     Zid,
-    /// A record of a zone that is stored.
-    Record,
-    /// A record of a zone that is stored, with a path that is new to it.
-    Moved(&'c [u8]),
-    /// A record of a new zone, with its path.
-    NewZone(&'c [u8]),
+    /// A record of a zone that is stored, and how many bytes that has.
+    Record(usize),
+    /// A record of a zone that is stored, with a path that is new to it, and its bytes.
+    Moved(&'c [u8], usize),
+    /// A record of a new zone, with its path, and its bytes.
+    NewZone(&'c [u8], usize),
     /// An item that a zone would hold.
     Item(&'c Claim),
     /// A zone that would be cloned.
     Source(&'c ZoneName),
+}
+
+// A record of a zone that is stored. How long it is doesn't hang on its number.
+fn record_need(row: &Row) -> Need<'_>
+    ensures same { asked_by result ≡ record_asked (λ n. Some row.now) ∷ [] }
+    ensures numbered { asked_by result ≡ record_asked (λ n. Some (record row.now { revision = n })) ∷ [] }
+{
+    Need::Record(record_length(row.record()))
+}
+
+// A record of a zone that is stored, with a path that is new to it.
+fn moved_need(row: &Row) -> Need<'_>
+    ensures { asked_by result ≡ A_path (path_text row.now.config.zonepath) ∷ record_asked (λ n. Some (record row.now { revision = n })) ∷ [] }
+{
+    let stored = row.record();
+    Need::Moved(
+        stored.config.shown(Property::Zonepath),
+        record_length(stored),
+    )
+}
+
+// A record of a new zone, with its path.
+fn zone_need(row: &Row) -> Need<'_>
+    ensures { (z : Name) → asked_by result ≡ A_zone ∷ A_path (path_text row.now.config.zonepath) ∷ record_asked (λ n. Some (record row.now { uuid = uuid_of z n; revision = n })) ∷ [] }
+{
+    let stored = row.record();
+    Need::NewZone(
+        stored.config.shown(Property::Zonepath),
+        record_length(stored),
+    )
 }
 
 fn came_need(it: &Came) -> Need<'_>
@@ -39,8 +75,14 @@ fn came_need(it: &Came) -> Need<'_>
         Came::Process(_, _) => Need::Pid,
         Came::Id => Need::Zid,
         Came::Claim(claim) => Need::Item(claim),
-        Came::Record(_, _) | Came::Moved(_, _, false) => Need::Record,
-        Came::Moved(row, _, true) => Need::Moved(row.config.shown(Property::Zonepath)),
+        Came::Record(row, _) => record_need(row),
+        Came::Moved(row, _, is_new) => {
+            if *is_new {
+                moved_need(row)
+            } else {
+                record_need(row)
+            }
+        }
         Came::Source(source) => Need::Source(source),
     }
 }
@@ -80,7 +122,7 @@ pub(crate) fn need_of(case: &Case) -> Need<'_>
     match case {
         Case::Says(_) | Case::Tells(_) | Case::Change(_) => Need::Nothing,
         Case::Fork(_) => Need::Pid,
-        Case::Make(row, _) => Need::NewZone(row.config.shown(Property::Zonepath)),
+        Case::Make(row, _) => zone_need(row),
         Case::Put(_, _) => Need::Nothing,
         Case::Turn(case) => turn_need(case),
     }

@@ -4,7 +4,7 @@ ghost use Rattle.std.specs.Prelude.{◌≡◌, ◌<◌, [], IfErr, IfOk, IsOkUnl
 ghost use Rattle.indexmap.specs.IndexMap.{get_by, spare};
 ghost use Rattle.zn_base.specs.Names.{Name};
 ghost use Rattle.zone_pools.specs.Pools.{Pools};
-ghost use Rattle.zone_machine.specs.Code.Cases.{decision_of};
+ghost use Rattle.zone_machine.specs.Code.Cases.{IsNumbered, decision_of};
 ghost use Rattle.zone_machine.specs.Code.Cells.{IsHeardIn, Keeps, Outside, Stands, cell_at, cell_world, empty_world, outside_in, row_in, world_or_empty};
 ghost use Rattle.zone_machine.specs.Code.Needs.{pools_in};
 ghost use Rattle.zone_machine.specs.Code.Reads.{IsRightRead, decide_read, global_read, is_turn, is_turn_read, subject_in};
@@ -180,6 +180,7 @@ impl Parts {
         requires at { IsCellAt self.old at zone.now }
         requires case { (c : cell_types.Cell) → cell_at zone.now self.old ≡ Some c → IsCaseIn zone.now (outside_in zone.now self.old.shared) c (λ v. decide v event.now) case }
         requires free { (c : cell_types.Cell) → cell_at zone.now self.old ≡ Some c → IsFreeOf zone.now (act_of (decision_of c.desk case) grant).came (pools_in self.old.shared) }
+        requires numbered { IsNumbered case grant }
         ensures step { IfOk result (λ reply. IsStep self.old event.now grant (entry_of (Zone zone.now) event.now grant reply) self.new) }
         ensures memory { OnErr result (AsItWas self.old self.new) }
         ensures brands { self.new.shared.brands ≡ self.old.shared.brands }
@@ -237,6 +238,7 @@ impl Parts {
         requires nothing { (out : Outside) → cell_world out cell.value ≡ empty_world out }
         requires case { IsCaseIn zone.now (outside_in zone.now self.old.shared) cell.value (λ v. decide v event.now) case }
         requires free { IsFreeOf zone.now (act_of (decision_of cell.value.desk case) grant).came (pools_in self.old.shared) }
+        requires numbered { IsNumbered case grant }
         ensures step { IfOk result (λ reply. IsStep self.old event.now grant (entry_of (Zone zone.now) event.now grant reply) self.new) }
         ensures memory { OnErr result (AsItWas self.old self.new) }
         ensures brands { self.new.shared.brands ≡ self.old.shared.brands }

@@ -3,18 +3,18 @@ ghost use Rattle.std.specs.Prelude.{◌≡◌, ◌&&◌, ◌∷◌, [], ◌+◌,
 ghost use Rattle.std.specs.List.{list_any};
 ghost use Rattle.datalink_table.specs.Shared.{ask_answer};
 ghost use Rattle.zone_machine.specs.Code.Cells.{row_in};
-ghost use Rattle.zone_pools.specs.Asked.{A_path, A_serial, A_source, A_zone, An_item};
+ghost use Rattle.zone_pools.specs.Asked.{A_path, A_source, A_zone, An_item};
 ghost use Rattle.commit_journal.specs.Zones.{rows_of};
 ghost use Rattle.datalink_table.specs.Claims.{pool_of};
 ghost use Rattle.zn_base.specs.Names.{Name};
-ghost use Rattle.zone_machine.specs.Code.Needs.{pools_in, takes_path, asked_by};
+ghost use Rattle.zone_machine.specs.Code.Needs.{asked_by, pools_in, sized, takes_path};
 ghost use Rattle.zone_machine.specs.Machine.Pools.{is_path, path_taken};
-ghost use Rattle.zone_pools.specs.Pools.{fits_asked, fits_pool, has_place, has_room, is_pool, said_by_all};
+ghost use Rattle.zone_pools.specs.Pools.{fits_asked, fits_pool, has_place, has_room, has_serial, is_pool, said_by_all};
 
 use crate::machine::needs::Need;
 use crate::machine::shared::Shared;
 use crate::machine::ups::is_up;
-use commit_journal::Record;
+use commit_journal::{Row, fits as fits_in_bank};
 use datalink_table::Claim;
 use indexmap::IndexMap;
 use zn_base::{AbsPath, ZoneName, ZoneState};
@@ -29,7 +29,7 @@ fn is_path(path: &[u8], own: &Option<AbsPath>) -> bool
     }
 }
 
-fn is_taken_at(rows: &IndexMap<ZoneName, Record>, at: usize, zone: &ZoneName, path: &[u8]) -> bool
+fn is_taken_at(rows: &IndexMap<ZoneName, Row>, at: usize, zone: &ZoneName, path: &[u8]) -> bool
     ensures { result ≡ takes_path zone.now path.now (slice_get rows.now.entries at) }
 {
     match rows.get_index(at) {
@@ -38,7 +38,7 @@ fn is_taken_at(rows: &IndexMap<ZoneName, Record>, at: usize, zone: &ZoneName, pa
     }
 }
 
-fn path_taken(rows: &IndexMap<ZoneName, Record>, zone: &ZoneName, path: &[u8]) -> bool
+fn path_taken(rows: &IndexMap<ZoneName, Row>, zone: &ZoneName, path: &[u8]) -> bool
     ensures { result ≡ path_taken (rows_of rows.now.entries) zone.now path.now }
 {
     for at in 0..rows.len() {
@@ -57,25 +57,25 @@ fn has_place(shared: &Shared) -> bool
     shared.rows.len() < ZONES_MAX
 }
 
-/// Whether one more record can be counted.
-pub(crate) fn has_room(shared: &Shared) -> bool
-    ensures { result ≡ has_room (pools_in shared.now) }
+// Whether one more record of a zone can be counted, with so many bytes, and the bank has room for it.
+fn may_store(shared: &Shared, zone: &ZoneName, size: usize) -> bool
+    ensures { result ≡ (has_serial (pools_in shared.now) && (pools_in shared.now).may_store zone.now size) }
 {
-    shared.serial < SERIAL_MAX
+    shared.serial < SERIAL_MAX && fits_in_bank(shared.used, zone, size)
 }
 
-fn next_serial(shared: &Shared) -> Grant
-    ensures { result ≡ (if has_room (pools_in shared.now) then Grant.Number (shared.now.serial + 1) else Grant.Denied Pool.Store) }
+fn next_serial(shared: &Shared, zone: &ZoneName, size: usize) -> Grant
+    ensures { result ≡ (if has_room (pools_in shared.now) zone.now (λ _. size) (shared.now.serial + 1) then Grant.Number (shared.now.serial + 1) else Grant.Denied Pool.Store) }
 {
-    if has_room(shared) {
+    if shared.serial < SERIAL_MAX && fits_in_bank(shared.used, zone, size) {
         Grant::Number(shared.serial + 1)
     } else {
         Grant::Denied(Pool::Store)
     }
 }
 
-fn new_zone(shared: &Shared, zone: &ZoneName, path: &[u8]) -> Grant
-    ensures { result ≡ said_by_all (pools_in shared.now) zone.now (A_zone ∷ A_path path.now ∷ A_serial ∷ []) Grant.Nothing }
+fn new_zone(shared: &Shared, zone: &ZoneName, path: &[u8], size: usize) -> Grant
+    ensures { result ≡ said_by_all (pools_in shared.now) zone.now (A_zone ∷ A_path path.now ∷ sized size ∷ []) Grant.Nothing }
 {
     if !has_place(shared) {
         return Grant::Denied(Pool::Zones);
@@ -83,17 +83,17 @@ fn new_zone(shared: &Shared, zone: &ZoneName, path: &[u8]) -> Grant
     if path_taken(&shared.rows, zone, path) {
         return Grant::Denied(Pool::Paths);
     }
-    next_serial(shared)
+    next_serial(shared, zone, size)
 }
 
 // A path that is new to a zone that is stored, and a record of it.
-fn new_path(shared: &Shared, zone: &ZoneName, path: &[u8]) -> Grant
-    ensures { result ≡ said_by_all (pools_in shared.now) zone.now (A_path path.now ∷ A_serial ∷ []) Grant.Nothing }
+fn new_path(shared: &Shared, zone: &ZoneName, path: &[u8], size: usize) -> Grant
+    ensures { result ≡ said_by_all (pools_in shared.now) zone.now (A_path path.now ∷ sized size ∷ []) Grant.Nothing }
 {
     if path_taken(&shared.rows, zone, path) {
         return Grant::Denied(Pool::Paths);
     }
-    next_serial(shared)
+    next_serial(shared, zone, size)
 }
 
 // An item that a zone would hold.
@@ -131,9 +131,9 @@ pub(crate) fn grant_for(shared: &Shared, zone: &ZoneName, need: &Need) -> Grant
         Need::Nothing => Grant::Nothing,
         Need::Pid => shared.kernel.next_pid(),
         Need::Zid => shared.kernel.next_zid(),
-        Need::Record => next_serial(shared),
-        Need::Moved(path) => new_path(shared, zone, path),
-        Need::NewZone(path) => new_zone(shared, zone, path),
+        Need::Record(size) => next_serial(shared, zone, *size),
+        Need::Moved(path, size) => new_path(shared, zone, path, *size),
+        Need::NewZone(path, size) => new_zone(shared, zone, path, *size),
         Need::Item(claim) => item(shared, zone, claim),
         Need::Source(name) => source(shared, zone, name),
     }
@@ -146,30 +146,30 @@ fn asks_pool(need: &Need, pool: Pool) -> bool
         Need::Nothing => false,
         Need::Pid => pool == Pool::Pids,
         Need::Zid => pool == Pool::Zids,
-        Need::Record => pool == Pool::Store,
-        Need::Moved(_) => pool == Pool::Paths || pool == Pool::Store,
-        Need::NewZone(_) => pool == Pool::Zones || pool == Pool::Paths || pool == Pool::Store,
+        Need::Record(_) => pool == Pool::Store,
+        Need::Moved(_, _) => pool == Pool::Paths || pool == Pool::Store,
+        Need::NewZone(_, _) => pool == Pool::Zones || pool == Pool::Paths || pool == Pool::Store,
         Need::Item(claim) => pool == claim.kind.pool(),
         Need::Source(_) => pool == Pool::Source,
     }
 }
 
-fn serial_fits(shared: &Shared, number: u32) -> bool
-    ensures { result ≡ fits_pool (pools_in shared.now) number A_serial }
+fn serial_fits(shared: &Shared, zone: &ZoneName, size: usize, number: u32) -> bool
+    ensures { result ≡ fits_pool (pools_in shared.now) zone.now number (sized size) }
 {
-    number >= 1 && has_room(shared)
+    number >= 1 && may_store(shared, zone, size)
 }
 
-fn number_fits(shared: &Shared, need: &Need, number: u32) -> bool
-    ensures { (z : Name) → result ≡ fits_asked (pools_in shared.now) z (asked_by need.now) (Grant.Number number) }
+fn number_fits(shared: &Shared, zone: &ZoneName, need: &Need, number: u32) -> bool
+    ensures { result ≡ fits_asked (pools_in shared.now) zone.now (asked_by need.now) (Grant.Number number) }
 {
     match need {
         Need::Nothing => false,
         Need::Pid => shared.kernel.pid_free(number),
         Need::Zid => shared.kernel.zid_free(number),
-        Need::Record | Need::Moved(_) => serial_fits(shared, number),
+        Need::Record(size) | Need::Moved(_, size) => serial_fits(shared, zone, *size, number),
         Need::Item(_) | Need::Source(_) => false,
-        Need::NewZone(_) => has_place(shared) && serial_fits(shared, number),
+        Need::NewZone(_, size) => has_place(shared) && serial_fits(shared, zone, *size, number),
     }
 }
 
@@ -193,7 +193,7 @@ pub(crate) fn fits(shared: &Shared, zone: &ZoneName, need: &Need, grant: Grant) 
 {
     match grant {
         Grant::Nothing => matches!(need, Need::Nothing),
-        Grant::Number(number) => number_fits(shared, need, number),
+        Grant::Number(number) => number_fits(shared, zone, need, number),
         Grant::Yes => yes_fits(shared, zone, need),
         Grant::Denied(pool) => asks_pool(need, pool),
     }

@@ -44,7 +44,7 @@ fn room_to_store(shared: &mut Shared, need: Need<'_>) -> Result<(), AllocError>
 {
     match need {
         Need::Nothing | Need::Pid | Need::Zid | Need::Item(_) | Need::Source(_) => Ok(()),
-        Need::Record | Need::Moved(_) | Need::NewZone(_) => shared.rows.reserve(1),
+        Need::Record(_) | Need::Moved(_, _) | Need::NewZone(_, _) => shared.rows.reserve(1),
     }
 }
 

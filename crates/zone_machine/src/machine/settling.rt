@@ -1,7 +1,7 @@
 //! How a case is settled: the desk changes, and what else is to be done is told. No memory is taken, and nothing fails.
-ghost use Rattle.std.specs.Prelude.{◌+◌, ◌<◌, ◌≡◌, IfSome, None, Option, Some, false, true, ℕ};
+ghost use Rattle.std.specs.Prelude.{◌+◌, ◌<◌, ◌≤◌, ◌≡◌, IfOk, IfSome, None, Option, Some, false, true, ℕ};
 ghost use Rattle.zn_base.specs.Names.{Name};
-ghost use Rattle.zone_machine.specs.Code.Cases.{IsCaseOf, IsNamedCase, case_active, decision_of, made};
+ghost use Rattle.zone_machine.specs.Code.Cases.{IsCaseOf, IsNamedCase, IsNumbered, case_active, decision_of, made};
 ghost use Rattle.std.specs.List.{list_all};
 ghost use Rattle.zoneadmd_steps.specs.Code.Cases.{object_edits, premise_of};
 ghost use Rattle.zoneadmd_steps.specs.Local.{is_of_own};
@@ -9,6 +9,7 @@ ghost use Rattle.zone_machine.specs.Code.Rooms.{HasRoomFor};
 ghost use Rattle.zoneadmd_steps.specs.Code.Rooms.{HasRequestRoom};
 ghost use Rattle.zone_machine.specs.Code.Works.{IsNamedWork, Works, objects_of, rest_of, sitting_of};
 ghost use Rattle.zone_machine.specs.State.Decisions.{act_of, says};
+ghost use Rattle.zone_pools.specs.Decisions.{number_in};
 ghost use Rattle.zoneadmd_steps.specs.Desks as desks;
 ghost use Rattle.zoneadmd_steps.specs.Code.Desks.{as_desk};
 ghost use Rattle.zoneadmd_steps.specs.Desks.{is_full, with_request};
@@ -18,7 +19,7 @@ ghost use Rattle.zoneadmd_steps.specs.declared.desks.Desk as desk_types;
 use crate::cases::Case;
 use crate::machine::work::{Sitting, Work};
 use crate::replies::{Body, Head, Refusal};
-use commit_journal::{Record, uuid_of};
+use commit_journal::{Row, uuid_of};
 use kernel_objects::Running;
 use std::alloc::Global;
 use zn_base::ZoneName;
@@ -26,7 +27,8 @@ use zone_pools::{Grant, number_in};
 use zoneadmd_steps::{Desk, ObjectEdit, QueuedRequest, Stored, settle_turn};
 
 // A zone is made, where the grant gives its record a number.
-fn make(row: Box<Record>, owner: ZoneName, grant: Grant) -> Work
+fn make(row: Box<Row>, owner: ZoneName, grant: Grant) -> Work
+    requires { IfOk (number_in grant) (λ n. 1 ≤ n) }
     ensures works { (n : Option ℕ) (v : World) (d : desks.Desk) → v.desk ≡ d → Works n (rest_of (act_of (made owner row.value) grant)) v d result }
     ensures objects { result.objects ≡ ObjectEdit.Nothing }
     ensures sits { result.sits ≡ None }
@@ -35,8 +37,8 @@ fn make(row: Box<Record>, owner: ZoneName, grant: Grant) -> Work
     match number_in(grant) {
         Ok(number) => {
             let mut row = row;
-            row.uuid = uuid_of(&owner, number);
-            row.revision = number;
+            row.set_uuid(uuid_of(&owner, number));
+            row.set_revision(number);
             Work {
                 stored: Some(Stored { row, owner }),
                 ..Work::saying(Head::Ok)
@@ -78,6 +80,7 @@ fn put(desk: &mut Desk, request: QueuedRequest, owner: ZoneName) -> Work
 pub(crate) fn settle(alloc: Global, desk: &mut Desk, case: Case, grant: Grant) -> Work
     requires of { IsCaseOf desk.old case }
     requires room { HasRoomFor desk.old case }
+    requires numbered { IsNumbered case grant }
     ensures works { (n : Option ℕ) (v : World) → v.desk ≡ as_desk desk.old
         → Works n (rest_of (act_of (decision_of desk.old case) grant)) v (as_desk desk.new) result }
     ensures objects { premise_of result.objects ≡ premise_of (objects_of case) }

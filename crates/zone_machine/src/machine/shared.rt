@@ -5,7 +5,7 @@ ghost use Rattle.zone_machine.specs.Machine.Common.{common};
 ghost use Rattle.zone_machine.specs.Machine.{opening};
 
 use brand_hooks::BrandTables;
-use commit_journal::Record;
+use commit_journal::Row;
 use datalink_table::ClaimShared;
 use indexmap::IndexMap;
 use kernel_objects::KernelShared;
@@ -21,9 +21,10 @@ pub struct Shared {
     /// The zone that each session waits in. Those that aren't there are idle.
     pub(crate) sessions: Owners<u8>,
     /// The stored zones, in the order of their creation.
-    pub(crate) rows: IndexMap<ZoneName, Record>,
-    /// How many records were stored.
+    pub(crate) rows: IndexMap<ZoneName, Row>,
+    /// How many records were stored, and how many bytes of the bank are in use.
     pub(crate) serial: u32,
+    pub(crate) used: u32,
     /// Whether an event has come that is no declaration.
     pub(crate) started: bool,
     /// The zones whose state is none of the stored ones, and perhaps others, of which it says that theirs is a stored one.
@@ -44,6 +45,8 @@ impl Shared {
             sessions: Owners::new(alloc),
             rows: IndexMap::new(alloc),
             serial: 0,
+            // The closed gate.
+            used: 1,
             started: false,
             ups: IndexMap::new(alloc),
             brands,

@@ -1,7 +1,7 @@
 //! One event of a zone, on its cell and on the shared part: it is read, its case is decided, its grant is found or
 //! looked at, room is taken, and only then anything is changed.
 ghost use Rattle.std.specs.Prelude.{◌≡◌, ◌⊎◌, IfOk, IsErrOf, IsOkUnless, None, OnErr, OnOk, Option, Some, nat_eq, true, ℕ};
-ghost use Rattle.zone_machine.specs.Code.Cases.{IsCaseOf, decision_of};
+ghost use Rattle.zone_machine.specs.Code.Cases.{IsCaseOf, IsNumbered, decision_of};
 ghost use Rattle.zone_machine.specs.Code.Cells.{is_up_in, Does, IsHeardIn, cell_world, outside_in};
 ghost use Rattle.zone_machine.specs.Code.Needs.{pools_in};
 ghost use Rattle.zone_machine.specs.Code.Reads.{IsRightRead, decide_read, is_turn, is_turn_read};
@@ -161,6 +161,7 @@ pub(crate) fn perform_case(
 ) -> Result<Reply, AllocError>
     requires case { IsCaseIn zone.now (outside_in zone.now shared.old) cell.old (λ v. decide v event.now) case }
     requires free { IsFreeOf zone.now (act_of (decision_of cell.old.desk case) grant).came (pools_in shared.old) }
+    requires numbered { IsNumbered case grant }
     ensures step { IfOk result (λ reply. IsCellStep zone.now cell.old shared.old event.now grant (entry_of (Zone zone.now) event.now grant reply) cell.new shared.new) }
     ensures memory { OnErr result (Alike cell.old shared.old cell.new shared.new) }
     ensures brands { shared.new.brands ≡ shared.old.brands }

@@ -1,5 +1,5 @@
 //! What the lines come to that sessions type.
-ghost use Rattle.std.specs.Prelude.{◌∷◌, ◌≡◌, [], IfOk, IfSome, IsTrue, List, MatchBool, MatchOption, None, Ok, Option, false, true, ℕ};
+ghost use Rattle.std.specs.Prelude.{◌∷◌, ◌≡◌, [], IfOk, IfSome, IsSome, IsTrue, List, MatchBool, MatchOption, None, Ok, Option, false, true, ℕ};
 ghost use Rattle.std.specs.Result.{result_ok};
 ghost use Rattle.std.specs.Option.{option_map, unwrap_or};
 ghost use Rattle.zn_base.specs.Text.{is_text};
@@ -31,7 +31,7 @@ use crate::machine::cell::Cell;
 use crate::replies::{Head, Refusal};
 use crate::session::lines::{Command, split_word};
 use brand_hooks::BrandTables;
-use commit_journal::Record;
+use commit_journal::{Record, Row};
 use config_terms::ConfigFault;
 use config_verify::{Flaw, verify};
 use loopback_mounts::{HoldFault, MountCell};
@@ -90,23 +90,25 @@ fn made_config(alloc: Global, path: &[u8], brand: &[u8]) -> Result<Option<ZoneCo
 
 // A zone is made with a configuration that has no flaw.
 fn make_verified(alloc: Global, zone: &ZoneName, config: ZoneConfig) -> Result<Case, AllocError>
+    requires { IsSome config.zonepath }
     ensures decides { IfOk result (λ c. (d : desk_types.Desk) → make_unless zone.now config (Ok record {}) ≡ decision_of d c) }
     ensures of { IfOk result (λ c. (d : desk_types.Desk) → IsCaseOf d c) }
     ensures named { IfOk result (IsNamedCase zone.now) }
     ensures free { IfOk result MountsNothing }
 {
-    let row = Record {
+    let row = Row::new(Record {
         state: ZoneState::Configured,
         // The grant gives the UUID and the revision.
         uuid: Uuid::nil(),
-        revision: 0,
+        revision: 1,
         config,
-    };
+    });
     let row = Box::new(alloc, row)?;
     Ok(Case::Make(row, zone.copy(alloc)?))
 }
 
 // A zone is made with a configuration.
+#[tactic(auto, using(crate::proofs::Made::has_zonepath))]
 fn make_with(
     alloc: Global,
     zone: &ZoneName,
@@ -134,7 +136,7 @@ fn make_case(
     alloc: Global,
     zone: &ZoneName,
     brands: &BrandTables,
-    row: Option<&Record>,
+    row: Option<&Row>,
     path: &[u8],
     brand: &[u8],
 ) -> Result<Case, AllocError>
@@ -157,7 +159,7 @@ fn put_case(
     alloc: Global,
     zone: &ZoneName,
     desk: &Desk,
-    row: Option<&Record>,
+    row: Option<&Row>,
     request: Request,
 ) -> Result<Case, AllocError>
     ensures decides { IfOk result (λ c. Just (put_request (as_desk desk.now) request (option_map (λ r. r.now) row.entry)) ≡ decision_of desk.now c) }
@@ -224,7 +226,7 @@ fn clone_case(
     alloc: Global,
     zone: &ZoneName,
     desk: &Desk,
-    row: Option<&Record>,
+    row: Option<&Row>,
     word: &[u8],
 ) -> Result<Case, AllocError>
     ensures decides { IfOk result (λ c. Just (put_clone (as_desk desk.now) (name_of word.now) (option_map (λ r. r.now) row.entry)) ≡ decision_of desk.now c) }
@@ -288,7 +290,7 @@ fn holding_at(dir: AbsPath, held: bool) -> ObjectEdit
 fn hold_case(
     alloc: Global,
     mounts: &MountCell,
-    row: Option<&Record>,
+    row: Option<&Row>,
     word: &[u8],
     held: bool,
 ) -> Result<Case, AllocError>
@@ -314,7 +316,7 @@ fn plain_case(
     alloc: Global,
     zone: &ZoneName,
     desk: &Desk,
-    row: Option<&Record>,
+    row: Option<&Row>,
     kind: RequestKind,
 ) -> Result<Case, AllocError>
     ensures decides { IfOk result (λ c. (v : View) → v.world.stored ≡ option_map (λ r. r.now) row.entry → v.world.desk ≡ as_desk desk.now
@@ -335,7 +337,7 @@ fn idle_case(
     zone: &ZoneName,
     cell: &Cell,
     brands: &BrandTables,
-    row: Option<&Record>,
+    row: Option<&Row>,
     command: Command<'_>,
 ) -> Result<Case, AllocError>
     requires { IsRight (as_command command) }
@@ -388,7 +390,7 @@ pub(crate) fn decide_line(
     zone: &ZoneName,
     cell: &Cell,
     brands: &BrandTables,
-    row: Option<&Record>,
+    row: Option<&Row>,
     awaited: Option<u32>,
     command: Command<'_>,
 ) -> Result<Case, AllocError>

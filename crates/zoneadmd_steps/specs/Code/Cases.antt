@@ -1,5 +1,6 @@
 -- What the code's cases of a turn decide, as the definitions have it.
-use Rattle.std.specs.Prelude.{◌≡◌, ℕ, ◌<◌, ◌-◌, List, [], ◌∷◌, drop, length, slice_get, Bool, true, false, Option, Some, None, Ok, IsSomeAnd, if◌then◌else◌}
+use Rattle.std.specs.Prelude.{◌≡◌, ℕ, ◌<◌, ◌≤◌, ◌-◌, List, [], ◌∷◌, drop, length, slice_get, Bool, true, false, Option, Some, None, Ok, IfOk, IsSomeAnd, if◌then◌else◌}
+use Rattle.zone_pools.specs.declared.grant.Grant.{Grant}
 use Rattle.std.specs.Option.{option_map}
 use Rattle.brand_hooks.specs.Brands.{Tabled, answer_of}
 use Rattle.brand_hooks.specs.declared.change.Change.{Change}
@@ -14,11 +15,11 @@ use Rattle.loopback_mounts.specs.Mounts.{at_dir, before, is_at, last_of, mount_a
 use Rattle.loopback_mounts.specs.declared.mount.MountEntry.{MountEntry}
 use Rattle.zn_base.specs.Names.{Name}
 use Rattle.zn_base.specs.declared.state.ZoneState.{ZoneState}
-use Rattle.zone_pools.specs.Asked.{A_path, A_pid, A_serial, A_source, A_zid, An_item, Asked}
+use Rattle.zone_pools.specs.Asked.{A_path, A_pid, A_source, A_zid, An_item, Asked}
 use Rattle.zone_pools.specs.Decisions as decisions
 use Rattle.zone_pools.specs.Firsts.{first_of}
 use Rattle.zone_pools.specs.Owned_lists.{Change as Change_each, Go, Put}
-use Rattle.zoneadmd_steps.specs.Arrivals.{A_claim, A_process, A_record, An_id, Comes, No_thing}
+use Rattle.zoneadmd_steps.specs.Arrivals.{A_claim, A_process, A_record, An_id, Comes, No_thing, record_asked}
 use Rattle.zoneadmd_steps.specs.Desks as desks
 use Rattle.zoneadmd_steps.specs.Desks.{Fails, Goes, Stage}
 use Rattle.zoneadmd_steps.specs.Objects.{ids_of, Devices_are, Ids_change, Ids_go, Last_claim_goes, Object_edit, Of_mounts, Process_goes, Processes_change, Processes_go, all_of}
@@ -81,8 +82,10 @@ abbrev pub asked_for : Came → List Asked
 asked_for (Process p args) = A_pid ∷ []
 asked_for Id = A_zid ∷ []
 asked_for (Claim c) = An_item (pool_of c.kind) c.item ∷ []
-asked_for (Record r owner) = A_serial ∷ []
-asked_for (Moved r owner new) = if new then A_path (path_text r.value.config.zonepath) ∷ A_serial ∷ [] else A_serial ∷ []
+asked_for (Record r owner) = record_asked (λ n. Some r.value) ∷ []
+asked_for (Moved r owner new) =
+    let serial = record_asked (λ n. Some (record r.value { revision = n })) in
+    if new then A_path (path_text r.value.config.zonepath) ∷ serial ∷ [] else serial ∷ []
 asked_for (Source source) = A_source source ∷ []
 
 abbrev pub edits_under : Came → List Object_edit
@@ -111,10 +114,10 @@ undo_with d j edits (Fails outcome (s ∷ rest)) = decisions.Just (undone d j ou
 -- what a case of the request under way decides
 abbrev pub job_turn : desks.Desk → Job → JobCase → Turn_decision
 job_turn d j (Finish outcome) = decisions.Just (finish d j.ticket outcome)
-job_turn d j (Pass p) = decisions.Just (advance (record d { active = active_with p.shown d.active }) (as_job j) (drop p.next j.steps.items) (object_edits p.objects) p.shown)
-job_turn d j (Unmounts dir next) = decisions.Just (advance d (as_job j) (drop next j.steps.items) (object_edits (UnmountLast dir)) (step.Unmount (Some dir.value)))
-job_turn d j (Releases claim next) = decisions.Just (advance d (as_job j) (drop next j.steps.items) (object_edits (ReleaseLast claim)) (step.Release (Some claim.value)))
-job_turn d j (Ask it next) = asking d (as_job j) (drop next j.steps.items) (comes_of it) (asked_for it) (edits_under it) (shown_under it)
+job_turn d j (Pass p) = decisions.Just (advance (record d { active = active_with p.shown d.active }) (as_job j) (drop p.next j.steps) (object_edits p.objects) p.shown)
+job_turn d j (Unmounts dir next) = decisions.Just (advance d (as_job j) (drop next j.steps) (object_edits (UnmountLast dir)) (step.Unmount (Some dir.value)))
+job_turn d j (Releases claim next) = decisions.Just (advance d (as_job j) (drop next j.steps) (object_edits (ReleaseLast claim)) (step.Release (Some claim.value)))
+job_turn d j (Ask it next) = asking d (as_job j) (drop next j.steps) (comes_of it) (asked_for it) (edits_under it) (shown_under it)
 job_turn d j (Fail f) = decisions.Just (failed d (as_job j) (as_outcome f))
 job_turn d j (Undo objects) = undo_with d (as_job j) (object_edits objects) (as_job j).stage
 job_turn d j Stuck = decisions.Just (stuck d)
@@ -162,10 +165,10 @@ is_last _ = false
 
 -- the case is one of a desk like this
 abbrev pub IsJobCase : Job → JobCase → Type 0
-IsJobCase j (Pass p) = (j.failure ≡ None) × IsInPlan j.steps.items p.next p.shown × (is_last p.objects ≡ false)
+IsJobCase j (Pass p) = (j.failure ≡ None) × IsInPlan j.steps p.next p.shown × (is_last p.objects ≡ false)
 IsJobCase j (Unmounts dir next) = j.failure ≡ None
 IsJobCase j (Releases claim next) = j.failure ≡ None
-IsJobCase j (Ask it next) = (j.failure ≡ None) × IsInPlan j.steps.items next (shown_under it 0)
+IsJobCase j (Ask it next) = (j.failure ≡ None) × IsInPlan j.steps next (shown_under it 0)
 IsJobCase j (Fail f) = j.failure ≡ None
 IsJobCase j (Undo objects) = IsSomeAnd j.failure (λ f. 0 < length j.made.items) × (is_last objects ≡ false)
 IsJobCase j _ = Unit {0}
@@ -194,6 +197,22 @@ IsNamedJobCase z _ = Unit {0}
 abbrev pub IsNamedTurn : Name → TurnCase → Type 0
 IsNamedTurn z (GoOn c) = IsNamedJobCase z c
 IsNamedTurn z _ = Unit {0}
+
+-- a record with another zonepath takes its number from the grant, from 1 on
+abbrev pub IsMoved : Came → Type 0
+IsMoved (Moved r owner new) = Unit {0}
+IsMoved _ = ⊥
+
+abbrev pub IsNumberedCame : Came → Grant → Type 0
+IsNumberedCame it g = IfOk (decisions.number_in g) (λ n. IsMoved it → 1 ≤ n)
+
+abbrev pub IsNumberedJobCase : JobCase → Grant → Type 0
+IsNumberedJobCase (Ask it next) g = IsNumberedCame it g
+IsNumberedJobCase _ g = Unit {0}
+
+abbrev pub IsNumberedTurn : TurnCase → Grant → Type 0
+IsNumberedTurn (GoOn c) g = IsNumberedJobCase c g
+IsNumberedTurn _ g = Unit {0}
 
 -- what a case does to the zone's objects, whatever is granted
 abbrev pub job_objects : JobCase → ObjectEdit

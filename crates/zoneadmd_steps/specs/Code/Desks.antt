@@ -32,7 +32,7 @@ as_job j = record {
   brand = j.brand;
   config = j.config;
   done = record { place = j.place; made = made_of j.failure (reverse j.made.items) };
-  stage = stage_of j.failure (drop j.at j.steps.items) (reverse j.made.items);
+  stage = stage_of j.failure (drop j.at j.steps) (reverse j.made.items);
 }
 
 abbrev pub as_desk : Desk → desks.Desk

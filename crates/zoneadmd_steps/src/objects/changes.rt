@@ -1,5 +1,5 @@
 //! What becomes of a zone's objects, and what comes to the zone with a grant.
-use commit_journal::Record;
+use commit_journal::Row;
 use datalink_table::Claim;
 use kernel_objects::Running;
 use loopback_mounts::Mount;
@@ -15,10 +15,10 @@ pub enum Came {
     Id,
     Claim(Claim),
     /// A record, and the name of the zone whose it is.
-    Record(Box<Record>, ZoneName),
+    Record(Box<Row>, ZoneName),
     /// A record with another zonepath, which takes its revision from the grant, the name of the zone, and whether the path is
     /// new to it.
-    Moved(Box<Record>, ZoneName, bool),
+    Moved(Box<Row>, ZoneName, bool),
     /// Nothing comes where the zone of a name may be cloned.
     Source(ZoneName),
 }

@@ -6,4 +6,4 @@ pub returns-in-Some-clause-some : goal.returns-in-Some-clause-some
 returns-in-Some-clause-some c =
     let j = c.args.job.now in
     let front = c.in-Some.field-0-1.now in
-    failing j.failure (drop j.at j.steps.items) (reverse j.made.items) (reverse front) c.in-Some.shown.now c.requires (latest j.made.items front c.in-Some.shown.now (sym c.deref.ensures.value ∙ c.in-Some.ensures.cases.0))
+    failing j.failure (drop j.at j.steps) (reverse j.made.items) (reverse front) c.in-Some.shown.now c.requires (latest j.made.items front c.in-Some.shown.now (sym c.deref.ensures.value ∙ c.in-Some.ensures.cases.0))

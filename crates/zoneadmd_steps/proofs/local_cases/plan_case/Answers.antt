@@ -9,11 +9,11 @@ returns-in-Mount-clause-of c = c.unmount_case.ensures.of c.args.job.now c.requir
 pub returns-in-Mount-clause-free : goal.returns-in-Mount-clause-free
 returns-in-Mount-clause-free c =
     let o : Objects = record { processes = []; mounts = c.args.mounts.now.list; claims = c.args.claims.now.claims; devices = []; ids = [] } in
-    let is = rw c.deref.ensures.value at c.in-Mount.ensures.next in
-    c.unmount_case.ensures.free o.mounts o.claims (last_mount o (drop c.args.job.now.at c.args.job.now.steps.items) c.in-Mount.entry.now (drop c.in-Mount.at c.args.job.now.steps.items) (is o refl refl))
+    let is = rw c.as_slice.ensures.steps at c.in-Mount.ensures.next in
+    c.unmount_case.ensures.free o.mounts o.claims (last_mount o (drop c.args.job.now.at c.args.job.now.steps) c.in-Mount.entry.now (drop c.in-Mount.at c.args.job.now.steps) (is o refl refl))
 
 pub returns-in-Step-clause-room : goal.returns-in-Step-clause-room
 returns-in-Step-clause-room c = λ h.
     let o : Objects = record { processes = []; mounts = c.args.mounts.now.list; claims = c.args.claims.now.claims; devices = []; ids = [] } in
-    let is = rw c.deref.ensures.value at c.in-Step.ensures.next in
-    c.step_case.ensures.room (next_of_halt o (drop c.args.job.now.at c.args.job.now.steps.items) c.in-Step.planned.now (drop c.in-Step.next c.args.job.now.steps.items) h (is o refl refl))
+    let is = rw c.as_slice.ensures.steps at c.in-Step.ensures.next in
+    c.step_case.ensures.room (next_of_halt o (drop c.args.job.now.at c.args.job.now.steps) c.in-Step.planned.now (drop c.in-Step.next c.args.job.now.steps) h (is o refl refl))

@@ -3,9 +3,6 @@ use Rattle.commit_journal.specs.Zones.{rows_of}
 use Rattle.commit_journal.proofs.Kept.{on_err_both}
 use Rattle.commit_journal.proofs.store.Store.change.Goals as goal
 
-pub write-requires-clause-row : goal.write-requires-clause-row
-write-requires-clause-row g c = λ x is. c.requires.row x (sym c.as_ref.ensures.value ∙ is)
-
 pub returns-in_err-zone-clause-fault_same : goal.returns-in_err-zone-clause-fault_same
 returns-in_err-zone-clause-fault_same g c =
     let bank = c.in_err-zone.ensures.same in

@@ -3,24 +3,25 @@ use Rattle.std.specs.Prelude.{bytes_eq, if◌then◌else◌}
 use Rattle.zoneadmd_steps.specs.declared.desks.Desk.{Desk}
 use Rattle.zone_machine.specs.Code.Works.{objects_of, rest_of}
 use Rattle.zone_machine.proofs.Doing_laws.{acts_up, does_work}
-use Rattle.zone_machine.proofs.Roomy.{asks_case, free_any, room_change, roomy}
+use Rattle.zone_machine.proofs.Case_asks.{asks-rightly, asks_case}
+use Rattle.zone_machine.proofs.Roomy.{free_owner, room_change, roomy}
 use Rattle.zone_machine.specs.Code.Cases.{decision_of}
 use Rattle.zone_machine.specs.Code.Cells.{cell_world, is_up_in, outside_in}
 use Rattle.zone_machine.specs.Code.Needs.{pools_in}
 use Rattle.zone_machine.specs.State.Decisions.{act_of}
-use Rattle.zone_machine.specs.Code.Rooms.{HasRoomOf, IsFreeOf}
+use Rattle.zone_machine.specs.Code.Rooms.{HasRoomOf}
 use Rattle.zone_machine.proofs.machine.effects.perform.Goals as goal
 
 pub carry_out-reply-requires-clause-free : goal.carry_out-reply-requires-clause-free
 carry_out-reply-requires-clause-free c =
     let works = c.settle-work.ensures.works None (cell_world (outside_in c.args.zone.now c.args.shared.now) c.args.cell.now) refl in
-    λ z. subst (λ o. IsFreeOf z o (pools_in c.args.shared.now)) (sym works.came) (free_any c.args.zone.now z _ (pools_in c.args.shared.now) c.requires.free)
+    free_owner c.args.zone.now c.settle-work.result.stored _ (pools_in c.args.shared.now) works.came (c.settle-work.ensures.named c.args.zone.now c.requires.named).stored c.requires.free
 
 pub carry_out-reply-requires-clause-stored : goal.carry_out-reply-requires-clause-stored
 carry_out-reply-requires-clause-stored c =
     let cell = c.args.cell.now in
     let works = c.settle-work.ensures.works None (cell_world (outside_in c.args.zone.now c.args.shared.now) cell) refl in
-    subst (λ o. HasRoomOf o c.args.shared.now) (sym works.came) (roomy (decision_of cell.desk c.args.case) c.args.grant c.args.shared.now (asks_case cell.desk c.args.case) c.requires.room.stored)
+    subst (λ o. HasRoomOf o c.args.shared.now) (sym works.came) (roomy (decision_of cell.desk c.args.case) c.args.grant c.args.shared.now (asks-rightly (decision_of cell.desk c.args.case) (asks_case cell.desk c.args.case)) c.requires.room.stored)
 
 pub carry_out-reply-requires-clause-objects : goal.carry_out-reply-requires-clause-objects
 carry_out-reply-requires-clause-objects c =

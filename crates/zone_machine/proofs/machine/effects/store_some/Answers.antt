@@ -1,4 +1,4 @@
 use Rattle.zone_machine.proofs.machine.effects.store_some.Goals as goal
 
 pub store-requires-clause-free : goal.store-requires-clause-free
-store-requires-clause-free c = rw c.in-Some.is at (c.requires.free c.in-Some.stored.owner)
+store-requires-clause-free c = rw c.in-Some.is at c.requires.free

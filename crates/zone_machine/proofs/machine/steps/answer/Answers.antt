@@ -1,6 +1,6 @@
 use Rattle.std.proofs.Common.{ap, refl, rules, sym, ◌∙◌}
 use Rattle.zone_pools.specs.Decisions.{asked_of}
-use Rattle.zone_machine.proofs.Stepping.{IsCellMisfitUnder-by, IsCellStepUnder-by, case_freed}
+use Rattle.zone_machine.proofs.Stepping.{IsCellMisfitUnder-by, IsCellStepUnder-by, case_freed, case_numbered}
 use Rattle.zone_machine.specs.Code.Cases.{decision_of}
 use Rattle.zone_machine.specs.Code.Cells.{cell_world, outside_in}
 use Rattle.zone_machine.specs.Code.Needs.{pools_in}
@@ -26,3 +26,7 @@ returns-clause-ok c =
     (entry_of (Zone c.args.zone.now) c.args.event.now c.in_ok-case.grant c.in_ok-reply.reply) c.perform_case.new.cell c.perform_case.new.shared
     (asked_of (decision_of c.args.cell.now.desk c.in_ok-case.case)) (ap asked_of (sym (c.read_event-read.ensures.decide _) ∙ c.in_ok-case.ensures.case.decided))
     c.in_ok-case.ensures.takes refl c.in_ok-reply.ensures.step
+
+pub perform_case-requires-clause-numbered : goal.perform_case-requires-clause-numbered
+perform_case-requires-clause-numbered c =
+    case_numbered (pools_in c.args.shared.now) c.args.zone.now c.args.cell.now.desk c.in_ok-case.case c.args.stated c.in_ok-case.grant c.in_ok-case.ensures.takes

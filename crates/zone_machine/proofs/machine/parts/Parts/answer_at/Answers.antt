@@ -1,5 +1,5 @@
 use Rattle.std.proofs.Common.{◌≡◌, Some, ap, rules, subst, sym, ◌∙◌}
-use Rattle.zone_machine.proofs.Stepping.{case_freed, heard-at, here_at, left_so, some_is, taken, unfit}
+use Rattle.zone_machine.proofs.Stepping.{case_freed, case_numbered, heard-at, here_at, left_so, some_is, taken, unfit}
 use Rattle.zone_machine.specs.Code.Cases.{decision_of}
 use Rattle.zone_machine.specs.Code.Cells.{cell_at, world_or_empty}
 use Rattle.zone_machine.specs.Code.Needs.{pools_in}
@@ -34,3 +34,6 @@ pub granted_case-requires-clause-hook : goal.granted_case-requires-clause-hook
 granted_case-requires-clause-hook c = λ turn.
     let m = c.args.self.now in let z = c.args.zone.now in let cell = c.index-cell.result.now in
     heard-at m c.args.event.now z cell c.args.hook c.requires.hook c.requires.of (here_at m z c.args.at cell c.requires.at c.index-cell.ensures) (sym c.requires.turn ∙ turn)
+
+pub do_at-requires-clause-numbered : goal.do_at-requires-clause-numbered
+do_at-requires-clause-numbered c = case_numbered (pools_in c.args.self.now.shared) c.args.zone.now c.index-cell.result.now.desk c.in_ok-case.case c.args.stated c.in_ok-case.grant c.in_ok-case.ensures.takes

@@ -1,6 +1,6 @@
 use Rattle.std.proofs.Common.{rules}
 use Rattle.zone_pools.specs.Decisions.{asked_of}
-use Rattle.zone_machine.proofs.Stepping.{case_freed, heard-new, left_so, same_none, taken, unfit}
+use Rattle.zone_machine.proofs.Stepping.{case_freed, case_numbered, heard-new, left_so, same_none, taken, unfit}
 use Rattle.zone_machine.specs.Code.Cells.{cell_world, outside_in}
 use Rattle.zone_machine.specs.Code.Needs.{pools_in}
 use Rattle.zone_machine.specs.Code.Reads.{decide_read}
@@ -33,3 +33,7 @@ returns-clause-ok c = λ S h.
 
 pub granted_case-requires-clause-hook : goal.granted_case-requires-clause-hook
 granted_case-requires-clause-hook c = λ turn. heard-new c.args.self.now.shared.brands c.deref.result.now (λ out. rw c.deref.ensures (rw c.in_ok-cell.ensures.ok (c.new.ensures out)))
+
+pub do_new-requires-clause-numbered : goal.do_new-requires-clause-numbered
+do_new-requires-clause-numbered c =
+    case_numbered (pools_in c.args.self.now.shared) c.args.zone.now c.in_ok-cell.cell.value.desk c.in_ok-case.case c.args.stated c.in_ok-case.grant (rw c.deref.ensures at c.in_ok-case.ensures.takes)
