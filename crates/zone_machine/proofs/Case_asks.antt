@@ -4,8 +4,7 @@ use Rattle.std.proofs.lemmas.Bool.{and_from}
 use Rattle.datalink_table.specs.Claims.{pool_of}
 use Rattle.zone_pools.proofs.Owned_laws.{same_self}
 use Rattle.zone_pools.proofs.Same_laws.{pool-Decides}
-use Rattle.zn_base.specs.Names.{Name}
-use Rattle.zone_pools.specs.Asked.{A_path, A_pid, A_serial, A_source, A_zid, A_zone, An_item, Asked}
+use Rattle.zone_pools.specs.Asked.{A_serial, Asked}
 use Rattle.zone_pools.specs.Decisions as decisions
 use Rattle.zone_pools.specs.Decisions.{Ask, Just, number_in}
 use Rattle.zone_pools.specs.declared.grant.Grant.{Grant}
@@ -15,7 +14,7 @@ use Rattle.commit_journal.specs.declared.records.Record as records
 use Rattle.zone_machine.proofs.Asking.{asks_rightly}
 use Rattle.zoneadmd_steps.proofs.Of_turns.{is_asked_for}
 use Rattle.zoneadmd_steps.specs.Arrivals.{A_record, Arrival, Comes, arrived}
-use Rattle.zone_machine.specs.State.Decisions.{Decision, effects, turned}
+use Rattle.zone_machine.specs.State.Decisions.{effects, turned}
 use Rattle.zoneadmd_steps.specs.Code.Cases.{asked_for, comes_of, edits_under, halt_begun, job_turn, object_edits, on_job, shown_under, turn_decision_of, undo_with}
 use Rattle.zone_machine.specs.Code.Cases.{decision_of}
 use Rattle.zoneadmd_steps.specs.Desks as desks

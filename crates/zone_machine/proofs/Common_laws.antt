@@ -72,7 +72,7 @@ blocks-push : (bodies : List (List ℕ)) (b : List ℕ) → length (blocks (bodi
 blocks-push [] b = omega (arith, length-append b [])
 blocks-push (x ∷ xs) b = let ih = blocks-push xs b in omega (arith, ih, length-append x (blocks (xs ++ b ∷ [])), length-append x (blocks xs))
 
-used-push : (bodies : List (List ℕ)) (b : List ℕ) → used_by (bodies ++ b ∷ []) ≡ used_by bodies + 5 + length b
+pub used-push : (bodies : List (List ℕ)) (b : List ℕ) → used_by (bodies ++ b ∷ []) ≡ used_by bodies + 5 + length b
 used-push bodies b = let more = blocks-push bodies b in omega (arith, more)
 
 used-more : (commits : List Commit) (c : Commit) → bytes_used (commits ++ c ∷ []) ≡ bytes_used commits + 5 + length (body_text c)

@@ -3,17 +3,14 @@ use Rattle.commit_journal.specs.Bodies.{stored_text}
 use Rattle.commit_journal.specs.Uuids.{uuid_of}
 use Rattle.commit_journal.specs.declared.records.Record.{Record}
 use Rattle.zone_machine.proofs.Case_asks.{AsksWell, IsSizedFor, came, came_is}
-use Rattle.std.proofs.Common.{◌≡◌, ◌∷◌, ◌+◌, ◌-◌, ◌&&◌, [], ℕ, zero, suc, List, Bool, drop, true, false, Option, Some, None, Result, Ok as Right, Err, refl, sym, ◌∙◌, subst, IfOk, length, ap, arith, ◌≤◌}
+use Rattle.std.proofs.Common.{◌≡◌, ◌∷◌, ◌+◌, ◌-◌, ◌&&◌, [], ℕ, zero, suc, List, Bool, true, false, Option, Some, None, Result, Ok as Right, Err, refl, sym, ◌∙◌, subst, IfOk, length, ap, arith, ◌≤◌}
 use Rattle.std.specs.Prelude.{nat_le, not, if◌then◌else◌}
-use Rattle.std.proofs.lemmas.Bool.{and_from, and_parts, false≢true, leb-true}
+use Rattle.std.proofs.lemmas.Bool.{and_parts, false≢true, leb-true}
 use Rattle.datalink_table.specs.Claims.{pool_of}
 use Rattle.datalink_table.specs.declared.claims.Claim.{Claim}
-use Rattle.zone_pools.proofs.Owned_laws.{same_self}
-use Rattle.zone_pools.proofs.Same_laws.{pool-Decides}
 use Rattle.zn_base.specs.Names.{Name}
 use Rattle.zone_pools.proofs.Pools_laws.{said_one}
 use Rattle.zone_pools.specs.Asked.{A_path, A_pid, A_serial, A_zid, A_zone, An_item, Asked}
-use Rattle.zone_pools.specs.Decisions as decisions
 use Rattle.zone_pools.specs.Decisions.{Ask, Just, asked_of, number_in}
 use Rattle.zone_pools.specs.Pools.{Pools, first_free, fits_asked, has_place, has_room, next_free, numbered, or_else, said_by_all, has_serial}
 use Rattle.zone_pools.specs.declared.grant.Grant.{Grant}
@@ -21,27 +18,19 @@ use Rattle.zone_pools.specs.declared.grant.Grant.TheVariants.{Nothing, Number, Y
 use Rattle.zone_pools.specs.declared.grant.Pool.{Pool}
 use Rattle.zone_pools.specs.declared.grant.Pool.TheVariants.{Paths, Pids, Store, Zids, Zones}
 use Rattle.zone_pools.specs.declared.limits.TheConstants.{PID_MAX, PID_MIN, ZID_MAX, ZID_MIN}
-use Rattle.zone_machine.proofs.Asking.{asks_rightly}
 use Rattle.zoneadmd_steps.proofs.Of_turns.{asked_item, is_asked_for}
-use Rattle.zoneadmd_steps.specs.Arrivals.{A_claim, A_process, A_record, An_id, Arrival, Comes, No_thing, arrived, New_claim, New_id, New_process, New_record, No_new_thing, in_kernel, in_store}
+use Rattle.zoneadmd_steps.specs.Arrivals.{A_claim, A_process, A_record, An_id, Comes, No_thing, arrived, New_record}
 use Rattle.zone_machine.specs.State.Decisions.{Decision, act_of, effects, turned}
-use Rattle.zone_machine.specs.Code.Rooms.{HasRoomOf, HasRoomToStore, IsFreeOf}
+use Rattle.zone_machine.specs.Code.Rooms.{IsFreeOf}
 use Rattle.zone_machine.specs.Code.Steps.{IsGrantFor}
-use Rattle.zone_machine.specs.declared.machine.shared.Shared.{Shared}
-use Rattle.zoneadmd_steps.specs.Code.Cases.{asked_for, comes_of, edits_under, halt_begun, job_turn, object_edits, on_job, shown_under, turn_decision_of, undo_with, IsNumberedCame, IsNumberedTurn}
+use Rattle.zoneadmd_steps.specs.Code.Cases.{asked_for, on_job, turn_decision_of, IsNumberedCame, IsNumberedTurn}
 use Rattle.zone_machine.specs.Code.Cases.{decision_of, IsNumbered}
-use Rattle.zoneadmd_steps.specs.Desks as desks
-use Rattle.zoneadmd_steps.specs.Code.Desks.{as_desk, as_job}
-use Rattle.zoneadmd_steps.specs.Objects.{Object_edit}
-use Rattle.zoneadmd_steps.specs.Turns.{Turn_decision, asking}
+use Rattle.zoneadmd_steps.specs.Turns.{Turn_decision}
 use Rattle.zone_machine.specs.declared.cases.Case.{Case}
 use Rattle.zone_machine.specs.declared.cases.Case.TheVariants as cases
-use Rattle.zoneadmd_steps.specs.declared.cases.JobCase.{JobCase}
 use Rattle.zoneadmd_steps.specs.declared.cases.JobCase.TheVariants as jobs
 use Rattle.zoneadmd_steps.specs.declared.cases.TurnCase.{TurnCase}
 use Rattle.zoneadmd_steps.specs.declared.cases.TurnCase.TheVariants as turns
-use Rattle.zoneadmd_steps.specs.declared.requests.Request.{Request}
-use Rattle.zoneadmd_steps.specs.declared.requests.Step.{Step}
 use Rattle.zoneadmd_steps.specs.declared.desks.Desk.{Desk}
 use Rattle.zoneadmd_steps.specs.declared.desks.Job.{Job}
 use Rattle.zoneadmd_steps.specs.declared.objects.changes.Came.{Came}

@@ -6,7 +6,13 @@ pub mod Own_worlds
 pub mod Turned_laws
 pub mod Asking
 pub mod Case_asks
+mod Places
+mod Storing
+pub mod Results
 mod Sizes
+mod Numbering
+pub mod Writing
+mod Opening
 pub mod Freeing
 pub mod Common_laws
 pub mod Local_laws
@@ -24,6 +30,7 @@ mod Mount_cases
 pub mod Rooms_laws
 pub mod Standing
 pub mod Stepping
+pub mod Banking
 pub mod Claim_doing
 pub mod Roomy
 pub mod Acting

@@ -2,45 +2,23 @@
 use Rattle.zoneadmd_steps.specs.Code.Works.{arrival_of}
 use Rattle.zoneadmd_steps.specs.declared.settling.Stored.{Stored}
 use Rattle.zone_machine.proofs.Case_asks.{came, came_is}
-use Rattle.std.proofs.Common.{◌≡◌, ◌∷◌, [], ℕ, List, drop, true, false, Option, Some, None, Result, Ok as Right, Err, refl, sym, subst, IfSome}
+use Rattle.std.proofs.Common.{◌≡◌, ◌∷◌, [], ℕ, List, true, Option, Some, None, Result, Ok as Right, Err, sym, subst, IfSome}
 use Rattle.std.proofs.lemmas.Bool.{false≢true}
 use Rattle.zn_base.specs.Names.{Name}
-use Rattle.datalink_table.specs.Claims.{pool_of}
-use Rattle.std.proofs.lemmas.Bool.{and_from}
-use Rattle.std.proofs.lemmas.Slice.Eq.{bytes_eq-Decides}
-use Rattle.zone_pools.proofs.Same_laws.{pool-Decides}
 use Rattle.zone_pools.specs.Asked.{A_path, A_pid, A_serial, A_source, A_zid, A_zone, An_item, Asked}
-use Rattle.zone_pools.specs.Decisions as decisions
 use Rattle.zone_pools.specs.Decisions.{Ask, Just, asked_of, number_in}
 use Rattle.zone_pools.specs.Pools.{Pools}
 use Rattle.zone_pools.specs.declared.grant.Grant.{Grant}
 use Rattle.zone_pools.specs.declared.grant.Pool.{Pool}
 use Rattle.zone_machine.proofs.Asking.{asks_rightly}
 use Rattle.zoneadmd_steps.proofs.Of_turns.{is_asked_for}
-use Rattle.zoneadmd_steps.specs.Arrivals.{A_claim, A_process, A_record, An_id, Arrival, Comes, No_thing, arrived, New_claim, New_process, New_id, New_record, No_new_thing, in_store}
-use Rattle.zone_machine.specs.State.Decisions.{Decision, act_of, effects, turned}
+use Rattle.zoneadmd_steps.specs.Arrivals.{A_claim, A_process, A_record, An_id, Arrival, Comes, No_thing, in_store}
+use Rattle.zone_machine.specs.State.Decisions.{Decision, act_of}
 use Rattle.zone_machine.specs.Code.Rooms.{HasRoomBy, HasRoomOf, HasRoomToChange, HasRoomToStore, IsFreeOf}
 use Rattle.zone_machine.specs.declared.machine.cell.Cell.{Cell}
 use Rattle.zone_machine.specs.declared.machine.shared.Shared.{Shared}
-use Rattle.zoneadmd_steps.specs.Code.Cases.{Holds, asked_for, comes_of, edits_under, halt_begun, job_turn, object_edits, on_job, premise_of, shown_under, turn_decision_of, undo_with}
-use Rattle.zone_machine.specs.Code.Cases.{decision_of}
-use Rattle.zoneadmd_steps.specs.Desks as desks
-use Rattle.zoneadmd_steps.specs.Desks.{Fails, Goes, Stage}
-use Rattle.zoneadmd_steps.specs.Code.Desks.{as_desk, as_job}
-use Rattle.zoneadmd_steps.specs.Objects.{Object_edit}
-use Rattle.zoneadmd_steps.specs.Turns.{Turn_decision, asking}
-use Rattle.zone_machine.specs.declared.cases.Case.{Case}
-use Rattle.zone_machine.specs.declared.cases.Case.TheVariants as cases
-use Rattle.zoneadmd_steps.specs.declared.cases.JobCase.{JobCase}
-use Rattle.zoneadmd_steps.specs.declared.cases.JobCase.TheVariants as jobs
-use Rattle.zoneadmd_steps.specs.declared.cases.TurnCase.{TurnCase}
-use Rattle.zoneadmd_steps.specs.declared.cases.TurnCase.TheVariants as turns
-use Rattle.zoneadmd_steps.specs.declared.requests.Request.{Request}
-use Rattle.zoneadmd_steps.specs.declared.requests.Step.{Step}
+use Rattle.zoneadmd_steps.specs.Code.Cases.{Holds, premise_of}
 use Rattle.zoneadmd_steps.specs.declared.desks.Desk.{Desk}
-use Rattle.zoneadmd_steps.specs.declared.desks.Job.{Job}
-use Rattle.zoneadmd_steps.specs.declared.objects.changes.Came.{Came}
-use Rattle.zoneadmd_steps.specs.declared.objects.changes.Came.TheVariants as came_type
 use Rattle.zoneadmd_steps.specs.declared.objects.changes.ObjectEdit.{ObjectEdit}
 
 room_came : (c : Comes) (asked : List Asked) (r : Result ℕ Pool) (s : Shared) → is_asked_for c asked ≡ true → HasRoomToStore asked s → HasRoomOf (in_store (came c r)) s

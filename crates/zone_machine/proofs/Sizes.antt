@@ -1,12 +1,12 @@
 -- A record is asked by its length, which doesn't hang on its number and its UUID.
-use Rattle.std.proofs.Common.{◌≡◌, ℕ, List, [], ◌∷◌, Some, length, refl, ap, sym, subst, ◌∙◌}
+use Rattle.std.proofs.Common.{◌≡◌, ℕ, List, [], ◌∷◌, Some, length, refl, ap, sym, ◌∙◌}
 use Rattle.commit_journal.proofs.Lengths.{same_length}
 use Rattle.commit_journal.specs.Bodies.{record_text}
 use Rattle.commit_journal.specs.Uuids.{uuid_of}
 use Rattle.commit_journal.specs.declared.records.Record.{Record}
 use Rattle.config_terms.specs.Fields.{path_text}
 use Rattle.zn_base.specs.Names.{Name}
-use Rattle.zone_pools.specs.Asked.{A_path, A_serial, A_zone, Asked}
+use Rattle.zone_pools.specs.Asked.{A_path, A_serial, A_zone}
 use Rattle.zoneadmd_steps.specs.Arrivals.{record_asked}
 use Rattle.zone_machine.specs.Code.Needs.{sized}
 

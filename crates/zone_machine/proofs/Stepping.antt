@@ -1,6 +1,6 @@
 -- What the machine's parts say of a state that they stand for, and a step of them.
 use Rattle.commit_journal.specs.Journal.{body_size, fits_after}
-use Rattle.std.proofs.Common.{◌≡◌, ◌∷◌, ◌<◌, ℕ, List, Bool, Option, Some, None, Result, Ok as Right, Err, true, false, get_or, length, refl, ap, sym, subst, ◌∙◌, []}
+use Rattle.std.proofs.Common.{◌≡◌, ◌⊎◌, IfOk, inl, inr, ◌∷◌, ◌<◌, ℕ, List, Bool, Option, Some, None, Result, Ok as Right, Err, true, false, get_or, length, refl, ap, sym, subst, ◌∙◌, []}
 use Rattle.indexmap.proofs.CallerLemmas.{updates-with_value_at}
 use Rattle.indexmap.specs.IndexMap.{IsUnique, get, get_by, index_of_by, keys, with_value_at, values}
 use Rattle.std.specs.Cmp.Lexicographic.{nat_list_eq_equiv}
@@ -40,11 +40,14 @@ use Rattle.zone_machine.specs.Machine.{decide, declare_reply, declared_by, globa
 use Rattle.zone_machine.specs.Machine.Pools.{allowed, allowed_of, fits, fits_of, is_installed, kind_of, of_kind, path_taken, pools_of}
 use Rattle.zone_machine.specs.State.{Awaiting, State, stored}
 use Rattle.zone_machine.specs.Session.Typed.{typed}
+use Rattle.zn_io.specs.Disk.{View as Disk_view}
+use Rattle.zone_disk.specs.Bank.{Account}
+use Rattle.zone_machine.specs.Code.Records.{BankLeft}
 use Rattle.zone_machine.specs.Code.Rooms.{Alike, IsFreeOf}
-use Rattle.zone_machine.specs.Code.Cell_steps.{CellAnswers, IsCellStep, IsCellMisfitUnder, IsCellStepUnder}
-use Rattle.zone_machine.specs.Code.Steps.{IsStep, IsZoneState, Answers, IsGrantFor, IsUnfit, IsMisfitUnder, IsTaken, Leaves, Takes, AsItWas}
+use Rattle.zone_machine.specs.Code.Cell_steps.{CellAnswers, CellLeaves, IsCellStep, IsCellMisfitUnder, IsCellStepUnder}
+use Rattle.zone_machine.specs.Code.Steps.{IsRefusedIfUnfit, IsStep, IsStepUnder, IsZoneState, Answers, IsGrantFor, IsUnfit, IsMisfitUnder, IsTaken, Leaves, Takes, AsItWas}
 use Rattle.zone_machine.specs.declared.faults.StepFault.{StepFault}
-use Rattle.zone_machine.specs.declared.faults.StepFault.TheVariants.{BadGrant, Memory}
+use Rattle.zone_machine.specs.declared.faults.StepFault.TheVariants.{BadGrant, DiskFault, Memory, WouldRecord}
 use Rattle.zone_machine.specs.State.Worlds.{World, objects_of, view, view_of, world, View}
 use Rattle.zoneadmd_steps.specs.declared.desks.Desk.{Desk}
 use Rattle.zone_machine.specs.declared.machine.cell.Cell.{Cell}
@@ -298,6 +301,47 @@ module _ (m u : Parts) (z : Name) (e : Event) (c d : Cell) (same : (out : Outsid
           at_zone true k = subst (λ x. world_or_empty out (cell_at x m) ≡ cell_world out d) (same_true z y k) (same out ∙ sym (alike.world out)) ∙ sym (left_at y out true k)
           at_zone false k = sym (left_at y out false k)
 
+  -- what an event leaves that was not answered
+  pub Leaves-cell : (fault : StepFault) → CellLeaves fault z None c m.shared e d u.shared → Leaves fault None m e u
+  Leaves-cell Memory h = AsItWas-cell h
+  Leaves-cell WouldRecord h = AsItWas-cell h
+  Leaves-cell BadGrant h = absurd h
+  Leaves-cell DiskFault h = tt
+
+-- of an event under no stated grant no grant can be a bad one
+pub leaves-stated : (stated : Option Grant) (g : Grant) (m u : Parts) (e : Event) → IsTaken m stated e g → (fault : StepFault) → Leaves fault None m e u → Leaves fault stated m e u
+leaves-stated stated g m u e takes Memory h = h
+leaves-stated stated g m u e takes WouldRecord h = h
+leaves-stated stated g m u e takes BadGrant h = absurd h
+leaves-stated None g m u e takes DiskFault h = tt
+leaves-stated (Some stated) g m u e takes DiskFault h = λ S stands. (takes S stands).1
+
+pub refused-unfit : {D : Type 0} (m u : Parts) (e : Event) (g : Grant) (r : Result Entry StepFault) (a b : Account D) (v w : Disk_view) (s : Shared)
+    → IfOk r (λ entry. IsStepUnder (Some g) m e entry u) → IfErr r (λ fault. Leaves fault (Some g) m e u) → IfErr r (λ fault. BankLeft true fault a b v w s) → IsRefusedIfUnfit m e g r
+refused-unfit m u e g (Right entry) a b v w s ok fault left = λ S stands unfit. absurd (false≢true (sym unfit ∙ (ok S stands).takes.1))
+refused-unfit m u e g (Err Memory) a b v w s ok fault left = λ S stands unfit. inr refl
+refused-unfit m u e g (Err BadGrant) a b v w s ok fault left = λ S stands unfit. inl refl
+refused-unfit m u e g (Err WouldRecord) a b v w s ok fault left = absurd left
+refused-unfit m u e g (Err DiskFault) a b v w s ok fault left = λ S stands unfit. absurd (false≢true (sym unfit ∙ fault S stands))
+
+-- the same of a cell and the shared part
+module _ (z : Name) (c : Cell) (s : Shared) (e : Event) where
+  pub cell-left_so : {A : Type 0} (r : Result A StepFault) (stated : Option Grant) → IsErrOf r BadGrant ⊎ IsErrOf r Memory → (IsErrOf r BadGrant → IsCellMisfitUnder z stated c s e c s) → IfErr r (λ fault. CellLeaves fault z stated c s e c s)
+  cell-left_so (Right x) stated some h = tt
+  cell-left_so (Err Memory) stated some h = record { world = λ out. refl; rows = refl; common = refl; pools = refl }
+  cell-left_so (Err WouldRecord) stated some h = record { world = λ out. refl; rows = refl; common = refl; pools = refl }
+  cell-left_so (Err BadGrant) stated some h = h refl
+  cell-left_so (Err DiskFault) stated (inl is) h = cc
+  cell-left_so (Err DiskFault) stated (inr is) h = cc
+
+  pub cell-leaves-stated : (stated : Option Grant) (g : Grant) (asked : List Asked) → asked_of (decide_in z (outside_in z s) c e) ≡ asked → IsGrantFor z (pools_in s) asked stated g → (d : Cell) (t : Shared) (fault : StepFault)
+      → CellLeaves fault z None c s e d t → CellLeaves fault z stated c s e d t
+  cell-leaves-stated stated g asked asks takes d t Memory h = h
+  cell-leaves-stated stated g asked asks takes d t WouldRecord h = h
+  cell-leaves-stated stated g asked asks takes d t BadGrant h = absurd h
+  cell-leaves-stated None g asked asks takes d t DiskFault h = tt
+  cell-leaves-stated (Some stated) g asked asks takes d t DiskFault h = λ S cell shared of. (takes-by S s z (cell_world (outside_in z s) c) e asked shared (cell-stands z S c s cell shared) of asks (Some stated) g takes).1
+
 -- what asks nothing is granted nothing
 nothing-fits : (P : Pools) (z : Name) (g : Grant) → fits_asked P z [] g ≡ same_grant g Nothing
 nothing-fits P z Nothing = refl
@@ -352,10 +396,13 @@ module _ (m : Parts) (z : Name) (e : Event) (c : Cell) (decides : View → Decis
   unfit stated h = IsMisfitUnder-cell m z e c (asked_of (decides (view_of z (cell_world (outside_in z m.shared) c)))) is same (ap asked_of (sym (reads _))) stated h
 
 -- an event ends before anything is changed
-pub left_so : {A : Type 0} (r : Result A StepFault) (stated : Option Grant) (m : Parts) (e : Event) → (IsErrOf r BadGrant → IsMisfitUnder stated m e m) → IfErr r (λ fault. Leaves fault stated m e m)
-left_so (Right x) stated m e h = tt
-left_so (Err Memory) stated m e h = λ S. (λ stands. stands, λ stands. stands)
-left_so (Err BadGrant) stated m e h = h refl
+pub left_so : {A : Type 0} (r : Result A StepFault) (stated : Option Grant) (m : Parts) (e : Event) → IsErrOf r BadGrant ⊎ IsErrOf r Memory → (IsErrOf r BadGrant → IsMisfitUnder stated m e m) → IfErr r (λ fault. Leaves fault stated m e m)
+left_so (Right x) stated m e some h = tt
+left_so (Err Memory) stated m e some h = λ S. (λ stands. stands, λ stands. stands)
+left_so (Err WouldRecord) stated m e some h = λ S. (λ stands. stands, λ stands. stands)
+left_so (Err BadGrant) stated m e some h = h refl
+left_so (Err DiskFault) stated m e (inl is) h = cc
+left_so (Err DiskFault) stated m e (inr is) h = cc
 
 -- what comes with it is free
 pub case_freed : (P : Pools) (z : Name) (d : Desk) (case : Case) (stated : Option Grant) (g : Grant) → IsGrantFor z P (asked_of (decision_of d case)) stated g → IsFreeOf z (act_of (decision_of d case) g).came P

@@ -7,6 +7,7 @@ pub mod Needs
 pub mod Cases
 pub mod Works
 pub mod Comings
+pub mod Records
 pub mod Rooms
 pub mod Steps
 pub mod Cell_steps

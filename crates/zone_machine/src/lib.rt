@@ -2,8 +2,8 @@
 //! system declares what zones may ask for, and each such event has one subject, one grant and one reply. The
 //! definitions in `specs/` say what an event does to the state of all zones. A `Machine` stands for such a state:
 //! its `step` answers the entry that they give, and leaves it standing for the state after. It keeps a `Cell` for
-//! each zone that has something, and a part that zones share: an event of a zone needs these two alone, by
-//! `cell_step`, and a turn that is local the cell alone, by `local_turn`.
+//! each zone that has something, a part that zones share, and the bank of records on a disk: an event of a zone needs
+//! these three alone, by `cell_step`, and a turn that is local the cell alone, by `local_turn`.
 #![tactic(auto)]
 
 mod calls;

@@ -1,11 +1,18 @@
 //! The machine.
-ghost use Rattle.std.specs.Prelude.{[], IfOk, IsErrOf, IsOkUnless, OnErr};
-ghost use Rattle.zone_machine.specs.Machine.{opening};
-ghost use Rattle.zone_machine.specs.Code.Steps.{IsAllowed, IsAllowedStep, IsFittingStep, IsMisfit, IsRefusedIfUnfit, IsStarted, IsSubject, IsZoneState, AsItWas};
-ghost use Rattle.zone_machine.specs.Code.Cells.{Stands};
-ghost use Rattle.zone_machine.specs.Code.Decided.{AsksBrands, IsHeard, entry_by};
+ghost use Rattle.std.specs.Prelude.{◌≡◌, ◌≢◌, ◌⊎◌, IfErr, IfOk, IsErrOf, IsOkUnless, Err, List, None, OnOk, Some, length, true};
+ghost use Rattle.zn_io.specs.Disk.{Leaves as Disk_leaves};
+ghost use Rattle.zn_io.specs.Streams.{Rose};
 ghost use Rattle.brand_hooks.specs.Brands.{tables_of};
 ghost use Rattle.brand_hooks.specs.Hooks.{AllFollow};
+ghost use Rattle.commit_journal.specs.Store.{OpensStore};
+ghost use Rattle.commit_journal.specs.declared.records.Commit.{Commit};
+ghost use Rattle.zone_machine.specs.Code.Cells.{Stands};
+ghost use Rattle.zone_machine.specs.Code.Decided.{AsksBrands, IsHeard, MayGoOn, entry_by};
+ghost use Rattle.zone_machine.specs.Code.Records.{BankLeft, GoesUnder, KeepsBodies, Passes};
+ghost use Rattle.zone_machine.specs.Code.Steps.{AsItWas, IsAllowed, IsAllowedStep, IsFittingStep, IsMisfit, IsRefusedIfUnfit, IsStarted, IsSubject, IsZoneState, Leaves};
+ghost use Rattle.zone_machine.specs.Machine.{opening};
+ghost use Rattle.zone_machine.specs.Machine.Images.{Holds, IsStoreOf};
+ghost use Rattle.zone_machine.specs.State.{State, bodies_of};
 
 pub(crate) mod cell;
 pub(crate) mod comings;
@@ -16,6 +23,7 @@ pub(crate) mod needs;
 pub(crate) mod parts;
 pub(crate) mod pools;
 pub(crate) mod reads;
+pub(crate) mod records;
 pub(crate) mod rooms;
 pub(crate) mod settling;
 pub(crate) mod shared;
@@ -28,29 +36,79 @@ use crate::faults::StepFault;
 use crate::machine::parts::Parts;
 use crate::machine::reads::{read_event, subject};
 use brand_hooks::{Brands, Change, HookAnswer};
-use std::alloc::{AllocError, Global};
+use commit_journal::{Store, StoreFault, opens_store_one_way};
+use std::alloc::Global;
 use zn_base::{ZoneName, ZoneState};
+use zn_io::Disk;
+use zone_disk::Bank;
 use zone_pools::Grant;
 
-/// The machine of all zones, and the brands whose hooks it asks. Contracts say what its parts stand for.
+/// The machine of all zones over the records on a disk, and the brands whose hooks it asks. Contracts say what its parts
+/// stand for, and what a crash leaves on the disk.
 #[derive(Drop)]
-pub struct Machine<'b, F> {
+pub struct Machine<'b, D: Disk, F> {
     pub(crate) parts: Parts,
+    pub(crate) bank: Bank<D>,
     pub(crate) brands: &'b Brands<F>,
 }
 
-impl<'b, F: Fn(&Change) -> HookAnswer> Machine<'b, F> {
-    /// The machine before any event, where no zone is stored, and the brands that it asks.
-    pub fn new(alloc: Global, brands: &'b Brands<F>) -> Result<Self, AllocError>
+impl<'b, D: Disk, F: Fn(&Change) -> HookAnswer> Machine<'b, D, F> {
+    /// Opens the store on a disk, and begins before any event with the brands that it asks. A crash at any moment meanwhile
+    /// leaves what stands for the same commits. A fault hands the disk back.
+    pub fn open(alloc: Global, disk: D, brands: &'b Brands<F>) -> Result<Self, (StoreFault, D)>
         requires { AllFollow F.Fn brands.now }
-        ensures stands { IfOk result (λ m. Stands (opening (tables_of brands.now) []) m.parts) }
+        ensures stands { (D.view disk).Keeps → IfOk result (λ m. (R : List Commit) → Holds R (D.view disk).reads → Stands (opening (tables_of brands.now) R) m.parts) }
+        ensures opens { (D.view disk).Keeps → IfOk result (λ m. (R : List Commit) × Holds R (D.view disk).reads) }
+        ensures bodies { (D.view disk).Keeps → IfOk result (λ m. (R : List Commit) → Holds R (D.view disk).reads → bodies_of R ≡ m.bank.records) }
+        ensures refuses { (D.view disk).Keeps → IfErr result (λ e. (e.0 ≡ StoreFault.Memory) ⊎ ((e.0 ≡ StoreFault.DiskFault) ⊎ OpensStore (D.view disk).reads (Err e.0))) }
+        ensures any_moment { (R : List Commit) → IsStoreOf (D.view disk) R → IfOk result (λ m. Disk_leaves (D.view disk) (D.view m.bank.disk) (Holds R)) }
+        ensures any_moment_err { (R : List Commit) → IsStoreOf (D.view disk) R → IfErr result (λ e. Disk_leaves (D.view disk) (D.view e.1) (Holds R)) }
+        ensures ready { IfOk result (MayGoOn D.view) }
+        ensures passes { IfOk result (λ m. Passes (D.view disk) (D.view m.bank.disk)) }
+        ensures passes_err { IfErr result (λ e. Passes (D.view disk) (D.view e.1)) }
+        ensures cause { IfErr result (λ e. e.0 ≡ StoreFault.DiskFault → Rose (D.view disk).faults (D.view e.1).faults) }
+        ensures only { IfErr result (λ e. e.0 ≢ StoreFault.BankFull) }
         ensures asks { IfOk result (AsksBrands F.Fn) }
     {
-        let tables = brands.tables(alloc)?;
-        Ok(Self {
-            parts: Parts::empty(alloc, tables),
-            brands,
-        })
+        // A law: an image stands for the records of one store.
+        opens_store_one_way();
+        let Ok(tables) = brands.tables(alloc) else {
+            return Err((StoreFault::Memory, disk));
+        };
+        match Store::open(alloc, disk) {
+            Ok(store) => {
+                let records = store.next_serial() - 1;
+                let (bank, rows) = store.into_parts();
+                let used = bank.used();
+                Ok(Self {
+                    parts: Parts::opened(alloc, tables, rows, records, used),
+                    bank,
+                    brands,
+                })
+            }
+            Err(refused) => Err(refused),
+        }
+    }
+
+    /// Whether events may be taken. It takes no memory.
+    pub fn sound(&self) -> bool
+        ensures { result ≡ self.now.bank.sound }
+    {
+        self.bank.sound()
+    }
+
+    /// How many records the store has. It takes no memory.
+    pub fn records(&self) -> u32
+        ensures { (S : State) → Stands S self.now.parts → result ≡ length S.commits }
+    {
+        self.parts.shared.serial
+    }
+
+    /// Hands the disk back. It takes no memory.
+    pub fn into_disk(self) -> D
+        ensures { result ≡ self.entry.bank.disk }
+    {
+        self.bank.into_disk()
     }
 
     // What the brand of a turn's zone answers to the next step of its daemon, where it is asked.
@@ -83,33 +141,54 @@ impl<'b, F: Fn(&Change) -> HookAnswer> Machine<'b, F> {
         self.parts.allowed(alloc, event, self.hear(event))
     }
 
-    /// An event is answered under the grant that the pools give it. Where memory runs out, the machine is as it
-    /// was.
+    /// An event is answered under the grant that the pools give it. A crash at any moment meanwhile leaves the commits from
+    /// before, or these and the event's. Where memory runs out, the machine is as it was; where the disk fails, no event may be
+    /// taken any more.
     pub fn step(&mut self, alloc: Global, event: Event) -> Result<Entry, StepFault>
         requires asks { AsksBrands F.Fn self.old }
+        requires ready { MayGoOn D.view self.old }
         ensures ok { IfOk result (λ entry. IsAllowedStep self.old.parts event entry self.new.parts) }
-        ensures err { IsOkUnless result StepFault.Memory }
-        ensures memory { OnErr result (AsItWas self.old.parts self.new.parts) }
+        ensures goes { GoesUnder None self.old.parts event self.old.bank.records (D.view self.old.bank.disk) (D.view self.new.bank.disk) }
+        ensures bodies { OnOk result (KeepsBodies None self.old.parts event self.old.bank.records self.new.bank.records) }
+        ensures ready { OnOk result (MayGoOn D.view self.new) }
+        ensures passes { Passes (D.view self.old.bank.disk) (D.view self.new.bank.disk) }
+        ensures err { IfErr result (λ fault. (fault ≡ StepFault.Memory) ⊎ (fault ≡ StepFault.DiskFault)) }
+        ensures memory { IsErrOf result StepFault.Memory → AsItWas self.old.parts self.new.parts }
+        ensures left { IfErr result (λ fault. BankLeft true fault self.old.bank self.new.bank (D.view self.old.bank.disk) (D.view self.new.bank.disk) self.new.parts.shared) }
         ensures asks { AsksBrands F.Fn self.new }
     {
         let hook = self.hear(&event);
-        self.parts.step(alloc, event, None, hook)
+        self.parts.step(&mut self.bank, alloc, event, None, hook)
     }
 
-    /// The same of an event that is only lent: of the entry no more is made than the event doesn't say itself.
-    pub fn answer(&mut self, alloc: Global, event: &Event) -> Result<Answer, StepFault>
+    /// The same of an event that is only lent: of the entry no more is made than the event doesn't say itself. Where the event
+    /// may not record and would, nothing is done: so whoever has replies that wait can write them before a record is stored,
+    /// and then have it stored.
+    pub fn answer(
+        &mut self,
+        alloc: Global,
+        event: &Event,
+        may_record: bool,
+    ) -> Result<Answer, StepFault>
         requires asks { AsksBrands F.Fn self.old }
+        requires ready { MayGoOn D.view self.old }
         ensures ok { IfOk result (λ answer. IsAllowedStep self.old.parts event.now (entry_by event.now answer) self.new.parts) }
-        ensures err { IsOkUnless result StepFault.Memory }
-        ensures memory { OnErr result (AsItWas self.old.parts self.new.parts) }
+        ensures goes { GoesUnder None self.old.parts event.now self.old.bank.records (D.view self.old.bank.disk) (D.view self.new.bank.disk) }
+        ensures bodies { OnOk result (KeepsBodies None self.old.parts event.now self.old.bank.records self.new.bank.records) }
+        ensures ready { OnOk result (MayGoOn D.view self.new) }
+        ensures passes { Passes (D.view self.old.bank.disk) (D.view self.new.bank.disk) }
+        ensures err { IfErr result (λ fault. fault ≢ StepFault.BadGrant) }
+        ensures fault { IfErr result (λ fault. Leaves fault None self.old.parts event.now self.new.parts) }
+        ensures left { IfErr result (λ fault. BankLeft may_record fault self.old.bank self.new.bank (D.view self.old.bank.disk) (D.view self.new.bank.disk) self.new.parts.shared) }
         ensures asks { AsksBrands F.Fn self.new }
     {
         let hook = self.hear(event);
-        self.parts.answer(alloc, event, hook)
+        self.parts
+            .answer(&mut self.bank, alloc, event, hook, may_record)
     }
 
-    /// An event is answered under a stated grant, where it fits, as when a recorded trace is run again. Where
-    /// memory runs out, the machine is as it was.
+    /// An event is answered under a stated grant, where it fits, as when a recorded trace is run again. Where it doesn't fit or
+    /// memory runs out, the machine is as it was; where the disk fails, no event may be taken any more.
     pub fn step_given(
         &mut self,
         alloc: Global,
@@ -117,14 +196,21 @@ impl<'b, F: Fn(&Change) -> HookAnswer> Machine<'b, F> {
         grant: Grant,
     ) -> Result<Entry, StepFault>
         requires asks { AsksBrands F.Fn self.old }
+        requires ready { MayGoOn D.view self.old }
         ensures ok { IfOk result (λ entry. IsFittingStep self.old.parts event grant entry self.new.parts) }
+        ensures goes { GoesUnder (Some grant) self.old.parts event self.old.bank.records (D.view self.old.bank.disk) (D.view self.new.bank.disk) }
+        ensures bodies { OnOk result (KeepsBodies (Some grant) self.old.parts event self.old.bank.records self.new.bank.records) }
+        ensures ready { OnOk result (MayGoOn D.view self.new) }
+        ensures passes { Passes (D.view self.old.bank.disk) (D.view self.new.bank.disk) }
         ensures misfit { IsErrOf result StepFault.BadGrant → IsMisfit self.old.parts event grant self.new.parts }
         ensures unfit { IsRefusedIfUnfit self.old.parts event grant result }
         ensures memory { IsErrOf result StepFault.Memory → AsItWas self.old.parts self.new.parts }
+        ensures left { IfErr result (λ fault. BankLeft true fault self.old.bank self.new.bank (D.view self.old.bank.disk) (D.view self.new.bank.disk) self.new.parts.shared) }
         ensures asks { AsksBrands F.Fn self.new }
     {
         let hook = self.hear(&event);
-        self.parts.step(alloc, event, Some(grant), hook)
+        self.parts
+            .step(&mut self.bank, alloc, event, Some(grant), hook)
     }
 
     /// The state of a zone, where it is stored.

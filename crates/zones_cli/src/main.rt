@@ -1,5 +1,5 @@
-//! The program `zones`: its words, its two brands and its standard streams, handed to `zones_run`, whose answer is the
-//! exit status.
+//! The program `zones`: its words, its two brands, its standard streams and the file of its store, handed to `zones_run`,
+//! whose answer is the exit status.
 #![tactic(auto)]
 
 ghost use Rattle.std.specs.Prelude.{◌≡◌, ◌∷◌, [], IfOk, IsOkUnless, Ok, codes, true};
@@ -14,8 +14,11 @@ use std::alloc::{AllocError, Global};
 use std::env;
 use std::io::ErrorKind;
 use std::process::ExitCode;
-use zn_io::{StdSink, StdSource};
+use zn_io::{FileDisk, StdSink, StdSource};
 use zones_run::{RunFault, fail, run_zones};
+
+// The file of the store, in the current folder.
+const STORE_NAME: &str = "zones.store";
 
 type Hook = fn(&Change) -> HookAnswer;
 
@@ -106,5 +109,15 @@ fn main(rt: HostRuntime) -> ExitCode {
     let Ok(brands) = make_brands(rt.alloc(), ipkg, lx) else {
         return ExitCode::from(fail(&mut err, RunFault::Memory));
     };
-    ExitCode::from(run_zones(rt.alloc(), &brands, &words, &mut source, &mut out, &mut err))
+    let disk = FileDisk::new(&rt, STORE_NAME);
+    let (status, _) = run_zones(
+        rt.alloc(),
+        &words,
+        &mut source,
+        &mut out,
+        &mut err,
+        disk,
+        &brands,
+    );
+    ExitCode::from(status)
 }

@@ -1,22 +1,114 @@
--- What an event was answered, from a step of the machine and the text of its reply.
-use Rattle.std.proofs.Common.{◌≡◌, ◌++◌, ℕ, Bool, List, Option, ap, sym, ◌∙◌}
-use Rattle.zn_io.specs.Streams.{after_known}
+-- What an event was answered, from a step of the machine and the text of its reply, and what an event leaves that was not
+-- answered.
+use Rattle.std.proofs.Common.{◌≡◌, ◌++◌, inl, ℕ, Bool, true, false, List, Option, Some, None, Result, Ok, Err, refl, ap, sym, subst, ◌∙◌, arith}
+use Rattle.std.specs.Prelude.{IfOk}
+use Rattle.zn_io.specs.Disk.{View}
+use Rattle.zn_io.specs.Streams.{Rose, after_known}
+use Rattle.commit_journal.specs.Journal.{Leave}
+use Rattle.commit_journal.specs.Zones.{rows_of}
+use Rattle.trace_text.specs.Lines.{Said, event_of}
 use Rattle.trace_text.specs.Replies.{reply_text}
-use Rattle.zone_machine.specs.Code.Cells.{Stands}
+use Rattle.zone_disk.specs.Bank.{Account}
+use Rattle.zone_disk.specs.Image.{Stands as Image_stands}
 use Rattle.zone_machine.specs.Code.Decided.{entry_by, subject_by}
-use Rattle.zone_machine.specs.Code.Steps.{IsAllowedStep}
+use Rattle.zone_machine.specs.Code.Records.{BankLeft, GoesUnder, IsReady, KeepsBodies, Passes}
+use Rattle.zone_machine.specs.Code.Steps.{AsItWas, IsAllowedStep, Leaves}
+use Rattle.zone_machine.specs.Machine.Images.{NowHolds}
+use Rattle.zone_machine.specs.State.{State, bodies_of}
 use Rattle.zone_machine.specs.declared.events.Answer.{Answer}
 use Rattle.zone_machine.specs.declared.events.Entry.{Entry}
 use Rattle.zone_machine.specs.declared.events.Event.{Event}
+use Rattle.zone_machine.specs.declared.faults.StepFault.{StepFault}
+use Rattle.zone_machine.specs.declared.faults.StepFault.TheVariants.{DiskFault, Memory as No_memory, WouldRecord}
+use Rattle.zone_machine.specs.declared.machine.Machine.{Machine}
 use Rattle.zone_machine.specs.declared.machine.parts.Parts.{Parts}
-use Rattle.zones_run.specs.Tracing.{IsAnswered, entry_text, is_refusal}
+use Rattle.zone_machine.specs.declared.machine.shared.Shared.{Shared}
+use Rattle.zones_run.specs.Answering.{Fails, FailsLine, IsAnswered, StandsFor, Steps, state_after}
+use Rattle.zones_run.specs.Tracing.{entry_text, is_refusal}
+use Rattle.zones_run.specs.declared.fault.RunFault.{RunFault}
+use Rattle.zones_run.specs.declared.fault.RunFault.TheVariants.{Memory}
 use Rattle.zones_run.proofs.Fronts.{after_known-append}
 
-pub is_answered : (t u : Parts) (e : Event) (a : Answer) (refusal : Bool) (old new : List ℕ) (held : Option (List ℕ)) → IsAllowedStep t e (entry_by e a) u → new ≡ old ++ reply_text (subject_by e a.whose) a.reply
-    → refusal ≡ is_refusal a.reply.head → IsAnswered (λ S. Stands S t) (λ S. Stands S u) e refusal (after_known held old) (after_known held new)
-is_answered t u e a refusal old new held steps text is = record {
-  stood = λ S h. (steps S h).stands;
-  text = λ S h. ap (after_known held) text ∙ (sym (after_known-append held old (reply_text (subject_by e a.whose) a.reply))
-      ∙ ap (λ (entry : Entry). after_known (after_known held old) (entry_text entry)) (steps S h).told);
-  refused = λ S h. is ∙ ap (λ (entry : Entry). is_refusal entry.reply.head) (steps S h).told;
+-- whatever a crash leaves of a ready machine stands for the commits of its state
+pub ready_holds : {D F : Type 0} (S : State) (m : Machine D F) (v : View) → StandsFor S m → IsReady v m.bank m.parts.shared → v.Keeps → NowHolds v S.commits
+ready_holds S m v stands ready keeps = λ image now. record {
+  stands = subst (λ bodies. Image_stands image bodies) (sym stands.bodies) (ready.settled keeps image now);
+  leave = subst (λ rows. Leave (bodies_of S.commits) rows) (sym (ap (λ k. k.rows) stands.parts.shared)) (subst (λ bodies. Leave bodies (rows_of m.parts.shared.rows.entries)) (sym stands.bodies) ready.zones.leave);
 }
+
+-- the machine answered an event
+pub steps_by : {D F : Type 0} (S : State) (e : Event) (a : Answer) (old new : Machine D F) (v w : View) → StandsFor S old → IsAllowedStep old.parts e (entry_by e a) new.parts → GoesUnder None old.parts e old.bank.records v w → KeepsBodies None old.parts e old.bank.records new.bank.records
+    → IsReady w new.bank new.parts.shared → Passes v w → Steps S e a (λ T. StandsFor T new) v w
+steps_by S e a old new v w stands step goes bodies ready passes =
+    let after : StandsFor (state_after S e) new = record { parts = (step S stands.parts).stands; bodies = bodies S stands.parts stands.bodies } in
+    record {
+      told = (step S stands.parts).told;
+      stands = after;
+      goes = record {
+        any_moment = (goes S stands.parts stands.bodies).any_moment;
+        now = λ keeps. ready_holds (state_after S e) new w after ready (passes.model.0 keeps);
+        model = passes.model.0;
+      };
+    }
+
+-- an event was not answered, since memory ran out
+pub bank_same : {D : Type 0} (may : Bool) (fault : StepFault) (a b : Account D) (v w : View) (s : Shared) → fault ≡ No_memory → BankLeft may fault a b v w s → b ≡ a
+bank_same may fault a b v w s is left = (subst (λ f. BankLeft may f a b v w s) is left).0
+
+-- or since it would record and may not yet
+pub would_same : {D : Type 0} (may : Bool) (fault : StepFault) (a b : Account D) (v w : View) (s : Shared) → fault ≡ WouldRecord → BankLeft may fault a b v w s → (b ≡ a) × IsReady w b s
+would_same true fault a b v w s is left = absurd (subst (λ f. BankLeft true f a b v w s) is left)
+would_same false fault a b v w s is left = subst (λ f. BankLeft false f a b v w s) is left
+
+pub would_as : (fault : StepFault) (t u : Parts) (e : Event) → fault ≡ WouldRecord → Leaves fault None t e u → AsItWas t u
+would_as fault t u e is left = subst (λ f. Leaves f None t e u) is left
+
+-- or since the disk failed, which it does only in one that may record
+pub disk_rose : {D : Type 0} (may : Bool) (fault : StepFault) (a b : Account D) (v w : View) (s : Shared) → fault ≡ DiskFault → BankLeft may fault a b v w s → (may ≡ true) × Rose v.faults w.faults
+disk_rose true fault a b v w s is left = (refl, (subst (λ f. BankLeft true f a b v w s) is left).0)
+disk_rose false fault a b v w s is left = absurd (subst (λ f. BankLeft false f a b v w s) is left)
+
+pub never_would : {D : Type 0} (fault : StepFault) (a b : Account D) (v w : View) (s : Shared) → fault ≡ WouldRecord → BankLeft true fault a b v w s → ⊥
+never_would fault a b v w s is left = subst (λ f. BankLeft true f a b v w s) is left
+
+-- the machine stands for what it stood for
+pub stands_on : {D F : Type 0} (S : State) (old new : Machine D F) → AsItWas old.parts new.parts → new.bank ≡ old.bank → StandsFor S old → StandsFor S new
+stands_on S old new was bank stands = record { parts = (was S).0 stands.parts; bodies = stands.bodies ∙ sym (ap (λ b. b.records) bank) }
+
+-- the reply waits after what waited
+pub is_answered : (S : State) (e : Event) (a : Answer) (refusal : Bool) (now_stands : State → Type 0) (v w : View) (old new : List ℕ) (holds between now : Option (List ℕ)) → Steps S e a now_stands v w → after_known between old ≡ holds → new ≡ old ++ reply_text (subject_by e a.whose) a.reply
+    → now ≡ between → refusal ≡ is_refusal a.reply.head → IsAnswered S e refusal now_stands v w holds (after_known now new)
+is_answered S e a refusal now_stands v w old new holds between now steps same text stays is = record {
+  stands = steps.stands;
+  text = ap (λ known. after_known known new) stays ∙ ap (after_known between) text ∙ sym (after_known-append between old (reply_text (subject_by e a.whose) a.reply))
+      ∙ ap (λ known. after_known known (reply_text (subject_by e a.whose) a.reply)) same ∙ ap (λ (entry : Entry). after_known holds (entry_text entry)) steps.told;
+  refused = is ∙ ap (λ (entry : Entry). is_refusal entry.reply.head) steps.told;
+  goes = steps.goes;
+}
+
+-- the same event, first left as it is
+pub steps_later : {D : Type 0} (view : D → View) (S : State) (e : Event) (a : Answer) (now_stands : State → Type 0) (first mid : Account D) (w : View) → mid ≡ first → Steps S e a now_stands (view mid.disk) w → Steps S e a now_stands (view first.disk) w
+steps_later view S e a now_stands first mid w same steps = subst (λ b. Steps S e a now_stands (view b.disk) w) same steps
+
+pub if_ok_steps : {A E : Type 0} (r : Result A E) (P Q : A → Type 0) → ((a : A) → P a → Q a) → IfOk r P → IfOk r Q
+if_ok_steps (Ok a) P Q lead holds = lead a holds
+if_ok_steps (Err e) P Q lead holds = tt
+
+pub fails_later : {D : Type 0} (view : D → View) (S : State) (e : Event) (fault : RunFault) (first mid last : Account D) → mid ≡ first → Fails fault (last ≡ mid) S e (view mid.disk) (view last.disk) → Fails fault (last ≡ first) S e (view first.disk) (view last.disk)
+fails_later view S e fault first mid last same fails = subst (λ b. Fails fault (last ≡ b) S e (view b.disk) (view last.disk)) same fails
+
+pub passes_later : {D : Type 0} (view : D → View) (first mid : Account D) (w : View) → mid ≡ first → Passes (view mid.disk) w → Passes (view first.disk) w
+passes_later view first mid w same passes = subst (λ b. Passes (view b.disk) w) same passes
+
+pub passes_on : (u v w : View) → Passes u v → Passes v w → Passes u w
+passes_on u v w a b = record { model = (λ k. b.model.0 (a.model.0 k), λ k. a.model.1 (b.model.1 k)); faults = omega (arith, a.faults, b.faults) }
+
+-- a line of which nothing was done
+pub fails_nothing : (same : Type 0) (S : State) (said : Said) (v w : View) → same → FailsLine Memory same S said v w
+fails_nothing same S (Ok (Some e)) v w left = inl left
+fails_nothing same S (Ok None) v w left = left
+fails_nothing same S (Err fault) v w left = left
+
+-- the event that a line was read as was not answered
+pub fails_event : (fault : RunFault) (same : Type 0) (S : State) (started : Bool) (line : List ℕ) (e : Event) (v w : View) → started ≡ S.started → event_of started line ≡ Ok (Some e) → Fails fault same S e v w → FailsLine fault same S (event_of S.started line) v w
+fails_event fault same S started line e v w is says fails = subst (λ said. FailsLine fault same S said v w) (sym says ∙ ap (λ b. event_of b line) is) fails

@@ -1,6 +1,6 @@
 -- How a trace ends, and what standard output has taken then.
-use Rattle.std.proofs.Common.{◌≡◌, ◌+◌, ◌≤◌, ◌<◌, ◌||◌, ◌++◌, ◌⊎◌, inl, inr, ℕ, Bool, true, false, cond, nat_lt, List, [], ◌∷◌, length, take, drop, Option, Some, None, IfSome, Result, Ok, Err, refl, ap, sym, subst, ◌∙◌, arith, append_assoc, zero, suc}
-use Rattle.std.specs.Prelude.{IfOk, IsErrAnd, IsErrOf, nat_le}
+use Rattle.std.proofs.Common.{◌≡◌, ◌+◌, ◌≤◌, ◌<◌, ◌||◌, ◌++◌, ◌⊎◌, inl, inr, ℕ, Bool, true, false, cond, nat_lt, List, [], ◌∷◌, length, take, drop, Option, Some, None, IfSome, Result, Ok, Err, refl, ap, sym, subst, ◌∙◌, arith, append_assoc}
+use Rattle.std.specs.Prelude.{IsErrAnd, IsErrOf, nat_le}
 use Rattle.std.specs.Io.KnownBytes.{IsAtEnd}
 use Rattle.std.specs.Option.{option_map}
 use Rattle.std.proofs.lemmas.Bool.Decides.{nat_tests}
@@ -9,31 +9,33 @@ use Rattle.std.proofs.lemmas.List.{append-nil, append_cancel_left, take-append-d
 use Rattle.std.proofs.Math.Seq.{take-append-add, take-append_seam, take-length}
 use Rattle.zn_io.specs.Streams.{after_known, before_known}
 use Rattle.brand_hooks.specs.Brands.{Tabled}
-use Rattle.trace_text.specs.Lines.{Said, event_of}
+use Rattle.commit_journal.specs.declared.records.Commit.{Commit}
+use Rattle.trace_text.specs.Lines.{event_of}
 use Rattle.trace_text.specs.declared.fault.LineFault.{LineFault}
 use Rattle.zone_machine.specs.Machine.{opening}
 use Rattle.zone_pools.specs.Pools.{or_else}
 use Rattle.zone_machine.specs.State.{State}
 use Rattle.zone_machine.specs.declared.events.Entry.{Entry}
 use Rattle.zn_base.specs.Lines.{is_newline, lines_of, with_first}
-use Rattle.zones_run.specs.Complaints.{complaint_text}
-use Rattle.zones_run.specs.Output.{Output}
 use Rattle.zones_run.specs.Reading.{FirstIsLong}
 use Rattle.zones_run.specs.Taking.{BeginsLine, TakesPiece}
 use Rattle.zones_run.specs.Run.{HasFront, run_fault_of}
-use Rattle.zones_run.specs.Tracing.{AnswersAs, AnswersLines, AnswersRead, At_end, At_fault, Ending, HasReplies, HasWritten, Past_limit, Run, RunsLines, Stops, Tells, ends, entry_text, left_to_tell, replies_text, run_of, script_from, told, told_refusal, traced}
+use Rattle.zones_run.specs.Answering.{LeavesText}
+use Rattle.zones_run.specs.Tracing.{AnswersLines, AnswersRead, At_end, At_fault, Ending, EndsAs, HasReplies, HasWritten, Past_limit, Run, RunsLines, Tells, ends, entry_text, left_to_tell, replies_text, run_of, script_from, told, told_refusal, traced}
 use Rattle.zones_run.specs.declared.outcome.Complaint.{Complaint}
 use Rattle.zones_run.specs.declared.outcome.Complaint.TheVariants.{Grammar as Bad_line, Limit}
-use Rattle.zones_run.specs.declared.trace.Stop.{Stop}
-use Rattle.zones_run.specs.declared.trace.Stop.TheVariants.{Grammar, Memory as No_room}
-use Rattle.zones_run.specs.declared.fault.RunFault.TheVariants.{Memory, Read, Write}
+use Rattle.zones_run.specs.declared.fault.RunFault.TheVariants.{Disk, Memory, Read, Write}
 use Rattle.zones_run.specs.declared.fault.RunFault.{RunFault}
 use Rattle.zones_run.specs.declared.lines.ReadFault.{ReadFault}
 use Rattle.zones_run.specs.declared.lines.ReadFault.TheVariants.{Failed, Memory as No_memory}
 use Rattle.zones_run.proofs.Begins.{takes_known}
 use Rattle.zones_run.proofs.Fronts.{after_known-append, after_known-nil}
-use Rattle.zones_run.proofs.TraceRuns.{Knows, RunsOn, known_run}
+use Rattle.zones_run.proofs.TraceRuns.{Knows, RunsOn, known_run, runs_told}
 use Rattle.zones_run.proofs.Traces.{from_first_line, line_said, or_else-None, run_on, script_line, with_script}
+
+-- a fault ended it
+abbrev pub fails_with : RunFault → Result (Option Complaint) RunFault
+fails_with fault = Err fault
 
 abbrev ended_run : List Entry → Option ℕ → Ending → Run
 ended_run done refused ending = record { entries = done; refused = refused; ending = ending }
@@ -51,25 +53,34 @@ told-out done refused (At_fault n fault) = refl
 told-out done refused (Past_limit n) = refl
 
 -- the lines of the bytes to come end so, before any event
-abbrev EndsSo : (started : Bool) → ℕ → Ending → Option (List ℕ) → Type 0
+abbrev pub EndsSo : (started : Bool) → ℕ → Ending → Option (List ℕ) → Type 0
 EndsSo started n ending bytes = IfSome bytes (λ bs. script_from started n (lines_of bs) ≡ ends ending)
 
 -- the run has ended so
-pub tells_ending : (brands : List Tabled) (stands : State → Type 0) (refused : Option ℕ) (n : ℕ) (held holds bytes input : Option (List ℕ)) (ending : Ending) (complaint : Option Complaint)
-    → RunsOn brands stands refused n held holds bytes input → ((S : State) → stands S → EndsSo S.started n ending bytes) → ((done : List Entry) → left_to_tell complaint ≡ record (told (ended_run done refused ending)) { out = [] })
-    → IfSome input (λ bs. Tells complaint held holds (traced brands bs))
-tells_ending brands stands refused n held holds bytes None ending complaint run ended is = tt
-tells_ending brands stands refused n held holds bytes (Some input) ending complaint run ended is =
+pub tells_ending : (brands : List Tabled) (R : List Commit) (stands : State → Type 0) (refused : Option ℕ) (n : ℕ) (held holds bytes input : Option (List ℕ)) (ending : Ending) (complaint : Option Complaint)
+    → RunsOn brands R stands refused n held holds bytes input → ((S : State) → stands S → EndsSo S.started n ending bytes) → ((done : List Entry) → left_to_tell complaint ≡ record (told (ended_run done refused ending)) { out = [] })
+    → IfSome input (λ bs. Tells complaint held holds (traced brands R bs))
+tells_ending brands R stands refused n held holds bytes None ending complaint run ended is = tt
+tells_ending brands R stands refused n held holds bytes (Some input) ending complaint run ended is =
     let known = run.known in
     let here : script_from run.state.started n (lines_of known.to_come) ≡ ends ending = subst (EndsSo run.state.started n ending) known.here (ended run.state run.stood) in
-    let whole : run_of brands input ≡ ended_run run.done refused ending = known_run brands refused n run.state run.done bytes input known ∙ no_more run.done refused n run.state (lines_of known.to_come) ending here in
+    let whole : run_of brands R input ≡ ended_run run.done refused ending = known_run brands R refused n run.state run.done bytes input known ∙ no_more run.done refused n run.state (lines_of known.to_come) ending here in
     subst (λ r. Tells complaint held holds (told r)) (sym whole) (record {
       rest = is run.done;
       taken = run.text ∙ ap (after_known held) (sym (told-out run.done refused ending));
     })
 
+-- so all entries are those that it has answered
+pub all_entries : (brands : List Tabled) (R : List Commit) (stands : State → Type 0) (refused : Option ℕ) (n : ℕ) (held holds bytes input : Option (List ℕ)) (ending : Ending) (run : RunsOn brands R stands refused n held holds bytes input) → EndsSo run.state.started n ending bytes
+    → IfSome input (λ bs. run.done ≡ (run_of brands R bs).entries)
+all_entries brands R stands refused n held holds bytes None ending run ended = tt
+all_entries brands R stands refused n held holds bytes (Some input) ending run ended =
+    let known = run.known in
+    let here : script_from run.state.started n (lines_of known.to_come) ≡ ends ending = subst (EndsSo run.state.started n ending) known.here ended in
+    sym (ap (λ (r : Run). r.entries) (known_run brands R refused n run.state run.done bytes input known ∙ no_more run.done refused n run.state (lines_of known.to_come) ending here))
+
 -- the four ways in which lines end
-at_end : (started : Bool) (n : ℕ) (bytes : Option (List ℕ)) → IfSome (option_map lines_of bytes) (λ ls. ls ≡ []) → EndsSo started n At_end bytes
+pub at_end : (started : Bool) (n : ℕ) (bytes : Option (List ℕ)) → IfSome (option_map lines_of bytes) (λ ls. ls ≡ []) → EndsSo started n At_end bytes
 at_end started n None h = tt
 at_end started n (Some bs) h = ap (script_from started n) h
 
@@ -80,11 +91,11 @@ first_long : (started : Bool) (n : ℕ) (lines : List (List ℕ)) → FirstIsLon
 first_long started n [] h = absurd h
 first_long started n (line ∷ ls) h = ap (λ v. cond v (ends (Past_limit n)) (line_said started n ls (event_of started line))) (past_limit n (length line) h)
 
-at_long : (started : Bool) (n : ℕ) (bytes : Option (List ℕ)) → IfSome (option_map lines_of bytes) FirstIsLong → EndsSo started n (Past_limit n) bytes
+pub at_long : (started : Bool) (n : ℕ) (bytes : Option (List ℕ)) → IfSome (option_map lines_of bytes) FirstIsLong → EndsSo started n (Past_limit n) bytes
 at_long started n None h = tt
 at_long started n (Some bs) h = first_long started n (lines_of bs) h
 
-at_fault : (started : Bool) (n : ℕ) (line : List ℕ) (fault : LineFault) (bytes : Option (List ℕ)) (new : Option (List (List ℕ))) → option_map lines_of bytes ≡ option_map (λ ls. line ∷ ls) new → n ≤ 200000 → length line ≤ 4096 → event_of started line ≡ Err fault → EndsSo started n (At_fault n fault) bytes
+pub at_fault : (started : Bool) (n : ℕ) (line : List ℕ) (fault : LineFault) (bytes : Option (List ℕ)) (new : Option (List (List ℕ))) → option_map lines_of bytes ≡ option_map (λ ls. line ∷ ls) new → n ≤ 200000 → length line ≤ 4096 → event_of started line ≡ Err fault → EndsSo started n (At_fault n fault) bytes
 at_fault started n line fault None new is h k e = tt
 at_fault started n line fault (Some bs) None is h k e = absurd (cc)
 at_fault started n line fault (Some bs) (Some ls) is h k e =
@@ -101,88 +112,87 @@ past_last started b bytes =
       ]
     ]
 
-at_last : (started : Bool) (ahead : List ℕ) (left : Option (List ℕ)) → 0 < length ahead → EndsSo started 200001 (Past_limit 200001) (before_known ahead left)
+pub at_last : (started : Bool) (ahead : List ℕ) (left : Option (List ℕ)) → 0 < length ahead → EndsSo started 200001 (Past_limit 200001) (before_known ahead left)
 at_last started [] left some = absurd (omega arith)
 at_last started (b ∷ ahead) None some = tt
 at_last started (b ∷ ahead) (Some left) some = past_last started b (ahead ++ left)
 
 -- before the input has ended, some whole replies were written
-pub has_replies : (brands : List Tabled) (stands : State → Type 0) (refused : Option ℕ) (n : ℕ) (held holds bytes input : Option (List ℕ)) → RunsOn brands stands refused n held holds bytes input → IfSome input (λ bs. HasReplies held holds (run_of brands bs))
-has_replies brands stands refused n held holds bytes None run = tt
-has_replies brands stands refused n held holds bytes (Some input) run =
-    let is = known_run brands refused n run.state run.done bytes input run.known in
+pub has_replies : (brands : List Tabled) (R : List Commit) (stands : State → Type 0) (refused : Option ℕ) (n : ℕ) (held holds bytes input : Option (List ℕ)) → RunsOn brands R stands refused n held holds bytes input → IfSome input (λ bs. HasReplies held holds (run_of brands R bs))
+has_replies brands R stands refused n held holds bytes None run = tt
+has_replies brands R stands refused n held holds bytes (Some input) run =
+    let is = known_run brands R refused n run.state run.done bytes input run.known in
     subst (HasReplies held holds) (sym is) (record {
       count = length run.done;
       taken = run.text ∙ ap (λ entries. after_known held (replies_text entries)) (sym (take-append_seam run.done _));
     })
 
 -- the run over the lines taken has come to its entries, and goes on
-so_far : (brands : List Tabled) (refused : Option ℕ) (n : ℕ) (S : State) (done : List Entry) (bytes : Option (List ℕ)) (input : List ℕ) (known : Knows brands refused n S done bytes input) → run_of brands known.past ≡ run_on done refused n S []
-so_far brands refused n S done bytes input known =
-    from_first_line brands known.past ∙ ap (run_on [] None 1 (opening brands [])) (sym (append-nil (lines_of known.past))) ∙ known.leads []
+so_far : (brands : List Tabled) (R : List Commit) (refused : Option ℕ) (n : ℕ) (S : State) (done : List Entry) (bytes : Option (List ℕ)) (input : List ℕ) (known : Knows brands R refused n S done bytes input) → run_of brands R known.past ≡ run_on done refused n S []
+so_far brands R refused n S done bytes input known =
+    from_first_line brands R known.past ∙ ap (run_on [] None 1 (opening brands R)) (sym (append-nil (lines_of known.past))) ∙ known.leads []
 
 -- lines were taken, the beginning of one more, and a piece
-abbrev takes : (brands : List Tabled) (refused : Option ℕ) (n : ℕ) (S : State) (done : List Entry) (bytes left : Option (List ℕ)) (input : List ℕ) → Knows brands refused n S done bytes input → TakesPiece bytes left → RunsLines (Some input) left
-takes brands refused n S done bytes left input known piece = record {
+abbrev takes : (brands : List Tabled) (R : List Commit) (refused : Option ℕ) (n : ℕ) (S : State) (done : List Entry) (bytes left : Option (List ℕ)) (input : List ℕ) → Knows brands R refused n S done bytes input → TakesPiece bytes left → RunsLines (Some input) left
+takes brands R refused n S done bytes left input known piece = record {
   lines = known.past;
   to_come = known.to_come;
   whole = known.fresh;
-  going = ap (λ r. r.ending) (so_far brands refused n S done bytes input known);
+  going = ap (λ r. r.ending) (so_far brands R refused n S done bytes input known);
   all = ap Some known.all;
   taken = takes_known bytes left known.to_come known.here piece;
 }
 
-pub runs_lines : (brands : List Tabled) (stands : State → Type 0) (refused : Option ℕ) (n : ℕ) (held holds bytes left input : Option (List ℕ)) → RunsOn brands stands refused n held holds bytes input → TakesPiece bytes left → IfSome input (λ _. RunsLines input left)
-runs_lines brands stands refused n held holds bytes left None run piece = tt
-runs_lines brands stands refused n held holds bytes left (Some input) run piece = takes brands refused n run.state run.done bytes left input run.known piece
+pub runs_lines : (brands : List Tabled) (R : List Commit) (stands : State → Type 0) (refused : Option ℕ) (n : ℕ) (held holds bytes left input : Option (List ℕ)) → RunsOn brands R stands refused n held holds bytes input → TakesPiece bytes left → IfSome input (λ _. RunsLines input left)
+runs_lines brands R stands refused n held holds bytes left None run piece = tt
+runs_lines brands R stands refused n held holds bytes left (Some input) run piece = takes brands R refused n run.state run.done bytes left input run.known piece
 
 -- and the lines were answered
-abbrev answers : (brands : List Tabled) (stands : State → Type 0) (refused : Option ℕ) (n : ℕ) (held holds bytes left : Option (List ℕ)) (input : List ℕ) → RunsOn brands stands refused n held holds bytes (Some input) → TakesPiece bytes left → AnswersLines brands (Some input) left held holds
-answers brands stands refused n held holds bytes left input run piece =
+abbrev answers : (brands : List Tabled) (R : List Commit) (stands : State → Type 0) (refused : Option ℕ) (n : ℕ) (held holds bytes left : Option (List ℕ)) (input : List ℕ) → RunsOn brands R stands refused n held holds bytes (Some input) → TakesPiece bytes left → AnswersLines brands R (Some input) left held holds
+answers brands R stands refused n held holds bytes left input run piece =
     let known = run.known in
-    let entries : (run_of brands known.past).entries ≡ run.done = ap (λ r. r.entries) (so_far brands refused n run.state run.done bytes input known) ∙ append-nil run.done in
+    let entries : (run_of brands R known.past).entries ≡ run.done = ap (λ r. r.entries) (so_far brands R refused n run.state run.done bytes input known) ∙ append-nil run.done in
     record {
-      runs = takes brands refused n run.state run.done bytes left input known piece;
+      runs = takes brands R refused n run.state run.done bytes left input known piece;
       text = run.text ∙ ap (λ entries. after_known held (replies_text entries)) (sym entries);
     }
 
-pub answers_lines : (brands : List Tabled) (stands : State → Type 0) (refused : Option ℕ) (n : ℕ) (held holds bytes left input : Option (List ℕ)) → RunsOn brands stands refused n held holds bytes input → TakesPiece bytes left → IfSome input (λ _. AnswersLines brands input left held holds)
-answers_lines brands stands refused n held holds bytes left None run piece = tt
-answers_lines brands stands refused n held holds bytes left (Some input) run piece = answers brands stands refused n held holds bytes left input run piece
+pub answers_lines : (brands : List Tabled) (R : List Commit) (stands : State → Type 0) (refused : Option ℕ) (n : ℕ) (held holds bytes left input : Option (List ℕ)) → RunsOn brands R stands refused n held holds bytes input → TakesPiece bytes left → IfSome input (λ _. AnswersLines brands R input left held holds)
+answers_lines brands R stands refused n held holds bytes left None run piece = tt
+answers_lines brands R stands refused n held holds bytes left (Some input) run piece = answers brands R stands refused n held holds bytes left input run piece
 
 -- where the source failed
-pub answers_read : (brands : List Tabled) (stands : State → Type 0) (refused : Option ℕ) (n : ℕ) (held holds bytes left input : Option (List ℕ)) → RunsOn brands stands refused n held holds bytes input → BeginsLine bytes left → IfSome input (λ _. AnswersRead brands input left held holds)
-answers_read brands stands refused n held holds bytes left None run begins = tt
-answers_read brands stands refused n held holds bytes left (Some input) run begins =
-    (answers brands stands refused n held holds bytes left input run begins.0, begins.1)
+pub answers_read : (brands : List Tabled) (R : List Commit) (stands : State → Type 0) (refused : Option ℕ) (n : ℕ) (held holds bytes left input : Option (List ℕ)) → RunsOn brands R stands refused n held holds bytes input → BeginsLine bytes left → IfSome input (λ _. AnswersRead brands R input left held holds)
+answers_read brands R stands refused n held holds bytes left None run begins = tt
+answers_read brands R stands refused n held holds bytes left (Some input) run begins =
+    (answers brands R stands refused n held holds bytes left input run begins.0, begins.1)
 
 -- how a trace ended, where a call before it did
-pub ended_writing : (brands : List Tabled) (r : Result (Option Complaint) RunFault) (held holds left input : Option (List ℕ)) → r ≡ Err Write → IfSome input (λ _. RunsLines input left) → IfSome input (λ _. AnswersAs brands r input left held holds)
-ended_writing brands r held holds left input is runs = rw is runs
+pub ends_writing : (brands : List Tabled) (R : List Commit) (r : Result (Option Complaint) RunFault) (held holds told left input : Option (List ℕ)) → r ≡ Err Write → IfSome input (λ bs. HasFront held holds (traced brands R bs).out) → IfSome input (λ _. RunsLines input left)
+    → EndsAs brands R r input left held holds told
+ends_writing brands R r held holds told left input is front runs = rw is (front, runs)
 
-pub ended_reading : (brands : List Tabled) (r : Result (Option Complaint) RunFault) (fault : ReadFault) (held holds left input : Option (List ℕ)) → IsErrAnd r (λ e. e ≡ run_fault_of fault) → IfSome input (λ _. AnswersLines brands input left held holds)
-    → (fault ≡ Failed → IfSome input (λ _. AnswersRead brands input left held holds)) → IfSome input (λ _. AnswersAs brands r input left held holds)
-ended_reading brands (Ok x) fault held holds left input is lines read = absurd is
-ended_reading brands (Err e) Failed held holds left input is lines read = rw is (read refl)
-ended_reading brands (Err e) No_memory held holds left input is lines read = rw is lines
+pub ends_reading : (brands : List Tabled) (R : List Commit) (r : Result (Option Complaint) RunFault) (fault : ReadFault) (held holds told left input : Option (List ℕ)) → IsErrAnd r (λ e. e ≡ run_fault_of fault) → IfSome input (λ bs. HasReplies held told (run_of brands R bs))
+    → IfSome input (λ _. AnswersLines brands R input left held told) → (fault ≡ Failed → IfSome input (λ _. AnswersRead brands R input left held told)) → EndsAs brands R r input left held holds told
+ends_reading brands R (Ok x) fault held holds told left input is replies lines read = absurd is
+ends_reading brands R (Err e) Failed held holds told left input is replies lines read = rw is (replies, read refl)
+ends_reading brands R (Err e) No_memory held holds told left input is replies lines read = rw is (replies, lines)
 
 -- what was taken, however a trace ended
-pub lines_run : (brands : List Tabled) (held holds left input : Option (List ℕ)) → IfSome input (λ _. AnswersLines brands input left held holds) → IfSome input (λ _. RunsLines input left)
-lines_run brands held holds left None answered = tt
-lines_run brands held holds left (Some input) answered = answered.runs
+pub lines_run : (brands : List Tabled) (R : List Commit) (held holds left input : Option (List ℕ)) → IfSome input (λ _. AnswersLines brands R input left held holds) → IfSome input (λ _. RunsLines input left)
+lines_run brands R held holds left None answered = tt
+lines_run brands R held holds left (Some input) answered = answered.runs
 
-pub runs_anyway : (brands : List Tabled) (r : Result (Option Complaint) RunFault) (held holds left input : Option (List ℕ)) → IfSome input (λ _. AnswersAs brands r input left held holds) → IfSome input (λ _. RunsLines input left)
-runs_anyway brands r held holds left None ended = tt
-runs_anyway brands (Ok x) held holds left (Some input) ended = ended.runs
-runs_anyway brands (Err Write) held holds left (Some input) ended = ended
-runs_anyway brands (Err Read) held holds left (Some input) ended = ended.0.runs
-runs_anyway brands (Err Memory) held holds left (Some input) ended = ended.runs
+read_run : (brands : List Tabled) (R : List Commit) (held holds left input : Option (List ℕ)) → IfSome input (λ _. AnswersRead brands R input left held holds) → IfSome input (λ _. RunsLines input left)
+read_run brands R held holds left None answered = tt
+read_run brands R held holds left (Some input) answered = answered.0.runs
 
-pub read_ended : (brands : List Tabled) (fault : RunFault) (held holds left input : Option (List ℕ)) → fault ≡ Read → IfSome input (λ _. AnswersAs brands (Err fault) input left held holds) → IfSome input (λ _. AnswersRead brands input left held holds)
-read_ended brands fault held holds left input is ended = subst (λ fault. IfSome input (λ _. AnswersAs brands (Err fault) input left held holds)) is ended
-
-pub memory_ended : (brands : List Tabled) (fault : RunFault) (held holds left input : Option (List ℕ)) → fault ≡ Memory → IfSome input (λ _. AnswersAs brands (Err fault) input left held holds) → IfSome input (λ _. AnswersLines brands input left held holds)
-memory_ended brands fault held holds left input is ended = subst (λ fault. IfSome input (λ _. AnswersAs brands (Err fault) input left held holds)) is ended
+pub ends_run : (brands : List Tabled) (R : List Commit) (r : Result (Option Complaint) RunFault) (held holds told left input : Option (List ℕ)) → EndsAs brands R r input left held holds told → IfSome input (λ _. RunsLines input left)
+ends_run brands R (Ok x) held holds told left input ended = lines_run brands R held told left input ended.1
+ends_run brands R (Err Write) held holds told left input ended = ended.1
+ends_run brands R (Err Read) held holds told left input ended = read_run brands R held told left input ended.1
+ends_run brands R (Err Memory) held holds told left input ended = lines_run brands R held told left input ended.1
+ends_run brands R (Err Disk) held holds told left input ended = lines_run brands R held told left input ended.1
 
 -- a front of a text in the midst of a longer one
 front_within : (held between holds : Option (List ℕ)) (before text more : List ℕ) (count : ℕ) → between ≡ after_known held before → holds ≡ after_known between (take count text) → HasFront held holds (before ++ (text ++ more))
@@ -202,17 +212,17 @@ front_within held between holds before text more count b t =
     ] refl
 
 -- what waited was not written whole: a front of the whole text was taken
-pub flushed_front : (brands : List Tabled) (held holds now input : Option (List ℕ)) (waiting : List ℕ) → HasWritten held holds → IfSome input (λ bs. HasReplies held (after_known holds waiting) (run_of brands bs)) → HasFront holds now waiting
-    → IfSome input (λ bs. HasFront held now (traced brands bs).out)
-flushed_front brands held holds now None waiting written replies front = tt
-flushed_front brands None holds now (Some bytes) waiting written replies front =
+pub flushed_front : (brands : List Tabled) (R : List Commit) (held holds now input : Option (List ℕ)) (waiting : List ℕ) → HasWritten held holds → IfSome input (λ bs. HasReplies held (after_known holds waiting) (run_of brands R bs)) → HasFront holds now waiting
+    → IfSome input (λ bs. HasFront held now (traced brands R bs).out)
+flushed_front brands R held holds now None waiting written replies front = tt
+flushed_front brands R None holds now (Some bytes) waiting written replies front =
     record { count = 0; taken = front.taken ∙ ap (λ known. after_known known (take front.count waiting)) written.1 }
-flushed_front brands (Some begun) holds now (Some bytes) waiting written replies front =
-    let run = run_of brands bytes in
+flushed_front brands R (Some begun) holds now (Some bytes) waiting written replies front =
+    let run = run_of brands R bytes in
     let more = replies_text (drop replies.count run.entries) in
     let known : Some ((begun ++ written.0) ++ waiting) ≡ Some (begun ++ replies_text (take replies.count run.entries)) = sym (ap (λ known. after_known known waiting) written.1) ∙ replies.taken in
     let joined : written.0 ++ waiting ≡ replies_text (take replies.count run.entries) = append_cancel_left begun _ _ (sym (append_assoc begun written.0 waiting) ∙ cc) in
-    let whole : (traced brands bytes).out ≡ written.0 ++ (waiting ++ more) =
+    let whole : (traced brands R bytes).out ≡ written.0 ++ (waiting ++ more) =
     told-out run.entries run.refused run.ending ∙ ap replies_text (sym (take-append-drop replies.count run.entries))
     ∙ flat_map-append entry_text (take replies.count run.entries) (drop replies.count run.entries) ∙ ap (λ text. text ++ more) (sym joined) ∙ append_assoc written.0 waiting more in
     subst (HasFront (Some begun) now) (sym whole) (front_within (Some begun) holds now written.0 waiting more front.count written.1 front.taken)
@@ -232,88 +242,95 @@ pub nothing_waits : (known : Option (List ℕ)) (waiting : List ℕ) → waiting
 nothing_waits known waiting none = rw none (after_known-nil known)
 
 -- a byte ahead, after all the lines that there may be
-pub tells_last : (brands : List Tabled) (stands : State → Type 0) (refused : Option ℕ) (n : ℕ) (held holds bytes : Option (List ℕ)) (ahead : List ℕ) (left input : Option (List ℕ))
-    → RunsOn brands stands refused n held holds bytes input → n ≡ 200001 → bytes ≡ before_known ahead left → 0 < length ahead → IfSome input (λ bs. Tells (Some (Limit 200001)) held holds (traced brands bs))
-tells_last brands stands refused n held holds bytes ahead left input run last same some =
-    let here : RunsOn brands stands refused 200001 held holds bytes input = subst (λ m. RunsOn brands stands refused m held holds bytes input) last run in
-    tells_ending brands stands refused 200001 held holds bytes input (Past_limit 200001) (Some (Limit 200001)) here
+pub tells_last : (brands : List Tabled) (R : List Commit) (stands : State → Type 0) (refused : Option ℕ) (n : ℕ) (held holds bytes : Option (List ℕ)) (ahead : List ℕ) (left input : Option (List ℕ))
+    → RunsOn brands R stands refused n held holds bytes input → n ≡ 200001 → bytes ≡ before_known ahead left → 0 < length ahead → IfSome input (λ bs. Tells (Some (Limit 200001)) held holds (traced brands R bs))
+tells_last brands R stands refused n held holds bytes ahead left input run last same some =
+    let here : RunsOn brands R stands refused 200001 held holds bytes input = subst (λ m. RunsOn brands R stands refused m held holds bytes input) last run in
+    tells_ending brands R stands refused 200001 held holds bytes input (Past_limit 200001) (Some (Limit 200001)) here
     (λ S _. subst (EndsSo S.started 200001 (Past_limit 200001)) (sym same) (at_last S.started ahead left some)) (λ done. refl)
 
 -- at an ending all replies were written, and the whole text
-pub whole_replies : (brands : List Tabled) (complaint : Option Complaint) (held holds : Option (List ℕ)) (input : Option (List ℕ)) → IfSome input (λ bytes. Tells complaint held holds (traced brands bytes)) → IfSome input (λ bytes. HasReplies held holds (run_of brands bytes))
-whole_replies brands complaint held holds None tells = tt
-whole_replies brands complaint held holds (Some bytes) tells =
-    let run = run_of brands bytes in
+pub whole_replies : (brands : List Tabled) (R : List Commit) (complaint : Option Complaint) (held holds : Option (List ℕ)) (input : Option (List ℕ)) → IfSome input (λ bytes. Tells complaint held holds (traced brands R bytes)) → IfSome input (λ bytes. HasReplies held holds (run_of brands R bytes))
+whole_replies brands R complaint held holds None tells = tt
+whole_replies brands R complaint held holds (Some bytes) tells =
+    let run = run_of brands R bytes in
     record {
       count = length run.entries;
       taken = tells.taken ∙ ap (after_known held) (told-out run.entries run.refused run.ending) ∙ ap (λ entries. after_known held (replies_text entries)) (sym (take-length run.entries));
     }
 
-pub whole_front : (brands : List Tabled) (complaint : Option Complaint) (held holds : Option (List ℕ)) (input : Option (List ℕ)) → IfSome input (λ bytes. Tells complaint held holds (traced brands bytes)) → IfSome input (λ bytes. HasFront held holds (traced brands bytes).out)
-whole_front brands complaint held holds None tells = tt
-whole_front brands complaint held holds (Some bytes) tells =
-    record { count = length (traced brands bytes).out; taken = tells.taken ∙ ap (after_known held) (sym (take-length (traced brands bytes).out)) }
-
--- what holds of the line of a complaint holds of the line that the definition has
-pub told_line : (brands : List Tabled) (complaint : Complaint) (ended : Option Complaint) (held holds : Option (List ℕ)) (input : Option (List ℕ)) (P : List ℕ → Type 0) → ended ≡ Some complaint
-    → IfSome input (λ bytes. Tells ended held holds (traced brands bytes)) → P (complaint_text complaint) → IfSome input (λ bytes. P (traced brands bytes).err)
-told_line brands complaint ended held holds None P is tells line = tt
-told_line brands complaint ended held holds (Some bytes) P is tells line = subst P (ap (λ (o : Output). o.err) (sym (ap left_to_tell is) ∙ tells.rest)) line
+pub whole_front : (brands : List Tabled) (R : List Commit) (complaint : Option Complaint) (held holds : Option (List ℕ)) (input : Option (List ℕ)) → IfSome input (λ bytes. Tells complaint held holds (traced brands R bytes)) → IfSome input (λ bytes. HasFront held holds (traced brands R bytes).out)
+whole_front brands R complaint held holds None tells = tt
+whole_front brands R complaint held holds (Some bytes) tells =
+    record { count = length (traced brands R bytes).out; taken = tells.taken ∙ ap (after_known held) (sym (take-length (traced brands R bytes).out)) }
 
 refusal_alone : (text : List ℕ) (refused : Option ℕ) → record (told_refusal [] refused) { out = [] } ≡ record (told_refusal text refused) { out = [] }
 refusal_alone text None = refl
 refusal_alone text (Some n) = refl
 
 -- the end of the input
-pub tells_end : (brands : List Tabled) (stands : State → Type 0) (refused : Option ℕ) (n : ℕ) (held holds bytes input : Option (List ℕ)) (complaint : Option Complaint)
-    → RunsOn brands stands refused n held holds bytes input → IfSome (option_map lines_of bytes) (λ ls. ls ≡ []) → left_to_tell complaint ≡ record (told_refusal [] refused) { out = [] } → IfSome input (λ bs. Tells complaint held holds (traced brands bs))
-tells_end brands stands refused n held holds bytes input complaint run none is =
-    tells_ending brands stands refused n held holds bytes input At_end complaint run (λ S _. at_end S.started n bytes none) (λ done. is ∙ refusal_alone (replies_text done) refused)
+pub tells_end : (brands : List Tabled) (R : List Commit) (stands : State → Type 0) (refused : Option ℕ) (n : ℕ) (held holds bytes input : Option (List ℕ)) (complaint : Option Complaint)
+    → RunsOn brands R stands refused n held holds bytes input → IfSome (option_map lines_of bytes) (λ ls. ls ≡ []) → left_to_tell complaint ≡ record (told_refusal [] refused) { out = [] } → IfSome input (λ bs. Tells complaint held holds (traced brands R bs))
+tells_end brands R stands refused n held holds bytes input complaint run none is =
+    tells_ending brands R stands refused n held holds bytes input At_end complaint run (λ S _. at_end S.started n bytes none) (λ done. is ∙ refusal_alone (replies_text done) refused)
 
 nothing_ahead : (ahead : List ℕ) (left : Option (List ℕ)) → ahead ≡ [] → IsAtEnd left → IfSome (option_map lines_of (before_known ahead left)) (λ ls. ls ≡ [])
 nothing_ahead ahead None none end = tt
 nothing_ahead ahead (Some bs) none end = rw (none, end) refl
 
 -- nothing is ahead, after all the lines that there may be
-pub tells_last_end : (brands : List Tabled) (stands : State → Type 0) (refused : Option ℕ) (n : ℕ) (held holds bytes : Option (List ℕ)) (ahead : List ℕ) (left input : Option (List ℕ)) (complaint : Option Complaint)
-    → RunsOn brands stands refused n held holds bytes input → bytes ≡ before_known ahead left → ahead ≡ [] → IsAtEnd left → left_to_tell complaint ≡ record (told_refusal [] refused) { out = [] } → IfSome input (λ bs. Tells complaint held holds (traced brands bs))
-tells_last_end brands stands refused n held holds bytes ahead left input complaint run same none end is =
-    tells_end brands stands refused n held holds bytes input complaint run (subst (λ known. IfSome (option_map lines_of known) (λ ls. ls ≡ [])) (sym same) (nothing_ahead ahead left none end)) is
+pub tells_last_end : (brands : List Tabled) (R : List Commit) (stands : State → Type 0) (refused : Option ℕ) (n : ℕ) (held holds bytes : Option (List ℕ)) (ahead : List ℕ) (left input : Option (List ℕ)) (complaint : Option Complaint)
+    → RunsOn brands R stands refused n held holds bytes input → bytes ≡ before_known ahead left → ahead ≡ [] → IsAtEnd left → left_to_tell complaint ≡ record (told_refusal [] refused) { out = [] } → IfSome input (λ bs. Tells complaint held holds (traced brands R bs))
+tells_last_end brands R stands refused n held holds bytes ahead left input complaint run same none end is =
+    tells_end brands R stands refused n held holds bytes input complaint run (subst (λ known. IfSome (option_map lines_of known) (λ ls. ls ≡ [])) (sym same) (nothing_ahead ahead left none end)) is
+
+pub last_long : (started : Bool) (n : ℕ) (bytes : Option (List ℕ)) (ahead : List ℕ) (left : Option (List ℕ)) → n ≡ 200001 → bytes ≡ before_known ahead left → 0 < length ahead → EndsSo started n (Past_limit 200001) bytes
+last_long started n bytes ahead left last same some = subst (λ m. EndsSo started m (Past_limit 200001) bytes) (sym last) (subst (EndsSo started 200001 (Past_limit 200001)) (sym same) (at_last started ahead left some))
+
+pub last_end : (started : Bool) (n : ℕ) (bytes : Option (List ℕ)) (ahead : List ℕ) (left : Option (List ℕ)) → bytes ≡ before_known ahead left → ahead ≡ [] → IsAtEnd left → EndsSo started n At_end bytes
+last_end started n bytes ahead left same none end = at_end started n bytes (subst (λ known. IfSome (option_map lines_of known) (λ ls. ls ≡ [])) (sym same) (nothing_ahead ahead left none end))
 
 -- a line that is too long
-pub tells_long : (brands : List Tabled) (stands : State → Type 0) (refused : Option ℕ) (n : ℕ) (held holds bytes input : Option (List ℕ)) → RunsOn brands stands refused n held holds bytes input → IfSome (option_map lines_of bytes) FirstIsLong → IfSome input (λ bs. Tells (Some (Limit n)) held holds (traced brands bs))
-tells_long brands stands refused n held holds bytes input run long = tells_ending brands stands refused n held holds bytes input (Past_limit n) (Some (Limit n)) run (λ S _. at_long S.started n bytes long) (λ done. refl)
+pub tells_long : (brands : List Tabled) (R : List Commit) (stands : State → Type 0) (refused : Option ℕ) (n : ℕ) (held holds bytes input : Option (List ℕ)) → RunsOn brands R stands refused n held holds bytes input → IfSome (option_map lines_of bytes) FirstIsLong → IfSome input (λ bs. Tells (Some (Limit n)) held holds (traced brands R bs))
+tells_long brands R stands refused n held holds bytes input run long = tells_ending brands R stands refused n held holds bytes input (Past_limit n) (Some (Limit n)) run (λ S _. at_long S.started n bytes long) (λ done. refl)
 
 -- a line outside the grammar
-pub tells_fault : (brands : List Tabled) (stands : State → Type 0) (refused : Option ℕ) (n : ℕ) (held holds : Option (List ℕ)) (line : List ℕ) (fault : LineFault) (bytes : Option (List ℕ)) (new : Option (List (List ℕ))) (input : Option (List ℕ))
-    → RunsOn brands stands refused n held holds bytes input → option_map lines_of bytes ≡ option_map (λ ls. line ∷ ls) new → n ≤ 200000 → length line ≤ 4096 → ((S : State) → stands S → event_of S.started line ≡ Err fault)
-    → IfSome input (λ bs. Tells (Some (Bad_line n fault)) held holds (traced brands bs))
-tells_fault brands stands refused n held holds line fault bytes new input run is h k says =
-    tells_ending brands stands refused n held holds bytes input (At_fault n fault) (Some (Bad_line n fault)) run (λ S stood. at_fault S.started n line fault bytes new is h k (says S stood)) (λ done. refl)
+pub tells_fault : (brands : List Tabled) (R : List Commit) (stands : State → Type 0) (refused : Option ℕ) (n : ℕ) (held holds : Option (List ℕ)) (line : List ℕ) (fault : LineFault) (bytes : Option (List ℕ)) (new : Option (List (List ℕ))) (input : Option (List ℕ))
+    → RunsOn brands R stands refused n held holds bytes input → option_map lines_of bytes ≡ option_map (λ ls. line ∷ ls) new → n ≤ 200000 → length line ≤ 4096 → ((S : State) → stands S → event_of S.started line ≡ Err fault)
+    → IfSome input (λ bs. Tells (Some (Bad_line n fault)) held holds (traced brands R bs))
+tells_fault brands R stands refused n held holds line fault bytes new input run is h k says =
+    tells_ending brands R stands refused n held holds bytes input (At_fault n fault) (Some (Bad_line n fault)) run (λ S stood. at_fault S.started n line fault bytes new is h k (says S stood)) (λ done. refl)
 
--- a run ended, and what waited then was not written whole
-pub ended_front : (brands : List Tabled) (result : Result (Option Complaint) RunFault) (held holds now input : Option (List ℕ)) (waiting : List ℕ)
-    → IfOk result (λ complaint. IfSome input (λ bs. Tells complaint held (after_known holds waiting) (traced brands bs))) → (IsErrOf result Read ⊎ IsErrOf result Memory → IfSome input (λ bs. HasReplies held (after_known holds waiting) (run_of brands bs)))
-    → (IsErrOf result Write → IfSome input (λ bs. HasFront held holds (traced brands bs).out)) → (IsErrOf result Write → waiting ≡ []) → HasWritten held holds → HasFront holds now waiting → IfSome input (λ bs. HasFront held now (traced brands bs).out)
-ended_front brands (Ok complaint) held holds now input waiting tells answered front none written stopped = flushed_front brands held holds now input waiting written (whole_replies brands complaint held (after_known holds waiting) input tells) stopped
-ended_front brands (Err Read) held holds now input waiting tells answered front none written stopped = flushed_front brands held holds now input waiting written (answered (inl refl)) stopped
-ended_front brands (Err Memory) held holds now input waiting tells answered front none written stopped = flushed_front brands held holds now input waiting written (answered (inr refl)) stopped
-ended_front brands (Err Write) held holds now input waiting tells answered front none written stopped =
-    let text : take stopped.count waiting ≡ [] = rw (none refl) (take_nil stopped.count) in
-    let same : now ≡ holds = stopped.taken ∙ ap (after_known holds) text ∙ after_known-nil holds in
-    subst (λ known. IfSome input (λ bs. HasFront held known (traced brands bs).out)) (sym same) (front refl)
-  where
-    take_nil : (n : ℕ) → take {A = ℕ} n [] ≡ []
-    take_nil zero = refl
-    take_nil (suc n) = refl
+-- what waited when the trace ended was written, or wasn't
+pub ends_written : (brands : List Tabled) (R : List Commit) (r : Result (Option Complaint) RunFault) (held holds now left input : Option (List ℕ)) (waiting : List ℕ) → now ≡ after_known holds waiting → (IsErrOf r Write ⊎ IsErrOf r Disk → waiting ≡ [])
+    → EndsAs brands R r input left held holds (after_known holds waiting) → EndsAs brands R r input left held now now
+ends_written brands R (Ok complaint) held holds now left input waiting is none ended = subst (λ told. EndsAs brands R (Ok complaint) input left held told told) (sym is) ended
+ends_written brands R (Err Read) held holds now left input waiting is none ended = subst (λ told. EndsAs brands R (Err Read) input left held told told) (sym is) ended
+ends_written brands R (Err Memory) held holds now left input waiting is none ended = subst (λ told. EndsAs brands R (Err Memory) input left held told told) (sym is) ended
+ends_written brands R (Err Disk) held holds now left input waiting is none ended = subst (λ told. EndsAs brands R (Err Disk) input left held told told) (sym is) ended
+ends_written brands R (Err Write) held holds now left input waiting is none ended =
+    subst (λ told. EndsAs brands R (Err Write) input left held told told) (sym (is ∙ nothing_waits holds waiting (none (inl refl)))) ended
 
--- what a line that ended the trace outside the grammar says
-pub stops_outside : (stop : Stop) (fault : LineFault) (said : Said) → Stops stop said → stop ≡ Grammar fault → said ≡ Err fault
-stops_outside (Grammar found) fault said stops same = stops ∙ cc
-stops_outside No_room fault said stops same = absurd (cc)
+pub ends_unwritten : (brands : List Tabled) (R : List Commit) (r : Result (Option Complaint) RunFault) (held holds now left input : Option (List ℕ)) (waiting : List ℕ) → HasWritten held holds → HasFront holds now waiting → (waiting ≡ [] → ⊥) → (IsErrOf r Write ⊎ IsErrOf r Disk → waiting ≡ [])
+    → EndsAs brands R r input left held holds (after_known holds waiting) → EndsAs brands R (Err Write) input left held now now
+ends_unwritten brands R (Ok complaint) held holds now left input waiting written front some none ended =
+    (flushed_front brands R held holds now input waiting written (whole_replies brands R complaint held (after_known holds waiting) input ended.0) front, lines_run brands R held (after_known holds waiting) left input ended.1)
+ends_unwritten brands R (Err Read) held holds now left input waiting written front some none ended =
+    (flushed_front brands R held holds now input waiting written ended.0 front, read_run brands R held (after_known holds waiting) left input ended.1)
+ends_unwritten brands R (Err Memory) held holds now left input waiting written front some none ended =
+    (flushed_front brands R held holds now input waiting written ended.0 front, lines_run brands R held (after_known holds waiting) left input ended.1)
+ends_unwritten brands R (Err Disk) held holds now left input waiting written front some none ended = absurd (some (none (inr refl)))
+ends_unwritten brands R (Err Write) held holds now left input waiting written front some none ended = absurd (some (none (inl refl)))
 
--- a fault of reading that ends a trace as one is the source's
-pub source_failed : {T : Type 0} (r : Result T RunFault) (fault : ReadFault) → IsErrAnd r (λ e. e ≡ run_fault_of fault) → IsErrOf r Read → fault ≡ Failed
-source_failed (Ok x) fault said is = absurd (cc)
-source_failed (Err e) Failed said is = refl
-source_failed (Err e) No_memory said is = let read : e ≡ Read = cc in absurd (cc)
+-- a fault of an event or of its line ended the trace
+pub ends_failed : (brands : List Tabled) (R : List Commit) (stands : State → Type 0) (fault : RunFault) (refused : Option ℕ) (n : ℕ) (held holds now old left input : Option (List ℕ)) (waiting now_waiting : List ℕ)
+    → RunsOn brands R stands refused n held (after_known holds waiting) old input → HasWritten held holds → LeavesText fault holds now waiting now_waiting → TakesPiece old left → EndsAs brands R (Err fault) input left held now (after_known now now_waiting)
+ends_failed brands R stands Write refused n held holds now old left input waiting now_waiting run written text piece =
+    (flushed_front brands R held holds now input waiting written (has_replies brands R stands refused n held (after_known holds waiting) old input run) text.0, runs_lines brands R stands refused n held (after_known holds waiting) old left input run piece)
+ends_failed brands R stands Disk refused n held holds now old left input waiting now_waiting run written text piece =
+    let told = runs_told brands R stands refused n held (after_known holds waiting) (after_known now now_waiting) old input text.0 run in
+    (has_replies brands R stands refused n held (after_known now now_waiting) old input told, answers_lines brands R stands refused n held (after_known now now_waiting) old left input told piece)
+ends_failed brands R stands Memory refused n held holds now old left input waiting now_waiting run written text piece =
+    let told = runs_told brands R stands refused n held (after_known holds waiting) (after_known now now_waiting) old input text run in
+    (has_replies brands R stands refused n held (after_known now now_waiting) old input told, answers_lines brands R stands refused n held (after_known now now_waiting) old left input told piece)
+ends_failed brands R stands Read refused n held holds now old left input waiting now_waiting run written text piece = absurd text

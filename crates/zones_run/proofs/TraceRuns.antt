@@ -1,13 +1,15 @@
 -- What a machine, standard output and the bytes to come amount to, in the midst of a trace.
-use Rattle.std.proofs.Common.{◌≡◌, ◌+◌, ◌≤◌, ◌<◌, ◌++◌, ◌⊎◌, ℕ, Bool, true, false, cond, List, [], ◌∷◌, length, Option, Some, None, IfSome, Ok, Err, refl, ap, sym, subst, inl, inr, ◌∙◌, arith, append_assoc}
+use Rattle.std.proofs.Common.{◌≡◌, ◌+◌, ◌≤◌, ◌<◌, ◌++◌, ◌⊎◌, ℕ, Bool, true, false, cond, List, [], ◌∷◌, length, map, Option, Some, None, IfSome, Ok, Err, refl, ap, sym, subst, inl, inr, ◌∙◌, arith, append_assoc}
+use Rattle.std.specs.Option.{option_map}
 use Rattle.std.specs.Io.KnownBytes.{IsAtEnd}
 use Rattle.std.proofs.lemmas.List.{append-nil}
 use Rattle.zn_io.specs.Streams.{after_known, before_known}
 use Rattle.brand_hooks.specs.Brands.{Tabled}
+use Rattle.commit_journal.specs.declared.records.Commit.{Commit}
 use Rattle.trace_text.specs.Lines.{Said, event_of}
-use Rattle.zone_machine.specs.Machine.Histories.{after_entry, entry_at}
+use Rattle.zn_io.specs.Disk.{View}
+use Rattle.zone_machine.specs.Machine.Histories.{after, after_entry, history, is_legal}
 use Rattle.zone_machine.specs.Machine.{opening}
-use Rattle.zone_machine.specs.Machine.Pools.{allowed}
 use Rattle.zone_pools.specs.Pools.{or_else}
 use Rattle.zone_machine.specs.State.{State}
 use Rattle.zone_machine.specs.declared.events.Entry.{Entry}
@@ -15,46 +17,49 @@ use Rattle.zone_machine.specs.declared.events.Event.{Event}
 use Rattle.zn_base.specs.Lines.{is_newline, lines_of, with_first}
 use Rattle.zones_run.specs.Lines.{AreWhole, has_newline}
 use Rattle.zones_run.specs.Reading.{TakesLine}
-use Rattle.zones_run.specs.Tracing.{IsAnswered, TakesEvent, entry_text, is_refusal, replies_text, run_of}
+use Rattle.zones_run.specs.Answering.{IsAnswered, TakesEvent, entry_in, state_after}
+use Rattle.zones_run.specs.Recording.{GoesSurely, IsFront}
+use Rattle.zones_run.specs.Tracing.{Run, entry_text, is_refusal, replies_text, run_of, script_from}
 use Rattle.zones_run.proofs.Cuts.{cut_at, cut_whole}
 use Rattle.zones_run.proofs.Fronts.{after_known-append, after_known-nil}
+use Rattle.zones_run.proofs.Histories.{after-push, legal-entry}
 use Rattle.zones_run.proofs.Traces.{answers_line, from_first_line, or_else-None, refused_at_line, run_on, skips_line}
 
 -- of a known input: what was taken as lines, and what is to come. Whatever lines follow those taken, the run over them
 -- all is the run that has come so far and goes on with them
-pub record Knows (brands : List Tabled) (refused : Option ℕ) (number : ℕ) (state : State) (done : List Entry) (bytes : Option (List ℕ)) (input : List ℕ) : Type 0 where
+pub record Knows (brands : List Tabled) (R : List Commit) (refused : Option ℕ) (number : ℕ) (state : State) (done : List Entry) (bytes : Option (List ℕ)) (input : List ℕ) : Type 0 where
   pub past : List ℕ
   pub to_come : List ℕ
   pub here : bytes ≡ Some to_come
   pub all : input ≡ past ++ to_come
   pub fresh : AreWhole past ⊎ (to_come ≡ [])
-  pub leads : (lines : List (List ℕ)) → run_on [] None 1 (opening brands []) (lines_of past ++ lines) ≡ run_on done refused number state lines
+  pub leads : (lines : List (List ℕ)) → run_on [] None 1 (opening brands R) (lines_of past ++ lines) ≡ run_on done refused number state lines
 
 -- a machine that stands for a state after some entries, whose replies were written, with the bytes to come
-pub record RunsOn (brands : List Tabled) (stands : State → Type 0) (refused : Option ℕ) (number : ℕ) (held holds bytes input : Option (List ℕ)) : Type 0 where
+pub record RunsOn (brands : List Tabled) (R : List Commit) (stands : State → Type 0) (refused : Option ℕ) (number : ℕ) (held holds bytes input : Option (List ℕ)) : Type 0 where
   pub state : State
   pub stood : stands state
   pub done : List Entry
   pub text : holds ≡ after_known held (replies_text done)
-  pub known : IfSome input (Knows brands refused number state done bytes)
+  pub known : IfSome input (Knows brands R refused number state done bytes)
 
 -- at the start
-pub runs_from_start : (brands : List Tabled) (stands : State → Type 0) (held input : Option (List ℕ)) → stands (opening brands []) → RunsOn brands stands None 1 held held (before_known [] input) input
-runs_from_start brands stands held input stood = record {
-  state = opening brands [];
+pub runs_from_start : (brands : List Tabled) (R : List Commit) (stands : State → Type 0) (held input : Option (List ℕ)) → stands (opening brands R) → RunsOn brands R stands None 1 held held (before_known [] input) input
+runs_from_start brands R stands held input stood = record {
+  state = opening brands R;
   stood = stood;
   done = [];
   text = sym (after_known-nil held);
   known = at_input input;
 }
   where
-    at_input : (input : Option (List ℕ)) → IfSome input (Knows brands None 1 (opening brands []) [] (before_known [] input))
+    at_input : (input : Option (List ℕ)) → IfSome input (Knows brands R None 1 (opening brands R) [] (before_known [] input))
     at_input None = tt
     at_input (Some bytes) = record { past = []; to_come = bytes; here = refl; all = refl; fresh = inl (inl refl); leads = λ lines. refl }
 
 -- what was reported in another way
-pub runs_told : (brands : List Tabled) (stands : State → Type 0) (refused : Option ℕ) (n : ℕ) (held holds now_holds bytes input : Option (List ℕ)) → now_holds ≡ holds → RunsOn brands stands refused n held holds bytes input → RunsOn brands stands refused n held now_holds bytes input
-runs_told brands stands refused n held holds now_holds bytes input same run = subst (λ known. RunsOn brands stands refused n held known bytes input) (sym same) run
+pub runs_told : (brands : List Tabled) (R : List Commit) (stands : State → Type 0) (refused : Option ℕ) (n : ℕ) (held holds now_holds bytes input : Option (List ℕ)) → now_holds ≡ holds → RunsOn brands R stands refused n held holds bytes input → RunsOn brands R stands refused n held now_holds bytes input
+runs_told brands R stands refused n held holds now_holds bytes input same run = subst (λ known. RunsOn brands R stands refused n held known bytes input) (sym same) run
 
 -- lines that end in a newline are followed by those of the bytes after them
 lines_of-onto : (front bytes : List ℕ) → lines_of ((front ++ 10 ∷ []) ++ bytes) ≡ lines_of (front ++ 10 ∷ []) ++ lines_of bytes
@@ -139,9 +144,9 @@ takes past line to_come new (inr none) took = elim took.ended as (λ _. Taken pa
 ]
 
 -- a line is taken, and the run goes on after it
-one_line : (brands : List Tabled) (done now_done : List Entry) (refused now : Option ℕ) (n : ℕ) (S T : State) (line : List ℕ) (old new : Option (List ℕ)) (input : List ℕ)
-    → ((lines : List (List ℕ)) → run_on done refused n S (line ∷ lines) ≡ run_on now_done now (n + 1) T lines) → Knows brands refused n S done old input → TakesLine line old new → Knows brands now (n + 1) T now_done new input
-one_line brands done now_done refused now n S T line old new input step known took =
+one_line : (brands : List Tabled) (R : List Commit) (done now_done : List Entry) (refused now : Option ℕ) (n : ℕ) (S T : State) (line : List ℕ) (old new : Option (List ℕ)) (input : List ℕ)
+    → ((lines : List (List ℕ)) → run_on done refused n S (line ∷ lines) ≡ run_on now_done now (n + 1) T lines) → Knows brands R refused n S done old input → TakesLine line old new → Knows brands R now (n + 1) T now_done new input
+one_line brands R done now_done refused now n S T line old new input step known took =
     let taken = takes known.past line known.to_come new known.fresh (subst (λ bytes. TakesLine line bytes new) known.here took) in
     record {
       past = taken.now_past;
@@ -149,25 +154,20 @@ one_line brands done now_done refused now n S T line old new input step known to
       here = taken.here;
       all = known.all ∙ taken.all;
       fresh = taken.fresh;
-      leads = λ lines. ap (λ front. run_on [] None 1 (opening brands []) (front ++ lines)) taken.lines
-          ∙ ap (run_on [] None 1 (opening brands [])) (append_assoc (lines_of known.past) (line ∷ []) lines) ∙ known.leads (line ∷ lines) ∙ step lines;
+      leads = λ lines. ap (λ front. run_on [] None 1 (opening brands R) (front ++ lines)) taken.lines
+          ∙ ap (run_on [] None 1 (opening brands R)) (append_assoc (lines_of known.past) (line ∷ []) lines) ∙ known.leads (line ∷ lines) ∙ step lines;
     }
 
-for_input : (brands : List Tabled) (done now_done : List Entry) (refused now : Option ℕ) (n : ℕ) (S T : State) (line : List ℕ) (old new input : Option (List ℕ))
-    → ((lines : List (List ℕ)) → run_on done refused n S (line ∷ lines) ≡ run_on now_done now (n + 1) T lines) → TakesLine line old new → IfSome input (Knows brands refused n S done old) → IfSome input (Knows brands now (n + 1) T now_done new)
-for_input brands done now_done refused now n S T line old new None step took known = tt
-for_input brands done now_done refused now n S T line old new (Some input) step took known = one_line brands done now_done refused now n S T line old new input step known took
+for_input : (brands : List Tabled) (R : List Commit) (done now_done : List Entry) (refused now : Option ℕ) (n : ℕ) (S T : State) (line : List ℕ) (old new input : Option (List ℕ))
+    → ((lines : List (List ℕ)) → run_on done refused n S (line ∷ lines) ≡ run_on now_done now (n + 1) T lines) → TakesLine line old new → IfSome input (Knows brands R refused n S done old) → IfSome input (Knows brands R now (n + 1) T now_done new)
+for_input brands R done now_done refused now n S T line old new None step took known = tt
+for_input brands R done now_done refused now n S T line old new (Some input) step took known = one_line brands R done now_done refused now n S T line old new input step known took
 
 -- a line that is no event
-runs_past : (brands : List Tabled) (stands : State → Type 0) (refused : Option ℕ) (n : ℕ) (held holds : Option (List ℕ)) (line : List ℕ) (old new input : Option (List ℕ))
-    → (run : RunsOn brands stands refused n held holds old input) → TakesLine line old new → n ≤ 200000 → length line ≤ 4096 → event_of run.state.started line ≡ Ok None → RunsOn brands stands refused (n + 1) held holds new input
-runs_past brands stands refused n held holds line old new input run took h k e = record {
-  state = run.state;
-  stood = run.stood;
-  done = run.done;
-  text = run.text;
-  known = for_input brands run.done run.done refused refused n run.state run.state line old new input (λ lines. skips_line run.done refused n run.state line lines h k e) took run.known;
-}
+runs_past : (brands : List Tabled) (R : List Commit) (stands : State → Type 0) (refused : Option ℕ) (n : ℕ) (held holds : Option (List ℕ)) (line : List ℕ) (old new input : Option (List ℕ))
+    → (run : RunsOn brands R stands refused n held holds old input) → TakesLine line old new → n ≤ 200000 → length line ≤ 4096 → event_of run.state.started line ≡ Ok None → IfSome input (Knows brands R refused (n + 1) run.state run.done new)
+runs_past brands R stands refused n held holds line old new input run took h k e =
+    for_input brands R run.done run.done refused refused n run.state run.state line old new input (λ lines. skips_line run.done refused n run.state line lines h k e) took run.known
 
 replies_text-push : (done : List Entry) (entry : Entry) → replies_text (done ++ entry ∷ []) ≡ replies_text done ++ entry_text entry
 replies_text-push [] entry = append-nil (entry_text entry)
@@ -178,58 +178,105 @@ refused_as refused n refusal true e = rw e refl
 refused_as refused n refusal false e = rw e (or_else-None refused)
 
 -- a line that is an event
-runs_through : (brands : List Tabled) (stands now_stands : State → Type 0) (refused now : Option ℕ) (n : ℕ) (held holds now_holds : Option (List ℕ)) (e : Event) (refusal : Bool) (line : List ℕ) (old new input : Option (List ℕ))
-    → (run : RunsOn brands stands refused n held holds old input) → IsAnswered stands now_stands e refusal holds now_holds → TakesLine line old new → n ≤ 200000 → length line ≤ 4096 → event_of run.state.started line ≡ Ok (Some e)
-    → now ≡ cond refusal (or_else refused (Some n)) refused → RunsOn brands now_stands now (n + 1) held now_holds new input
-runs_through brands stands now_stands refused now n held holds now_holds e refusal line old new input run answered took h k says so =
+pub runs_through : (brands : List Tabled) (R : List Commit) (stands now_stands : State → Type 0) (v w : View) (refused now : Option ℕ) (n : ℕ) (held holds now_holds : Option (List ℕ)) (e : Event) (refusal : Bool) (line : List ℕ) (old new input : Option (List ℕ))
+    → (run : RunsOn brands R stands refused n held holds old input) → IsAnswered run.state e refusal now_stands v w holds now_holds → TakesLine line old new → n ≤ 200000 → length line ≤ 4096 → event_of run.state.started line ≡ Ok (Some e)
+    → now ≡ cond refusal (or_else refused (Some n)) refused → RunsOn brands R now_stands now (n + 1) held now_holds new input
+runs_through brands R stands now_stands v w refused now n held holds now_holds e refusal line old new input run answered took h k says so =
     let S = run.state in
-    let entry : Entry = entry_at S e (allowed S e) in
-    let told : or_else refused (refused_at_line n entry) ≡ now = refused_as refused n refusal (is_refusal entry.reply.head) (answered.refused S run.stood) ∙ sym so in
+    let entry : Entry = entry_in S e in
+    let told : or_else refused (refused_at_line n entry) ≡ now = refused_as refused n refusal (is_refusal entry.reply.head) answered.refused ∙ sym so in
     record {
       state = after_entry S entry;
-      stood = answered.stood S run.stood;
+      stood = answered.stands;
       done = run.done ++ entry ∷ [];
-      text = answered.text S run.stood ∙ ap (λ known. after_known known (entry_text entry)) run.text ∙ after_known-append held (replies_text run.done) (entry_text entry)
+      text = answered.text ∙ ap (λ known. after_known known (entry_text entry)) run.text ∙ after_known-append held (replies_text run.done) (entry_text entry)
           ∙ ap (after_known held) (sym (replies_text-push run.done entry));
-      known = for_input brands run.done (run.done ++ entry ∷ []) refused now n S (after_entry S entry) line old new input
+      known = for_input brands R run.done (run.done ++ entry ∷ []) refused now n S (after_entry S entry) line old new input
           (λ lines. answers_line run.done refused n S e line lines h k says ∙ ap (λ r. run_on (run.done ++ entry ∷ []) r (n + 1) (after_entry S entry) lines) told) took run.known;
     }
 
--- a line that was taken, whatever it says
-pub runs_said : (brands : List Tabled) (stands now_stands : State → Type 0) (refused now : Option ℕ) (n : ℕ) (held holds now_holds : Option (List ℕ)) (line : List ℕ) (old new input : Option (List ℕ)) (run : RunsOn brands stands refused n held holds old input) (said : Said)
-    → event_of run.state.started line ≡ said → TakesEvent stands now_stands said n refused now holds now_holds → TakesLine line old new → n ≤ 200000 → length line ≤ 4096 → RunsOn brands now_stands now (n + 1) held now_holds new input
-runs_said brands stands now_stands refused now n held holds now_holds line old new input run (Ok None) says took line_took h k =
-    let past = runs_past brands stands refused n held holds line old new input run line_took h k says in
-    subst (λ r. RunsOn brands now_stands r (n + 1) held now_holds new input) (sym took.1)
-    (subst (λ known. RunsOn brands now_stands refused (n + 1) held known new input) (sym took.2) (record {
-      state = past.state;
-      stood = took.0 past.state past.stood;
-      done = past.done;
-      text = past.text;
-      known = past.known;
-    }))
-runs_said brands stands now_stands refused now n held holds now_holds line old new input run (Ok (Some e)) says took line_took h k =
-    runs_through brands stands now_stands refused now n held holds now_holds e took.0 line old new input run took.1 line_took h k says took.2
-runs_said brands stands now_stands refused now n held holds now_holds line old new input run (Err fault) says took line_took h k = absurd took
+-- the event that a line was read as is answered
+pub takes_answered : (S : State) (now_stands : State → Type 0) (same : Type 0) (v w : View) (started : Bool) (line : List ℕ) (e : Event) (refusal : Bool) (n : ℕ) (refused now : Option ℕ) (holds now_holds : Option (List ℕ))
+    → started ≡ S.started → event_of started line ≡ Ok (Some e) → IsAnswered S e refusal now_stands v w holds now_holds → now ≡ cond refusal (or_else refused (Some n)) refused → TakesEvent S (event_of S.started line) now_stands same v w n refused now holds now_holds
+takes_answered S now_stands same v w started line e refusal n refused now holds now_holds is says answered so =
+    subst (λ said. TakesEvent S said now_stands same v w n refused now holds now_holds) (sym says ∙ ap (λ b. event_of b line) is) (refusal, answered, so)
 
--- what it says depends on whether an event has come, which the machine's state tells
-pub runs_line : (brands : List Tabled) (stands now_stands : State → Type 0) (refused now : Option ℕ) (n : ℕ) (held holds now_holds : Option (List ℕ)) (line : List ℕ) (old new input : Option (List ℕ))
-    → RunsOn brands stands refused n held holds old input → ((S : State) → stands S → TakesEvent stands now_stands (event_of S.started line) n refused now holds now_holds) → TakesLine line old new → n ≤ 200000 → length line ≤ 4096
-    → RunsOn brands now_stands now (n + 1) held now_holds new input
-runs_line brands stands now_stands refused now n held holds now_holds line old new input run took line_took h k =
-    runs_said brands stands now_stands refused now n held holds now_holds line old new input run (event_of run.state.started line) refl (took run.state run.stood) line_took h k
-
--- the event that a line was read as is answered, in whatever state the machine stood for
-pub takes_answered : (stands now_stands : State → Type 0) (started : Bool) (S : State) (line : List ℕ) (e : Event) (refusal : Bool) (n : ℕ) (refused now : Option ℕ) (holds now_holds : Option (List ℕ))
-    → started ≡ S.started → event_of started line ≡ Ok (Some e) → IsAnswered stands now_stands e refusal holds now_holds → now ≡ cond refusal (or_else refused (Some n)) refused → TakesEvent stands now_stands (event_of S.started line) n refused now holds now_holds
-takes_answered stands now_stands started S line e refusal n refused now holds now_holds is says answered so =
-    subst (λ said. TakesEvent stands now_stands said n refused now holds now_holds) (sym says ∙ ap (λ b. event_of b line) is) (refusal, answered, so)
+-- a line that was read as no event
+pub takes_nothing : (S : State) (now_stands : State → Type 0) (same : Type 0) (v w : View) (started : Bool) (line : List ℕ) (n : ℕ) (refused : Option ℕ) (holds : Option (List ℕ))
+    → started ≡ S.started → event_of started line ≡ Ok None → now_stands S → same → TakesEvent S (event_of S.started line) now_stands same v w n refused refused holds holds
+takes_nothing S now_stands same v w started line n refused holds is says stood left =
+    subst (λ said. TakesEvent S said now_stands same v w n refused refused holds holds) (sym says ∙ ap (λ b. event_of b line) is) (stood, refl, refl, left)
 
 -- the run of the input is the run over the bytes to come, from here on
-pub known_run : (brands : List Tabled) (refused : Option ℕ) (n : ℕ) (S : State) (done : List Entry) (bytes : Option (List ℕ)) (input : List ℕ) (known : Knows brands refused n S done bytes input) → run_of brands input ≡ run_on done refused n S (lines_of known.to_come)
-known_run brands refused n S done bytes input known =
-    from_first_line brands input ∙ ap (λ bytes. run_on [] None 1 (opening brands []) (lines_of bytes)) known.all ∙ ap (run_on [] None 1 (opening brands [])) (joined known.fresh) ∙ known.leads (lines_of known.to_come)
+pub known_run : (brands : List Tabled) (R : List Commit) (refused : Option ℕ) (n : ℕ) (S : State) (done : List Entry) (bytes : Option (List ℕ)) (input : List ℕ) (known : Knows brands R refused n S done bytes input) → run_of brands R input ≡ run_on done refused n S (lines_of known.to_come)
+known_run brands R refused n S done bytes input known =
+    from_first_line brands R input ∙ ap (λ bytes. run_on [] None 1 (opening brands R) (lines_of bytes)) known.all ∙ ap (run_on [] None 1 (opening brands R)) (joined known.fresh) ∙ known.leads (lines_of known.to_come)
   where
     joined : AreWhole known.past ⊎ (known.to_come ≡ []) → lines_of (known.past ++ known.to_come) ≡ lines_of known.past ++ lines_of known.to_come
     joined (inl whole) = lines_of-append known.past known.to_come whole
     joined (inr none) = rw none (ap lines_of (append-nil known.past) ∙ sym (append-nil (lines_of known.past)))
+
+-- a trace that has come so far over a legal history, and what its entries have left on the disk
+pub record Follows (brands : List Tabled) (R : List Commit) (stands : State → Type 0) (left_by : List Entry → Type 0) (refused : Option ℕ) (number : ℕ) (held holds bytes input : Option (List ℕ)) : Type 0 where
+  pub run : RunsOn brands R stands refused number held holds bytes input
+  pub reached : run.state ≡ after (opening brands R) run.done
+  pub legal : is_legal (opening brands R) run.done ≡ true
+  pub kept : left_by run.done
+
+pub follows_from_start : (brands : List Tabled) (R : List Commit) (stands : State → Type 0) (left_by : List Entry → Type 0) (held input : Option (List ℕ)) → stands (opening brands R) → left_by [] → Follows brands R stands left_by None 1 held held (before_known [] input) input
+unfolding runs_from_start
+follows_from_start brands R stands left_by held input stood kept = record { run = runs_from_start brands R stands held input stood; reached = refl; legal = refl; kept = kept }
+
+pub follows_told : (brands : List Tabled) (R : List Commit) (stands : State → Type 0) (left_by : List Entry → Type 0) (refused : Option ℕ) (n : ℕ) (held holds now_holds bytes input : Option (List ℕ)) → now_holds ≡ holds → Follows brands R stands left_by refused n held holds bytes input → Follows brands R stands left_by refused n held now_holds bytes input
+follows_told brands R stands left_by refused n held holds now_holds bytes input same run = subst (λ known. Follows brands R stands left_by refused n held known bytes input) (sym same) run
+
+-- a line that was taken, whatever it says
+follows_said : (brands : List Tabled) (R : List Commit) (same : Type 0) (stands now_stands : State → Type 0) (left_by now_left : List Entry → Type 0) (v w : View) (refused now : Option ℕ) (n : ℕ) (held holds now_holds : Option (List ℕ)) (line : List ℕ) (old new input : Option (List ℕ)) (f : Follows brands R stands left_by refused n held holds old input) (said : Said)
+    → event_of f.run.state.started line ≡ said → TakesEvent f.run.state said now_stands same v w n refused now holds now_holds → TakesLine line old new → n ≤ 200000 → length line ≤ 4096
+    → (same → (h : List Entry) → left_by h → now_left h)
+    → ((S : State) (e : Event) (h : List Entry) → S ≡ after (opening brands R) h → GoesSurely S.commits (state_after S e).commits v w → left_by h → now_left (h ++ entry_in S e ∷ []))
+    → Follows brands R now_stands now_left now (n + 1) held now_holds new input
+unfolding runs_through
+follows_said brands R same stands now_stands left_by now_left v w refused now n held holds now_holds line old new input f (Ok None) says took line_took h k stays steps =
+    let past = runs_past brands R stands refused n held holds line old new input f.run line_took h k says in
+    subst (λ r. Follows brands R now_stands now_left r (n + 1) held now_holds new input) (sym took.1)
+    (subst (λ known. Follows brands R now_stands now_left refused (n + 1) held known new input) (sym took.2) (record {
+      run = record { state = f.run.state; stood = took.0; done = f.run.done; text = f.run.text; known = past };
+      reached = f.reached;
+      legal = f.legal;
+      kept = stays took.3 f.run.done f.kept;
+    }))
+follows_said brands R same stands now_stands left_by now_left v w refused now n held holds now_holds line old new input f (Ok (Some e)) says took line_took h k stays steps =
+    let S = f.run.state in
+    let entry : Entry = entry_in S e in
+    record {
+      run = runs_through brands R stands now_stands v w refused now n held holds now_holds e took.0 line old new input f.run took.1 line_took h k says took.2;
+      reached = ap (λ (T : State). after_entry T entry) f.reached ∙ sym (after-push (opening brands R) f.run.done entry);
+      legal = legal-entry (opening brands R) f.run.done S e f.reached f.legal;
+      kept = steps S e f.run.done f.reached took.1.goes f.kept;
+    }
+follows_said brands R same stands now_stands left_by now_left v w refused now n held holds now_holds line old new input f (Err fault) says took line_took h k stays steps = absurd took
+
+-- what it says depends on whether an event has come, which the machine's state tells
+pub follows_line : (brands : List Tabled) (R : List Commit) (same : Type 0) (stands now_stands : State → Type 0) (left_by now_left : List Entry → Type 0) (v w : View) (refused now : Option ℕ) (n : ℕ) (held holds now_holds : Option (List ℕ)) (line : List ℕ) (old new input : Option (List ℕ))
+    → Follows brands R stands left_by refused n held holds old input → ((S : State) → stands S → TakesEvent S (event_of S.started line) now_stands same v w n refused now holds now_holds) → TakesLine line old new → n ≤ 200000 → length line ≤ 4096
+    → (same → (h : List Entry) → left_by h → now_left h)
+    → ((S : State) (e : Event) (h : List Entry) → S ≡ after (opening brands R) h → GoesSurely S.commits (state_after S e).commits v w → left_by h → now_left (h ++ entry_in S e ∷ []))
+    → Follows brands R now_stands now_left now (n + 1) held now_holds new input
+follows_line brands R same stands now_stands left_by now_left v w refused now n held holds now_holds line old new input f took line_took h k stays steps =
+    follows_said brands R same stands now_stands left_by now_left v w refused now n held holds now_holds line old new input f (event_of f.run.state.started line) refl (took f.run.state f.run.stood) line_took h k stays steps
+
+-- the entries of a run are the first ones of the whole input's
+pub begins_input : (brands : List Tabled) (R : List Commit) (refused : Option ℕ) (n : ℕ) (S : State) (done : List Entry) (bytes input : Option (List ℕ)) → IfSome input (Knows brands R refused n S done bytes) → IfSome (option_map (λ bs. (run_of brands R bs).entries) input) (IsFront done)
+begins_input brands R refused n S done bytes None known = tt
+begins_input brands R refused n S done bytes (Some input) known =
+    record { rest = history S (map (λ (e : ℕ × Event). e.1) (script_from S.started n (lines_of known.to_come)).events); whole = ap (λ (r : Run). r.entries) (known_run brands R refused n S done bytes input known) }
+
+-- and so they are with the entry of one line more
+pub begins_entry : (brands : List Tabled) (R : List Commit) (stands : State → Type 0) (refused : Option ℕ) (n : ℕ) (held holds : Option (List ℕ)) (e : Event) (line : List ℕ) (old new input : Option (List ℕ)) (run : RunsOn brands R stands refused n held holds old input)
+    → TakesLine line old new → n ≤ 200000 → length line ≤ 4096 → event_of run.state.started line ≡ Ok (Some e) → IfSome (option_map (λ bs. (run_of brands R bs).entries) input) (IsFront (run.done ++ entry_in run.state e ∷ []))
+begins_entry brands R stands refused n held holds e line old new input run took h k says =
+    let S = run.state in
+    let entry : Entry = entry_in S e in
+    begins_input brands R (or_else refused (refused_at_line n entry)) (n + 1) (after_entry S entry) (run.done ++ entry ∷ []) new input
+    (for_input brands R run.done (run.done ++ entry ∷ []) refused (or_else refused (refused_at_line n entry)) n S (after_entry S entry) line old new input (λ lines. answers_line run.done refused n S e line lines h k says) took run.known)

@@ -3,6 +3,7 @@ use Rattle.std.proofs.Common.{◌≡◌, ◌+◌, ◌≤◌, ◌||◌, ◌++◌,
 use Rattle.std.proofs.Math.Bool.{or-false}
 use Rattle.std.proofs.lemmas.Bool.Decides.{nat_tests}
 use Rattle.brand_hooks.specs.Brands.{Tabled}
+use Rattle.commit_journal.specs.declared.records.Commit.{Commit}
 use Rattle.trace_text.specs.Lines.{Said, event_of}
 use Rattle.zone_machine.specs.Machine.Histories.{after_entry, entry_at, history}
 use Rattle.zone_machine.specs.Machine.Pools.{allowed}
@@ -27,8 +28,8 @@ abbrev pub run_on : List Entry → Option ℕ → ℕ → State → List (List �
 run_on done refused number S lines = with_script done refused S (script_from S.started number lines)
 
 -- the run of a whole input has come to nothing before its first line
-pub from_first_line : (brands : List Tabled) (bytes : List ℕ) → run_of brands bytes ≡ run_on [] None 1 (opening brands []) (lines_of bytes)
-from_first_line brands bytes = refl
+pub from_first_line : (brands : List Tabled) (R : List Commit) (bytes : List ℕ) → run_of brands R bytes ≡ run_on [] None 1 (opening brands R) (lines_of bytes)
+from_first_line brands R bytes = refl
 
 within : (n m : ℕ) → n ≤ 200000 → m ≤ 4096 → (nat_lt 200000 n || nat_lt 4096 m) ≡ false
 within n m h k = grind (arith, nat_tests)

@@ -23,10 +23,13 @@ help_text = text_of_lines (
     codes "  --help     write this text" ∷
     codes "  --version  write the version" ∷
     [] ∷
+    codes "The zones of a trace are kept in the file zones.store, in the current folder." ∷
+    [] ∷
     codes "The exit status is 0 where all is done, 1 where a line or the end of the input is" ∷
     codes "refused, 2 for a faulty command line, 3 for a line outside the grammar of a trace, 4" ∷
-    codes "for a read fault, 5 for a write fault, 8 for a line above 4096 bytes or more than" ∷
-    codes "200000 lines, and 9 where memory runs out." ∷
+    codes "for a read fault, 5 for a write fault, 6 for a fault of the disk, 7 where zones.store" ∷
+    codes "is no store, 8 for a line above 4096 bytes or more than 200000 lines, and 9 where" ∷
+    codes "memory runs out." ∷
     [] ∷
     codes "docs/CODES.md says what each code means, and what to do about it." ∷
     [])

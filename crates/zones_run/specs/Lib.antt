@@ -12,6 +12,10 @@ pub mod Complaints
 pub mod Exporting
 pub mod Outcomes
 pub mod Tracing
+pub mod Opening
+pub mod Recording
+pub mod Answering
+pub mod Resting
 pub mod Declarations
 pub mod Program
 pub mod Run

@@ -4,7 +4,7 @@ use Rattle.zonecfg_scopes.specs.Open.{Open}
 use Rattle.zones_run.specs.declared.outcome.Complaint.{Complaint}
 use Rattle.zones_run.specs.declared.outcome.Outcome.{Outcome}
 use Rattle.zones_run.specs.declared.outcome.Outcome.TheVariants.{Text, Complains}
-use Rattle.zones_run.specs.Complaints.{complaint_output}
+use Rattle.zones_run.specs.Complaints.{IsOfInput, complaint_output}
 use Rattle.zones_run.specs.Exporting.{ended}
 use Rattle.zones_run.specs.Output.{Output, written}
 
@@ -16,3 +16,8 @@ ended_by (Some complaint) o = complaint_output complaint
 abbrev pub outcome_of : Outcome → Output
 outcome_of (Text text) = written text.items
 outcome_of (Complains complaint) = complaint_output complaint
+
+-- an outcome is a text, or complains of the input
+abbrev pub IsOfInputAlone : Outcome → Type 0
+IsOfInputAlone (Text text) = Unit {0}
+IsOfInputAlone (Complains complaint) = IsOfInput complaint

@@ -25,6 +25,14 @@ status_read_fault = 4
 abbrev pub status_write_fault : ℕ
 status_write_fault = 5
 
+-- the disk failed
+abbrev pub status_disk_fault : ℕ
+status_disk_fault = 6
+
+-- what is on the disk is no store
+abbrev pub status_not_a_store : ℕ
+status_not_a_store = 7
+
 -- the input has too many lines, or a line has too many bytes
 abbrev pub status_limit : ℕ
 status_limit = 8

@@ -1,17 +1,15 @@
 -- What `trace` writes for the whole of its input: its lines are read, their events make a history of the zone machine
--- from no record on, with the brands that there are, and the history's replies are printed.
-use Rattle.std.specs.Prelude.{ℕ, List, [], ◌∷◌, ◌+◌, ◌≡◌, map, take, Bool, true, false, ◌||◌, Option, Some, None, Result, Ok, Err, if◌then◌else◌}
+-- from the commits of its store on, with the brands that there are, and the history's replies are printed.
+use Rattle.std.specs.Prelude.{ℕ, List, [], ◌∷◌, ◌+◌, ◌≡◌, map, take, Bool, true, false, ◌||◌, Option, Some, None, IfSome, Result, Ok, Err, if◌then◌else◌}
 use Rattle.std.specs.List.{flat_map}
 use Rattle.zn_io.specs.Streams.{after_known}
 use Rattle.brand_hooks.specs.Brands.{Tabled}
+use Rattle.commit_journal.specs.declared.records.Commit.{Commit}
 use Rattle.trace_text.specs.Lines.{Said, event_of}
 use Rattle.trace_text.specs.Replies.{reply_text}
 use Rattle.trace_text.specs.declared.fault.LineFault.{LineFault}
-use Rattle.zone_machine.specs.Machine.Histories.{after_entry, entry_at, history}
+use Rattle.zone_machine.specs.Machine.Histories.{history}
 use Rattle.zone_machine.specs.Machine.{opening}
-use Rattle.zone_machine.specs.Machine.Pools.{allowed}
-use Rattle.zone_pools.specs.Pools.{or_else}
-use Rattle.zone_machine.specs.State.{State}
 use Rattle.zoneadmd_steps.specs.declared.requests.Outcome.{Outcome}
 use Rattle.zoneadmd_steps.specs.declared.requests.Outcome.TheVariants.{Done}
 use Rattle.zoneadmd_steps.specs.declared.requests.TurnReply.{TurnReply}
@@ -21,8 +19,6 @@ use Rattle.zone_machine.specs.declared.events.Event.{Event}
 use Rattle.zone_machine.specs.declared.events.Event.TheVariants.{System}
 use Rattle.zone_machine.specs.declared.replies.Head.{Head}
 use Rattle.zone_machine.specs.declared.replies.Head.TheVariants.{Refused, Turned}
-use Rattle.zones_run.specs.declared.trace.Stop.{Stop}
-use Rattle.zones_run.specs.declared.trace.Stop.TheVariants.{Memory as No_room, Grammar}
 use Rattle.zn_base.specs.Lines.{lines_of}
 use Rattle.zones_run.specs.declared.fault.RunFault.{RunFault}
 use Rattle.zones_run.specs.declared.fault.RunFault.TheVariants.{Read, Write}
@@ -31,6 +27,7 @@ use Rattle.zones_run.specs.Complaints.{complaint_output, limit_at}
 use Rattle.zones_run.specs.declared.outcome.Complaint.{Complaint}
 use Rattle.zones_run.specs.declared.outcome.Complaint.TheVariants.{FirstRefused, Grammar as Bad_line}
 use Rattle.zones_run.specs.Output.{Output, is_past_limit, written}
+use Rattle.zones_run.specs.Run.{HasFront}
 
 -- how the lines end: at the end of the input, at a line outside the grammar, or past a limit
 pub data Ending : Type 0 where
@@ -101,17 +98,17 @@ pub record Run : Type 0 where
 abbrev pub run_by : Script → List Entry → Run
 run_by script entries = record { entries = entries; refused = first_refused script.events entries; ending = script.ending }
 
--- the entries are the history of the events, from a machine of some brands with nothing stored
-abbrev pub script_run : List Tabled → Script → Run
-script_run brands script = run_by script (history (opening brands []) (map (λ e. e.1) script.events))
+-- the entries are the history of the events, from a machine of some brands whose store has some commits
+abbrev pub script_run : List Tabled → List Commit → Script → Run
+script_run brands R script = run_by script (history (opening brands R) (map (λ e. e.1) script.events))
 
 -- the script of a whole input
 abbrev pub script_of : List ℕ → Script
 script_of bytes = script_from false 1 (lines_of bytes)
 
 -- the run of a whole input
-abbrev pub run_of : List Tabled → List ℕ → Run
-run_of brands bytes = script_run brands (script_of bytes)
+abbrev pub run_of : List Tabled → List Commit → List ℕ → Run
+run_of brands R bytes = script_run brands R (script_of bytes)
 
 -- the text of an entry's reply, and of those of several
 abbrev pub entry_text : Entry → List ℕ
@@ -135,8 +132,8 @@ abbrev pub told : Run → Output
 told run = told_ending (replies_text run.entries) run.refused run.ending
 
 -- `trace` over the whole input
-abbrev pub traced : List Tabled → List ℕ → Output
-traced brands bytes = told (run_of brands bytes)
+abbrev pub traced : List Tabled → List Commit → List ℕ → Output
+traced brands R bytes = told (run_of brands R bytes)
 
 -- what a trace still has to report at its end
 abbrev pub left_to_tell : Option Complaint → Output
@@ -158,38 +155,25 @@ abbrev pub RunsLines : (input left : Option (List ℕ)) → Type 0
 RunsLines input left = TakesLines (λ bytes. (script_of bytes).ending ≡ At_end) input left
 
 -- and has written the replies of just those lines
-pub record AnswersLines (brands : List Tabled) (input left held holds : Option (List ℕ)) : Type 0 where
+pub record AnswersLines (brands : List Tabled) (R : List Commit) (input left held holds : Option (List ℕ)) : Type 0 where
   pub runs : RunsLines input left
-  pub text : holds ≡ after_known held (replies_text (run_of brands runs.lines).entries)
+  pub text : holds ≡ after_known held (replies_text (run_of brands R runs.lines).entries)
 
 -- the same where the source failed
-abbrev pub AnswersRead : List Tabled → (input left held holds : Option (List ℕ)) → Type 0
-AnswersRead brands input left held holds = (answers : AnswersLines brands input left held holds) × TakesNoMore answers.runs
+abbrev pub AnswersRead : List Tabled → List Commit → (input left held holds : Option (List ℕ)) → Type 0
+AnswersRead brands R input left held holds = (answers : AnswersLines brands R input left held holds) × TakesNoMore answers.runs
 
--- what a trace has taken and answered, by how it ended
-abbrev pub AnswersAs : List Tabled → Result (Option Complaint) RunFault → (input left held holds : Option (List ℕ)) → Type 0
-AnswersAs brands (Err Write) input left held holds = RunsLines input left
-AnswersAs brands (Err Read) input left held holds = AnswersRead brands input left held holds
-AnswersAs brands ended input left held holds = AnswersLines brands input left held holds
-
--- what an event was answered, in the state that the machine stood for
-pub record IsAnswered (stands new_stands : State → Type 0) (e : Event) (refusal : Bool) (holds new_holds : Option (List ℕ)) : Type 0 where
-  pub stood : (S : State) → stands S → new_stands (after_entry S (entry_at S e (allowed S e)))
-  pub text : (S : State) → stands S → new_holds ≡ after_known holds (entry_text (entry_at S e (allowed S e)))
-  pub refused : (S : State) → stands S → refusal ≡ is_refusal (entry_at S e (allowed S e)).reply.head
-
--- a line was taken: it is no event, or its event was answered, and the first refused line is reported
-abbrev pub TakesEvent : (State → Type 0) → (State → Type 0) → Said → ℕ → Option ℕ → Option ℕ → Option (List ℕ) → Option (List ℕ) → Type 0
-TakesEvent stands new_stands (Ok None) number refused now holds new_holds =
-    ((S : State) → stands S → new_stands S) × (now ≡ refused) × (new_holds ≡ holds)
-TakesEvent stands new_stands (Ok (Some e)) number refused now holds new_holds =
-    (refusal : Bool) × IsAnswered stands new_stands e refusal holds new_holds × (now ≡ (if refusal then or_else refused (Some number) else refused))
-TakesEvent stands new_stands (Err fault) number refused now holds new_holds = ⊥
-
--- why a line ends the trace: it is outside the grammar, or memory ran out
-abbrev pub Stops : Stop → Said → Type 0
-Stops (Grammar fault) said = said ≡ Err fault
-Stops No_room said = Unit {0}
+-- how a trace ends, as far as its input is known: what standard output has taken of the text of the whole input, or the
+-- replies of which lines. `told` is what standard output has, and then what waits to be written
+abbrev pub EndsAs : List Tabled → List Commit → Result (Option Complaint) RunFault → (input left held holds told : Option (List ℕ)) → Type 0
+EndsAs brands R (Ok complaint) input left held holds told =
+    IfSome input (λ bytes. Tells complaint held told (traced brands R bytes)) × IfSome input (λ _. AnswersLines brands R input left held told)
+EndsAs brands R (Err Write) input left held holds told =
+    IfSome input (λ bytes. HasFront held holds (traced brands R bytes).out) × IfSome input (λ _. RunsLines input left)
+EndsAs brands R (Err Read) input left held holds told =
+    IfSome input (λ bytes. HasReplies held told (run_of brands R bytes)) × IfSome input (λ _. AnswersRead brands R input left held told)
+EndsAs brands R (Err fault) input left held holds told =
+    IfSome input (λ bytes. HasReplies held told (run_of brands R bytes)) × IfSome input (λ _. AnswersLines brands R input left held told)
 
 -- nothing but more bytes was taken
 abbrev pub HasWritten : (held holds : Option (List ℕ)) → Type 0

@@ -2,7 +2,8 @@
 ghost use Rattle.std.specs.Prelude.{◌≡◌, ◌≤◌, IfOk, IsErrOf, IfSome};
 ghost use Rattle.zn_io.specs.Streams.{Rose};
 ghost use Rattle.zonecfg_scopes.specs.Open.{Nothing};
-ghost use Rattle.zones_run.specs.Outcomes.{ended_by, outcome_of};
+ghost use Rattle.zones_run.specs.Complaints.{IsOfInput};
+ghost use Rattle.zones_run.specs.Outcomes.{IsOfInputAlone, ended_by, outcome_of};
 ghost use Rattle.zones_run.specs.Exporting.{ended, exported};
 ghost use Rattle.zones_run.specs.Obeyed.{ObeysLines, ObeysRead};
 ghost use Rattle.zones_run.specs.Subcommands.{known_brands};
@@ -22,6 +23,7 @@ use zonecfg_scopes::{Command, EditFault, Editor};
 fn end_of(alloc: Global, editor: &mut Editor, brands: &[Text]) -> Result<Outcome, ReadFault>
     requires { brands.now ≡ known_brands }
     ensures end { IfOk result (λ outcome. outcome_of outcome ≡ ended editor.old.opened) }
+    ensures kind { IfOk result IsOfInputAlone }
     ensures memory { IsErrOf result ReadFault.Failed → ⊥ }
 {
     match obey(alloc, editor, brands, Command::Verify) {
@@ -48,6 +50,7 @@ fn edit_lines<S: Source>(
     requires brands { brands.now ≡ known_brands }
     requires nothing { editor.old.opened ≡ Nothing }
     ensures whole { IfOk result (λ complaint. IfSome (S.left source.old) (λ bytes. ended_by complaint editor.new.opened ≡ exported bytes)) }
+    ensures kind { IfOk result (λ complaint. IfSome complaint IsOfInput) }
     ensures taken { IfSome (S.left source.old) (λ _. ObeysLines (S.left source.old) (S.left source.new)) }
     ensures failed { IsErrOf result ReadFault.Failed → Rose (S.faults source.old) (S.faults source.new) }
     ensures read { IsErrOf result ReadFault.Failed → IfSome (S.left source.old) (λ _. ObeysRead (S.left source.old) (S.left source.new)) }
@@ -100,6 +103,7 @@ fn edit_all<S: Source>(
     requires brands { brands.now ≡ known_brands }
     requires nothing { editor.old.opened ≡ Nothing }
     ensures whole { IfOk result (λ outcome. IfSome (S.left source.old) (λ bytes. outcome_of outcome ≡ exported bytes)) }
+    ensures kind { IfOk result IsOfInputAlone }
     ensures taken { IfSome (S.left source.old) (λ _. ObeysLines (S.left source.old) (S.left source.new)) }
     ensures failed { IsErrOf result ReadFault.Failed → Rose (S.faults source.old) (S.faults source.new) }
     ensures read { IsErrOf result ReadFault.Failed → IfSome (S.left source.old) (λ _. ObeysRead (S.left source.old) (S.left source.new)) }
@@ -116,6 +120,7 @@ fn edit_all<S: Source>(
 #[tactic(auto, using(crate::proofs::ExportRuns::obeys_nothing))]
 pub fn export_all<S: Source>(alloc: Global, source: &mut S) -> Result<Outcome, ReadFault>
     ensures whole { IfOk result (λ outcome. IfSome (S.left source.old) (λ bytes. outcome_of outcome ≡ exported bytes)) }
+    ensures kind { IfOk result IsOfInputAlone }
     ensures taken { IfSome (S.left source.old) (λ _. ObeysLines (S.left source.old) (S.left source.new)) }
     ensures failed { IsErrOf result ReadFault.Failed → Rose (S.faults source.old) (S.faults source.new) }
     ensures read { IsErrOf result ReadFault.Failed → IfSome (S.left source.old) (λ _. ObeysRead (S.left source.old) (S.left source.new)) }

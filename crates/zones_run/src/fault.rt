@@ -13,6 +13,8 @@ pub enum RunFault {
     Read,
     #[error("standard output or standard error has failed")]
     Write,
+    #[error("the disk has failed")]
+    Disk,
 }
 
 impl From<ReadFault> for RunFault {

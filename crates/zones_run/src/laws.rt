@@ -1,6 +1,8 @@
-//! What follows from the definitions of `export`'s output and of a trace's script, whatever the program's body is.
+//! What follows from the definitions of `export`'s output, of a trace's script and of what a crash leaves, whatever the
+//! program's body is.
 ghost use Rattle.zones_run.specs.Declarations.{DeclaresFirst};
 ghost use Rattle.zones_run.specs.Denoted.{ExportsWhatIsDenoted, RefusesAtWhatIsDenoted};
+ghost use Rattle.zones_run.specs.Resting.{CrashesLeaveStoredStates};
 
 /// A law: where `export` ends with status 0, it has written the export text of the configuration that the
 /// subcommands of its input denote, with scopes as brackets in their list, and that has no flaw.
@@ -17,4 +19,9 @@ pub fn refuses_at_what_is_denoted()
 /// A law: of the events that `trace` takes from its input, only declarations stand before a declaration.
 pub fn declares_first()
     ensures { DeclaresFirst }
+{}
+
+/// A law: each zone of an image that a crash may leave of a trace, at any moment, is configured, incomplete or installed.
+pub fn crashes_leave_stored_states()
+    ensures { CrashesLeaveStoredStates }
 {}

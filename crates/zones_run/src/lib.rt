@@ -1,6 +1,6 @@
-//! The commands of `zones`, over any source and sinks: zone configurations read, checked and written, and traces
-//! run by the zone machine. Its one contract is that of `run_zones`: what a whole input comes to, and what each
-//! exit status means.
+//! The commands of `zones`, over any source, sinks and disk: zone configurations read, checked and written, and traces
+//! run by the zone machine over the store on the disk. Its one contract is that of `run_zones`: what a whole input comes to,
+//! what each exit status means, and what a crash at any moment leaves on the disk.
 #![tactic(auto)]
 
 mod edit;
@@ -16,5 +16,8 @@ mod trace;
 mod words;
 
 pub use fault::RunFault;
-pub use laws::{declares_first, exports_what_is_denoted, refuses_at_what_is_denoted};
+pub use laws::{
+    crashes_leave_stored_states, declares_first, exports_what_is_denoted,
+    refuses_at_what_is_denoted,
+};
 pub use run::{fail, run_zones};

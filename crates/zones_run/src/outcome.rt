@@ -1,9 +1,10 @@
 //! What the whole input comes to: a text on standard output, or a line on standard error.
 ghost use Rattle.std.specs.Prelude.{◌≡◌, ◌++◌, IfOk, OnOk};
-ghost use Rattle.zones_run.specs.Complaints.{complaint_status, complaint_text};
+ghost use Rattle.zones_run.specs.Complaints.{complaint_status, complaint_text, store_fault_text};
 
 use crate::refusal::{Refusal, push_refusal};
 use crate::status;
+use commit_journal::StoreFault;
 use std::alloc::{AllocError, Global};
 use trace_text::LineFault;
 use zn_base::push_numbered;
@@ -21,6 +22,22 @@ pub enum Complaint {
     FirstRefused(u64),
     /// A line is past a limit.
     Limit(u64),
+    /// What is on the disk is no store.
+    NotAStore(StoreFault),
+}
+
+// The code and the name of a fault of a store, and its place or number.
+fn push_store_fault(out: &mut Vec<u8>, fault: &StoreFault) -> Result<(), AllocError>
+    ensures { OnOk result (out.new.items ≡ out.old.items ++ store_fault_text fault.now) }
+{
+    match fault {
+        StoreFault::Memory => out.extend_from_slice(b"no memory"),
+        StoreFault::NotAStore(place) => push_numbered(out, b"61 NotAStore ", *place),
+        StoreFault::BadRecord(place) => push_numbered(out, b"62 BadRecord ", *place),
+        StoreFault::DiskFault => out.extend_from_slice(b"63 DiskFault"),
+        StoreFault::BankFull => out.extend_from_slice(b"64 BankFull"),
+        StoreFault::RecordForm(serial) => push_numbered(out, b"65 RecordForm ", *serial as u64),
+    }
 }
 
 impl Complaint {
@@ -34,6 +51,7 @@ impl Complaint {
             }
             Complaint::Grammar(_, _) => status::GRAMMAR,
             Complaint::Limit(_) => status::LIMIT,
+            Complaint::NotAStore(_) => status::NOT_A_STORE,
         }
     }
 
@@ -61,6 +79,10 @@ impl Complaint {
                 push_numbered(&mut line, b"first refused line: ", *number)?;
             }
             Complaint::Limit(number) => push_numbered(&mut line, b"limit at line ", *number)?,
+            Complaint::NotAStore(fault) => {
+                line.extend_from_slice(b"not a store: ")?;
+                push_store_fault(&mut line, fault)?;
+            }
         }
         line.push(b'\n')?;
         Ok(line)

@@ -1,23 +1,35 @@
 //! The top call of `zones`.
-ghost use Rattle.std.specs.Prelude.{◌≡◌, ◌≢◌, ◌≤◌, ◌⊎◌, ◌↔◌, ◌++◌, ◌∷◌, [], map, string_bytes, IfSome, None};
-ghost use Rattle.brand_hooks.specs.Brands.{tables_of};
+ghost use Rattle.std.specs.Prelude.{◌≡◌, ◌≢◌, ◌≤◌, ◌⊎◌, ◌↔◌, ◌++◌, ◌∷◌, [], map, string_bytes, IfSome, List, None, Some};
+ghost use Rattle.brand_hooks.specs.Brands.{Tabled, tables_of};
 ghost use Rattle.brand_hooks.specs.Hooks.{AllFollow};
+ghost use Rattle.commit_journal.specs.declared.records.Commit.{Commit};
 ghost use Rattle.zn_io.specs.Streams.{Rose, TakesFront, after_known};
+ghost use Rattle.zone_machine.specs.Code.Decided.{AsksBrands, MayGoOn};
+ghost use Rattle.zone_machine.specs.Code.Records.{Passes};
+ghost use Rattle.zone_machine.specs.Machine.{opening};
+ghost use Rattle.zone_machine.specs.Machine.Images.{IsStoreOf};
+ghost use Rattle.zones_run.specs.Answering.{StandsFor};
 ghost use Rattle.zones_run.specs.Complaints.{complaint_status, complaint_text};
-ghost use Rattle.zones_run.specs.Program.{HasAnswered, HasAnsweredRead, HasTaken, ReadsNothing, output_of};
-ghost use Rattle.zones_run.specs.Run.{Agrees, HasFront, IsDecided, IsStatus, TakesFronts, fault_status, memory_line, read_fault_line, write_fault_line};
+ghost use Rattle.zones_run.specs.Opening.{Finds, Found};
+ghost use Rattle.zones_run.specs.Program.{AnswersOn, AnswersTrace, HasAnswered, HasRecorded, IsNoStore, ReadsNothing, output_of, traced_on};
+ghost use Rattle.zones_run.specs.Recording.{RanBy};
+ghost use Rattle.zones_run.specs.Run.{HasFront, IsDecided, IsStatus, TakesFronts, TellsLine, TellsText, disk_fault_line, fault_status, memory_line, read_fault_line, write_fault_line};
 ghost use Rattle.zones_run.specs.Words.{command_of};
-ghost use Rattle.zones_run.specs.Tracing.{AnswersLines, AnswersRead, HasReplies, RunsLines, run_of, traced};
+ghost use Rattle.zones_run.specs.Tracing.{traced};
 
 use crate::export::export_all;
 use crate::fault::RunFault;
 use crate::outcome::{Complaint, Outcome};
-use crate::status::{DONE, NO_MEMORY, READ_FAULT, REFUSED, USAGE, WRITE_FAULT};
+use crate::status::{
+    DISK_FAULT, DONE, NO_MEMORY, NOT_A_STORE, READ_FAULT, REFUSED, USAGE, WRITE_FAULT,
+};
 use crate::trace::trace_all;
 use crate::words::{Command, HELP, USAGE_LINE, VERSION, command_of};
 use brand_hooks::{Brands, Change, HookAnswer};
+use commit_journal::{StoreFault, opens_store_one_way};
 use std::alloc::Global;
-use zn_io::{Sink, Source, write_all};
+use zn_io::{Disk, Sink, Source, write_all};
+use zone_machine::Machine;
 
 // Tries a line once; its failure changes nothing but the count of faults.
 fn tell<E: Sink>(err: &mut E, line: &[u8])
@@ -33,6 +45,7 @@ pub fn fail<E: Sink>(err: &mut E, fault: RunFault) -> u8
     ensures later { E.faults err.old ≤ E.faults err.new }
     ensures read { result ≡ READ_FAULT → (fault ≡ RunFault.Read) × TakesFront (E.holds err.old) (E.holds err.new) (E.faults err.old) (E.faults err.new) read_fault_line }
     ensures write { result ≡ WRITE_FAULT → (fault ≡ RunFault.Write) × TakesFront (E.holds err.old) (E.holds err.new) (E.faults err.old) (E.faults err.new) write_fault_line }
+    ensures disk { result ≡ DISK_FAULT → (fault ≡ RunFault.Disk) × TakesFront (E.holds err.old) (E.holds err.new) (E.faults err.old) (E.faults err.new) disk_fault_line }
     ensures memory { result ≡ NO_MEMORY → (fault ≡ RunFault.Memory) × TakesFront (E.holds err.old) (E.holds err.new) (E.faults err.old) (E.faults err.new) memory_line }
 {
     match fault {
@@ -43,6 +56,10 @@ pub fn fail<E: Sink>(err: &mut E, fault: RunFault) -> u8
         RunFault::Write => {
             tell(err, b"write fault\n");
             WRITE_FAULT
+        }
+        RunFault::Disk => {
+            tell(err, b"disk fault\n");
+            DISK_FAULT
         }
         RunFault::Memory => {
             tell(err, b"no memory\n");
@@ -89,100 +106,143 @@ fn complain<E: Sink>(alloc: Global, err: &mut E, complaint: Complaint) -> u8
     }
 }
 
-// The command `trace`.
-#[tactic(auto, using(crate::proofs::Fronts::behind_nothing))]
-fn run_trace<F: Fn(&Change) -> HookAnswer, S: Source, K: Sink, E: Sink>(
+// The command `trace`, on a machine that is opened.
+fn run_machine<S: Source, K: Sink, E: Sink, D: Disk, F: Fn(&Change) -> HookAnswer>(
     alloc: Global,
-    brands: &Brands<F>,
+    machine: &mut Machine<'_, D, F>,
     src: &mut S,
     out: &mut K,
     err: &mut E,
 ) -> u8
-    requires { AllFollow F.Fn brands.now }
+    requires asks { AsksBrands F.Fn machine.old }
+    requires ready { MayGoOn D.view machine.old }
     ensures statuses { IsStatus result }
-    ensures decided { IsDecided result → IfSome (S.left src.old) (λ bytes. Agrees (traced (tables_of brands.now) bytes) result (K.holds out.old) (K.holds out.new)) }
-    ensures line { IsDecided result → IfSome (S.left src.old) (λ bytes.
-        TakesFront (E.holds err.old) (E.holds err.new) (E.faults err.old) (E.faults err.new) (traced (tables_of brands.now) bytes).err) }
-    ensures whole_line { result ≤ REFUSED → IfSome (S.left src.old) (λ bytes. E.holds err.new ≡ after_known (E.holds err.old) (traced (tables_of brands.now) bytes).err) }
     ensures usage { result ≢ USAGE }
+    ensures store { result ≢ NOT_A_STORE }
+    ensures text { (brands : List Tabled) (R : List Commit) → StandsFor (opening brands R) machine.old → IfSome (S.left src.old) (λ bytes. TellsText (traced brands R bytes) result (K.holds out.old) (K.holds out.new)) }
+    ensures line { (brands : List Tabled) (R : List Commit) → StandsFor (opening brands R) machine.old → IfSome (S.left src.old) (λ bytes. TellsLine (traced brands R bytes).err result (E.holds err.old) (E.holds err.new) (E.faults err.old) (E.faults err.new)) }
+    ensures answered { (brands : List Tabled) (R : List Commit) → StandsFor (opening brands R) machine.old → AnswersTrace brands R result (S.left src.old) (S.left src.new) (K.holds out.old) (K.holds out.new) }
+    ensures recorded { (brands : List Tabled) (R : List Commit) → StandsFor (opening brands R) machine.old → IsStoreOf (D.view machine.old.bank.disk) R → RanBy brands R result (S.left src.old) (K.holds out.old) (K.holds out.new) (D.view machine.old.bank.disk) (D.view machine.new.bank.disk) }
     ensures read_fault { result ≡ READ_FAULT → Rose (S.faults src.old) (S.faults src.new) }
-    ensures taken { IfSome (S.left src.old) (λ _. RunsLines (S.left src.old) (S.left src.new)) }
-    ensures read_taken { result ≡ READ_FAULT → IfSome (S.left src.old) (λ _. AnswersRead (tables_of brands.now) (S.left src.old) (S.left src.new) (K.holds out.old) (K.holds out.new)) }
-    ensures memory_taken { result ≡ NO_MEMORY → IfSome (S.left src.old) (λ _. AnswersLines (tables_of brands.now) (S.left src.old) (S.left src.new) (K.holds out.old) (K.holds out.new)) }
-    ensures answered { (result ≡ READ_FAULT) ⊎ (result ≡ NO_MEMORY) → IfSome (S.left src.old) (λ bytes. HasReplies (K.holds out.old) (K.holds out.new) (run_of (tables_of brands.now) bytes)) }
     ensures read_line { result ≡ READ_FAULT → TakesFront (E.holds err.old) (E.holds err.new) (E.faults err.old) (E.faults err.new) read_fault_line }
     ensures write_fault { result ≡ WRITE_FAULT → Rose (K.faults out.old) (K.faults out.new) ⊎ Rose (E.faults err.old) (E.faults err.new) }
-    ensures write_front { result ≡ WRITE_FAULT → IfSome (S.left src.old) (λ bytes. HasFront (K.holds out.old) (K.holds out.new) (traced (tables_of brands.now) bytes).out) }
-    ensures write_line { result ≡ WRITE_FAULT → IfSome (S.left src.old) (λ bytes.
-        TakesFronts (E.holds err.old) (E.holds err.new) (E.faults err.old) (E.faults err.new) (traced (tables_of brands.now) bytes).err write_fault_line) }
+    ensures disk_fault { result ≡ DISK_FAULT → Rose (D.view machine.old.bank.disk).faults (D.view machine.new.bank.disk).faults }
+    ensures disk_line { result ≡ DISK_FAULT → TakesFront (E.holds err.old) (E.holds err.new) (E.faults err.old) (E.faults err.new) disk_fault_line }
     ensures memory_line { result ≡ NO_MEMORY → TakesFront (E.holds err.old) (E.holds err.new) (E.faults err.old) (E.faults err.new) memory_line }
+    ensures passes { Passes (D.view machine.old.bank.disk) (D.view machine.new.bank.disk) }
 {
-    match trace_all(alloc, brands, src, out) {
+    match trace_all(alloc, machine, src, out) {
         Ok(None) => DONE,
         Ok(Some(complaint)) => complain(alloc, err, complaint),
         Err(fault) => fail(err, fault),
     }
 }
 
-/// Does what the words say, and answers the exit status. `out` and `err` are standard output and
-/// standard error. Lines are answered one at a time, up to the one that ends the run, and less than a piece of
-/// the input is read beyond it.
-pub fn run_zones<F: Fn(&Change) -> HookAnswer, S: Source, K: Sink, E: Sink>(
+// The command `trace`: the machine is opened on the disk, which is handed back however that ends.
+fn run_trace<S: Source, K: Sink, E: Sink, D: Disk, F: Fn(&Change) -> HookAnswer>(
     alloc: Global,
+    src: &mut S,
+    out: &mut K,
+    err: &mut E,
+    disk: D,
     brands: &Brands<F>,
+) -> (u8, D)
+    requires { AllFollow F.Fn brands.now }
+    ensures statuses { IsStatus result.0 }
+    ensures usage { result.0 ≢ USAGE }
+    ensures text { (found : Found) → Finds (D.view disk) found → IfSome (traced_on (tables_of brands.now) found (S.left src.old)) (λ o. TellsText o result.0 (K.holds out.old) (K.holds out.new)) }
+    ensures line { (found : Found) → Finds (D.view disk) found → IfSome (traced_on (tables_of brands.now) found (S.left src.old)) (λ o. TellsLine o.err result.0 (E.holds err.old) (E.holds err.new) (E.faults err.old) (E.faults err.new)) }
+    ensures answered { (found : Found) → Finds (D.view disk) found → AnswersOn (tables_of brands.now) found result.0 (S.left src.old) (S.left src.new) (K.holds out.old) (K.holds out.new) }
+    ensures store { result.0 ≡ NOT_A_STORE → (D.view disk).Keeps → IsNoStore (D.view disk) }
+    ensures recorded { (R : List Commit) → IsStoreOf (D.view disk) R → RanBy (tables_of brands.now) R result.0 (S.left src.old) (K.holds out.old) (K.holds out.new) (D.view disk) (D.view result.1) }
+    ensures read_fault { result.0 ≡ READ_FAULT → Rose (S.faults src.old) (S.faults src.new) }
+    ensures read_line { result.0 ≡ READ_FAULT → TakesFront (E.holds err.old) (E.holds err.new) (E.faults err.old) (E.faults err.new) read_fault_line }
+    ensures write_fault { result.0 ≡ WRITE_FAULT → Rose (K.faults out.old) (K.faults out.new) ⊎ Rose (E.faults err.old) (E.faults err.new) }
+    ensures disk_fault { result.0 ≡ DISK_FAULT → Rose (D.view disk).faults (D.view result.1).faults }
+    ensures disk_line { result.0 ≡ DISK_FAULT → TakesFront (E.holds err.old) (E.holds err.new) (E.faults err.old) (E.faults err.new) disk_fault_line }
+    ensures memory_line { result.0 ≡ NO_MEMORY → TakesFront (E.holds err.old) (E.holds err.new) (E.faults err.old) (E.faults err.new) memory_line }
+{
+    // A law: an image stands for the records of one store, or for none.
+    opens_store_one_way();
+    match Machine::open(alloc, disk, brands) {
+        Ok(opened) => {
+            let mut machine = opened;
+            let status = run_machine(alloc, &mut machine, src, out, err);
+            (status, machine.into_disk())
+        }
+        Err((StoreFault::Memory, disk)) => (fail(err, RunFault::Memory), disk),
+        Err((StoreFault::DiskFault, disk)) => (fail(err, RunFault::Disk), disk),
+        Err((fault, disk)) => (complain(alloc, err, Complaint::NotAStore(fault)), disk),
+    }
+}
+
+/// Does what the words say, and answers the exit status and the disk. `out` and `err` are standard output and
+/// standard error. Lines are answered one at a time, up to the one that ends the run, and less than a piece of
+/// the input is read beyond it. Only `trace` opens the store on the disk; the replies that wait are written before a record
+/// is stored.
+pub fn run_zones<S: Source, K: Sink, E: Sink, D: Disk, F: Fn(&Change) -> HookAnswer>(
+    alloc: Global,
     words: &[String],
     src: &mut S,
     out: &mut K,
     err: &mut E,
-) -> u8
+    disk: D,
+    brands: &Brands<F>,
+) -> (u8, D)
     requires { AllFollow F.Fn brands.now }
-    ensures statuses { IsStatus result }
+    ensures statuses { IsStatus result.0 }
 
-    // As far as the input is known, status and texts are those of the whole input.
-    ensures decided { IsDecided result → IfSome (output_of (tables_of brands.now) (map string_bytes words.now) (S.left src.old)) (λ o.
-        Agrees o result (K.holds out.old) (K.holds out.new)) }
-    ensures line { IsDecided result → IfSome (output_of (tables_of brands.now) (map string_bytes words.now) (S.left src.old)) (λ o.
-        TakesFront (E.holds err.old) (E.holds err.new) (E.faults err.old) (E.faults err.new) o.err) }
-    ensures whole_line { result ≤ REFUSED → IfSome (output_of (tables_of brands.now) (map string_bytes words.now) (S.left src.old)) (λ o.
-        E.holds err.new ≡ after_known (E.holds err.old) o.err) }
+    // As far as the disk and the input are known, the status and both texts are those of the whole input.
+    ensures text { (found : Found) → Finds (D.view disk) found → IfSome (output_of (tables_of brands.now) (map string_bytes words.now) found (S.left src.old)) (λ o.
+        TellsText o result.0 (K.holds out.old) (K.holds out.new)) }
+    ensures line { (found : Found) → Finds (D.view disk) found → IfSome (output_of (tables_of brands.now) (map string_bytes words.now) found (S.left src.old)) (λ o.
+        TellsLine o.err result.0 (E.holds err.old) (E.holds err.new) (E.faults err.old) (E.faults err.new)) }
 
-    // What is taken of the input: lines that don't end the run, and less than a piece beyond the one that does.
-    ensures taken { HasTaken (command_of (map string_bytes words.now)) (S.left src.old) (S.left src.new) }
+    // What is taken of the input: lines that don't end the run, and less than a piece beyond the one that does. Where a fault
+    // ended the run, what was written are the replies of lines that were taken.
+    ensures answered { (found : Found) → Finds (D.view disk) found →
+        HasAnswered (tables_of brands.now) (command_of (map string_bytes words.now)) found result.0 (S.left src.old) (S.left src.new) (K.holds out.old) (K.holds out.new) }
 
     // Where no command reads its input, none of it is taken.
     ensures unread { ReadsNothing (command_of (map string_bytes words.now)) → src.new ≡ src.old }
 
     // Words that are no form of the command line.
-    ensures usage { (result ≡ USAGE) ↔ (command_of (map string_bytes words.now) ≡ None) }
+    ensures usage { (result.0 ≡ USAGE) ↔ (command_of (map string_bytes words.now) ≡ None) }
 
     // The source failed.
-    ensures read_fault { result ≡ READ_FAULT → Rose (S.faults src.old) (S.faults src.new) }
-    ensures read_text { result ≡ READ_FAULT → HasAnsweredRead (tables_of brands.now) (command_of (map string_bytes words.now)) (S.left src.old) (S.left src.new) (K.holds out.old) (K.holds out.new) }
-    ensures read_line { result ≡ READ_FAULT → TakesFront (E.holds err.old) (E.holds err.new) (E.faults err.old) (E.faults err.new) read_fault_line }
+    ensures read_fault { result.0 ≡ READ_FAULT → Rose (S.faults src.old) (S.faults src.new) }
+    ensures read_line { result.0 ≡ READ_FAULT → TakesFront (E.holds err.old) (E.holds err.new) (E.faults err.old) (E.faults err.new) read_fault_line }
 
     // A sink failed.
-    ensures write_fault { result ≡ WRITE_FAULT → Rose (K.faults out.old) (K.faults out.new) ⊎ Rose (E.faults err.old) (E.faults err.new) }
-    ensures write_front { result ≡ WRITE_FAULT → IfSome (output_of (tables_of brands.now) (map string_bytes words.now) (S.left src.old)) (λ o.
-        HasFront (K.holds out.old) (K.holds out.new) o.out) }
-    ensures write_line { result ≡ WRITE_FAULT → IfSome (output_of (tables_of brands.now) (map string_bytes words.now) (S.left src.old)) (λ o.
-        TakesFronts (E.holds err.old) (E.holds err.new) (E.faults err.old) (E.faults err.new) o.err write_fault_line) }
+    ensures write_fault { result.0 ≡ WRITE_FAULT → Rose (K.faults out.old) (K.faults out.new) ⊎ Rose (E.faults err.old) (E.faults err.new) }
+
+    // The disk failed.
+    ensures disk_fault { result.0 ≡ DISK_FAULT → Rose (D.view disk).faults (D.view result.1).faults }
+    ensures disk_line { result.0 ≡ DISK_FAULT → TakesFront (E.holds err.old) (E.holds err.new) (E.faults err.old) (E.faults err.new) disk_fault_line }
+
+    // What is on the disk is no store.
+    ensures store { result.0 ≡ NOT_A_STORE → (D.view disk).Keeps → IsNoStore (D.view disk) }
 
     // Memory ran out.
-    ensures memory_text { result ≡ NO_MEMORY → HasAnswered (tables_of brands.now) (command_of (map string_bytes words.now)) (S.left src.old) (S.left src.new) (K.holds out.old) (K.holds out.new) }
-    ensures memory_line { result ≡ NO_MEMORY → TakesFront (E.holds err.old) (E.holds err.new) (E.faults err.old) (E.faults err.new) memory_line }
+    ensures memory_line { result.0 ≡ NO_MEMORY → TakesFront (E.holds err.old) (E.holds err.new) (E.faults err.old) (E.faults err.new) memory_line }
+
+    // What a crash leaves at any moment meanwhile, and what is on the disk at the end.
+    ensures recorded { (R : List Commit) → IsStoreOf (D.view disk) R →
+        HasRecorded (tables_of brands.now) (command_of (map string_bytes words.now)) R result.0 (S.left src.old) (K.holds out.old) (K.holds out.new) (D.view disk) (D.view result.1) }
+    ensures untouched { command_of (map string_bytes words.now) ≢ Some Command.Trace → result.1 ≡ disk }
 {
     match command_of(words) {
         Some(Command::Export) => match export_all(alloc, src) {
-            Ok(Outcome::Text(text)) => write_text(out, err, &text),
-            Ok(Outcome::Complains(complaint)) => complain(alloc, err, complaint),
-            Err(fault) => fail(err, RunFault::from(fault)),
+            Ok(Outcome::Text(text)) => (write_text(out, err, &text), disk),
+            Ok(Outcome::Complains(complaint)) => (complain(alloc, err, complaint), disk),
+            Err(fault) => (fail(err, RunFault::from(fault)), disk),
         },
-        Some(Command::Trace) => run_trace(alloc, brands, src, out, err),
-        Some(Command::Help) => write_text(out, err, HELP),
-        Some(Command::Version) => write_text(out, err, VERSION),
+        Some(Command::Trace) => run_trace(alloc, src, out, err, disk, brands),
+        Some(Command::Help) => (write_text(out, err, HELP), disk),
+        Some(Command::Version) => (write_text(out, err, VERSION), disk),
         None => {
             tell(err, USAGE_LINE);
-            USAGE
+            (USAGE, disk)
         }
     }
 }

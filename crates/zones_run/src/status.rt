@@ -18,6 +18,12 @@ pub const READ_FAULT: u8 = 4;
 /// Standard output or standard error failed.
 pub const WRITE_FAULT: u8 = 5;
 
+/// The disk failed.
+pub const DISK_FAULT: u8 = 6;
+
+/// What is on the disk is no store.
+pub const NOT_A_STORE: u8 = 7;
+
 /// The input has too many lines, or a line has too many bytes.
 pub const LIMIT: u8 = 8;
 

@@ -1,26 +1,31 @@
-//! The command `trace`: the events of the input go through a zone machine that begins with nothing
-//! stored, one after the other. Their replies are written together, before more is read where no line is
-//! begun, and when many of them wait.
-ghost use Rattle.std.specs.Prelude.{◌≡◌, ◌≢◌, ◌<◌, ◌≤◌, ◌⊎◌, ℕ, List, [], Err, IfErr, length, IfOk, IfSome, IsErrOf, OnErr, OnOk, Option};
+//! The command `trace`: the events of the input go through a zone machine over the store on a disk, one after the other.
+//! Their replies are written together, before an event stores a record, before more is read where no line is begun, and when
+//! many of them wait.
+ghost use Rattle.std.specs.Prelude.{◌≡◌, ◌≢◌, ◌<◌, ◌≤◌, ◌⊎◌, ◌++◌, ℕ, List, [], Err, IfErr, length, IfOk, IfSome, IsErrOf, OnErr, OnOk, true};
 ghost use Rattle.zn_io.specs.Streams.{Rose, after_known};
+ghost use Rattle.brand_hooks.specs.Brands.{Tabled};
+ghost use Rattle.commit_journal.specs.declared.records.Commit.{Commit};
 ghost use Rattle.zone_machine.specs.Machine.{opening};
+ghost use Rattle.zone_machine.specs.Machine.Images.{IsStoreOf};
 ghost use Rattle.zone_machine.specs.State.{State};
-ghost use Rattle.zone_machine.specs.Code.Cells.{Stands};
-ghost use Rattle.zone_machine.specs.Code.Decided.{AsksBrands};
-ghost use Rattle.brand_hooks.specs.Brands.{tables_of};
-ghost use Rattle.brand_hooks.specs.Hooks.{AllFollow};
+ghost use Rattle.zone_machine.specs.Code.Decided.{AsksBrands, MayGoOn, subject_by};
+ghost use Rattle.zone_machine.specs.Code.Records.{Passes};
 ghost use Rattle.trace_text.specs.Lines.{event_of};
+ghost use Rattle.trace_text.specs.Replies.{reply_text};
+ghost use Rattle.zones_run.specs.Answering.{Fails, IsAnswered, LeavesText, StandsFor, Steps, Stops, StopsText, TakesEvent, ended_by};
+ghost use Rattle.zones_run.specs.Complaints.{IsOfInput};
+ghost use Rattle.zones_run.specs.Recording.{RanAs};
 ghost use Rattle.zones_run.specs.Run.{HasFront};
-ghost use Rattle.zones_run.specs.Tracing.{AnswersAs, HasReplies, HasWritten, IsAnswered, Stops, TakesEvent, Tells, is_refusal, is_refused_outcome, is_refused_turn, left_to_tell, run_of, told_refusal, traced};
+ghost use Rattle.zones_run.specs.Tracing.{EndsAs, HasWritten, is_refusal, is_refused_outcome, is_refused_turn, left_to_tell, told_refusal};
 
 use crate::fault::RunFault;
 use crate::lines::{Ahead, Got, LINES_MAX, next_line};
 use crate::outcome::Complaint;
-use brand_hooks::{Brands, Change, HookAnswer};
+use brand_hooks::{Change, HookAnswer};
 use std::alloc::{AllocError, Global};
 use trace_text::{LineFault, push_answer, read_line};
-use zn_io::{Sink, Source, write_all};
-use zone_machine::{Event, Head, Machine, StepFault};
+use zn_io::{Disk, Sink, Source, write_all};
+use zone_machine::{Answer, Event, Head, Machine, StepFault};
 use zoneadmd_steps::{Outcome, TurnReply};
 
 // How many bytes of replies may wait before they are written.
@@ -48,83 +53,187 @@ fn is_refusal(head: &Head) -> bool
 
 // What is left to report at the end of the input.
 fn ended(refused: Option<u64>) -> Option<Complaint>
-    ensures { left_to_tell result ≡ record (told_refusal [] refused) { out = [] } }
+    ensures told { left_to_tell result ≡ record (told_refusal [] refused) { out = [] } }
+    ensures kind { IfSome result IsOfInput }
 {
     refused.map(Complaint::FirstRefused)
-}
-
-// One event: its reply waits to be written, and the answer is whether it is a refusal. `text` is room for the reply.
-fn answer<F: Fn(&Change) -> HookAnswer>(
-    alloc: Global,
-    machine: &mut Machine<'_, F>,
-    event: &Event,
-    text: &mut Vec<u8>,
-    waiting: &mut Vec<u8>,
-) -> Result<bool, AllocError>
-    requires asks { AsksBrands F.Fn machine.old }
-    ensures answered { IfOk result (λ refusal. (held : Option (List ℕ)) → IsAnswered (λ S. Stands S machine.old.parts) (λ S. Stands S machine.new.parts) event.now refusal (after_known held waiting.old.items) (after_known held waiting.new.items)) }
-    ensures same { OnErr result (waiting.new.items ≡ waiting.old.items) }
-    ensures asks { AsksBrands F.Fn machine.new }
-{
-    let answer = match machine.answer(alloc, event) {
-        Ok(answer) => answer,
-        Err(StepFault::Memory) => return Err(AllocError),
-        Err(StepFault::BadGrant) => unreachable!(),
-    };
-    text.clear();
-    push_answer(text, event, &answer)?;
-    waiting.extend_from_slice(text)?;
-    Ok(is_refusal(&answer.reply.head))
-}
-
-// Why a line ends a trace.
-enum Stop {
-    Memory,
-    Grammar(LineFault),
-}
-
-// One line: its event, if it is one, is answered, and the number of the first refused line is reported.
-fn take_line<F: Fn(&Change) -> HookAnswer>(
-    alloc: Global,
-    machine: &mut Machine<'_, F>,
-    line: &[u8],
-    number: u64,
-    refused: Option<u64>,
-    text: &mut Vec<u8>,
-    waiting: &mut Vec<u8>,
-) -> Result<Option<u64>, Stop>
-    requires short { length line.now ≤ 4096 }
-    requires asks { AsksBrands F.Fn machine.old }
-    ensures taken { IfOk result (λ now. (S : State) → Stands S machine.old.parts → (held : Option (List ℕ)) → TakesEvent (λ S. Stands S machine.old.parts) (λ S. Stands S machine.new.parts) (event_of S.started line.now) number refused now (after_known held waiting.old.items) (after_known held waiting.new.items)) }
-    ensures stopped { IfErr result (λ stop. (S : State) → Stands S machine.old.parts → Stops stop (event_of S.started line.now)) }
-    ensures same { OnErr result (waiting.new.items ≡ waiting.old.items) }
-    ensures asks { AsksBrands F.Fn machine.new }
-{
-    match read_line(alloc, line, machine.started()) {
-        Ok(None) => Ok(refused),
-        Ok(Some(event)) => match answer(alloc, machine, &event, text, waiting) {
-            Ok(true) => Ok(refused.or(Some(number))),
-            Ok(false) => Ok(refused),
-            Err(AllocError) => Err(Stop::Memory),
-        },
-        Err(LineFault::Memory) => Err(Stop::Memory),
-        Err(fault) => Err(Stop::Grammar(fault)),
-    }
 }
 
 // Writes the replies that wait. None waits then; where standard output fails, a front of them was taken.
 fn write_waiting<K: Sink>(waiting: &mut Vec<u8>, out: &mut K) -> Result<(), RunFault>
     ensures all { OnOk result (K.holds out.new ≡ after_known (K.holds out.old) waiting.old.items) }
     ensures none { waiting.new.items ≡ [] }
+    ensures some { OnErr result (waiting.old.items ≢ []) }
     ensures front { OnErr result (HasFront (K.holds out.old) (K.holds out.new) waiting.old.items) }
     ensures fault { OnErr result ((result ≡ Err RunFault.Write) × Rose (K.faults out.old) (K.faults out.new)) }
     ensures later { K.faults out.old ≤ K.faults out.new }
 {
+    if waiting.is_empty() {
+        return Ok(());
+    }
     let written = write_all(out, waiting);
     waiting.clear();
     match written {
         Ok(()) => Ok(()),
         Err(_) => Err(RunFault::Write),
+    }
+}
+
+// An event that may store a record is answered.
+fn answer_recording<D: Disk, F: Fn(&Change) -> HookAnswer>(
+    alloc: Global,
+    machine: &mut Machine<'_, D, F>,
+    event: &Event,
+) -> Result<Answer, RunFault>
+    requires asks { AsksBrands F.Fn machine.old }
+    requires ready { MayGoOn D.view machine.old }
+    ensures steps { IfOk result (λ answer. (S : State) → StandsFor S machine.old → Steps S event.now answer (λ T. StandsFor T machine.new) (D.view machine.old.bank.disk) (D.view machine.new.bank.disk)) }
+    ensures kept { IfErr result (λ fault. (S : State) → StandsFor S machine.old → Fails fault (machine.new.bank ≡ machine.old.bank) S event.now (D.view machine.old.bank.disk) (D.view machine.new.bank.disk)) }
+    ensures only { IfErr result (λ fault. (fault ≡ RunFault.Memory) ⊎ (fault ≡ RunFault.Disk)) }
+    ensures disk { IsErrOf result RunFault.Disk → Rose (D.view machine.old.bank.disk).faults (D.view machine.new.bank.disk).faults }
+    ensures ready { OnOk result (MayGoOn D.view machine.new) }
+    ensures passes { Passes (D.view machine.old.bank.disk) (D.view machine.new.bank.disk) }
+    ensures asks { AsksBrands F.Fn machine.new }
+{
+    match machine.answer(alloc, event, true) {
+        Ok(answer) => Ok(answer),
+        Err(StepFault::Memory) => Err(RunFault::Memory),
+        Err(StepFault::DiskFault) => Err(RunFault::Disk),
+        Err(StepFault::BadGrant | StepFault::WouldRecord) => unreachable!(),
+    }
+}
+
+// An event is answered. Where it stores a record, the replies that wait are written first.
+fn answer_after_waiting<D: Disk, F: Fn(&Change) -> HookAnswer, K: Sink>(
+    alloc: Global,
+    machine: &mut Machine<'_, D, F>,
+    event: &Event,
+    waiting: &mut Vec<u8>,
+    out: &mut K,
+) -> Result<Answer, RunFault>
+    requires asks { AsksBrands F.Fn machine.old }
+    requires ready { MayGoOn D.view machine.old }
+    ensures steps { IfOk result (λ answer. (S : State) → StandsFor S machine.old → Steps S event.now answer (λ T. StandsFor T machine.new) (D.view machine.old.bank.disk) (D.view machine.new.bank.disk)) }
+    ensures kept { IfErr result (λ fault. (S : State) → StandsFor S machine.old → Fails fault (machine.new.bank ≡ machine.old.bank) S event.now (D.view machine.old.bank.disk) (D.view machine.new.bank.disk)) }
+    ensures same { OnOk result (after_known (K.holds out.new) waiting.new.items ≡ after_known (K.holds out.old) waiting.old.items) }
+    ensures text { IfErr result (λ fault. LeavesText fault (K.holds out.old) (K.holds out.new) waiting.old.items waiting.new.items) }
+    ensures written { HasWritten (K.holds out.old) (K.holds out.new) }
+    ensures write { IsErrOf result RunFault.Write → Rose (K.faults out.old) (K.faults out.new) }
+    ensures disk { IsErrOf result RunFault.Disk → Rose (D.view machine.old.bank.disk).faults (D.view machine.new.bank.disk).faults }
+    ensures later { K.faults out.old ≤ K.faults out.new }
+    ensures ready { OnOk result (MayGoOn D.view machine.new) }
+    ensures passes { Passes (D.view machine.old.bank.disk) (D.view machine.new.bank.disk) }
+    ensures asks { AsksBrands F.Fn machine.new }
+{
+    match machine.answer(alloc, event, waiting.is_empty()) {
+        Ok(answer) => Ok(answer),
+        Err(StepFault::WouldRecord) => {
+            write_waiting(waiting, out)?;
+            answer_recording(alloc, machine, event)
+        }
+        Err(StepFault::Memory) => Err(RunFault::Memory),
+        Err(StepFault::DiskFault) => Err(RunFault::Disk),
+        Err(StepFault::BadGrant) => unreachable!(),
+    }
+}
+
+// Puts the reply to an event after those that wait. `text` is room for it.
+fn put_reply(
+    event: &Event,
+    answer: &Answer,
+    text: &mut Vec<u8>,
+    waiting: &mut Vec<u8>,
+) -> Result<(), AllocError>
+    ensures text { OnOk result (waiting.new.items ≡ waiting.old.items ++ reply_text (subject_by event.now answer.now.whose) answer.now.reply) }
+    ensures same { OnErr result (waiting.new.items ≡ waiting.old.items) }
+{
+    text.clear();
+    push_answer(text, event, answer)?;
+    waiting.extend_from_slice(text)
+}
+
+// One event: its reply waits to be written, and the answer is whether it is a refusal. `text` is room for the reply.
+fn answer<D: Disk, F: Fn(&Change) -> HookAnswer, K: Sink>(
+    alloc: Global,
+    machine: &mut Machine<'_, D, F>,
+    event: &Event,
+    text: &mut Vec<u8>,
+    waiting: &mut Vec<u8>,
+    out: &mut K,
+) -> Result<bool, RunFault>
+    requires asks { AsksBrands F.Fn machine.old }
+    requires ready { MayGoOn D.view machine.old }
+    ensures answered { IfOk result (λ refusal. (S : State) → StandsFor S machine.old → IsAnswered S event.now refusal (λ T. StandsFor T machine.new) (D.view machine.old.bank.disk) (D.view machine.new.bank.disk) (after_known (K.holds out.old) waiting.old.items) (after_known (K.holds out.new) waiting.new.items)) }
+    ensures kept { IfErr result (λ fault. (S : State) → StandsFor S machine.old → Fails fault (machine.new.bank ≡ machine.old.bank) S event.now (D.view machine.old.bank.disk) (D.view machine.new.bank.disk)) }
+    ensures text { IfErr result (λ fault. LeavesText fault (K.holds out.old) (K.holds out.new) waiting.old.items waiting.new.items) }
+    ensures written { HasWritten (K.holds out.old) (K.holds out.new) }
+    ensures write { IsErrOf result RunFault.Write → Rose (K.faults out.old) (K.faults out.new) }
+    ensures disk { IsErrOf result RunFault.Disk → Rose (D.view machine.old.bank.disk).faults (D.view machine.new.bank.disk).faults }
+    ensures later { K.faults out.old ≤ K.faults out.new }
+    ensures ready { OnOk result (MayGoOn D.view machine.new) }
+    ensures passes { Passes (D.view machine.old.bank.disk) (D.view machine.new.bank.disk) }
+    ensures asks { AsksBrands F.Fn machine.new }
+{
+    match answer_after_waiting(alloc, machine, event, waiting, out) {
+        Ok(answer) => match put_reply(event, &answer, text, waiting) {
+            Ok(()) => Ok(is_refusal(&answer.reply.head)),
+            Err(AllocError) => Err(RunFault::Memory),
+        },
+        Err(fault) => Err(fault),
+    }
+}
+
+// Why a line ends a trace.
+enum Stop {
+    Fault(RunFault),
+    Grammar(LineFault),
+}
+
+// What a line that ends a trace ends it with.
+fn ended_by(stop: Stop, number: u64) -> Result<Option<Complaint>, RunFault>
+    ensures ended { result ≡ ended_by stop number }
+    ensures kind { IfOk result (λ complaint. IfSome complaint IsOfInput) }
+{
+    match stop {
+        Stop::Fault(fault) => Err(fault),
+        Stop::Grammar(fault) => Ok(Some(Complaint::Grammar(number, fault))),
+    }
+}
+
+// One line: its event, if it is one, is answered, and the number of the first refused line is reported.
+fn take_line<D: Disk, F: Fn(&Change) -> HookAnswer, K: Sink>(
+    alloc: Global,
+    machine: &mut Machine<'_, D, F>,
+    line: &[u8],
+    number: u64,
+    refused: Option<u64>,
+    text: &mut Vec<u8>,
+    waiting: &mut Vec<u8>,
+    out: &mut K,
+) -> Result<Option<u64>, Stop>
+    requires short { length line.now ≤ 4096 }
+    requires asks { AsksBrands F.Fn machine.old }
+    requires ready { MayGoOn D.view machine.old }
+    ensures taken { IfOk result (λ now. (S : State) → StandsFor S machine.old → TakesEvent S (event_of S.started line.now) (λ T. StandsFor T machine.new) (machine.new.bank ≡ machine.old.bank) (D.view machine.old.bank.disk) (D.view machine.new.bank.disk) number refused now (after_known (K.holds out.old) waiting.old.items) (after_known (K.holds out.new) waiting.new.items)) }
+    ensures stopped { IfErr result (λ stop. (S : State) → StandsFor S machine.old → Stops stop (machine.new.bank ≡ machine.old.bank) S (event_of S.started line.now) (D.view machine.old.bank.disk) (D.view machine.new.bank.disk)) }
+    ensures text { IfErr result (λ stop. StopsText stop (K.holds out.old) (K.holds out.new) waiting.old.items waiting.new.items) }
+    ensures written { HasWritten (K.holds out.old) (K.holds out.new) }
+    ensures write { IsErrOf result (Stop.Fault RunFault.Write) → Rose (K.faults out.old) (K.faults out.new) }
+    ensures disk { IsErrOf result (Stop.Fault RunFault.Disk) → Rose (D.view machine.old.bank.disk).faults (D.view machine.new.bank.disk).faults }
+    ensures later { K.faults out.old ≤ K.faults out.new }
+    ensures ready { OnOk result (MayGoOn D.view machine.new) }
+    ensures passes { Passes (D.view machine.old.bank.disk) (D.view machine.new.bank.disk) }
+    ensures asks { AsksBrands F.Fn machine.new }
+{
+    match read_line(alloc, line, machine.started()) {
+        Ok(None) => Ok(refused),
+        Ok(Some(event)) => match answer(alloc, machine, &event, text, waiting, out) {
+            Ok(true) => Ok(refused.or(Some(number))),
+            Ok(false) => Ok(refused),
+            Err(fault) => Err(Stop::Fault(fault)),
+        },
+        Err(LineFault::Memory) => Err(Stop::Fault(RunFault::Memory)),
+        Err(fault) => Err(Stop::Grammar(fault)),
     }
 }
 
@@ -146,28 +255,29 @@ fn write_some<K: Sink>(ahead: &Ahead, waiting: &mut Vec<u8>, out: &mut K) -> Res
 
 // Takes all lines, one at a time, up to the first that is outside the grammar or past a limit. What is
 // left to report is answered, and the last replies wait to be written. Nothing waits while the first byte of a
-// line is read, so whoever types whole lines gets each reply before the next line is read.
-fn take_lines<F: Fn(&Change) -> HookAnswer, S: Source, K: Sink>(
+// line is read, so whoever types whole lines gets each reply before the next line is read; nor while the disk is written.
+fn take_lines<D: Disk, F: Fn(&Change) -> HookAnswer, S: Source, K: Sink>(
     alloc: Global,
-    machine: &mut Machine<'_, F>,
+    machine: &mut Machine<'_, D, F>,
     source: &mut S,
     text: &mut Vec<u8>,
     waiting: &mut Vec<u8>,
     out: &mut K,
 ) -> Result<Option<Complaint>, RunFault>
-    requires stands { Stands (opening machine.old.parts.shared.brands []) machine.old.parts }
     requires asks { AsksBrands F.Fn machine.old }
+    requires ready { MayGoOn D.view machine.old }
     requires none { waiting.old.items ≡ [] }
-    ensures told { IfOk result (λ complaint. IfSome (S.left source.old) (λ bytes. Tells complaint (K.holds out.old) (after_known (K.holds out.new) waiting.new.items) (traced machine.old.parts.shared.brands bytes))) }
+    ensures ran { (brands : List Tabled) (R : List Commit) → StandsFor (opening brands R) machine.old → EndsAs brands R result (S.left source.old) (S.left source.new) (K.holds out.old) (K.holds out.new) (after_known (K.holds out.new) waiting.new.items) }
+    ensures recorded { (brands : List Tabled) (R : List Commit) → StandsFor (opening brands R) machine.old → IsStoreOf (D.view machine.old.bank.disk) R → RanAs brands R result (S.left source.old) (K.holds out.old) (after_known (K.holds out.new) waiting.new.items) (D.view machine.old.bank.disk) (D.view machine.new.bank.disk) }
+    ensures kind { IfOk result (λ complaint. IfSome complaint IsOfInput) }
     ensures read { IsErrOf result RunFault.Read → Rose (S.faults source.old) (S.faults source.new) }
     ensures write { IsErrOf result RunFault.Write → Rose (K.faults out.old) (K.faults out.new) }
-    ensures front { IsErrOf result RunFault.Write → IfSome (S.left source.old) (λ bytes. HasFront (K.holds out.old) (K.holds out.new) (traced machine.old.parts.shared.brands bytes).out) }
-    ensures answered { IsErrOf result RunFault.Read ⊎ IsErrOf result RunFault.Memory → IfSome (S.left source.old) (λ bytes. HasReplies (K.holds out.old) (after_known (K.holds out.new) waiting.new.items) (run_of machine.old.parts.shared.brands bytes)) }
-    ensures taken { IfSome (S.left source.old) (λ _. AnswersAs machine.old.parts.shared.brands result (S.left source.old) (S.left source.new) (K.holds out.old) (after_known (K.holds out.new) waiting.new.items)) }
+    ensures disk { IsErrOf result RunFault.Disk → Rose (D.view machine.old.bank.disk).faults (D.view machine.new.bank.disk).faults }
+    ensures none { IsErrOf result RunFault.Write ⊎ IsErrOf result RunFault.Disk → waiting.new.items ≡ [] }
     ensures written { HasWritten (K.holds out.old) (K.holds out.new) }
-    ensures none { IsErrOf result RunFault.Write → waiting.new.items ≡ [] }
     ensures read_later { S.faults source.old ≤ S.faults source.new }
     ensures write_later { K.faults out.old ≤ K.faults out.new }
+    ensures passes { Passes (D.view machine.old.bank.disk) (D.view machine.new.bank.disk) }
 {
     let mut ahead = Ahead::new();
     let mut line = Vec::new(alloc);
@@ -179,10 +289,18 @@ fn take_lines<F: Fn(&Change) -> HookAnswer, S: Source, K: Sink>(
             Got::TooLong => return Ok(Some(Complaint::Limit(before + 1))),
             Got::Line => {}
         }
-        match take_line(alloc, machine, &line, before + 1, refused, text, waiting) {
+        match take_line(
+            alloc,
+            machine,
+            &line,
+            before + 1,
+            refused,
+            text,
+            waiting,
+            out,
+        ) {
             Ok(now) => refused = now,
-            Err(Stop::Memory) => return Err(RunFault::Memory),
-            Err(Stop::Grammar(fault)) => return Ok(Some(Complaint::Grammar(before + 1, fault))),
+            Err(stop) => return ended_by(stop, before + 1),
         }
     }
     write_some(&ahead, waiting, out)?;
@@ -192,49 +310,30 @@ fn take_lines<F: Fn(&Change) -> HookAnswer, S: Source, K: Sink>(
     Ok(ended(refused))
 }
 
-// The same, and the last replies are written.
-fn trace_from<F: Fn(&Change) -> HookAnswer, S: Source, K: Sink>(
+/// Runs all lines on a machine, one at a time, up to the first that is outside the grammar or past a limit, and writes their
+/// replies. What is left to report is answered.
+pub fn trace_all<D: Disk, F: Fn(&Change) -> HookAnswer, S: Source, K: Sink>(
     alloc: Global,
-    machine: &mut Machine<'_, F>,
+    machine: &mut Machine<'_, D, F>,
     source: &mut S,
     out: &mut K,
 ) -> Result<Option<Complaint>, RunFault>
-    requires stands { Stands (opening machine.old.parts.shared.brands []) machine.old.parts }
     requires asks { AsksBrands F.Fn machine.old }
-    ensures told { IfOk result (λ complaint. IfSome (S.left source.old) (λ bytes. Tells complaint (K.holds out.old) (K.holds out.new) (traced machine.old.parts.shared.brands bytes))) }
+    requires ready { MayGoOn D.view machine.old }
+    ensures ran { (brands : List Tabled) (R : List Commit) → StandsFor (opening brands R) machine.old → EndsAs brands R result (S.left source.old) (S.left source.new) (K.holds out.old) (K.holds out.new) (K.holds out.new) }
+    ensures recorded { (brands : List Tabled) (R : List Commit) → StandsFor (opening brands R) machine.old → IsStoreOf (D.view machine.old.bank.disk) R → RanAs brands R result (S.left source.old) (K.holds out.old) (K.holds out.new) (D.view machine.old.bank.disk) (D.view machine.new.bank.disk) }
+    ensures kind { IfOk result (λ complaint. IfSome complaint IsOfInput) }
     ensures read { IsErrOf result RunFault.Read → Rose (S.faults source.old) (S.faults source.new) }
     ensures write { IsErrOf result RunFault.Write → Rose (K.faults out.old) (K.faults out.new) }
-    ensures front { IsErrOf result RunFault.Write → IfSome (S.left source.old) (λ bytes. HasFront (K.holds out.old) (K.holds out.new) (traced machine.old.parts.shared.brands bytes).out) }
-    ensures answered { IsErrOf result RunFault.Read ⊎ IsErrOf result RunFault.Memory → IfSome (S.left source.old) (λ bytes. HasReplies (K.holds out.old) (K.holds out.new) (run_of machine.old.parts.shared.brands bytes)) }
-    ensures taken { IfSome (S.left source.old) (λ _. AnswersAs machine.old.parts.shared.brands result (S.left source.old) (S.left source.new) (K.holds out.old) (K.holds out.new)) }
+    ensures disk { IsErrOf result RunFault.Disk → Rose (D.view machine.old.bank.disk).faults (D.view machine.new.bank.disk).faults }
     ensures later { S.faults source.old ≤ S.faults source.new }
+    ensures passes { Passes (D.view machine.old.bank.disk) (D.view machine.new.bank.disk) }
 {
     let mut text = Vec::new(alloc);
     let mut waiting = Vec::new(alloc);
     let ended = take_lines(alloc, machine, source, &mut text, &mut waiting, out);
-    write_waiting(&mut waiting, out)?;
-    ended
-}
-
-/// Runs all lines, one at a time, up to the first that is outside the grammar or past a limit. What is
-/// left to report is answered. The machine asks the brands that are handed in.
-pub fn trace_all<F: Fn(&Change) -> HookAnswer, S: Source, K: Sink>(
-    alloc: Global,
-    brands: &Brands<F>,
-    source: &mut S,
-    out: &mut K,
-) -> Result<Option<Complaint>, RunFault>
-    requires { AllFollow F.Fn brands.now }
-    ensures told { IfOk result (λ complaint. IfSome (S.left source.old) (λ bytes. Tells complaint (K.holds out.old) (K.holds out.new) (traced (tables_of brands.now) bytes))) }
-    ensures read { IsErrOf result RunFault.Read → Rose (S.faults source.old) (S.faults source.new) }
-    ensures write { IsErrOf result RunFault.Write → Rose (K.faults out.old) (K.faults out.new) }
-    ensures front { IsErrOf result RunFault.Write → IfSome (S.left source.old) (λ bytes. HasFront (K.holds out.old) (K.holds out.new) (traced (tables_of brands.now) bytes).out) }
-    ensures answered { IsErrOf result RunFault.Read ⊎ IsErrOf result RunFault.Memory → IfSome (S.left source.old) (λ bytes. HasReplies (K.holds out.old) (K.holds out.new) (run_of (tables_of brands.now) bytes)) }
-    ensures taken { IfSome (S.left source.old) (λ _. AnswersAs (tables_of brands.now) result (S.left source.old) (S.left source.new) (K.holds out.old) (K.holds out.new)) }
-    ensures later { S.faults source.old ≤ S.faults source.new }
-{
-    let Ok(mut machine) = Machine::new(alloc, brands) else {
-        return Err(RunFault::Memory);
-    };
-    trace_from(alloc, &mut machine, source, out)
+    match write_waiting(&mut waiting, out) {
+        Ok(()) => ended,
+        Err(_) => Err(RunFault::Write),
+    }
 }

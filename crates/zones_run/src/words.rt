@@ -16,10 +16,12 @@ COMMAND is one of
   trace      write the reply to each event of the trace on standard input
   --help     write this text
   --version  write the version
-\nThe exit status is 0 where all is done, 1 where a line or the end of the input is
+\nThe zones of a trace are kept in the file zones.store, in the current folder.\n
+The exit status is 0 where all is done, 1 where a line or the end of the input is
 refused, 2 for a faulty command line, 3 for a line outside the grammar of a trace, 4
-for a read fault, 5 for a write fault, 8 for a line above 4096 bytes or more than
-200000 lines, and 9 where memory runs out.\n
+for a read fault, 5 for a write fault, 6 for a fault of the disk, 7 where zones.store
+is no store, 8 for a line above 4096 bytes or more than 200000 lines, and 9 where
+memory runs out.\n
 docs/CODES.md says what each code means, and what to do about it.\n";
 
 /// The forms of the command line.

@@ -14,7 +14,10 @@ use Rattle.zone_machine.specs.Machine.{one, subject}
 use Rattle.zone_machine.specs.Machine.Pools.{allowed, fits}
 use Rattle.zone_machine.specs.Code.Cells.{CellOf, SharedOf}
 use Rattle.zone_machine.specs.declared.events.Entry.{Entry}
+use Rattle.zone_machine.specs.Code.Rooms.{Alike}
 use Rattle.zone_machine.specs.Code.Steps.{Takes}
+use Rattle.zone_machine.specs.declared.faults.StepFault.{StepFault}
+use Rattle.zone_machine.specs.declared.faults.StepFault.TheVariants.{BadGrant, DiskFault, Memory, WouldRecord}
 
 -- the same of a zone's cell and the shared part: the entry is the definitions', and what is left has the world and what is common of
 -- the state after it
@@ -50,3 +53,15 @@ IsCellMisfit z c s e g d t = ((S : State) → CellOf c (world z S) → SharedOf 
 abbrev pub IsCellMisfitUnder : Name → Option Grant → Cell → Shared → Event → Cell → Shared → Type 0
 IsCellMisfitUnder z None c s e d t = ⊥
 IsCellMisfitUnder z (Some g) c s e d t = IsCellMisfit z c s e g d t
+
+-- a stated grant fits
+abbrev pub FitsInCell : Name → Option Grant → Cell → Shared → Event → Type 0
+FitsInCell z None c s e = Unit {0}
+FitsInCell z (Some g) c s e = (S : State) → CellOf c (world z S) → SharedOf s (common S) → subject S e ≡ Zone z → fits S e g ≡ true
+
+-- what an event leaves that is not answered: where the disk failed, nothing is said of the cell and the shared part
+abbrev pub CellLeaves : StepFault → Name → Option Grant → Cell → Shared → Event → Cell → Shared → Type 0
+CellLeaves Memory z stated c s e d t = Alike c s d t
+CellLeaves WouldRecord z stated c s e d t = Alike c s d t
+CellLeaves BadGrant z stated c s e d t = IsCellMisfitUnder z stated c s e d t
+CellLeaves DiskFault z stated c s e d t = FitsInCell z stated c s e

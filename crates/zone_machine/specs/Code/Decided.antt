@@ -25,6 +25,8 @@ use Rattle.brand_hooks.specs.Hooks.{AllFollow}
 use Rattle.brand_hooks.specs.declared.change.Change.{Change}
 use Rattle.brand_hooks.specs.declared.table.HookAnswer.{HookAnswer}
 use Rattle.zone_machine.specs.declared.machine.Machine.{Machine}
+use Rattle.zone_machine.specs.Code.Records.{IsReady}
+use Rattle.zn_io.specs.Disk.{View as Disk_view}
 use Rattle.zoneadmd_steps.specs.Code.Cases.{next_hook}
 use Rattle.zoneadmd_steps.specs.Code.Desks.{as_desk}
 use Rattle.zone_machine.specs.declared.replies.Reply.{Reply}
@@ -74,5 +76,9 @@ IsNextHook t (Turn z) asked = (c : Cell) → cell_at z t ≡ Some c → asked �
 IsNextHook t _ asked = Unit {0}
 
 -- the machine asks brands whose hooks follow their tables, and its parts know these
-abbrev pub AsksBrands : {F : Type 0} → Shared F (Bor Change × Unit {0}) HookAnswer → Machine F → Type 0
+abbrev pub AsksBrands : {D F : Type 0} → Shared F (Bor Change × Unit {0}) HookAnswer → Machine D F → Type 0
 AsksBrands g m = AllFollow g m.brands.now × (m.parts.shared.brands ≡ tables_of m.brands.now)
+
+-- the machine may take events: its bank is ready for what zones share
+abbrev pub MayGoOn : {D F : Type 0} → (D → Disk_view) → Machine D F → Type 0
+MayGoOn view m = IsReady (view m.bank.disk) m.bank m.parts.shared

@@ -13,7 +13,7 @@ use Rattle.zone_machine.specs.declared.events.Entry.{Entry}
 use Rattle.zone_machine.specs.declared.events.Event.{Event}
 use Rattle.zone_machine.specs.declared.events.Subject.{Subject}
 use Rattle.zone_machine.specs.declared.faults.StepFault.{StepFault}
-use Rattle.zone_machine.specs.declared.faults.StepFault.TheVariants.{Memory, BadGrant}
+use Rattle.zone_machine.specs.declared.faults.StepFault.TheVariants.{Memory, BadGrant, DiskFault, WouldRecord}
 use Rattle.zone_machine.specs.declared.machine.parts.Parts.{Parts}
 use Rattle.zone_pools.specs.declared.grant.Grant.TheVariants.{Nothing}
 use Rattle.zone_pools.specs.Pools.{Pools, fits_asked, said_by_all}
@@ -79,10 +79,18 @@ IsMisfitUnder (Some g) t e u = IsMisfit t e g u
 abbrev pub AsItWas : Parts → Parts → Type 0
 AsItWas t u = (S : State) → (Stands S t → Stands S u) × (Stands S u → Stands S t)
 
--- what an event leaves that is not answered: memory ran out, or the stated grant doesn't fit
+-- a stated grant fits
+abbrev pub FitsIn : Option Grant → Parts → Event → Type 0
+FitsIn None t e = Unit {0}
+FitsIn (Some g) t e = (S : State) → Stands S t → fits S e g ≡ true
+
+-- what an event leaves that is not answered: memory ran out, the stated grant doesn't fit, it would record and may not yet, or
+-- the disk failed under a grant that fits, after which nothing is said of the parts
 abbrev pub Leaves : StepFault → Option Grant → Parts → Event → Parts → Type 0
 Leaves Memory stated t e u = AsItWas t u
 Leaves BadGrant stated t e u = IsMisfitUnder stated t e u
+Leaves WouldRecord stated t e u = AsItWas t u
+Leaves DiskFault stated t e u = FitsIn stated t e
 
 -- the grant that a case takes: what the pools say, or the stated one, which fits what it asks
 abbrev pub IsGrantFor : Name → Pools → List Asked → Option Grant → Grant → Type 0

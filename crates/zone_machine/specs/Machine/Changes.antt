@@ -1,5 +1,5 @@
 -- The commits that entries add to those of a state.
-use Rattle.std.specs.Prelude.{◌≡◌, ℕ, List, [], ◌∷◌, ◌++◌, Option, Some, None}
+use Rattle.std.specs.Prelude.{◌≡◌, ℕ, List, [], ◌∷◌, ◌++◌, Option, Some}
 use Rattle.zn_base.specs.Names.{Name}
 use Rattle.commit_journal.specs.declared.records.Commit.{Commit}
 use Rattle.zoneadmd_steps.specs.Arrivals.{Arrival, New_record}

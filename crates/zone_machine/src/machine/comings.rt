@@ -173,6 +173,7 @@ fn let_in(
     ensures cell { cell.new ≡ record cell.old { kernel = cell.new.kernel; claims = cell.new.claims } }
     ensures shared { shared.new ≡ record shared.old { kernel = shared.new.kernel; claims = shared.new.claims } }
     ensures claims { is_claim newcomer.entry ≡ false → cell.new.claims ≡ cell.old.claims }
+    ensures none { newcome newcomer.entry number ≡ None → (cell.new ≡ cell.old) × (shared.new ≡ shared.old) }
 {
     match (newcomer, number) {
         (Newcomer::Process(running), Ok(pid)) => begin(alloc, cell, shared, zone, pid, running),
@@ -199,6 +200,7 @@ pub(crate) fn come(
     ensures cell { cell.new ≡ record cell.old { kernel = cell.new.kernel; claims = cell.new.claims } }
     ensures shared { shared.new ≡ record shared.old { kernel = shared.new.kernel; claims = shared.new.claims } }
     ensures objects { IsFreeFor (objects_of case.now) cell.new.mounts.list cell.new.claims.claims }
+    ensures none { in_kernel (act_of (decision_of cell.old.desk case.now) grant).came ≡ None → (cell.new ≡ cell.old) × (shared.new ≡ shared.old) }
 {
     let_in(
         alloc,

@@ -23,6 +23,7 @@ fn declare_item(
     ensures declared { OnOk result (common_in shared.new ≡ record (common_in shared.old) { declared = declaring (declarations.Item kind item.now) (common_in shared.old).declared }) }
     ensures memory { OnErr result (common_in shared.new ≡ common_in shared.old) }
     ensures rows { shared.new.rows ≡ shared.old.rows }
+    ensures used { shared.new.used ≡ shared.old.used }
 {
     match shared.claims.check_declare(kind, item) {
         Ok(()) => {}
@@ -46,6 +47,7 @@ fn declare_device(
     ensures declared { OnOk result (common_in shared.new ≡ record (common_in shared.old) { declared = declaring (declarations.Device path.now) (common_in shared.old).declared }) }
     ensures memory { OnErr result (common_in shared.new ≡ common_in shared.old) }
     ensures rows { shared.new.rows ≡ shared.old.rows }
+    ensures used { shared.new.used ≡ shared.old.used }
 {
     match shared.kernel.declare_device(path.copy(alloc)?) {
         Ok(()) => Ok(None),
@@ -66,6 +68,7 @@ pub(crate) fn declare(
     ensures declared { OnOk result (common_in shared.new ≡ record (common_in shared.old) { declared = declaring what.now (common_in shared.old).declared }) }
     ensures memory { OnErr result (common_in shared.new ≡ common_in shared.old) }
     ensures rows { shared.new.rows ≡ shared.old.rows }
+    ensures used { shared.new.used ≡ shared.old.used }
 {
     match what {
         Declaration::Item(kind, item) => declare_item(alloc, shared, *kind, item),

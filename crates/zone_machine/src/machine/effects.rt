@@ -4,7 +4,7 @@ ghost use Rattle.std.specs.Prelude.{◌≡◌, ◌<◌, ℕ, IfSome, None, Optio
 ghost use Rattle.indexmap.specs.IndexMap.{spare};
 ghost use Rattle.zn_base.specs.Names.{Name};
 ghost use Rattle.zone_pools.specs.Owners.{owner};
-ghost use Rattle.zone_machine.specs.Code.Cases.{IsCaseOf, IsNamedCase, IsNumbered, decision_of};
+ghost use Rattle.zone_machine.specs.Code.Cases.{IsCaseOf, IsNamedCase, decision_of};
 ghost use Rattle.zoneadmd_steps.specs.Code.Cases.{object_edits};
 ghost use Rattle.zone_machine.specs.Code.Works.{IsNamedWork, rest_of, sits, told_by, work_world};
 ghost use Rattle.zoneadmd_steps.specs.Code.Works.{arrival_of, gone_by};
@@ -17,6 +17,8 @@ ghost use Rattle.zone_machine.specs.Code.Cells.{is_up_in};
 ghost use Rattle.zone_machine.specs.declared.machine.shared.Shared as shared_types;
 ghost use Rattle.zone_machine.specs.Code.Cells.{Acts, Does, kept};
 ghost use Rattle.zone_machine.specs.Code.Needs.{pools_in};
+ghost use Rattle.zone_machine.specs.Code.Records.{HasNumber, rows_with, used_with};
+ghost use Rattle.commit_journal.specs.Zones.{rows_of};
 ghost use Rattle.zone_machine.specs.Machine.Common.{came_common};
 ghost use Rattle.zone_machine.specs.State.Decisions.{act_of, acts_world, after_came_world, sweeps};
 ghost use Rattle.zone_machine.specs.State.Edits.{Of_objects, comes_world, edits_world};
@@ -49,6 +51,8 @@ fn store(cell: &Cell, shared: &mut Shared, stored: Stored)
     ensures sessions { shared.new.sessions ≡ shared.old.sessions }
     ensures ups { shared.new.ups ≡ shared.old.ups }
     ensures brands { shared.new.brands ≡ shared.old.brands }
+    ensures rows { rows_of shared.new.rows.entries ≡ rows_with stored.owner (Some (New_record (Some stored.row.value))) (rows_of shared.old.rows.entries) }
+    ensures used { shared.new.used ≡ used_with stored.owner (Some (New_record (Some stored.row.value))) shared.old.used }
 {
     let row = Box::into_inner(stored.row);
     shared.used += 5 + body_length(&stored.owner, Some(row.record())) as u32;
@@ -64,6 +68,8 @@ fn store_some(cell: &Cell, shared: &mut Shared, stored: Option<Stored>)
     ensures sessions { shared.new.sessions ≡ shared.old.sessions }
     ensures ups { shared.new.ups ≡ shared.old.ups }
     ensures brands { shared.new.brands ≡ shared.old.brands }
+    ensures rows { (z : Name) → IfSome stored (λ s. s.owner ≡ z) → rows_of shared.new.rows.entries ≡ rows_with z (arrival_of stored) (rows_of shared.old.rows.entries) }
+    ensures used { (z : Name) → IfSome stored (λ s. s.owner ≡ z) → shared.new.used ≡ used_with z (arrival_of stored) shared.old.used }
 {
     match stored {
         Some(stored) => store(cell, shared, stored),
@@ -79,6 +85,8 @@ fn end_processes(cell: &mut Cell, shared: &mut Shared)
     ensures sessions { shared.new.sessions ≡ shared.old.sessions }
     ensures ups { shared.new.ups ≡ shared.old.ups }
     ensures brands { shared.new.brands ≡ shared.old.brands }
+    ensures rows { shared.new.rows ≡ shared.old.rows }
+    ensures used { shared.new.used ≡ shared.old.used }
     ensures desk { cell.new.desk ≡ cell.old.desk }
 {
     cell.kernel.kill_all(&mut shared.kernel);
@@ -92,6 +100,8 @@ fn end_ids(cell: &mut Cell, shared: &mut Shared)
     ensures sessions { shared.new.sessions ≡ shared.old.sessions }
     ensures ups { shared.new.ups ≡ shared.old.ups }
     ensures brands { shared.new.brands ≡ shared.old.brands }
+    ensures rows { shared.new.rows ≡ shared.old.rows }
+    ensures used { shared.new.used ≡ shared.old.used }
     ensures desk { cell.new.desk ≡ cell.old.desk }
 {
     cell.kernel.give_up_id(&mut shared.kernel);
@@ -105,6 +115,8 @@ fn end_process(cell: &mut Cell, shared: &mut Shared, pid: u32)
     ensures sessions { shared.new.sessions ≡ shared.old.sessions }
     ensures ups { shared.new.ups ≡ shared.old.ups }
     ensures brands { shared.new.brands ≡ shared.old.brands }
+    ensures rows { shared.new.rows ≡ shared.old.rows }
+    ensures used { shared.new.used ≡ shared.old.used }
     ensures desk { cell.new.desk ≡ cell.old.desk }
 {
     cell.kernel.end(&mut shared.kernel, pid);
@@ -194,6 +206,8 @@ fn end_claim(cell: &mut Cell, shared: &mut Shared)
     ensures sessions { shared.new.sessions ≡ shared.old.sessions }
     ensures ups { shared.new.ups ≡ shared.old.ups }
     ensures brands { shared.new.brands ≡ shared.old.brands }
+    ensures rows { shared.new.rows ≡ shared.old.rows }
+    ensures used { shared.new.used ≡ shared.old.used }
     ensures desk { cell.new.desk ≡ cell.old.desk }
 {
     cell.claims.release_last(&mut shared.claims);
@@ -208,6 +222,8 @@ fn release_last(cell: &mut Cell, shared: &mut Shared, claim: Snapshot<Claim>) ->
     ensures sessions { shared.new.sessions ≡ shared.old.sessions }
     ensures ups { shared.new.ups ≡ shared.old.ups }
     ensures brands { shared.new.brands ≡ shared.old.brands }
+    ensures rows { shared.new.rows ≡ shared.old.rows }
+    ensures used { shared.new.used ≡ shared.old.used }
     ensures desk { cell.new.desk ≡ cell.old.desk }
     ensures gone { result ≡ Gone.Claim claim.value }
 {
@@ -288,6 +304,8 @@ fn edit_objects(alloc: Global, cell: &mut Cell, shared: &mut Shared, edit: Objec
     ensures sessions { shared.new.sessions ≡ shared.old.sessions }
     ensures ups { shared.new.ups ≡ shared.old.ups }
     ensures brands { shared.new.brands ≡ shared.old.brands }
+    ensures rows { shared.new.rows ≡ shared.old.rows }
+    ensures used { shared.new.used ≡ shared.old.used }
     ensures desk { cell.new.desk ≡ cell.old.desk }
 {
     match edit {
@@ -320,6 +338,8 @@ fn change_objects(alloc: Global, cell: &mut Cell, shared: &mut Shared, edit: Obj
     ensures sessions { shared.new.sessions ≡ shared.old.sessions }
     ensures ups { shared.new.ups ≡ shared.old.ups }
     ensures brands { shared.new.brands ≡ shared.old.brands }
+    ensures rows { shared.new.rows ≡ shared.old.rows }
+    ensures used { shared.new.used ≡ shared.old.used }
     ensures desk { cell.new.desk ≡ cell.old.desk }
     ensures gone { result ≡ gone_by edit }
 {
@@ -340,6 +360,8 @@ fn sit(cell: &mut Cell, shared: &mut Shared, number: u8, sitting: Sitting)
     ensures does { IsOpenTo sitting.owner (owner nat_eq shared.old.sessions number) → Does sitting.owner (edits_world (Some number) (sits (Some sitting))) kept cell.old shared.old cell.new shared.new }
     ensures ups { shared.new.ups ≡ shared.old.ups }
     ensures brands { shared.new.brands ≡ shared.old.brands }
+    ensures rows { shared.new.rows ≡ shared.old.rows }
+    ensures used { shared.new.used ≡ shared.old.used }
     ensures desk { cell.new.desk ≡ cell.old.desk }
 {
     shared.sessions.give_back(&number);
@@ -353,6 +375,8 @@ fn sit_down(cell: &mut Cell, shared: &mut Shared, number: Option<u8>, sitting: O
     ensures does { (z : Name) → IfSome sitting (λ s. s.owner ≡ z) → IfSome number (λ n. IsOpenTo z (owner nat_eq shared.old.sessions n)) → Does z (edits_world number (sits sitting)) kept cell.old shared.old cell.new shared.new }
     ensures ups { shared.new.ups ≡ shared.old.ups }
     ensures brands { shared.new.brands ≡ shared.old.brands }
+    ensures rows { shared.new.rows ≡ shared.old.rows }
+    ensures used { shared.new.used ≡ shared.old.used }
     ensures desk { cell.new.desk ≡ cell.old.desk }
 {
     match (number, sitting) {
@@ -366,6 +390,8 @@ fn end_ticket(cell: &mut Cell, shared: &mut Shared, ended: Option<u32>)
     ensures does { (z : Name) (n : Option ℕ) → Does z (edits_world n (sweeps ended)) kept cell.old shared.old cell.new shared.new }
     ensures ups { shared.new.ups ≡ shared.old.ups }
     ensures brands { shared.new.brands ≡ shared.old.brands }
+    ensures rows { shared.new.rows ≡ shared.old.rows }
+    ensures used { shared.new.used ≡ shared.old.used }
     ensures desk { cell.new.desk ≡ cell.old.desk }
 {
     if let Some(ticket) = ended {
@@ -389,6 +415,8 @@ fn carry_out(
     ensures does { (z : Name) → IsNamedWork z work → IfSome number (λ n. IsOpenTo z (owner nat_eq shared.old.sessions n)) → Does z (work_world number work) (came_common z (arrival_of work.stored)) cell.old shared.old cell.new shared.new }
     ensures ups { shared.new.ups ≡ shared.old.ups }
     ensures brands { shared.new.brands ≡ shared.old.brands }
+    ensures rows { (z : Name) → IsNamedWork z work → rows_of shared.new.rows.entries ≡ rows_with z (arrival_of work.stored) (rows_of shared.old.rows.entries) }
+    ensures used { (z : Name) → IsNamedWork z work → shared.new.used ≡ used_with z (arrival_of work.stored) shared.old.used }
     ensures desk { cell.new.desk ≡ cell.old.desk }
 {
     store_some(cell, shared, work.stored);
@@ -411,12 +439,14 @@ pub(crate) fn perform(
     requires of { IsCaseOf cell.old.desk case }
     requires room { HasRoom zone.now case cell.old shared.old }
     requires named { IsNamedCase zone.now case }
-    requires numbered { IsNumbered case grant }
+    requires numbered { HasNumber case grant }
     requires free { IsFreeOf zone.now (in_store (act_of (decision_of cell.old.desk case) grant).came) (pools_in shared.old) }
     ensures reply { result ≡ (act_of (decision_of cell.old.desk case) grant).effect.reply }
     ensures does { IsNamedCase zone.now case → IfSome number (λ n. IsOpenTo zone.now (owner nat_eq shared.old.sessions n))
         → Acts zone.now (acts_world number (rest_of (act_of (decision_of cell.old.desk case) grant))) (came_common zone.now (in_store (act_of (decision_of cell.old.desk case) grant).came)) cell.old shared.old cell.new shared.new }
     ensures brands { shared.new.brands ≡ shared.old.brands }
+    ensures rows { rows_of shared.new.rows.entries ≡ rows_with zone.now (in_store (act_of (decision_of cell.old.desk case) grant).came) (rows_of shared.old.rows.entries) }
+    ensures used { shared.new.used ≡ used_with zone.now (in_store (act_of (decision_of cell.old.desk case) grant).came) shared.old.used }
 {
     let was = cell.desk.active().is_some();
     let work = settle(alloc, &mut cell.desk, case, grant);

@@ -1,14 +1,16 @@
 //! How a case is settled: the desk changes, and what else is to be done is told. No memory is taken, and nothing fails.
 ghost use Rattle.std.specs.Prelude.{◌+◌, ◌<◌, ◌≤◌, ◌≡◌, IfOk, IfSome, None, Option, Some, false, true, ℕ};
 ghost use Rattle.zn_base.specs.Names.{Name};
-ghost use Rattle.zone_machine.specs.Code.Cases.{IsCaseOf, IsNamedCase, IsNumbered, case_active, decision_of, made};
+ghost use Rattle.zone_machine.specs.Code.Cases.{IsCaseOf, IsNamedCase, case_active, decision_of, made};
 ghost use Rattle.std.specs.List.{list_all};
 ghost use Rattle.zoneadmd_steps.specs.Code.Cases.{object_edits, premise_of};
 ghost use Rattle.zoneadmd_steps.specs.Local.{is_of_own};
+ghost use Rattle.zone_machine.specs.Code.Records.{HasNumber};
 ghost use Rattle.zone_machine.specs.Code.Rooms.{HasRoomFor};
 ghost use Rattle.zoneadmd_steps.specs.Code.Rooms.{HasRequestRoom};
 ghost use Rattle.zone_machine.specs.Code.Works.{IsNamedWork, Works, objects_of, rest_of, sitting_of};
 ghost use Rattle.zone_machine.specs.State.Decisions.{act_of, says};
+ghost use Rattle.commit_journal.specs.Uuids.{uuid_of};
 ghost use Rattle.zone_pools.specs.Decisions.{number_in};
 ghost use Rattle.zoneadmd_steps.specs.Desks as desks;
 ghost use Rattle.zoneadmd_steps.specs.Code.Desks.{as_desk};
@@ -19,7 +21,7 @@ ghost use Rattle.zoneadmd_steps.specs.declared.desks.Desk as desk_types;
 use crate::cases::Case;
 use crate::machine::work::{Sitting, Work};
 use crate::replies::{Body, Head, Refusal};
-use commit_journal::{Row, uuid_of};
+use commit_journal::Row;
 use kernel_objects::Running;
 use std::alloc::Global;
 use zn_base::ZoneName;
@@ -28,22 +30,17 @@ use zoneadmd_steps::{Desk, ObjectEdit, QueuedRequest, Stored, settle_turn};
 
 // A zone is made, where the grant gives its record a number.
 fn make(row: Box<Row>, owner: ZoneName, grant: Grant) -> Work
-    requires { IfOk (number_in grant) (λ n. 1 ≤ n) }
+    requires { IfOk (number_in grant) (λ n. (row.value.uuid ≡ uuid_of owner n) × (row.value.revision ≡ n)) }
     ensures works { (n : Option ℕ) (v : World) (d : desks.Desk) → v.desk ≡ d → Works n (rest_of (act_of (made owner row.value) grant)) v d result }
     ensures objects { result.objects ≡ ObjectEdit.Nothing }
     ensures sits { result.sits ≡ None }
     ensures owner { IfSome result.stored (λ s. s.owner ≡ owner) }
 {
     match number_in(grant) {
-        Ok(number) => {
-            let mut row = row;
-            row.set_uuid(uuid_of(&owner, number));
-            row.set_revision(number);
-            Work {
-                stored: Some(Stored { row, owner }),
-                ..Work::saying(Head::Ok)
-            }
-        }
+        Ok(_) => Work {
+            stored: Some(Stored { row, owner }),
+            ..Work::saying(Head::Ok)
+        },
         Err(pool) => Work::saying(Head::Refused(Refusal::Denied(pool))),
     }
 }
@@ -80,7 +77,7 @@ fn put(desk: &mut Desk, request: QueuedRequest, owner: ZoneName) -> Work
 pub(crate) fn settle(alloc: Global, desk: &mut Desk, case: Case, grant: Grant) -> Work
     requires of { IsCaseOf desk.old case }
     requires room { HasRoomFor desk.old case }
-    requires numbered { IsNumbered case grant }
+    requires numbered { HasNumber case grant }
     ensures works { (n : Option ℕ) (v : World) → v.desk ≡ as_desk desk.old
         → Works n (rest_of (act_of (decision_of desk.old case) grant)) v (as_desk desk.new) result }
     ensures objects { premise_of result.objects ≡ premise_of (objects_of case) }

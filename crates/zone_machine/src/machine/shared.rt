@@ -1,11 +1,15 @@
 //! What more than one zone may ask.
-ghost use Rattle.std.specs.Prelude.{◌≡◌, []};
+ghost use Rattle.std.specs.Prelude.{◌≡◌, [], List, length};
+ghost use Rattle.commit_journal.specs.Stored.{stored};
+ghost use Rattle.commit_journal.specs.Zones.{rows_of};
+ghost use Rattle.commit_journal.specs.declared.records.Commit.{Commit};
+ghost use Rattle.zone_machine.specs.State.{bytes_used};
 ghost use Rattle.zone_machine.specs.Code.Cells.{SharedOf};
 ghost use Rattle.zone_machine.specs.Machine.Common.{common};
 ghost use Rattle.zone_machine.specs.Machine.{opening};
 
 use brand_hooks::BrandTables;
-use commit_journal::Row;
+use commit_journal::{Row, Zones};
 use datalink_table::ClaimShared;
 use indexmap::IndexMap;
 use kernel_objects::KernelShared;
@@ -50,6 +54,28 @@ impl Shared {
             started: false,
             ups: IndexMap::new(alloc),
             brands,
+        }
+    }
+
+    /// What is shared before any event, where these zones are stored by so many records, which use so many bytes of the bank,
+    /// and there are these brands. It takes no memory.
+    pub(crate) fn opened(
+        alloc: Global,
+        brands: BrandTables,
+        rows: Zones,
+        serial: u32,
+        used: u32,
+    ) -> Self
+        ensures stands { (R : List Commit) → stored R ≡ rows_of rows.entries → length R ≡ serial → bytes_used R ≡ used → SharedOf result (common (opening brands R)) }
+        ensures rows { rows_of result.rows.entries ≡ rows_of rows.entries }
+        ensures used { result.used ≡ used }
+        ensures brands { result.brands ≡ brands }
+    {
+        Self {
+            rows,
+            serial,
+            used,
+            ..Self::new(alloc, brands)
         }
     }
 }

@@ -1,144 +1,216 @@
-use Rattle.std.proofs.Common.{◌∙◌, ap, refl, rules, arith}
+use Rattle.std.proofs.Common.{◌≡◌, ◌+◌, ap, refl, rules, arith, sym, subst}
 use Rattle.std.specs.Prelude.{Err}
-use Rattle.zn_io.specs.Streams.{after_known}
+use Rattle.zone_disk.specs.Bank.{Account}
+use Rattle.zones_run.specs.Answering.{StandsFor, entry_in}
+use Rattle.zones_run.specs.Tracing.{At_end, Past_limit}
+use Rattle.zones_run.proofs.Answered.{passes_on}
 use Rattle.zones_run.proofs.Begins.{takes_just, takes_none}
-use Rattle.zones_run.proofs.TraceRuns.{runs_from_start, runs_line, runs_told}
-use Rattle.zones_run.proofs.TraceEnds.{answers_lines, answers_read, ended_reading, ended_writing, flushed_front, has_replies, nothing_waits, nothing_written, runs_lines, stops_outside, tells_end, tells_fault, tells_last, tells_last_end, tells_long, written_front, written_on}
+use Rattle.zones_run.proofs.Keeping.{HasKept, Left, keeps_start, keeps_step}
+use Rattle.zones_run.specs.declared.fault.RunFault.TheVariants.{Disk, Write}
+use Rattle.zones_run.proofs.Stopping.{ends_stopped, never_reads, none_stopped, only_reading, ran_stopped, stopped_by}
+use Rattle.zones_run.proofs.TraceEnds.{answers_lines, answers_read, at_end, at_long, ends_reading, ends_writing, flushed_front, has_replies, last_end, last_long, nothing_waits, nothing_written, runs_lines, tells_end, tells_last, tells_last_end, tells_long, written_front, written_on}
+use Rattle.zones_run.proofs.TraceRecords.{err_not_ok, ran_cut, ran_part, ran_whole}
+use Rattle.zones_run.proofs.TraceRuns.{follows_from_start, follows_line, follows_told, runs_told}
 use Rattle.zones_run.proofs.trace.take_lines.Goals as goal
 
 pub loop-before-init : goal.loop-before-init
-loop-before-init g c = record {
-  asks = c.requires.asks;
-  run = runs_told _ _ _ _ _ _ _ _ _ (nothing_waits (g.K.Sink.holds c.args.out.now) c.args.waiting.now.items c.requires.none)
-      (rw c.new-ahead.ensures (runs_from_start _ _ (g.K.Sink.holds c.args.out.now) _ c.requires.stands));
-  few = rw c.new-ahead.ensures (omega arith);
-  written = nothing_written (g.K.Sink.holds c.args.out.now);
-  read = omega arith;
-  write = omega arith;
-}
+loop-before-init g c =
+    let v = g.D.Disk.view c.args.machine.now.bank.disk in
+    record {
+      run = λ brands R s. follows_told brands R (λ S. StandsFor S c.args.machine.now) (Left brands R v v) _ _ _ _ _ _ _ (nothing_waits (g.K.Sink.holds c.args.out.now) c.args.waiting.now.items c.requires.none)
+          (rw c.new-ahead.ensures (follows_from_start brands R (λ S. StandsFor S c.args.machine.now) (Left brands R v v) (g.K.Sink.holds c.args.out.now) _ s (λ is. keeps_start brands R v (g.met.D.Disk.sound c.args.machine.now.bank.disk) is)));
+      asks = c.requires.asks;
+      ready = c.requires.ready;
+      few = rw c.new-ahead.ensures (omega arith);
+      written = nothing_written (g.K.Sink.holds c.args.out.now);
+      read = omega arith;
+      write = omega arith;
+      passes = record { model = (λ k. k, λ k. k); faults = omega arith };
+    }
 
-pub returns-in_err-write_some-clause-front : goal.returns-in_err-write_some-clause-front
-returns-in_err-write_some-clause-front g c = λ _. flushed_front _ _ _ _ _ _ c.loop-before.invariant.written (has_replies _ _ _ _ _ _ _ _ c.loop-before.invariant.run) c.in_err-write_some.ensures.front
+pub returns-in_err-write_some-clause-ran : goal.returns-in_err-write_some-clause-ran
+returns-in_err-write_some-clause-ran g c = λ brands R s.
+    ends_writing brands R _ _ _ _ _ _ (search rules) (flushed_front brands R _ _ _ _ _ c.loop-before.invariant.written (has_replies brands R _ _ _ _ _ _ _ (c.loop-before.invariant.run brands R s).run) c.in_err-write_some.ensures.front)
+    (runs_lines brands R _ _ _ _ _ _ _ _ (c.loop-before.invariant.run brands R s).run (takes_just _ _ _ refl c.loop-before.invariant.few))
 
-pub returns-in_err-write_some-clause-taken : goal.returns-in_err-write_some-clause-taken
-returns-in_err-write_some-clause-taken g c =
-    ended_writing _ _ _ _ _ _ (search rules) (runs_lines _ _ _ _ _ _ _ _ _ c.loop-before.invariant.run (takes_just _ _ _ refl c.loop-before.invariant.few))
+pub returns-in_err-write_some-clause-recorded : goal.returns-in_err-write_some-clause-recorded
+returns-in_err-write_some-clause-recorded g c = λ brands R s is.
+    let v0 = g.D.Disk.view c.args.machine.now.bank.disk in
+    let v = g.D.Disk.view c.loop-before.machine.bank.disk in
+    ran_cut brands R _ v0 v _ _ _ _ _ _ (c.loop-before.invariant.run brands R s) is _ _ (search rules)
 
 pub returns-in_err-write_some-clause-written : goal.returns-in_err-write_some-clause-written
 returns-in_err-write_some-clause-written g c = written_on _ _ _ c.loop-before.invariant.written (written_front _ _ _ c.in_err-write_some.ensures.front)
 
-pub returns-in_err-next_line-clause-answered : goal.returns-in_err-next_line-clause-answered
-returns-in_err-next_line-clause-answered g c = λ _. has_replies _ _ _ _ _ _ _ _ (runs_told _ _ _ _ _ _ _ _ _ c.in_ok-write_some.ensures.same c.loop-before.invariant.run)
+pub returns-in_err-write_some-2-clause-ran : goal.returns-in_err-write_some-2-clause-ran
+returns-in_err-write_some-2-clause-ran g c = λ brands R s.
+    ends_writing brands R _ _ _ _ _ _ (search rules) (flushed_front brands R _ _ _ _ _ c.loop-before.invariant.written (has_replies brands R _ _ _ _ _ _ _ (c.loop-before.invariant.run brands R s).run) c.in_err-write_some-2.ensures.front)
+    (runs_lines brands R _ _ _ _ _ _ _ _ (c.loop-before.invariant.run brands R s).run (takes_just _ _ _ refl c.loop-before.invariant.few))
 
-pub returns-in_err-next_line-clause-taken : goal.returns-in_err-next_line-clause-taken
-returns-in_err-next_line-clause-taken g c =
-    let run = runs_told _ _ _ _ _ _ _ _ _ c.in_ok-write_some.ensures.same c.loop-before.invariant.run in
-    ended_reading _ _ c.in_err-next_line.field-0.0 _ _ _ _ c.from_residual-in_err-next_line.ensures.1 (answers_lines _ _ _ _ _ _ _ _ _ run c.in_err-next_line.ensures.taken)
-    (λ failed. answers_read _ _ _ _ _ _ _ _ _ run (c.in_err-next_line.ensures.begun (ap Err failed)))
-
-pub returns-in_err-next_line-clause-written : goal.returns-in_err-next_line-clause-written
-returns-in_err-next_line-clause-written g c = written_on _ _ _ c.loop-before.invariant.written c.in_ok-write_some.ensures.written
-
-pub returns-in-End-clause-told : goal.returns-in-End-clause-told
-returns-in-End-clause-told g c =
-    tells_end _ _ _ _ _ _ _ _ _ (runs_told _ _ _ _ _ _ _ _ _ c.in_ok-write_some.ensures.same c.loop-before.invariant.run) (rw c.in-End.is at c.in_ok-next_line.ensures.got) c.ended.ensures
-
-pub returns-in-End-clause-taken : goal.returns-in-End-clause-taken
-returns-in-End-clause-taken g c = answers_lines _ _ _ _ _ _ _ _ _ (runs_told _ _ _ _ _ _ _ _ _ c.in_ok-write_some.ensures.same c.loop-before.invariant.run) c.in_ok-next_line.ensures.taken
-
-pub returns-in-End-clause-written : goal.returns-in-End-clause-written
-returns-in-End-clause-written g c = written_on _ _ _ c.loop-before.invariant.written c.in_ok-write_some.ensures.written
-
-pub returns-in-TooLong-clause-told : goal.returns-in-TooLong-clause-told
-returns-in-TooLong-clause-told g c =
-    tells_long _ _ _ _ _ _ _ _ (runs_told _ _ _ _ _ _ _ _ _ c.in_ok-write_some.ensures.same c.loop-before.invariant.run) (rw c.in-TooLong.is at c.in_ok-next_line.ensures.got)
-
-pub returns-in-TooLong-clause-taken : goal.returns-in-TooLong-clause-taken
-returns-in-TooLong-clause-taken g c = answers_lines _ _ _ _ _ _ _ _ _ (runs_told _ _ _ _ _ _ _ _ _ c.in_ok-write_some.ensures.same c.loop-before.invariant.run) c.in_ok-next_line.ensures.taken
-
-pub returns-in-TooLong-clause-written : goal.returns-in-TooLong-clause-written
-returns-in-TooLong-clause-written g c = written_on _ _ _ c.loop-before.invariant.written c.in_ok-write_some.ensures.written
-
-pub returns-in-Err-Memory-clause-answered : goal.returns-in-Err-Memory-clause-answered
-returns-in-Err-Memory-clause-answered g c = λ _.
-    has_replies _ _ _ _ _ _ _ _ (runs_told _ _ _ _ _ _ _ _ _ (ap (after_known (g.K.Sink.holds c.write_some.new.out)) c.in-Err-Memory.ensures.same ∙ c.in_ok-write_some.ensures.same) c.loop-before.invariant.run)
-
-pub returns-in-Err-Memory-clause-taken : goal.returns-in-Err-Memory-clause-taken
-returns-in-Err-Memory-clause-taken g c =
-    answers_lines _ _ _ _ _ _ _ _ _ (runs_told _ _ _ _ _ _ _ _ _ (ap (after_known (g.K.Sink.holds c.write_some.new.out)) c.in-Err-Memory.ensures.same ∙ c.in_ok-write_some.ensures.same) c.loop-before.invariant.run) c.in_ok-next_line.ensures.taken
-
-pub returns-in-Err-Memory-clause-written : goal.returns-in-Err-Memory-clause-written
-returns-in-Err-Memory-clause-written g c = written_on _ _ _ c.loop-before.invariant.written c.in_ok-write_some.ensures.written
-
-pub returns-in-Err-Grammar-clause-told : goal.returns-in-Err-Grammar-clause-told
-returns-in-Err-Grammar-clause-told g c =
-    let line = rw c.in-Line.is at c.in_ok-next_line.ensures.got in
-    let stopped = rw c.deref.ensures.value at c.in-Err-Grammar.ensures.stopped in
-    tells_fault _ _ _ _ _ _ c.next_line.new.line.items _ _ _ _
-    (runs_told _ _ _ _ _ _ _ _ _ (ap (after_known (g.K.Sink.holds c.write_some.new.out)) c.in-Err-Grammar.ensures.same ∙ c.in_ok-write_some.ensures.same) c.loop-before.invariant.run) line.0 (omega arith) line.1 (λ S stood. stops_outside _ _ _ (stopped S stood) (cc))
-
-pub returns-in-Err-Grammar-clause-taken : goal.returns-in-Err-Grammar-clause-taken
-returns-in-Err-Grammar-clause-taken g c =
-    answers_lines _ _ _ _ _ _ _ _ _ (runs_told _ _ _ _ _ _ _ _ _ (ap (after_known (g.K.Sink.holds c.write_some.new.out)) c.in-Err-Grammar.ensures.same ∙ c.in_ok-write_some.ensures.same) c.loop-before.invariant.run) c.in_ok-next_line.ensures.taken
-
-pub returns-in-Err-Grammar-clause-written : goal.returns-in-Err-Grammar-clause-written
-returns-in-Err-Grammar-clause-written g c = written_on _ _ _ c.loop-before.invariant.written c.in_ok-write_some.ensures.written
-
-pub loop-before-preserved : goal.loop-before-preserved
-loop-before-preserved g c =
-    let line = rw c.in-Line.is at c.in_ok-next_line.ensures.got in
-    let took = rw c.in-Line.is at c.in_ok-next_line.ensures.took in
-    let taken = rw c.deref.ensures.value at c.in-Ok.ensures.taken in
-    record {
-      asks = c.in-Ok.ensures.asks;
-      run = runs_line _ _ _ _ _ _ _ _ _ _ _ _ _ (runs_told _ _ _ _ _ _ _ _ _ c.in_ok-write_some.ensures.same c.loop-before.invariant.run)
-          (λ S stood. taken S stood (g.K.Sink.holds c.write_some.new.out)) took (omega arith) line.1;
-      few = c.in_ok-next_line.ensures.few c.in-Line.is;
-      written = written_on _ _ _ c.loop-before.invariant.written c.in_ok-write_some.ensures.written;
-      read = omega (arith, c.loop-before.invariant.read, c.next_line.ensures.later);
-      write = omega (arith, c.loop-before.invariant.write, c.write_some.ensures.later);
-    }
-
-pub returns-in_err-write_some-2-clause-front : goal.returns-in_err-write_some-2-clause-front
-returns-in_err-write_some-2-clause-front g c = λ _. flushed_front _ _ _ _ _ _ c.loop-before.invariant.written (has_replies _ _ _ _ _ _ _ _ c.loop-before.invariant.run) c.in_err-write_some-2.ensures.front
-
-pub returns-in_err-write_some-2-clause-taken : goal.returns-in_err-write_some-2-clause-taken
-returns-in_err-write_some-2-clause-taken g c =
-    ended_writing _ _ _ _ _ _ (search rules) (runs_lines _ _ _ _ _ _ _ _ _ c.loop-before.invariant.run (takes_just _ _ _ refl c.loop-before.invariant.few))
+pub returns-in_err-write_some-2-clause-recorded : goal.returns-in_err-write_some-2-clause-recorded
+returns-in_err-write_some-2-clause-recorded g c = λ brands R s is.
+    let v0 = g.D.Disk.view c.args.machine.now.bank.disk in
+    let v = g.D.Disk.view c.loop-before.machine.bank.disk in
+    ran_cut brands R _ v0 v _ _ _ _ _ _ (c.loop-before.invariant.run brands R s) is _ _ (search rules)
 
 pub returns-in_err-write_some-2-clause-written : goal.returns-in_err-write_some-2-clause-written
 returns-in_err-write_some-2-clause-written g c = written_on _ _ _ c.loop-before.invariant.written (written_front _ _ _ c.in_err-write_some-2.ensures.front)
 
-pub returns-in_err-refill-clause-answered : goal.returns-in_err-refill-clause-answered
-returns-in_err-refill-clause-answered g c = λ _. has_replies _ _ _ _ _ _ _ _ (runs_told _ _ _ _ _ _ _ _ _ c.in_ok-write_some-2.ensures.same c.loop-before.invariant.run)
+pub returns-in_err-next_line-clause-ran : goal.returns-in_err-next_line-clause-ran
+returns-in_err-next_line-clause-ran g c = λ brands R s.
+    let run = (runs_told brands R _ _ _ _ _ _ _ _ c.in_ok-write_some.ensures.same (c.loop-before.invariant.run brands R s).run) in
+    ends_reading brands R _ c.in_err-next_line.field-0.0 _ _ _ _ _ c.from_residual-in_err-next_line.ensures.1 (has_replies brands R _ _ _ _ _ _ _ run) (answers_lines brands R _ _ _ _ _ _ _ _ run c.in_err-next_line.ensures.taken)
+    (λ failed. answers_read brands R _ _ _ _ _ _ _ _ run (c.in_err-next_line.ensures.begun (ap Err failed)))
 
-pub returns-in_err-refill-clause-taken : goal.returns-in_err-refill-clause-taken
-returns-in_err-refill-clause-taken g c =
-    let run = runs_told _ _ _ _ _ _ _ _ _ c.in_ok-write_some-2.ensures.same c.loop-before.invariant.run in
+pub returns-in_err-next_line-clause-recorded : goal.returns-in_err-next_line-clause-recorded
+returns-in_err-next_line-clause-recorded g c = λ brands R s is.
+    let v0 = g.D.Disk.view c.args.machine.now.bank.disk in
+    let v = g.D.Disk.view c.loop-before.machine.bank.disk in
+    ran_part brands R _ v0 v _ _ _ _ _ _ (follows_told brands R _ (Left brands R v0 v) _ _ _ _ _ _ _ c.in_ok-write_some.ensures.same (c.loop-before.invariant.run brands R s)) is _ _ _ _ (err_not_ok c.from_residual-in_err-next_line.result c.from_residual-in_err-next_line.ensures.0)
+
+pub returns-in_err-next_line-clause-written : goal.returns-in_err-next_line-clause-written
+returns-in_err-next_line-clause-written g c = written_on _ _ _ c.loop-before.invariant.written c.in_ok-write_some.ensures.written
+
+pub returns-in_err-next_line-clause-none : goal.returns-in_err-next_line-clause-none
+returns-in_err-next_line-clause-none g c = λ failed. absurd (only_reading _ c.in_err-next_line.field-0.0 c.from_residual-in_err-next_line.ensures.1 failed)
+
+pub returns-in-End-clause-ran : goal.returns-in-End-clause-ran
+returns-in-End-clause-ran g c = λ brands R s.
+    let run = (runs_told brands R _ _ _ _ _ _ _ _ c.in_ok-write_some.ensures.same (c.loop-before.invariant.run brands R s).run) in
+    (tells_end brands R _ _ _ _ _ _ _ _ run (rw c.in-End.is at c.in_ok-next_line.ensures.got) c.ended.ensures.told, answers_lines brands R _ _ _ _ _ _ _ _ run c.in_ok-next_line.ensures.taken)
+
+pub returns-in-End-clause-recorded : goal.returns-in-End-clause-recorded
+returns-in-End-clause-recorded g c = λ brands R s is.
+    let v0 = g.D.Disk.view c.args.machine.now.bank.disk in
+    let v = g.D.Disk.view c.loop-before.machine.bank.disk in
+    ran_whole brands R _ v0 v _ _ _ _ _ _ (follows_told brands R _ (Left brands R v0 v) _ _ _ _ _ _ _ c.in_ok-write_some.ensures.same (c.loop-before.invariant.run brands R s)) is _ _ _ _ At_end (at_end _ _ _ (rw c.in-End.is at c.in_ok-next_line.ensures.got))
+
+pub returns-in-End-clause-written : goal.returns-in-End-clause-written
+returns-in-End-clause-written g c = written_on _ _ _ c.loop-before.invariant.written c.in_ok-write_some.ensures.written
+
+pub returns-in-TooLong-clause-ran : goal.returns-in-TooLong-clause-ran
+returns-in-TooLong-clause-ran g c = λ brands R s.
+    let run = (runs_told brands R _ _ _ _ _ _ _ _ c.in_ok-write_some.ensures.same (c.loop-before.invariant.run brands R s).run) in
+    (tells_long brands R _ _ _ _ _ _ _ run (rw c.in-TooLong.is at c.in_ok-next_line.ensures.got), answers_lines brands R _ _ _ _ _ _ _ _ run c.in_ok-next_line.ensures.taken)
+
+pub returns-in-TooLong-clause-recorded : goal.returns-in-TooLong-clause-recorded
+returns-in-TooLong-clause-recorded g c = λ brands R s is.
+    let v0 = g.D.Disk.view c.args.machine.now.bank.disk in
+    let v = g.D.Disk.view c.loop-before.machine.bank.disk in
+    ran_whole brands R _ v0 v _ _ _ _ _ _ (follows_told brands R _ (Left brands R v0 v) _ _ _ _ _ _ _ c.in_ok-write_some.ensures.same (c.loop-before.invariant.run brands R s)) is _ _ _ _ (Past_limit _) (at_long _ _ _ (rw c.in-TooLong.is at c.in_ok-next_line.ensures.got))
+
+pub returns-in-TooLong-clause-written : goal.returns-in-TooLong-clause-written
+returns-in-TooLong-clause-written g c = written_on _ _ _ c.loop-before.invariant.written c.in_ok-write_some.ensures.written
+
+pub returns-in-Err-clause-ran : goal.returns-in-Err-clause-ran
+returns-in-Err-clause-ran g c = λ brands R s.
+    let v = g.D.Disk.view c.loop-before.machine.bank.disk in
+    let w = g.D.Disk.view c.take_line.new.machine.bank.disk in
+    let line = rw c.in-Line.is at c.in_ok-next_line.ensures.got in
+    let stopped = rw c.deref.ensures.value at c.in-Err.ensures.stopped in
+    rw c.ended_by.ensures.ended (ends_stopped brands R _ c.in-Err.stop _ _ _ _ _ _ _ _ _ _ c.next_line.new.line.items _ (c.take_line.new.machine.bank ≡ c.loop-before.machine.bank) v w
+    (runs_told brands R _ _ _ _ _ _ _ _ c.in_ok-write_some.ensures.same (c.loop-before.invariant.run brands R s).run) (written_on _ _ _ c.loop-before.invariant.written c.in_ok-write_some.ensures.written) c.in-Err.ensures.text c.in_ok-next_line.ensures.taken line.0 (omega arith) line.1 stopped)
+
+pub returns-in-Err-clause-recorded : goal.returns-in-Err-clause-recorded
+returns-in-Err-clause-recorded g c = λ brands R s is.
+    let v0 = g.D.Disk.view c.args.machine.now.bank.disk in
+    let v = g.D.Disk.view c.loop-before.machine.bank.disk in
+    let w = g.D.Disk.view c.take_line.new.machine.bank.disk in
+    let line = rw c.in-Line.is at c.in_ok-next_line.ensures.got in
+    let took = rw c.in-Line.is at c.in_ok-next_line.ensures.took in
+    let stopped = rw c.deref.ensures.value at c.in-Err.ensures.stopped in
+    rw c.ended_by.ensures.ended (ran_stopped brands R (λ S. StandsFor S c.loop-before.machine) v0 v w c.in-Err.stop _ _ _ _ _ _ _ _ _ _ c.next_line.new.line.items _ (c.take_line.new.machine.bank ≡ c.loop-before.machine.bank)
+    (follows_told brands R _ (Left brands R v0 v) _ _ _ _ _ _ _ c.in_ok-write_some.ensures.same (c.loop-before.invariant.run brands R s)) is c.in-Err.ensures.text took line.0 (omega arith) line.1 stopped
+    (λ e P x. subst (λ (b : Account g.row.D.Denot). P (g.D.Disk.view b.disk)) (sym e) x))
+
+pub returns-in-Err-clause-written : goal.returns-in-Err-clause-written
+returns-in-Err-clause-written g c = written_on _ _ _ (written_on _ _ _ c.loop-before.invariant.written c.in_ok-write_some.ensures.written) c.take_line.ensures.written
+
+pub returns-in-Err-clause-none : goal.returns-in-Err-clause-none
+returns-in-Err-clause-none g c = λ failed. none_stopped c.in-Err.stop (c.loop-before.before + 1) _ _ _ _ c.in-Err.ensures.text (rw c.ended_by.ensures.ended at failed)
+
+pub returns-in-Err-clause-read : goal.returns-in-Err-clause-read
+returns-in-Err-clause-read g c = λ failed. absurd (never_reads c.in-Err.stop (c.loop-before.before + 1) _ _ _ _ c.in-Err.ensures.text (rw c.ended_by.ensures.ended at failed))
+
+pub returns-in-Err-clause-write : goal.returns-in-Err-clause-write
+returns-in-Err-clause-write g c = λ failed.
+    let rose = c.in-Err.ensures.write (ap Err (stopped_by c.in-Err.stop (c.loop-before.before + 1) Write (rw c.ended_by.ensures.ended at failed))) in
+    omega (arith, rose, c.loop-before.invariant.write, c.write_some.ensures.later)
+
+pub returns-in-Err-clause-disk : goal.returns-in-Err-clause-disk
+returns-in-Err-clause-disk g c = λ failed.
+    let rose = c.in-Err.ensures.disk (ap Err (stopped_by c.in-Err.stop (c.loop-before.before + 1) Disk (rw c.ended_by.ensures.ended at failed))) in
+    omega (arith, rose, c.loop-before.invariant.passes.faults)
+
+pub loop-before-preserved : goal.loop-before-preserved
+loop-before-preserved g c =
+    let v0 = g.D.Disk.view c.args.machine.now.bank.disk in
+    let v = g.D.Disk.view c.loop-before.machine.bank.disk in
+    let w = g.D.Disk.view c.take_line.new.machine.bank.disk in
+    let line = rw c.in-Line.is at c.in_ok-next_line.ensures.got in
+    let took = rw c.in-Line.is at c.in_ok-next_line.ensures.took in
+    let taken = rw c.deref.ensures.value at c.in-Ok.ensures.taken in
+    record {
+      run = λ brands R s. follows_line brands R (c.take_line.new.machine.bank ≡ c.loop-before.machine.bank) (λ S. StandsFor S c.loop-before.machine) (λ S. StandsFor S c.take_line.new.machine) (Left brands R v0 v) (Left brands R v0 w) v w _ _ _ _ _ _ _ _ _ _
+          (follows_told brands R _ (Left brands R v0 v) _ _ _ _ _ _ _ c.in_ok-write_some.ensures.same (c.loop-before.invariant.run brands R s)) taken took (omega arith) line.1
+          (λ e h k is. subst (λ (b : Account g.row.D.Denot). HasKept brands R h v0 (g.D.Disk.view b.disk)) (sym e) (k is))
+          (λ S e h reached goes k is. keeps_step brands R h S (entry_in S e) reached v0 v w goes (k is));
+      asks = c.in-Ok.ensures.asks;
+      ready = c.in-Ok.ensures.ready;
+      few = c.in_ok-next_line.ensures.few c.in-Line.is;
+      written = written_on _ _ _ (written_on _ _ _ c.loop-before.invariant.written c.in_ok-write_some.ensures.written) c.take_line.ensures.written;
+      read = omega (arith, c.loop-before.invariant.read, c.next_line.ensures.later);
+      write = omega (arith, c.loop-before.invariant.write, c.write_some.ensures.later, c.take_line.ensures.later);
+      passes = passes_on v0 v w c.loop-before.invariant.passes c.take_line.ensures.passes;
+    }
+
+pub returns-in_err-refill-clause-ran : goal.returns-in_err-refill-clause-ran
+returns-in_err-refill-clause-ran g c = λ brands R s.
+    let run = (runs_told brands R _ _ _ _ _ _ _ _ c.in_ok-write_some-2.ensures.same (c.loop-before.invariant.run brands R s).run) in
     let begins = takes_none _ _ c.in_err-refill.ensures.kept in
-    ended_reading _ _ c.in_err-refill.field-0.0 _ _ _ _ c.from_residual-in_err-refill.ensures.1 (answers_lines _ _ _ _ _ _ _ _ _ run begins.0) (λ _. answers_read _ _ _ _ _ _ _ _ _ run begins)
+    ends_reading brands R _ c.in_err-refill.field-0.0 _ _ _ _ _ c.from_residual-in_err-refill.ensures.1 (has_replies brands R _ _ _ _ _ _ _ run) (answers_lines brands R _ _ _ _ _ _ _ _ run begins.0) (λ _. answers_read brands R _ _ _ _ _ _ _ _ run begins)
+
+pub returns-in_err-refill-clause-recorded : goal.returns-in_err-refill-clause-recorded
+returns-in_err-refill-clause-recorded g c = λ brands R s is.
+    let v0 = g.D.Disk.view c.args.machine.now.bank.disk in
+    let v = g.D.Disk.view c.loop-before.machine.bank.disk in
+    ran_part brands R _ v0 v _ _ _ _ _ _ (follows_told brands R _ (Left brands R v0 v) _ _ _ _ _ _ _ c.in_ok-write_some-2.ensures.same (c.loop-before.invariant.run brands R s)) is _ _ _ _ (err_not_ok c.from_residual-in_err-refill.result c.from_residual-in_err-refill.ensures.0)
 
 pub returns-in_err-refill-clause-written : goal.returns-in_err-refill-clause-written
 returns-in_err-refill-clause-written g c = written_on _ _ _ c.loop-before.invariant.written c.in_ok-write_some-2.ensures.written
 
-pub returns-then-branch-clause-told : goal.returns-then-branch-clause-told
-returns-then-branch-clause-told g c =
-    tells_last _ _ _ _ _ _ _ _ _ _ (runs_told _ _ _ _ _ _ _ _ _ c.in_ok-write_some-2.ensures.same c.loop-before.invariant.run)
-    (omega (arith, c.loop-before-test.false, c.loop-before.auto.before-end)) c.in_ok-refill.ensures.bytes (c.in_ok-refill.ensures.more c.if-branch.true)
+pub returns-in_err-refill-clause-none : goal.returns-in_err-refill-clause-none
+returns-in_err-refill-clause-none g c = λ failed. absurd (only_reading _ c.in_err-refill.field-0.0 c.from_residual-in_err-refill.ensures.1 failed)
 
-pub returns-then-branch-clause-taken : goal.returns-then-branch-clause-taken
-returns-then-branch-clause-taken g c = answers_lines _ _ _ _ _ _ _ _ _ (runs_told _ _ _ _ _ _ _ _ _ c.in_ok-write_some-2.ensures.same c.loop-before.invariant.run) (takes_just _ _ _ c.in_ok-refill.ensures.bytes c.in_ok-refill.ensures.few)
+pub returns-then-branch-clause-ran : goal.returns-then-branch-clause-ran
+returns-then-branch-clause-ran g c = λ brands R s.
+    let run = (runs_told brands R _ _ _ _ _ _ _ _ c.in_ok-write_some-2.ensures.same (c.loop-before.invariant.run brands R s).run) in (
+      tells_last brands R _ _ _ _ _ _ _ _ _ run (omega (arith, c.loop-before-test.false, c.loop-before.auto.before-end)) c.in_ok-refill.ensures.bytes (c.in_ok-refill.ensures.more c.if-branch.true),
+      answers_lines brands R _ _ _ _ _ _ _ _ run (takes_just _ _ _ c.in_ok-refill.ensures.bytes c.in_ok-refill.ensures.few),
+    )
+
+pub returns-then-branch-clause-recorded : goal.returns-then-branch-clause-recorded
+returns-then-branch-clause-recorded g c = λ brands R s is.
+    let v0 = g.D.Disk.view c.args.machine.now.bank.disk in
+    let v = g.D.Disk.view c.loop-before.machine.bank.disk in
+    ran_whole brands R _ v0 v _ _ _ _ _ _ (follows_told brands R _ (Left brands R v0 v) _ _ _ _ _ _ _ c.in_ok-write_some-2.ensures.same (c.loop-before.invariant.run brands R s)) is _ _ _ _ (Past_limit 200001)
+    (last_long _ _ _ _ _ (omega (arith, c.loop-before-test.false, c.loop-before.auto.before-end)) c.in_ok-refill.ensures.bytes (c.in_ok-refill.ensures.more c.if-branch.true))
 
 pub returns-then-branch-clause-written : goal.returns-then-branch-clause-written
 returns-then-branch-clause-written g c = written_on _ _ _ c.loop-before.invariant.written c.in_ok-write_some-2.ensures.written
 
-pub returns-clause-told : goal.returns-clause-told
-returns-clause-told g c =
+pub returns-clause-ran : goal.returns-clause-ran
+returns-clause-ran g c = λ brands R s.
+    let run = (runs_told brands R _ _ _ _ _ _ _ _ c.in_ok-write_some-2.ensures.same (c.loop-before.invariant.run brands R s).run) in
     let end = c.in_ok-refill.ensures.end c.if-branch.false in
-    tells_last_end _ _ _ _ _ _ _ _ _ _ _ (runs_told _ _ _ _ _ _ _ _ _ c.in_ok-write_some-2.ensures.same c.loop-before.invariant.run) c.in_ok-refill.ensures.bytes end.0 end.1 c.ended-2.ensures
+    (tells_last_end brands R _ _ _ _ _ _ _ _ _ _ run c.in_ok-refill.ensures.bytes end.0 end.1 c.ended-2.ensures.told, answers_lines brands R _ _ _ _ _ _ _ _ run (takes_just _ _ _ c.in_ok-refill.ensures.bytes c.in_ok-refill.ensures.few))
 
-pub returns-clause-taken : goal.returns-clause-taken
-returns-clause-taken g c = answers_lines _ _ _ _ _ _ _ _ _ (runs_told _ _ _ _ _ _ _ _ _ c.in_ok-write_some-2.ensures.same c.loop-before.invariant.run) (takes_just _ _ _ c.in_ok-refill.ensures.bytes c.in_ok-refill.ensures.few)
+pub returns-clause-recorded : goal.returns-clause-recorded
+returns-clause-recorded g c = λ brands R s is.
+    let v0 = g.D.Disk.view c.args.machine.now.bank.disk in
+    let v = g.D.Disk.view c.loop-before.machine.bank.disk in
+    let end = c.in_ok-refill.ensures.end c.if-branch.false in
+    ran_whole brands R _ v0 v _ _ _ _ _ _ (follows_told brands R _ (Left brands R v0 v) _ _ _ _ _ _ _ c.in_ok-write_some-2.ensures.same (c.loop-before.invariant.run brands R s)) is _ _ _ _ At_end (last_end _ _ _ _ _ c.in_ok-refill.ensures.bytes end.0 end.1)
 
 pub returns-clause-written : goal.returns-clause-written
 returns-clause-written g c = written_on _ _ _ c.loop-before.invariant.written c.in_ok-write_some-2.ensures.written

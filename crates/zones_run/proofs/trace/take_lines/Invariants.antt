@@ -1,21 +1,31 @@
-use Rattle.std.proofs.Common.{◌+◌, ◌≤◌, length}
+use Rattle.std.proofs.Common.{◌+◌, ◌≤◌, List, length}
 use Rattle.zn_io.specs.Streams.{after_known, before_known}
-use Rattle.zone_machine.specs.Code.Cells.{Stands}
-use Rattle.zone_machine.specs.Code.Decided.{AsksBrands}
+use Rattle.brand_hooks.specs.Brands.{Tabled}
+use Rattle.commit_journal.specs.declared.records.Commit.{Commit}
+use Rattle.zone_machine.specs.Code.Decided.{AsksBrands, MayGoOn}
+use Rattle.zone_machine.specs.Code.Records.{Passes}
+use Rattle.zone_machine.specs.Machine.{opening}
+use Rattle.zones_run.specs.Answering.{StandsFor}
 use Rattle.zones_run.specs.Tracing.{HasWritten}
-use Rattle.zones_run.proofs.TraceRuns.{RunsOn}
+use Rattle.zones_run.proofs.Keeping.{Left}
+use Rattle.zones_run.proofs.TraceRuns.{Follows}
 use Rattle.zones_run.proofs.trace.take_lines.Given as goal
 
--- the machine, what standard output has taken and what waits, and the bytes to come make the run of the whole input
+-- the machine, what standard output has taken and what waits, and the bytes to come make the run of the whole input, and the
+-- disk keeps what its entries have recorded
 abbrev pub invariant-loop-before : goal.invariant-loop-before
 invariant-loop-before g l =
     let left = g.S.Source.left in
     let holds = g.K.Sink.holds in
+    let view = g.D.Disk.view in
     record {
-      run : RunsOn l.fn.machine.parts.shared.brands (λ S. Stands S l.machine.parts) l.refused (l.before + 1) (holds l.fn.out) (after_known (holds l.out) l.waiting.items) (before_known l.ahead (left l.source)) (left l.fn.source);
+      run : (brands : List Tabled) (R : List Commit) → StandsFor (opening brands R) l.fn.machine
+          → Follows brands R (λ S. StandsFor S l.machine) (Left brands R (view l.fn.machine.bank.disk) (view l.machine.bank.disk)) l.refused (l.before + 1) (holds l.fn.out) (after_known (holds l.out) l.waiting.items) (before_known l.ahead (left l.source)) (left l.fn.source);
       asks : AsksBrands g.F.Fn l.machine;
+      ready : MayGoOn view l.machine;
       few : length l.ahead ≤ 4096;
       written : HasWritten (holds l.fn.out) (holds l.out);
       read : g.S.Source.faults l.fn.source ≤ g.S.Source.faults l.source;
       write : g.K.Sink.faults l.fn.out ≤ g.K.Sink.faults l.out;
+      passes : Passes (view l.fn.machine.bank.disk) (view l.machine.bank.disk);
     }

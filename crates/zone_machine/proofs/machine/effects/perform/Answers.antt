@@ -1,4 +1,4 @@
-use Rattle.std.proofs.Common.{None, ap, is_some, refl, subst, sym, ◌∙◌}
+use Rattle.std.proofs.Common.{◌≡◌, None, ap, is_some, refl, subst, sym, ◌∙◌}
 use Rattle.std.specs.Prelude.{bytes_eq, if◌then◌else◌}
 use Rattle.zoneadmd_steps.specs.declared.desks.Desk.{Desk}
 use Rattle.zone_machine.specs.Code.Works.{objects_of, rest_of}
@@ -10,6 +10,8 @@ use Rattle.zone_machine.specs.Code.Cells.{cell_world, is_up_in, outside_in}
 use Rattle.zone_machine.specs.Code.Needs.{pools_in}
 use Rattle.zone_machine.specs.State.Decisions.{act_of}
 use Rattle.zone_machine.specs.Code.Rooms.{HasRoomOf}
+use Rattle.commit_journal.specs.Zones.{rows_of}
+use Rattle.zone_machine.specs.Code.Records.{rows_with, used_with}
 use Rattle.zone_machine.proofs.machine.effects.perform.Goals as goal
 
 pub carry_out-reply-requires-clause-free : goal.carry_out-reply-requires-clause-free
@@ -42,3 +44,15 @@ returns-clause-does c = λ named opens.
     c.carry_out-reply.ensures.ups refl
     (λ up y. c.mark.ensures (up ∙ sym (c.is_some-was.ensures ∙ ap is_some c.active.ensures)) y
     ∙ ap (λ b. if bytes_eq z y then b else is_up_in c.carry_out-reply.new.shared y) (c.is_some-is.ensures ∙ ap is_some (c.active-2.ensures ∙ sym (ap (λ (d : Desk). d.active) c.carry_out-reply.ensures.desk))))
+
+pub returns-clause-rows : goal.returns-clause-rows
+returns-clause-rows c =
+    let z = c.args.zone.now in
+    let works = c.settle-work.ensures.works None (cell_world (outside_in z c.args.shared.now) c.args.cell.now) refl in
+    subst (λ o. rows_of c.carry_out-reply.new.shared.rows.entries ≡ rows_with z o (rows_of c.args.shared.now.rows.entries)) works.came (c.carry_out-reply.ensures.rows z (c.settle-work.ensures.named z c.requires.named))
+
+pub returns-clause-used : goal.returns-clause-used
+returns-clause-used c =
+    let z = c.args.zone.now in
+    let works = c.settle-work.ensures.works None (cell_world (outside_in z c.args.shared.now) c.args.cell.now) refl in
+    subst (λ o. c.carry_out-reply.new.shared.used ≡ used_with z o c.args.shared.now.used) works.came (c.carry_out-reply.ensures.used z (c.settle-work.ensures.named z c.requires.named))

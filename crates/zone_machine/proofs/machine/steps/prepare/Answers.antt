@@ -1,4 +1,4 @@
-use Rattle.std.proofs.Common.{◌∙◌, ap, subst}
+use Rattle.std.proofs.Common.{◌∙◌, ap, subst, sym}
 use Rattle.std.specs.Prelude.{nat_eq}
 use Rattle.zone_pools.specs.Owners.{owner}
 use Rattle.zoneadmd_steps.proofs.Results.{on_err, on_ok_both}
@@ -6,6 +6,7 @@ use Rattle.zoneadmd_steps.specs.Arrivals.{in_kernel}
 use Rattle.zone_machine.proofs.Acting.{alike_both, alike_does, on_ok_always, same_sessions}
 use Rattle.zone_machine.proofs.Rooms_laws.{room_came}
 use Rattle.zone_machine.specs.Code.Cells.{Does, is_up_in, outside_in}
+use Rattle.zone_machine.specs.Code.Rooms.{Alike}
 use Rattle.zone_machine.specs.State.Worlds.{World}
 use Rattle.zone_machine.specs.declared.machine.cell.Cell.{Cell}
 use Rattle.zone_machine.specs.Machine.Common.{Common, came_common}
@@ -47,3 +48,17 @@ pub returns-clause-active : goal.returns-clause-active
 returns-clause-active c =
     on_ok_always c.come.result _
     (ap (λ (c : Cell). c.desk.active) c.come.ensures.cell ∙ ap (λ (w : World). w.desk.active) (c.in_ok-make_room.ensures.alike.world (outside_in c.args.zone.now c.args.shared.now)))
+
+pub returns-clause-rows : goal.returns-clause-rows
+returns-clause-rows c = on_ok_always c.come.result _ (ap (λ (s : Shared). s.rows.entries) c.come.ensures.shared ∙ c.in_ok-make_room.ensures.alike.rows)
+
+pub returns-clause-used : goal.returns-clause-used
+returns-clause-used c = on_ok_always c.come.result _ (ap (λ (s : Shared). s.used) c.come.ensures.shared ∙ ap (λ (k : Common). k.used) c.in_ok-make_room.ensures.alike.common)
+
+pub returns-clause-alike : goal.returns-clause-alike
+returns-clause-alike c =
+    on_ok_always c.come.result _
+    (λ none.
+    let same = c.come.ensures.none (ap (λ (d : Decision). in_kernel (act_of d c.args.grant).came) c.in_ok-make_room.ensures.same ∙ none) in
+    subst (λ (d : Cell). Alike c.args.cell.now c.args.shared.now d c.come.new.shared) (sym same.0)
+    (subst (λ (t : Shared). Alike c.args.cell.now c.args.shared.now c.make_room.new.cell t) (sym same.1) c.in_ok-make_room.ensures.alike))

@@ -1,4 +1,4 @@
-use Rattle.std.proofs.Common.{ap, refl, ◌∙◌}
+use Rattle.std.proofs.Common.{ap, refl, rules, ◌∙◌}
 use Rattle.zone_machine.proofs.Stepping.{IsMisfitUnder-whole, IsStep-whole, IsTaken-whole, left_so}
 use Rattle.zone_machine.specs.State.Decisions.{head_of, says}
 use Rattle.zone_machine.specs.declared.events.Event.TheVariants.{System}
@@ -6,7 +6,7 @@ use Rattle.zone_machine.proofs.machine.parts.Parts.answer_declaration.Goals as g
 
 pub returns-in_err-grant-clause-fault : goal.returns-in_err-grant-clause-fault
 returns-in_err-grant-clause-fault c =
-    left_so c.from_residual.result c.args.stated c.args.self.now (System c.args.what.now) (λ bad. IsMisfitUnder-whole c.args.self.now (System c.args.what.now) refl c.args.stated c.in_err-grant.ensures.misfit.1)
+    left_so c.from_residual.result c.args.stated c.args.self.now (System c.args.what.now) (search rules) (λ bad. IsMisfitUnder-whole c.args.self.now (System c.args.what.now) refl c.args.stated c.in_err-grant.ensures.misfit.1)
 
 pub returns-clause-ok : goal.returns-clause-ok
 returns-clause-ok c = λ S h. record {

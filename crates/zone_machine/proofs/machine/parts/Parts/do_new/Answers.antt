@@ -1,6 +1,7 @@
 use Rattle.std.proofs.Common.{ap, bytes_eq}
 use Rattle.std.specs.Map.{lookup}
 use Rattle.std.specs.HashMap.{get_by}
+use Rattle.zone_machine.proofs.Banking.{parts-goes, parts-keeps}
 use Rattle.zone_machine.proofs.Stepping.{IsStep-cell, Keeps-roomy, same_none}
 use Rattle.zone_machine.specs.Code.Decided.{entry_of}
 use Rattle.zone_machine.specs.declared.events.Subject.TheVariants.{Zone}
@@ -8,9 +9,24 @@ use Rattle.zone_machine.specs.declared.machine.parts.Parts.{Parts}
 use Rattle.zone_machine.proofs.machine.parts.Parts.do_new.Goals as goal
 
 pub returns-clause-step : goal.returns-clause-step
-returns-clause-step c =
+returns-clause-step g c =
     let m = c.args.self.now in let z = c.args.zone.now in
     let u : Parts = record { cells = c.keep.new.cells; shared = c.perform_case.new.shared } in
     IsStep-cell m u z c.args.event.now c.args.cell.value c.perform_case.new.cell (same_none m z c.args.cell.value c.requires.none c.requires.nothing)
     (Keeps-roomy m u z c.in_ok-key.key c.perform_case.new.cell (λ y. get_by (bytes_eq y) c.room_for_cell.new.cells) c.in_ok-key.ensures.key (λ y. ap (lookup (bytes_eq y)) c.in_ok-key.ensures.same) c.keep.ensures)
     c.args.grant (entry_of (Zone z) c.args.event.now c.args.grant c.in_ok-reply.reply) c.requires.of (rw c.into_inner-cell.ensures at c.in_ok-reply.ensures.step)
+
+pub returns-in_err-reply-clause-goes : goal.returns-in_err-reply-clause-goes
+returns-in_err-reply-clause-goes g c =
+    let m = c.args.self.now in let z = c.args.zone.now in
+    parts-goes m z c.args.cell.value c.args.event.now c.args.case c.args.grant c.requires.case c.requires.numbered c.requires.of (same_none m z c.args.cell.value c.requires.none c.requires.nothing) _ _ _ c.perform_case.ensures.writes
+
+pub returns-clause-goes : goal.returns-clause-goes
+returns-clause-goes g c =
+    let m = c.args.self.now in let z = c.args.zone.now in
+    parts-goes m z c.args.cell.value c.args.event.now c.args.case c.args.grant c.requires.case c.requires.numbered c.requires.of (same_none m z c.args.cell.value c.requires.none c.requires.nothing) _ _ _ c.perform_case.ensures.writes
+
+pub returns-clause-bodies : goal.returns-clause-bodies
+returns-clause-bodies g c =
+    let m = c.args.self.now in let z = c.args.zone.now in
+    parts-keeps m z c.args.cell.value c.args.event.now c.args.case c.args.grant c.requires.case c.requires.numbered c.requires.of (same_none m z c.args.cell.value c.requires.none c.requires.nothing) _ _ c.in_ok-reply.ensures.records

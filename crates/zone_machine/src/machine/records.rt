@@ -1,0 +1,139 @@
+//! The record that a case stores: it takes its number from the grant, and is written to the disk before anything is changed.
+ghost use Rattle.std.specs.Prelude.{◌≡◌, ◌⊎◌, ◌≤◌, ℕ, List, IfErr, IfOk, IsErrOf, IsTrue, OnOk, OnErr, None, false, is_ok, is_some, option_map, true};
+ghost use Rattle.zn_io.specs.Streams.{Rose};
+ghost use Rattle.zone_disk.specs.Image.{Stands};
+ghost use Rattle.commit_journal.specs.Store.{HasZones};
+ghost use Rattle.commit_journal.specs.Zones.{rows_of};
+ghost use Rattle.zn_base.specs.Names.{Name};
+ghost use Rattle.zone_machine.specs.Code.Cases.{IsCaseOf, IsNamedCase, IsNumbered, decision_of};
+ghost use Rattle.zone_machine.specs.Code.Needs.{pools_in};
+ghost use Rattle.zone_machine.specs.Code.Records.{HasNumber, IsReady, MayStand, Writes, bodies_with, rows_with, stored_by, stored_if_any, stored_row};
+ghost use Rattle.zone_machine.specs.Code.Rooms.{IsFreeOf};
+ghost use Rattle.zone_machine.specs.Code.Works.{objects_of};
+ghost use Rattle.zone_pools.specs.Decisions.{number_in};
+ghost use Rattle.zone_machine.specs.declared.cases.Case.TheVariants as cases;
+ghost use Rattle.zone_pools.specs.declared.grant.Grant as grant_types;
+ghost use Rattle.zoneadmd_steps.specs.declared.desks.Desk as desk_types;
+
+use crate::cases::Case;
+use crate::faults::StepFault;
+use crate::machine::shared::Shared;
+use commit_journal::{Row, StoreFault, append_record, uuid_of};
+use std::alloc::Global;
+use zn_base::ZoneName;
+use zn_io::Disk;
+use zone_disk::Bank;
+use zone_pools::{Grant, number_in};
+use zoneadmd_steps::{Came, JobCase, TurnCase};
+
+/// The record of a case takes its number from the grant, if it takes one: its revision, and of a new zone the UUID.
+pub(crate) fn number(case: &mut Case, grant: Grant)
+    requires { IsNumbered case.old grant }
+    ensures decision { (d : desk_types.Desk) → decision_of d case.new ≡ decision_of d case.old }
+    ensures of { (d : desk_types.Desk) → IsCaseOf d case.old → IsCaseOf d case.new }
+    ensures named { (z : Name) → IsNamedCase z case.old → IsNamedCase z case.new }
+    ensures objects { objects_of case.new ≡ objects_of case.old }
+    ensures numbered { HasNumber case.new grant }
+{
+    let Ok(number) = number_in(grant) else {
+        return;
+    };
+    match case {
+        Case::Make(row, owner) => {
+            row.set_uuid(uuid_of(owner, number));
+            row.set_revision(number);
+        }
+        Case::Turn(TurnCase::GoOn(JobCase::Ask(Came::Moved(row, _, _), _))) => {
+            row.set_revision(number);
+        }
+        _ => {}
+    }
+}
+
+// The row that a turn stores, if it is granted.
+fn turn_row(case: &TurnCase) -> Option<&Row>
+    ensures { (g : grant_types.Grant) → stored_by (cases.Turn case.now) g ≡ stored_if_any (number_in g) (option_map (λ row. row.now) result) }
+{
+    match case {
+        TurnCase::GoOn(JobCase::Ask(Came::Record(row, _), _)) => Some(row),
+        TurnCase::GoOn(JobCase::Ask(Came::Moved(row, _, _), _)) => Some(row),
+        _ => None,
+    }
+}
+
+// The row that a case stores, if it is granted.
+fn row_of(case: &Case) -> Option<&Row>
+    ensures { (g : grant_types.Grant) → stored_by case.now g ≡ stored_if_any (number_in g) (option_map (λ row. row.now) result) }
+{
+    match case {
+        Case::Make(row, _) => Some(row),
+        Case::Turn(case) => turn_row(case),
+        Case::Says(_) | Case::Tells(_) | Case::Change(_) | Case::Fork(_) | Case::Put(_, _) => None,
+    }
+}
+
+/// Whether a case stores a record under a grant.
+pub(crate) fn stores(case: &Case, grant: Grant) -> bool
+    ensures { result ≡ is_some (stored_by case.now grant) }
+{
+    number_in(grant).is_ok() && row_of(case).is_some()
+}
+
+// A row is written to the disk. All memory for that is taken before the disk is written.
+fn write_row<D: Disk>(
+    alloc: Global,
+    bank: &mut Bank<D>,
+    shared: &Shared,
+    zone: &ZoneName,
+    row: &Row,
+) -> Result<(), StepFault>
+    requires ready { IsReady (D.view bank.old.disk) bank.old shared.now }
+    requires place { MayStand zone.now (stored_row row.now) (rows_of shared.now.rows.entries) }
+    requires room { IsFreeOf zone.now (stored_row row.now) (pools_in shared.now) }
+    ensures writes { Writes zone.now (stored_row row.now) bank.old.records (rows_of shared.now.rows.entries) (D.view bank.old.disk) (D.view bank.new.disk) }
+    ensures records { OnOk result (bank.new.records ≡ bodies_with zone.now (stored_row row.now) bank.old.records) }
+    ensures sound { OnOk result (bank.new.sound ≡ true) }
+    ensures zones { OnOk result (HasZones bank.new.records (rows_with zone.now (stored_row row.now) (rows_of shared.now.rows.entries))) }
+    ensures settled { OnOk result ((D.view bank.new.disk).Keeps → (image : List ℕ) → (D.view bank.new.disk).Now image → Stands image bank.new.records) }
+    ensures memory { IsErrOf result StepFault.Memory → bank.new ≡ bank.old }
+    ensures fault { IsErrOf result StepFault.DiskFault → Rose (D.view bank.old.disk).faults (D.view bank.new.disk).faults }
+    ensures unsound { IsErrOf result StepFault.DiskFault → bank.new.sound ≡ false }
+    ensures only { IfErr result (λ e. (e ≡ StepFault.Memory) ⊎ (e ≡ StepFault.DiskFault)) }
+{
+    // Its clauses count the bytes in use.
+    let _used = bank.used();
+    match append_record(bank, alloc, zone, Some(row)) {
+        Ok(()) => Ok(()),
+        Err(StoreFault::Memory) => Err(StepFault::Memory),
+        Err(_) => Err(StepFault::DiskFault),
+    }
+}
+
+/// What a case stores is written to the disk, where it is granted. All memory for that is taken before the disk is written.
+pub(crate) fn write<D: Disk>(
+    alloc: Global,
+    bank: &mut Bank<D>,
+    shared: &Shared,
+    zone: &ZoneName,
+    case: &Case,
+    grant: Grant,
+) -> Result<(), StepFault>
+    requires ready { IsReady (D.view bank.old.disk) bank.old shared.now }
+    requires place { MayStand zone.now (stored_by case.now grant) (rows_of shared.now.rows.entries) }
+    requires room { IsFreeOf zone.now (stored_by case.now grant) (pools_in shared.now) }
+    ensures writes { Writes zone.now (stored_by case.now grant) bank.old.records (rows_of shared.now.rows.entries) (D.view bank.old.disk) (D.view bank.new.disk) }
+    ensures records { OnOk result (bank.new.records ≡ bodies_with zone.now (stored_by case.now grant) bank.old.records) }
+    ensures sound { OnOk result (bank.new.sound ≡ true) }
+    ensures zones { OnOk result (HasZones bank.new.records (rows_with zone.now (stored_by case.now grant) (rows_of shared.now.rows.entries))) }
+    ensures settled { OnOk result ((D.view bank.new.disk).Keeps → (image : List ℕ) → (D.view bank.new.disk).Now image → Stands image bank.new.records) }
+    ensures memory { IsErrOf result StepFault.Memory → bank.new ≡ bank.old }
+    ensures fault { IsErrOf result StepFault.DiskFault → Rose (D.view bank.old.disk).faults (D.view bank.new.disk).faults }
+    ensures unsound { IsErrOf result StepFault.DiskFault → bank.new.sound ≡ false }
+    ensures none { stored_by case.now grant ≡ None → is_ok result ≡ true }
+    ensures only { IfErr result (λ e. (e ≡ StepFault.Memory) ⊎ (e ≡ StepFault.DiskFault)) }
+{
+    match (number_in(grant), row_of(case)) {
+        (Ok(_), Some(row)) => write_row(alloc, bank, shared, zone, row),
+        _ => Ok(()),
+    }
+}

@@ -1,0 +1,87 @@
+-- Why a line ended a trace, by what its call answered.
+use Rattle.std.proofs.Common.{◌≡◌, ◌≤◌, ◌⊎◌, inl, inr, ℕ, List, [], ◌∷◌, length, Option, Some, Result, Ok, Err, refl, ap, subst}
+use Rattle.std.specs.Option.{option_map}
+use Rattle.std.specs.Prelude.{IsErrAnd, IsErrOf}
+use Rattle.zn_io.specs.Disk.{View}
+use Rattle.zn_io.specs.Streams.{after_known}
+use Rattle.zn_base.specs.Lines.{lines_of}
+use Rattle.brand_hooks.specs.Brands.{Tabled}
+use Rattle.commit_journal.specs.declared.records.Commit.{Commit}
+use Rattle.trace_text.specs.Lines.{event_of}
+use Rattle.zone_machine.specs.Machine.Images.{IsStoreOf}
+use Rattle.zone_machine.specs.State.{State}
+use Rattle.zones_run.specs.Answering.{LeavesText, Stops, StopsText, ended_by}
+use Rattle.zones_run.specs.Reading.{TakesLine}
+use Rattle.zones_run.specs.Recording.{RanAs}
+use Rattle.zones_run.specs.Run.{run_fault_of}
+use Rattle.zones_run.specs.Taking.{TakesPiece}
+use Rattle.zones_run.specs.Tracing.{At_fault, EndsAs, HasWritten}
+use Rattle.zones_run.specs.declared.fault.RunFault.{RunFault}
+use Rattle.zones_run.specs.declared.fault.RunFault.TheVariants.{Disk, Memory, Read, Write}
+use Rattle.zones_run.specs.declared.lines.ReadFault.{ReadFault}
+use Rattle.zones_run.specs.declared.lines.ReadFault.TheVariants.{Failed, Memory as No_memory}
+use Rattle.zones_run.specs.declared.outcome.Complaint.{Complaint}
+use Rattle.zones_run.specs.declared.outcome.Complaint.TheVariants.{Grammar as Bad_line}
+use Rattle.zones_run.specs.declared.trace.Stop.{Stop}
+use Rattle.zones_run.specs.declared.trace.Stop.TheVariants.{Fault, Grammar}
+use Rattle.zones_run.proofs.Keeping.{Left}
+use Rattle.zones_run.proofs.TraceEnds.{answers_lines, at_fault, ends_failed, fails_with, tells_fault}
+use Rattle.zones_run.proofs.TraceRecords.{ran_failed, ran_left, ran_same, ran_whole, ran_written}
+use Rattle.zones_run.proofs.TraceRuns.{Follows, RunsOn, runs_told}
+
+-- nothing waits where standard output or the disk failed
+pub none_left : (fault : RunFault) (holds now : Option (List ℕ)) (waiting left : List ℕ) → LeavesText fault holds now waiting left → IsErrOf (fails_with fault) Write ⊎ IsErrOf (fails_with fault) Disk → left ≡ []
+none_left Write holds now waiting left text failed = text.1
+none_left Disk holds now waiting left text failed = text.1
+none_left Read holds now waiting left text failed = absurd text
+none_left Memory holds now waiting left text (inl failed) = absurd (cc)
+none_left Memory holds now waiting left text (inr failed) = absurd (cc)
+
+pub none_stopped : (stop : Stop) (number : ℕ) (holds now : Option (List ℕ)) (waiting left : List ℕ) → StopsText stop holds now waiting left → IsErrOf (ended_by stop number) Write ⊎ IsErrOf (ended_by stop number) Disk → left ≡ []
+none_stopped (Fault fault) number holds now waiting left text failed = none_left fault holds now waiting left text failed
+none_stopped (Grammar fault) number holds now waiting left text (inl failed) = absurd (cc)
+none_stopped (Grammar fault) number holds now waiting left text (inr failed) = absurd (cc)
+
+-- a fault that ends the trace came in the line
+pub stopped_by : (stop : Stop) (number : ℕ) (fault : RunFault) → IsErrOf (ended_by stop number) fault → stop ≡ Fault fault
+stopped_by (Fault found) number fault is = let same : found ≡ fault = cc in ap Fault same
+stopped_by (Grammar found) number fault is = absurd (cc)
+
+pub never_reads : (stop : Stop) (number : ℕ) (holds now : Option (List ℕ)) (waiting left : List ℕ) → StopsText stop holds now waiting left → IsErrOf (ended_by stop number) Read → ⊥
+never_reads stop number holds now waiting left text is = subst (λ s. StopsText s holds now waiting left) (stopped_by stop number Read is) text
+
+-- how the trace ends
+pub ends_stopped : (brands : List Tabled) (R : List Commit) (stands : State → Type 0) (stop : Stop) (refused : Option ℕ) (n : ℕ) (held holds now old left input : Option (List ℕ)) (waiting now_waiting : List ℕ) (line : List ℕ) (new : Option (List (List ℕ))) (same : Type 0) (v w : View)
+    → RunsOn brands R stands refused n held (after_known holds waiting) old input → HasWritten held holds → StopsText stop holds now waiting now_waiting → TakesPiece old left → option_map lines_of old ≡ option_map (λ ls. line ∷ ls) new → n ≤ 200000 → length line ≤ 4096
+    → ((S : State) → stands S → Stops stop same S (event_of S.started line) v w) → EndsAs brands R (ended_by stop n) input left held now (after_known now now_waiting)
+ends_stopped brands R stands (Fault fault) refused n held holds now old left input waiting now_waiting line new same v w run written text piece is h k stops =
+    ends_failed brands R stands fault refused n held holds now old left input waiting now_waiting run written text piece
+ends_stopped brands R stands (Grammar fault) refused n held holds now old left input waiting now_waiting line new same v w run written text piece is h k stops =
+    let told = runs_told brands R stands refused n held (after_known holds waiting) (after_known now now_waiting) old input text run in
+    (tells_fault brands R stands refused n held (after_known now now_waiting) line fault old new input told is h k (λ S stood. (stops S stood).0), answers_lines brands R stands refused n held (after_known now now_waiting) old left input told piece)
+
+-- and what it has recorded
+pub ran_stopped : (brands : List Tabled) (R : List Commit) (stands : State → Type 0) (v0 v w : View) (stop : Stop) (refused : Option ℕ) (n : ℕ) (held holds now old new input : Option (List ℕ)) (waiting left : List ℕ) (line : List ℕ) (lines : Option (List (List ℕ))) (same : Type 0)
+    → Follows brands R stands (Left brands R v0 v) refused n held (after_known holds waiting) old input → IsStoreOf v0 R → StopsText stop holds now waiting left → TakesLine line old new → option_map lines_of old ≡ option_map (λ ls. line ∷ ls) lines → n ≤ 200000 → length line ≤ 4096
+    → ((S : State) → stands S → Stops stop same S (event_of S.started line) v w) → (same → (P : View → Type 0) → P v → P w) → RanAs brands R (ended_by stop n) input held (after_known now left) v0 w
+ran_stopped brands R stands v0 v w (Fault fault) refused n held holds now old new input waiting left line lines same f is text took eq h k stops stay =
+    ran_left brands R fault input held holds now waiting left v0 w text
+    (ran_failed brands R stands v0 v refused n held (after_known holds waiting) old input f is fault same w line new (event_of f.run.state.started line) took h k refl (stops f.run.state f.run.stood) stay)
+ran_stopped brands R stands v0 v w (Grammar fault) refused n held holds now old new input waiting left line lines same f is text took eq h k stops stay =
+    let outside = stops f.run.state f.run.stood in
+    ran_same brands R (Ok (Some (Bad_line n fault))) input held (after_known now left) v0 v w same outside.1 stay
+    (ran_written brands R (Ok (Some (Bad_line n fault))) input held (after_known holds waiting) (after_known now left) v0 v text
+    (ran_whole brands R stands v0 v refused n held (after_known holds waiting) old input f is _ _ _ _ (At_fault n fault) (at_fault f.run.state.started n line fault old lines eq h k outside.0)))
+
+-- a fault of reading that ends a trace is the source's or memory's
+pub only_reading : (r : Result (Option Complaint) RunFault) (fault : ReadFault) → IsErrAnd r (λ e. e ≡ run_fault_of fault) → IsErrOf r Write ⊎ IsErrOf r Disk → ⊥
+only_reading (Ok x) fault said failed = absurd said
+only_reading (Err e) Failed said (inl failed) = let is : e ≡ Read = said in cc
+only_reading (Err e) Failed said (inr failed) = let is : e ≡ Read = said in cc
+only_reading (Err e) No_memory said (inl failed) = let is : e ≡ Memory = said in cc
+only_reading (Err e) No_memory said (inr failed) = let is : e ≡ Memory = said in cc
+
+pub source_failed : (r : Result (Option Complaint) RunFault) (fault : ReadFault) → IsErrAnd r (λ e. e ≡ run_fault_of fault) → IsErrOf r Read → fault ≡ Failed
+source_failed (Ok x) fault said is = absurd (cc)
+source_failed (Err e) Failed said is = refl
+source_failed (Err e) No_memory said is = let read : e ≡ Read = cc in absurd (cc)

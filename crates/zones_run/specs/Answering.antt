@@ -1,0 +1,92 @@
+-- How an event or a line is answered in the midst of a trace: what the machine stands for then, what was written or waits, and
+-- what the disk keeps.
+use Rattle.std.specs.Prelude.{◌≡◌, ◌⊎◌, ℕ, List, [], Bool, Option, Some, None, Result, Ok, Err, if◌then◌else◌}
+use Rattle.zn_io.specs.Disk.{View}
+use Rattle.zn_io.specs.Streams.{after_known}
+use Rattle.trace_text.specs.Lines.{Said}
+use Rattle.zone_machine.specs.Code.Cells.{Stands}
+use Rattle.zone_machine.specs.Code.Decided.{entry_by}
+use Rattle.zone_machine.specs.Machine.Histories.{after_entry, entry_at}
+use Rattle.zone_machine.specs.Machine.Images.{Goes}
+use Rattle.zone_machine.specs.Machine.Pools.{allowed}
+use Rattle.zone_machine.specs.State.{State, bodies_of}
+use Rattle.zone_machine.specs.declared.events.Answer.{Answer}
+use Rattle.zone_machine.specs.declared.events.Entry.{Entry}
+use Rattle.zone_machine.specs.declared.events.Event.{Event}
+use Rattle.zone_machine.specs.declared.machine.Machine.{Machine}
+use Rattle.zone_pools.specs.Pools.{or_else}
+use Rattle.zones_run.specs.Recording.{GoesSurely}
+use Rattle.zones_run.specs.Run.{HasFront}
+use Rattle.zones_run.specs.Tracing.{entry_text, is_refusal}
+use Rattle.zones_run.specs.declared.fault.RunFault.{RunFault}
+use Rattle.zones_run.specs.declared.fault.RunFault.TheVariants.{Disk, Memory, Read, Write}
+use Rattle.zones_run.specs.declared.outcome.Complaint.{Complaint}
+use Rattle.zones_run.specs.declared.outcome.Complaint.TheVariants.{Grammar as Bad_line}
+use Rattle.zones_run.specs.declared.trace.Stop.{Stop}
+use Rattle.zones_run.specs.declared.trace.Stop.TheVariants.{Fault, Grammar}
+
+-- the machine stands for a state, and its bank has the bodies of the state's commits
+pub record StandsFor {D F : Type 0} (S : State) (m : Machine D F) : Type 0 where
+  pub parts : Stands S m.parts
+  pub bodies : bodies_of S.commits ≡ m.bank.records
+
+-- the entry of an event in a state, under the grant that the pools give it
+abbrev pub entry_in : State → Event → Entry
+entry_in S e = entry_at S e (allowed S e)
+
+abbrev pub state_after : State → Event → State
+state_after S e = after_entry S (entry_in S e)
+
+-- the machine answered an event in the state S
+pub record Steps (S : State) (e : Event) (a : Answer) (now_stands : State → Type 0) (v w : View) : Type 0 where
+  pub told : entry_by e a ≡ entry_in S e
+  pub stands : now_stands (state_after S e)
+  pub goes : GoesSurely S.commits (state_after S e).commits v w
+
+-- and its reply was put after what was written and what waited
+pub record IsAnswered (S : State) (e : Event) (refusal : Bool) (now_stands : State → Type 0) (v w : View) (holds new_holds : Option (List ℕ)) : Type 0 where
+  pub stands : now_stands (state_after S e)
+  pub text : new_holds ≡ after_known holds (entry_text (entry_in S e))
+  pub refused : refusal ≡ is_refusal (entry_in S e).reply.head
+  pub goes : GoesSurely S.commits (state_after S e).commits v w
+
+-- what the disk keeps of an event at which a run ended: it is as it was, or memory ran out for the reply of an event that was
+-- answered, or the disk failed in it
+abbrev pub Fails : RunFault → (same : Type 0) → State → Event → (v w : View) → Type 0
+Fails Memory same S e v w = same ⊎ GoesSurely S.commits (state_after S e).commits v w
+Fails Disk same S e v w = Goes S.commits (state_after S e).commits v w
+Fails fault same S e v w = same
+
+-- what was written then, and what waits: all that did, unless standard output failed. Where the disk failed nothing waits
+abbrev pub LeavesText : RunFault → (holds new_holds : Option (List ℕ)) → (waiting left : List ℕ) → Type 0
+LeavesText Write holds new_holds waiting left = HasFront holds new_holds waiting × (left ≡ [])
+LeavesText Disk holds new_holds waiting left = (after_known new_holds left ≡ after_known holds waiting) × (left ≡ [])
+LeavesText Memory holds new_holds waiting left = after_known new_holds left ≡ after_known holds waiting
+LeavesText Read holds new_holds waiting left = ⊥
+
+-- a line was taken: it is no event, or its event was answered, and the first refused line is reported
+abbrev pub TakesEvent : State → Said → (now_stands : State → Type 0) → (same : Type 0) → (v w : View) → ℕ → Option ℕ → Option ℕ → (holds new_holds : Option (List ℕ)) → Type 0
+TakesEvent S (Ok None) now_stands same v w number refused now holds new_holds = now_stands S × (now ≡ refused) × (new_holds ≡ holds) × same
+TakesEvent S (Ok (Some e)) now_stands same v w number refused now holds new_holds =
+    (refusal : Bool) × IsAnswered S e refusal now_stands v w holds new_holds × (now ≡ (if refusal then or_else refused (Some number) else refused))
+TakesEvent S (Err fault) now_stands same v w number refused now holds new_holds = ⊥
+
+-- what the disk keeps of a line at which a run ended
+abbrev pub FailsLine : RunFault → (same : Type 0) → State → Said → (v w : View) → Type 0
+FailsLine fault same S (Ok (Some e)) v w = Fails fault same S e v w
+FailsLine fault same S said v w = same
+
+-- why a line ends the trace: it is outside the grammar, or a fault came
+abbrev pub Stops : Stop → (same : Type 0) → State → Said → (v w : View) → Type 0
+Stops (Grammar fault) same S said v w = (said ≡ Err fault) × same
+Stops (Fault fault) same S said v w = FailsLine fault same S said v w
+
+-- what it ends the trace with
+abbrev pub ended_by : Stop → ℕ → Result (Option Complaint) RunFault
+ended_by (Fault fault) number = Err fault
+ended_by (Grammar fault) number = Ok (Some (Bad_line number fault))
+
+-- and what was written and waits then
+abbrev pub StopsText : Stop → (holds new_holds : Option (List ℕ)) → (waiting left : List ℕ) → Type 0
+StopsText (Grammar fault) holds new_holds waiting left = after_known new_holds left ≡ after_known holds waiting
+StopsText (Fault fault) holds new_holds waiting left = LeavesText fault holds new_holds waiting left
