@@ -1,10 +1,17 @@
 //! Each call on a zone's cell and on what zones share once, where memory is there.
+ghost use Rattle.std.specs.Prelude.{◌≡◌, IfOk, IsOk, OnOk};
+ghost use Rattle.zn_io.specs.MemoryDisk.{view_of};
+ghost use Rattle.zone_machine.specs.Code.Records.{IsReady};
+
 use crate::brands::{Hook, make_brands, proceeds, refuses_clones};
+use crate::runs::empty_disk;
 use brand_hooks::{BrandFault, BrandTables, HookAnswer};
 use std::alloc::{AllocError, Global};
 use std::process::Abort;
 use std::test::Fail;
 use zn_base::{Text, TextFault, ZoneName};
+use zn_io::MemDisk;
+use zone_disk::Bank;
 use zone_machine::{
     Cell, Entry, Event, Head, Shared, StepFault, cell_step, cell_step_given, local_turn,
 };
@@ -45,7 +52,9 @@ fn told(entry: &Entry) -> Came {
     }
 }
 
-fn answered(answer: Result<Entry, StepFault>) -> Result<Came, StepFault> {
+fn answered(answer: Result<Entry, StepFault>) -> Result<Came, StepFault>
+    ensures { OnOk result (IsOk answer) }
+{
     let entry = answer?;
     Ok(told(&entry))
 }
@@ -64,6 +73,7 @@ struct Zone {
     name: ZoneName,
     cell: Cell,
     shared: Shared,
+    bank: Bank<MemDisk>,
 }
 
 impl Drop for Zone {
@@ -72,6 +82,7 @@ impl Drop for Zone {
             name: _name,
             cell: _cell,
             shared: _shared,
+            bank: _bank,
         } = self;
     }
 }
@@ -83,19 +94,36 @@ fn tables(alloc: Global) -> Result<BrandTables, BrandFault> {
     Ok(brands.tables(alloc)?)
 }
 
+// The bank on a disk that has nothing yet, and what zones share then.
+fn opened(alloc: Global) -> Result<(Bank<MemDisk>, Shared), Fail>
+    ensures { IfOk result (λ both. IsReady (view_of both.0.disk) both.0 both.1) }
+{
+    let tables = tables(alloc)?;
+    match Bank::open(alloc, empty_disk(alloc)?) {
+        Ok(bank) => Ok((bank, Shared::new(alloc, tables))),
+        Err((fault, _disk)) => Err(fault.into()),
+    }
+}
+
 impl Zone {
-    fn new(alloc: Global) -> Result<Box<Zone>, Fail> {
-        let name = ZoneName::read(alloc, b"a")?;
+    fn new(alloc: Global) -> Result<Box<Zone>, Fail>
+        ensures { IfOk result (λ zone. IsReady (view_of zone.value.bank.disk) zone.value.bank zone.value.shared) }
+    {
+        let (bank, shared) = opened(alloc)?;
         let zone = Zone {
-            name,
+            name: ZoneName::read(alloc, b"a")?,
             cell: Cell::new(alloc),
-            shared: Shared::new(alloc, tables(alloc)?),
+            shared,
+            bank,
         };
         Ok(Box::new(alloc, zone)?)
     }
 
     // An event, of which no brand is asked.
-    fn step(&mut self, alloc: Global, event: Event) -> Result<Came, StepFault> {
+    fn step(&mut self, alloc: Global, event: Event) -> Result<Came, StepFault>
+        requires { IsReady (view_of self.old.bank.disk) self.old.bank self.old.shared }
+        ensures { OnOk result (IsReady (view_of self.new.bank.disk) self.new.bank self.new.shared) }
+    {
         if self.cell.next_hook().is_some() {
             return Ok(Came::Else);
         }
@@ -105,12 +133,16 @@ impl Zone {
             &self.name,
             &mut self.cell,
             &mut self.shared,
+            &mut self.bank,
             event,
             hook,
         ))
     }
 
-    fn step_given(&mut self, alloc: Global, event: Event, grant: Grant) -> Result<Came, StepFault> {
+    fn step_given(&mut self, alloc: Global, event: Event, grant: Grant) -> Result<Came, StepFault>
+        requires { IsReady (view_of self.old.bank.disk) self.old.bank self.old.shared }
+        ensures { OnOk result (IsReady (view_of self.new.bank.disk) self.new.bank self.new.shared) }
+    {
         if self.cell.next_hook().is_some() {
             return Ok(Came::Else);
         }
@@ -119,6 +151,7 @@ impl Zone {
             &self.name,
             &mut self.cell,
             &mut self.shared,
+            &mut self.bank,
             event,
             grant,
             HookAnswer::Proceed,
@@ -126,7 +159,10 @@ impl Zone {
     }
 
     // The next turn, where it is local.
-    fn turn_alone(&mut self, alloc: Global) -> Result<Came, AllocError> {
+    fn turn_alone(&mut self, alloc: Global) -> Result<Came, AllocError>
+        ensures bank { self.new.bank ≡ self.old.bank }
+        ensures shared { self.new.shared ≡ self.old.shared }
+    {
         Ok(
             match local_turn(alloc, &self.name, &mut self.cell, HookAnswer::Proceed)? {
                 Some(entry) => told(&entry),
@@ -141,7 +177,10 @@ impl Zone {
         })
     }
 
-    fn does(&mut self, alloc: Global, deed: Deed) -> Result<Came, Fail> {
+    fn does(&mut self, alloc: Global, deed: Deed) -> Result<Came, Fail>
+        requires { IsReady (view_of self.old.bank.disk) self.old.bank self.old.shared }
+        ensures { OnOk result (IsReady (view_of self.new.bank.disk) self.new.bank self.new.shared) }
+    {
         Ok(match deed {
             Deed::Make => self.step(alloc, typed(alloc, MAKING)?)?,
             Deed::Install => self.step_given(alloc, typed(alloc, INSTALLING)?, Grant::Nothing)?,
@@ -155,41 +194,50 @@ impl Zone {
     }
 }
 
-type Row = (Deed, Came);
-
 // The zone is borrowed, so that no exit drops what it owns.
-fn do_all<R: Abort + AllocGlobal>(rt: &R, zone: &mut Zone, rows: &[Row]) -> Result<(), Fail> {
-    for (at, (deed, wanted)) in rows.iter().enumerate() {
-        assert!(rt; zone.does(rt.alloc(), *deed)? == *wanted, "{at}");
-    }
+fn check<R: Abort + AllocGlobal>(
+    rt: &R,
+    zone: &mut Zone,
+    deed: Deed,
+    wanted: Came,
+) -> Result<(), Fail>
+    requires { IsReady (view_of zone.old.bank.disk) zone.old.bank zone.old.shared }
+    ensures { OnOk result (IsReady (view_of zone.new.bank.disk) zone.new.bank zone.new.shared) }
+{
+    let came = zone.does(rt.alloc(), deed)?;
+    assert!(rt; came == wanted);
     Ok(())
 }
 
-const EVENTS: &[Row] = &[
-    (Deed::Make, Came::Done(Grant::Number(1))),
-    (Deed::Look, Came::IsEmpty(true)),
-    (Deed::Install, Came::Ticket(1)),
-    (Deed::Look, Came::IsEmpty(false)),
-];
+fn check_events<R: Abort + AllocGlobal>(rt: &R, zone: &mut Zone) -> Result<(), Fail>
+    requires { IsReady (view_of zone.old.bank.disk) zone.old.bank zone.old.shared }
+{
+    check(rt, zone, Deed::Make, Came::Done(Grant::Number(1)))?;
+    check(rt, zone, Deed::Look, Came::IsEmpty(true))?;
+    check(rt, zone, Deed::Install, Came::Ticket(1))?;
+    check(rt, zone, Deed::Look, Came::IsEmpty(false))
+}
 
 #[test]
 fn an_event_of_a_zone_needs_its_cell_alone(rt: HostRuntime) -> Result<(), Fail> {
     let mut zone = Zone::new(rt.alloc())?;
-    do_all(&rt, &mut zone, EVENTS)
+    check_events(&rt, &mut zone)
 }
 
 // A request begins with what is stored, and a new state is stored: neither is local.
-const TURNS: &[Row] = &[
-    (Deed::Make, Came::Done(Grant::Number(1))),
-    (Deed::Install, Came::Ticket(1)),
-    (Deed::TurnAlone, Came::NotLocal),
-    (Deed::Turn, Came::BeganInstall(1)),
-    (Deed::TurnAlone, Came::Hook),
-    (Deed::TurnAlone, Came::NotLocal),
-];
+fn check_turns<R: Abort + AllocGlobal>(rt: &R, zone: &mut Zone) -> Result<(), Fail>
+    requires { IsReady (view_of zone.old.bank.disk) zone.old.bank zone.old.shared }
+{
+    check(rt, zone, Deed::Make, Came::Done(Grant::Number(1)))?;
+    check(rt, zone, Deed::Install, Came::Ticket(1))?;
+    check(rt, zone, Deed::TurnAlone, Came::NotLocal)?;
+    check(rt, zone, Deed::Turn, Came::BeganInstall(1))?;
+    check(rt, zone, Deed::TurnAlone, Came::Hook)?;
+    check(rt, zone, Deed::TurnAlone, Came::NotLocal)
+}
 
 #[test]
 fn a_local_turn_needs_nothing_shared(rt: HostRuntime) -> Result<(), Fail> {
     let mut zone = Zone::new(rt.alloc())?;
-    do_all(&rt, &mut zone, TURNS)
+    check_turns(&rt, &mut zone)
 }

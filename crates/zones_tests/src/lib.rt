@@ -1,12 +1,14 @@
 //! Tests of the zone machine, of the text of traces and of whole runs of the program, over public calls, with
-//! sources and sinks in memory. What they expect is worked out by hand from docs/COMMANDS.md, docs/ZONECFG.md and
-//! docs/TRACES.md.
+//! sources, sinks and disks in memory. What they expect is worked out by hand from docs/COMMANDS.md, docs/ZONECFG.md,
+//! docs/ZONEADM.md, docs/TRACES.md and docs/STORE.md.
 #![tactic(auto)]
 
 #[cfg(test)]
 mod brands;
 #[cfg(test)]
 mod cells;
+#[cfg(test)]
+mod crashes;
 #[cfg(test)]
 mod declarations;
 #[cfg(test)]
@@ -29,6 +31,8 @@ mod replies;
 mod requests;
 #[cfg(test)]
 mod runs;
+#[cfg(test)]
+mod stores;
 #[cfg(test)]
 mod trace_lines;
 #[cfg(test)]
