@@ -1,10 +1,11 @@
 #!/usr/bin/env python3
-"""Runs the native program over random and damaged inputs, and looks only at how it ends.
+"""Runs the native program over random and damaged inputs and stores, and looks only at how it ends.
 
     tools/break.py [--count N] [--seed S] [--program FILE]
 
 Each run must end with a status that docs/COMMANDS.md states and the line on standard error that belongs to it; no
-run may crash, hang, or take more memory for a longer input. It is no part of the gate.
+run may crash, hang, or take more memory for a longer input. A run with status 7 leaves its store as it was, and so does
+`export`. It is no part of the gate.
 """
 
 import pathlib
@@ -14,6 +15,8 @@ import subprocess
 import sys
 
 from arguments import arguments
+from own_folder import NAME, image, own_folder
+from store_reader import HEADER, body
 
 LINES = {
     0: rb"",
@@ -22,6 +25,7 @@ LINES = {
     3: rb"line \d+: 10[1-4] \w+( \d+)?\n",
     4: rb"read fault\n",
     5: rb"write fault\n",
+    7: rb"not a store: (61 NotAStore|62 BadRecord|65 RecordForm) \d+\n",
     8: rb"limit at line \d+\n",
     9: rb"no memory\n",
 }
@@ -43,6 +47,16 @@ TRACES = [
 PIECES = [
     b"\n", b";", b"\"", b"(", b"]", b"=", b"\0", b"\xff", b"S 64 ", b"@pids 7 ", b"D ", b" zonecfg -z ", b"set ", b"#",
     b"\r\n", b"Y ", b"P c 2 ", b"/",
+]
+
+
+EXPORT = "create -b\nset zonepath=/zones/%s\nset brand=ipkg\nset autoboot=false\nset ip-type=shared\n"
+STORES = [
+    HEADER + b"\0",
+    HEADER + b"".join(
+        b"\1" + len(it).to_bytes(4, "big") + it
+        for it in (body(zone, "installed", number, number, EXPORT % zone) for number, zone in enumerate("abc", 1))
+    ) + b"\0",
 ]
 
 
@@ -75,38 +89,51 @@ def made(rng, word):
     return damaged(rng, seeds)
 
 
-def run(program, words, data):
-    done = subprocess.run([program] + words, input=data, capture_output=True, timeout=60)
+def stored(rng):
+    """What a store has before a run: mostly nothing, else a store, which may be damaged."""
+    chance = rng.random()
+    return b"" if chance < 0.6 else rng.choice(STORES) if chance < 0.7 else damaged(rng, STORES)
+
+
+def run(program, words, data, store=b""):
+    with own_folder() as folder:
+        (pathlib.Path(folder) / NAME).write_bytes(store)
+        done = subprocess.run([program] + words, input=data, capture_output=True, timeout=60, cwd=folder)
+        left = image(folder)
     line = LINES.get(done.returncode)
     if line is None or not re.fullmatch(line, done.stderr):
         pathlib.Path("break.input").write_bytes(data)
-        sys.exit("%r ended with status %d and %r (input kept in break.input)" % (words, done.returncode, done.stderr))
+        sys.exit("%r ended with status %d and %r (input kept in break.input, over the store %r)"
+                 % (words, done.returncode, done.stderr, store))
     if words == ["export"] and done.returncode not in (0, 5) and done.stdout:
         sys.exit("export wrote a text though it ended with status %d" % done.returncode)
+    if (words != ["trace"] or done.returncode == 7) and left != store:
+        sys.exit("%r ended with status %d and changed the store %r" % (words, done.returncode, store))
     return done.returncode
 
 
 def peak(program, words, data):
     """The most memory in KiB that a run took."""
     code = "import resource,subprocess,sys; subprocess.run(sys.argv[1:], stdin=sys.stdin, capture_output=False, stdout=subprocess.DEVNULL, stderr=subprocess.DEVNULL); print(resource.getrusage(resource.RUSAGE_CHILDREN).ru_maxrss)"
-    done = subprocess.run([sys.executable, "-c", code, program] + words, input=data, capture_output=True)
+    with own_folder() as folder:
+        done = subprocess.run([sys.executable, "-c", code, program] + words, input=data, capture_output=True, cwd=folder)
     return int(done.stdout)
 
 
 def main():
     args = arguments(__doc__)
-    rng = random.Random(args.seed)
+    rng, program = random.Random(args.seed), pathlib.Path(args.program).resolve()
     statuses = {}
     for _ in range(args.count):
         word = rng.choice(["export", "trace"])
-        status = run(args.program, [word], made(rng, word))
+        status = run(program, [word], made(rng, word), stored(rng))
         statuses[word, status] = statuses.get((word, status), 0) + 1
     for words in ([], ["x"], ["export", "x"], ["--help", "x"], [""], ["--"]):
-        assert run(args.program, list(words), b"") == 2
+        assert run(program, list(words), b"") == 2
     for word, line in (("export", b"\n"), ("trace", b"D a\n"), ("trace", b"#\n")):
-        assert run(args.program, [word], line * 200000) in (0, 1)
-        assert run(args.program, [word], line * 200001) == 8
-    short, long = (peak(args.program, ["trace"], b"D a\n" * count) for count in (1000, 200000))
+        assert run(program, [word], line * 200000) in (0, 1)
+        assert run(program, [word], line * 200001) == 8
+    short, long = (peak(program, ["trace"], b"D a\n" * count) for count in (1000, 200000))
     if long > short + 1024:
         sys.exit("%d KiB for 1,000 lines and %d KiB for 200,000" % (short, long))
     print("%d runs ended as stated: %s; %d and %d KiB for 1,000 and 200,000 lines" % (args.count, dict(sorted(statuses.items())), short, long))

@@ -21,7 +21,6 @@ import pathlib
 import random
 import subprocess
 import sys
-import tempfile
 import time
 
 import object_rows
@@ -30,20 +29,19 @@ import request_rows
 import trace_model as model
 import trace_rows
 from arguments import arguments
+from own_folder import own_folder
 from reply_forms import kind_of, kind_of_line, misformed
 from request_maker import RequestMaker
 from store_model import Store
 
 
-# In memory, where there is such a folder: the program waits for each record to be on its disk.
-IN_MEMORY = "/dev/shm" if pathlib.Path("/dev/shm").is_dir() else None
 SECONDS = 600
 
 
 def answer_of(program, data, times=1):
     """The status and both texts of the program over an input, the last of so many times over one store, which is empty
     before."""
-    with tempfile.TemporaryDirectory(dir=IN_MEMORY) as folder:
+    with own_folder() as folder:
         for _ in range(times):
             done = subprocess.run([pathlib.Path(program).resolve(), "trace"], input=data, capture_output=True,
                                   timeout=SECONDS, cwd=folder)

@@ -20,6 +20,7 @@ import sys
 import tempfile
 
 from arguments import PROGRAM
+from own_folder import own_folder
 
 ROOT = pathlib.Path(__file__).resolve().parent.parent
 PAGE = ROOT / "docs/MEASURES.md"
@@ -129,11 +130,11 @@ def trace(zones):
 
 
 def instructions(program, word, data):
-    with tempfile.TemporaryFile() as given:
+    with tempfile.TemporaryFile() as given, own_folder() as folder:
         given.write(data)
         given.seek(0)
-        words = ["valgrind", "--tool=callgrind", "--callgrind-out-file=/dev/null", program, word]
-        run = subprocess.run(words, stdin=given, stdout=subprocess.DEVNULL, stderr=subprocess.PIPE, text=True)
+        words = ["valgrind", "--tool=callgrind", "--callgrind-out-file=/dev/null", pathlib.Path(program).resolve(), word]
+        run = subprocess.run(words, stdin=given, stdout=subprocess.DEVNULL, stderr=subprocess.PIPE, text=True, cwd=folder)
     counted = re.search(r"Collected : (\d+)", run.stderr)
     if run.returncode or not counted:
         raise OSError("%s %s under callgrind ended with status %d" % (program, word, run.returncode))

@@ -1,13 +1,16 @@
 #!/usr/bin/env python3
-"""Refuses each allocation, each read and each write of the native program in turn, and looks how the run ends.
+"""Refuses each allocation, each read, each write and each call of the disk of the native program in turn, and looks how
+the run ends.
 
     tools/refuse.py [--program FILE]
 
 A small library stands before the C library and lets the call with a given number fail; gcc builds it in a temporary
-folder. A run must end as docs/COMMANDS.md states: status 9, 4 or 5 with its line, `export` with nothing written, `trace`
-with whole replies, and where nothing was refused with its text. The same is done to each allocation of the test
-programs that `rt test` left in crates/*/out: a test must end with success, an error or a failed assertion. It is no
-part of the gate.
+folder. A run must end as docs/COMMANDS.md states: status 9, 4, 5 or 6 with its line, `export` with nothing written,
+`trace` with whole replies, and where nothing was refused with its text. The records that `trace` leaves must be those of
+the replies that it has written; but for a read that was refused, there may be one more. The calls of the disk are those
+that open, measure, read, write and sync the store, the one that syncs its folder too. The same is done to each allocation
+of the test programs that `rt test` left in crates/*/out: a test must end with success, an error or a failed assertion. It
+is no part of the gate.
 """
 
 import os
@@ -17,26 +20,32 @@ import sys
 import tempfile
 
 from arguments import arguments
+from own_folder import image, own_folder
+from store_reader import bodies
+from told_records import Told
 
 SHIM = r"""
 #define _GNU_SOURCE
 #include <dlfcn.h>
 #include <errno.h>
+#include <fcntl.h>
 #include <stdio.h>
 #include <stdlib.h>
+#include <string.h>
+#include <sys/stat.h>
 #include <sys/types.h>
 #include <unistd.h>
 
 static long turn(const char *name) { const char *text = getenv(name); return text ? atol(text) : 0; }
 static int refused(const char *name, long *count) { return ++*count == turn(name); }
-static long allocations, reads, writes;
+static long allocations, reads, writes, calls;
 
 #define REAL(type, name, ...) ((type (*)(__VA_ARGS__))dlsym(RTLD_NEXT, name))
 
 __attribute__((destructor)) static void tell(void) {
     const char *name = getenv("REFUSE_COUNTS");
     FILE *file = name ? fopen(name, "w") : 0;
-    if (file) { fprintf(file, "%ld %ld %ld", allocations, reads, writes); fclose(file); }
+    if (file) { fprintf(file, "%ld %ld %ld %ld", allocations, reads, writes, calls); fclose(file); }
 }
 
 void *malloc(size_t size) {
@@ -75,44 +84,84 @@ ssize_t write(int file, const void *bytes, size_t count) {
     if (refused("REFUSE_WRITE", &writes)) { errno = ENOSPC; return -1; }
     return real(file, bytes, count);
 }
+
+static int fails(void) { return refused("REFUSE_CALL", &calls) ? (errno = EIO) : 0; }
+
+int open(const char *name, int flags, ...) {
+    static int (*real)(const char *, int, mode_t);
+    if (!real) real = REAL(int, "open", const char *, int, mode_t);
+    if ((!strcmp(name, "zones.store") || !strcmp(name, ".")) && fails()) return -1;
+    return real(name, flags, 0666);
+}
+int fsync(int file) {
+    static int (*real)(int);
+    if (!real) real = REAL(int, "fsync", int);
+    return fails() ? -1 : real(file);
+}
+int statx(int folder, const char *name, int flags, unsigned mask, struct statx *into) {
+    static int (*real)(int, const char *, int, unsigned, struct statx *);
+    if (!real) real = REAL(int, "statx", int, const char *, int, unsigned, struct statx *);
+    return fails() ? -1 : real(folder, name, flags, mask, into);
+}
+#define PLACED(name, type) \
+    ssize_t name(int file, type bytes, size_t count, off_t at) { \
+        static ssize_t (*real)(int, type, size_t, off_t); \
+        if (!real) real = REAL(ssize_t, #name, int, type, size_t, off_t); \
+        return fails() ? -1 : real(file, bytes, count, at); \
+    }
+PLACED(pread, void *)
+PLACED(pread64, void *)
+PLACED(pwrite, const void *)
+PLACED(pwrite64, const void *)
 """
 ROOT = pathlib.Path(__file__).resolve().parent.parent
 EXAMPLES = ROOT / "examples"
 # success, an error that the test answers, and a failed assertion
 TEST_ENDS = (0, 101, -6)
-FAULTS = {"ALLOCATION": (9, b"no memory\n"), "READ": (4, b"read fault\n"), "WRITE": (5, b"write fault\n")}
+FAULTS = {
+    "ALLOCATION": (9, b"no memory\n"),
+    "READ": (4, b"read fault\n"),
+    "WRITE": (5, b"write fault\n"),
+    "CALL": (6, b"disk fault\n"),
+}
 
 
-def run(program, word, data, environment):
-    return subprocess.run([program, word], input=data, capture_output=True, timeout=60, env=dict(os.environ, **environment))
+class Run:
+    """What a run of the program ended with, and what it left in its folder."""
+
+    def __init__(self, program, word, data, environment):
+        with own_folder() as folder:
+            done = subprocess.run([program, word], input=data, capture_output=True, timeout=60, cwd=folder,
+                                  env=dict(os.environ, **environment))
+            self.end, self.store = (done.returncode, done.stdout, done.stderr), image(folder)
 
 
-def told(counts):
-    """How many allocations, reads and writes the last run with REFUSE_COUNTS made."""
+def counted(counts):
+    """How many calls of each kind the last run with REFUSE_COUNTS made."""
     return [int(count) for count in pathlib.Path(counts).read_text().split()]
 
 
-def is_stated(kind, word, done, text):
-    """Whether a run in which a call was refused ended as stated."""
+def fault_of(kind, word, told, run):
+    """What is wrong with a run in which a call was refused, or None."""
     status, line = FAULTS[kind]
-    if done.returncode != status or done.stderr != line:
-        return False
+    if (run.end[0], run.end[2]) != (status, line):
+        return "it ended with %r" % (run.end,)
     if word == "trace":
-        return text.startswith(done.stdout) and (not done.stdout or done.stdout.endswith(b"\n"))
-    return not done.stdout
+        return told.differs(run.end[1], bodies(run.store), 0 if kind == "READ" else 1)
+    return None if run.end[1] == run.store == b"" else "it wrote %r, and %r on the disk" % (run.end[1], run.store)
 
 
 def refuse_each(program, shim, word, data, counts):
     """How many calls of each kind a run makes, each of which was refused in a run of its own."""
-    whole = run(program, word, data, {"LD_PRELOAD": shim, "REFUSE_COUNTS": counts})
-    assert whole.returncode in (0, 1), whole
-    made = told(counts)
+    whole = Run(program, word, data, {"LD_PRELOAD": shim, "REFUSE_COUNTS": counts})
+    assert whole.end[0] in (0, 1), whole.end
+    told, made = Told(data) if word == "trace" else None, counted(counts)
     for kind, count in zip(FAULTS, made):
         for number in range(1, count + 1):
-            done = run(program, word, data, {"LD_PRELOAD": shim, "REFUSE_" + kind: str(number)})
-            ends = [(it.returncode, it.stdout, it.stderr) for it in (done, whole)]
-            if ends[0] != ends[1] and not is_stated(kind, word, done, whole.stdout):
-                sys.exit("%s with refused %s %d: status %d, %r, %r" % (word, kind, number, done.returncode, done.stdout, done.stderr))
+            run = Run(program, word, data, {"LD_PRELOAD": shim, "REFUSE_" + kind: str(number)})
+            fault = fault_of(kind, word, told, run)
+            if run.end != whole.end and fault is not None:
+                sys.exit("%s with refused %s %d: %s" % (word, kind, number, fault))
     return made
 
 
@@ -123,7 +172,7 @@ def refuse_each_of_tests(program, shim, counts):
     for test in (line.removesuffix(": test") for line in listed.splitlines() if line.endswith(": test")):
         environment = dict(os.environ, LD_PRELOAD=shim, REFUSE_COUNTS=counts)
         subprocess.run([program, test], capture_output=True, timeout=600, env=environment, check=True)
-        count = told(counts)[0]
+        count = counted(counts)[0]
         for number in range(1, count + 1):
             environment = dict(os.environ, LD_PRELOAD=shim, REFUSE_ALLOCATION=str(number))
             done = subprocess.run([program, test], capture_output=True, timeout=600, env=environment)
@@ -140,9 +189,9 @@ def main():
         pathlib.Path(source).write_text(SHIM)
         subprocess.run(["gcc", "-shared", "-fPIC", "-O1", "-o", shim, source, "-ldl"], check=True)
         for word, name in (("export", "full.zonecfg"), ("trace", "web.trace"), ("trace", "mounts.trace")):
-            made = refuse_each(args.program, shim, word, (EXAMPLES / name).read_bytes(), counts)
-            print("%s of %s: refused %d allocations, %d reads and %d writes, each in a run of its own; all ended as stated"
-                  % (word, name, *made))
+            made = refuse_each(pathlib.Path(args.program).resolve(), shim, word, (EXAMPLES / name).read_bytes(), counts)
+            print("%s of %s: refused %d allocations, %d reads, %d writes and %d calls of the disk, each in a run of its own; "
+                  "all ended as stated" % (word, name, *made))
         for program in sorted(ROOT.glob("crates/*/out/*_tests")):
             count = refuse_each_of_tests(str(program), shim, counts)
             print("%s: refused %d allocations, each in a run of its own; all ended as stated" % (program.name, count))

@@ -1,21 +1,26 @@
 #!/usr/bin/env python3
-"""Writes a store of one zone to standard output, by docs/STORE.md and by nothing else."""
+"""Writes a store of one zone to standard output, by docs/STORE.md and by nothing else.
+
+    tools/store_of_web.py [ZONE STATE]
+
+Without words it is `web`, which is configured.
+"""
+
 import sys
-import uuid
 
-NAMESPACE = uuid.UUID("6ba7b810-9dad-11d1-80b4-00c04fd430c8")
+from store_reader import HEADER, body
 
-
-def body(zone, state, number, export):
-    lines = [f"zone {zone}", f"state {state}", f"uuid {uuid.uuid5(NAMESPACE, f'{zone}:{number}')}", f"revision {number:010}"]
-    return "".join(line + "\n" for line in lines).encode() + export
+EXPORT = "create -b\nset zonepath=/zones/%s\nset brand=ipkg\nset autoboot=false\nset ip-type=shared\n"
 
 
 def store(bodies):
-    records = b"".join(b"\x01" + len(b).to_bytes(4, "big") + b for b in bodies)
-    return b"\x01ZNSTORE1A" + bytes(6) + records + b"\x00"
+    return HEADER + b"".join(b"\x01" + len(it).to_bytes(4, "big") + it for it in bodies) + b"\x00"
 
 
-WEB = b"create -b\nset zonepath=/zones/web\nset brand=ipkg\nset autoboot=false\nset ip-type=shared\n"
+def main():
+    zone, state = sys.argv[1:] or ("web", "configured")
+    sys.stdout.buffer.write(store([body(zone, state, 1, 1, EXPORT % zone)]))
 
-sys.stdout.buffer.write(store([body("web", "configured", 1, WEB)]))
+
+if __name__ == "__main__":
+    main()

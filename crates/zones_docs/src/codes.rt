@@ -1,5 +1,6 @@
 //! The codes that can be printed, made from the fault types, and their paragraphs in docs/CODES.md.
-use crate::runs::run;
+use crate::runs::{Ended, run, run_on};
+use commit_journal::StoreFault;
 use config_verify::Flaw;
 use kernel_objects::Errno;
 use std::alloc::{AllocError, Global};
@@ -18,11 +19,14 @@ const PAGE: &str = "CODES.md";
 // How the paragraph of a code begins; its code and name follow, to the end of the line.
 const HEAD: &str = "### ";
 
-// A command, or `IN_A_ZONE`, an input that it refuses, and the code and name that it prints.
+// A command, `IN_A_ZONE` or `ON_A_DISK`, an input that it refuses, and the code and name that it prints.
 type Run = (&'static str, &'static str, &'static str);
 
 // A trace in which the zone `a` has its first process.
 const IN_A_ZONE: &str = "trace in a zone";
+
+// A trace without a line over a disk that has the input.
+const ON_A_DISK: &str = "trace on a disk";
 
 const BOOTED: &str = "S 1 zonecfg -z a create -b; set zonepath=/a; set brand=ipkg
 S 1 zoneadm -z a install
@@ -283,6 +287,25 @@ fn outcome_runs() -> &'static [Run] {
     )
 }
 
+const NO_STORE: &str = "xxxxxxxxxxxxxxxxxxxx";
+
+// A store whose first record has no length, and one whose first record has another form.
+const OPEN_GATE: &str = "\x01ZNSTORE1A\0\0\0\0\0\0\x01";
+
+const OTHER_FORM: &str = "\x01ZNSTORE1A\0\0\0\0\0\0\x01\0\0\0\x01x\0";
+
+// A disk that fails has a line without a code, and a store without room is the pool `store`, which denies.
+fn store_runs() -> &'static [Run] {
+    runs_of!(StoreFault:
+        StoreFault::Memory => [],
+        StoreFault::NotAStore(_) => [(ON_A_DISK, NO_STORE, "61 NotAStore")],
+        StoreFault::BadRecord(_) => [(ON_A_DISK, OPEN_GATE, "62 BadRecord")],
+        StoreFault::DiskFault => [],
+        StoreFault::BankFull => [],
+        StoreFault::RecordForm(_) => [(ON_A_DISK, OTHER_FORM, "65 RecordForm")],
+    )
+}
+
 fn has(text: &[u8], part: &str) -> bool {
     match str::from_utf8(text) {
         Ok(text) => text.contains(part),
@@ -299,30 +322,31 @@ fn has_paragraph(page: &str, title: &str) -> bool {
     false
 }
 
-// The input of a run, and the command that is given it.
-fn given(
-    alloc: Global,
-    command: &'static str,
-    input: &[u8],
-) -> Result<(&'static str, Vec<u8>), AllocError> {
-    if command != IN_A_ZONE {
-        return Ok((command, input.to_vec(alloc)?));
-    }
+// The lines that bring the zone `a` up, and then an input.
+fn in_a_zone(alloc: Global, input: &[u8]) -> Result<Vec<u8>, AllocError> {
     let mut bytes = BOOTED.as_bytes().to_vec(alloc)?;
     bytes.extend_from_slice(input)?;
-    Ok(("trace", bytes))
+    Ok(bytes)
+}
+
+// What a command comes to over an input.
+fn ended(alloc: Global, command: &str, input: &[u8]) -> Result<Ended, AllocError> {
+    match command {
+        IN_A_ZONE => run(alloc, "trace", in_a_zone(alloc, input)?),
+        ON_A_DISK => run_on(alloc, "trace", Vec::new(alloc), input.to_vec(alloc)?),
+        _ => run(alloc, command, input.to_vec(alloc)?),
+    }
 }
 
 // Runs a command, and prints what is wrong: that it doesn't print the code and name, or that they have no paragraph.
 fn check_run(
     rt: &(impl Print + AllocGlobal),
     page: &str,
-    command: &'static str,
+    command: &str,
     input: &[u8],
     title: &str,
 ) -> io::Result<()> {
-    let (command, input) = given(rt.alloc(), command, input)?;
-    let ended = run(rt.alloc(), command, input)?;
+    let ended = ended(rt.alloc(), command, input)?;
     if !has(ended.out.bytes(), title) && !has(ended.err.bytes(), title) {
         println!(rt; "{title} IS NOT PRINTED")?;
     }
@@ -369,6 +393,7 @@ pub fn check(rt: &(impl Files + Print + AllocGlobal)) -> io::Result<()> {
         reply_runs(),
         errno_runs(),
         outcome_runs(),
+        store_runs(),
     ];
     for runs in all {
         for (command, input, title) in runs {

@@ -1,10 +1,12 @@
 //! The examples, each with the files beside it that say how it ends.
-use crate::runs::run;
+use crate::runs::{run, run_on};
 use std::rt::Files;
 use std::{fs, io};
 
 struct Example {
     command: &'static str,
+    // The input of a run before it, which has left its store; none: there is no store.
+    before: Option<&'static str>,
     input: &'static str,
     status: u8,
     // The file of what comes on standard output; none: nothing.
@@ -16,6 +18,7 @@ struct Example {
 const EXAMPLES: &[Example] = &[
     Example {
         command: "export",
+        before: None,
         input: "examples/web.zonecfg",
         status: 0,
         out: Some("examples/web.export"),
@@ -23,6 +26,7 @@ const EXAMPLES: &[Example] = &[
     },
     Example {
         command: "export",
+        before: None,
         input: "examples/mount.zonecfg",
         status: 0,
         out: Some("examples/mount.export"),
@@ -30,6 +34,7 @@ const EXAMPLES: &[Example] = &[
     },
     Example {
         command: "export",
+        before: None,
         input: "examples/full.zonecfg",
         status: 0,
         out: Some("examples/full.export"),
@@ -37,6 +42,7 @@ const EXAMPLES: &[Example] = &[
     },
     Example {
         command: "export",
+        before: None,
         input: "examples/refused.zonecfg",
         status: 1,
         out: None,
@@ -44,6 +50,7 @@ const EXAMPLES: &[Example] = &[
     },
     Example {
         command: "trace",
+        before: None,
         input: "examples/web.trace",
         status: 0,
         out: Some("examples/web.replies"),
@@ -51,6 +58,15 @@ const EXAMPLES: &[Example] = &[
     },
     Example {
         command: "trace",
+        before: Some("examples/web.trace"),
+        input: "examples/again.trace",
+        status: 1,
+        out: Some("examples/again.replies"),
+        err: Some("examples/again.message"),
+    },
+    Example {
+        command: "trace",
+        before: None,
         input: "examples/two.trace",
         status: 1,
         out: Some("examples/two.replies"),
@@ -58,6 +74,7 @@ const EXAMPLES: &[Example] = &[
     },
     Example {
         command: "trace",
+        before: None,
         input: "examples/processes.trace",
         status: 1,
         out: Some("examples/processes.replies"),
@@ -65,6 +82,7 @@ const EXAMPLES: &[Example] = &[
     },
     Example {
         command: "trace",
+        before: None,
         input: "examples/mounts.trace",
         status: 1,
         out: Some("examples/mounts.replies"),
@@ -72,6 +90,7 @@ const EXAMPLES: &[Example] = &[
     },
     Example {
         command: "trace",
+        before: None,
         input: "examples/requests.trace",
         status: 1,
         out: Some("examples/requests.replies"),
@@ -86,9 +105,23 @@ fn text_of(rt: &(impl Files + AllocGlobal), file: Option<&str>) -> io::Result<Ve
     }
 }
 
+// What the run before an example has left.
+fn store_before(rt: &(impl Files + AllocGlobal), example: &Example) -> io::Result<Vec<u8>> {
+    match example.before {
+        Some(name) => Ok(run(rt.alloc(), example.command, fs::read(rt, name)?)?.store),
+        None => Ok(Vec::new(rt.alloc())),
+    }
+}
+
 // Whether an example ends as its files say.
 fn is_kept(rt: &(impl Files + AllocGlobal), example: &Example) -> io::Result<bool> {
-    let ended = run(rt.alloc(), example.command, fs::read(rt, example.input)?)?;
+    let store = store_before(rt, example)?;
+    let ended = run_on(
+        rt.alloc(),
+        example.command,
+        fs::read(rt, example.input)?,
+        store,
+    )?;
     let out = text_of(rt, example.out)?;
     let err = text_of(rt, example.err)?;
     Ok(

@@ -1,7 +1,7 @@
 //! Runs of the whole program over an input in memory.
 use crate::brands::{Hook, make_brands, proceeds, refuses_clones};
 use std::alloc::{AllocError, Global};
-use zn_io::{MemSink, MemSource};
+use zn_io::{MemDisk, MemSink, MemSource, Room};
 use zones_run::run_zones;
 
 // The size of a piece of the source.
@@ -10,16 +10,36 @@ const PIECE: usize = 4096;
 // The room of each sink.
 const ROOM: usize = 16384;
 
-/// What a run ends with: its status, and what standard output and standard error have taken.
+/// What a run ends with: its status, what standard output and standard error have taken, and what is on the disk.
 #[derive(Drop)]
 pub struct Ended {
     pub status: u8,
     pub out: MemSink,
     pub err: MemSink,
+    pub store: Vec<u8>,
 }
 
-/// Runs a command over an input.
-pub fn run(alloc: Global, command: &str, input: Vec<u8>) -> Result<Ended, AllocError> {
+// How much a disk may take.
+const DISK: Room = Room {
+    length: 65_536,
+    calls: 1024,
+    written: 65_536,
+};
+
+fn disk_of(alloc: Global, bytes: Vec<u8>) -> Result<MemDisk, AllocError> {
+    if bytes.len() > 65_536 {
+        return Err(AllocError);
+    }
+    MemDisk::new(alloc, bytes, DISK, Vec::new(alloc), None)
+}
+
+/// Runs a command over an input and a disk of some bytes.
+pub fn run_on(
+    alloc: Global,
+    command: &str,
+    input: Vec<u8>,
+    bytes: Vec<u8>,
+) -> Result<Ended, AllocError> {
     let mut words = Vec::new(alloc);
     words.push(String::from_str(alloc, command)?)?;
     let mut source = MemSource::new(input, PIECE, Vec::new(alloc));
@@ -30,6 +50,26 @@ pub fn run(alloc: Global, command: &str, input: Vec<u8>) -> Result<Ended, AllocE
     let Ok(brands) = make_brands(alloc, ipkg, lx) else {
         return Err(AllocError);
     };
-    let status = run_zones(alloc, &brands, &words, &mut source, &mut out, &mut err);
-    Ok(Ended { status, out, err })
+    let disk = disk_of(alloc, bytes)?;
+    let (status, disk) = run_zones(
+        alloc,
+        &words,
+        &mut source,
+        &mut out,
+        &mut err,
+        disk,
+        &brands,
+    );
+    let store = disk.bytes().to_vec(alloc)?;
+    Ok(Ended {
+        status,
+        out,
+        err,
+        store,
+    })
+}
+
+/// The same over an empty disk.
+pub fn run(alloc: Global, command: &str, input: Vec<u8>) -> Result<Ended, AllocError> {
+    run_on(alloc, command, input, Vec::new(alloc))
 }
