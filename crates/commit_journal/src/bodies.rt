@@ -7,11 +7,12 @@ ghost use Rattle.commit_journal.specs.Bodies.{IsCommit, IsRecord, IsStorable, pa
 ghost use Rattle.commit_journal.specs.Store.{change_text};
 
 use crate::Record;
+use crate::sizes::body_length;
 use std::alloc::{AllocError, Global};
 use uuid::Uuid;
 use uuid_text::push_uuid;
 use zn_base::ZoneName;
-use zone_config::{ZoneConfig, export};
+use zone_config::{ZoneConfig, push_export};
 
 fn push_told(out: &mut Vec<u8>, word: &[u8], value: &[u8]) -> Result<(), AllocError>
     ensures { OnOk result (out.new.items ≡ out.old.items ++ told word.now value.now) }
@@ -56,36 +57,33 @@ fn push_revision(out: &mut Vec<u8>, revision: u32) -> Result<(), AllocError>
     Ok(())
 }
 
-fn push_config(alloc: Global, out: &mut Vec<u8>, config: &ZoneConfig) -> Result<(), AllocError>
+fn push_config(out: &mut Vec<u8>, config: &ZoneConfig) -> Result<(), AllocError>
     ensures text { OnOk result (out.new.items ≡ out.old.items ++ export_text config.now) }
     ensures sound { IsSound config.now }
 {
     // The clauses of `contents` say that the configuration is sound.
     let _contents = config.contents();
-    match export(alloc, config) {
-        Ok(text) => out.extend_from_slice(&text),
-        Err(_) => Err(AllocError),
-    }
+    push_export(out, config)
 }
 
 #[tactic(auto, unfolding(crate::specs::Bodies::record_text))]
-fn push_record(alloc: Global, out: &mut Vec<u8>, row: &Record) -> Result<(), AllocError>
+fn push_record(out: &mut Vec<u8>, row: &Record) -> Result<(), AllocError>
     ensures text { OnOk result (out.new.items ≡ out.old.items ++ record_text row.now) }
     ensures record { OnOk result (IsStorable row.now → IsRecord row.now) }
 {
     push_told(out, b"state", row.state.text())?;
     push_uuid_line(out, row.uuid)?;
     push_revision(out, row.revision)?;
-    push_config(alloc, out, &row.config)
+    push_config(out, &row.config)
 }
 
-fn push_stored(alloc: Global, out: &mut Vec<u8>, stored: Option<&Record>) -> Result<(), AllocError>
+fn push_stored(out: &mut Vec<u8>, stored: Option<&Record>) -> Result<(), AllocError>
     ensures text { OnOk result (out.new.items ≡ out.old.items ++ stored_text (option_map (λ row. row.now) stored.entry)) }
     ensures record { OnOk result (IfSome stored.entry (λ row. IsStorable row.now → IsRecord row.now)) }
 {
     match stored {
         None => push_told(out, b"state", b"none"),
-        Some(row) => push_record(alloc, out, row),
+        Some(row) => push_record(out, row),
     }
 }
 
@@ -99,8 +97,8 @@ pub(crate) fn body_of(
     ensures text { IfOk result (λ body. body.items ≡ change_text zone.now (option_map (λ row. row.now) stored.entry)) }
     ensures commit { OnOk result (IfSome stored.entry (λ row. IsStorable row.now) → IsCommit (record { zone = zone.now; stored = option_map (λ row. row.now) stored.entry })) }
 {
-    let mut body = Vec::new(alloc);
+    let mut body = Vec::with_capacity(alloc, body_length(zone, stored))?;
     push_told(&mut body, b"zone", zone.bytes())?;
-    push_stored(alloc, &mut body, stored)?;
+    push_stored(&mut body, stored)?;
     Ok(body)
 }

@@ -22,7 +22,7 @@ pub use config_terms::{Attr, ConfigFault, Fs, IpType, Kind, Limit, Net, Rctl, Re
 // Here `each_kind!` looks for what it is given.
 use kinds::{arms_or_back, entry_arms, entry_arms_mut, kind_sum, resource_arms, resource_arms_mut};
 pub use laws::{clears_where_named, sets_where_allowed};
-pub use printing::export;
+pub use printing::{export, push_export};
 pub use property::PROPERTIES;
 pub use same::same_contents;
 pub use terms::{Alias, Contents, Property, Setting};

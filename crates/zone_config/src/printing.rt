@@ -53,16 +53,23 @@ fn push_resources(out: &mut Vec<u8>, contents: &Contents) -> Result<(), AllocErr
     push_kinds(out, contents, &KINDS)
 }
 
-/// The export text of a configuration, which zonecfg(8) reads back.
+/// Puts the export text of a configuration, which zonecfg(8) reads back, after what a buffer has.
 #[tactic(auto, unfolding(crate::specs::Export::export_text))]
+pub fn push_export(out: &mut Vec<u8>, config: &ZoneConfig) -> Result<(), AllocError>
+    ensures { OnOk result (out.new.items ≡ out.old.items ++ export_text config.now) }
+{
+    let contents = config.contents();
+    out.extend_from_slice(b"create -b\n")?;
+    push_properties(out, contents)?;
+    push_resources(out, contents)
+}
+
+/// The export text of a configuration, which zonecfg(8) reads back.
 pub fn export(alloc: Global, config: &ZoneConfig) -> Result<Vec<u8>, ConfigFault>
     ensures text { IfOk result (λ text. text.items ≡ export_text config.now) }
     ensures memory { OnErr result (result ≡ Err ConfigFault.Memory) }
 {
-    let contents = config.contents();
-    let mut out = Vec::new(alloc);
-    out.extend_from_slice(b"create -b\n")?;
-    push_properties(&mut out, contents)?;
-    push_resources(&mut out, contents)?;
+    let mut out = Vec::with_capacity(alloc, config.text_length())?;
+    push_export(&mut out, config)?;
     Ok(out)
 }
