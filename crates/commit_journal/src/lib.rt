@@ -18,5 +18,5 @@ pub use laws::{applies_one_by_one, one_commit_a_body, opens_store_one_way};
 pub use records::{Commit, Record, Row};
 pub use rows::Zones;
 pub use sizes::{body_length, fits, record_length};
-pub use store::{Store, append_record};
+pub use store::{Store, append_record, record_count, reopen};
 pub use uuids::uuid_of;

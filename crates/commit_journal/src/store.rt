@@ -1,5 +1,5 @@
 //! The zones that are stored on a disk, changed by one record at a time.
-ghost use Rattle.std.specs.Prelude.{◌≡◌, ◌≢◌, ◌⊎◌, ◌*◌, ◌+◌, ◌<◌, ◌≤◌, ◌++◌, ◌↔◌, [], ◌∷◌, List, ℕ, length, option_map, slice_get, Some, true, false, IfOk, IfErr, OnOk, OnErr, IfSome, IsErrOf, IsSome, IsTrue};
+ghost use Rattle.std.specs.Prelude.{◌≡◌, ◌≢◌, ◌⊎◌, ◌*◌, ◌+◌, ◌<◌, ◌≤◌, ◌++◌, ◌↔◌, [], ◌∷◌, List, ℕ, length, option_map, slice_get, Some, true, false, IfOk, IfErr, OnOk, OnErr, IfSome, IsErrOf, IsSome, IsTrue, is_ok};
 ghost use Rattle.indexmap.specs.IndexMap.{spare};
 ghost use Rattle.zn_io.specs.Disk.{View, Leaves};
 ghost use Rattle.zn_io.specs.Streams.{Rose};
@@ -51,6 +51,37 @@ fn count_of<D: Disk>(bank: &Bank<D>) -> usize
     // The clauses of `used` bound the bytes in use, and so the records.
     let _used = bank.used();
     bank.records().len()
+}
+
+/// How many records a bank has. It takes no memory.
+pub fn record_count<D: Disk>(bank: &Bank<D>) -> u32
+    ensures { result ≡ length bank.now.records }
+{
+    count_of(bank) as u32
+}
+
+/// Opens the store on a bank's disk again, as `Store::open` does: the zones that are stored. After a fault nothing may be appended.
+pub fn reopen<D: Disk>(bank: &mut Bank<D>, alloc: Global) -> Result<Zones, StoreFault>
+    ensures answers { (D.view bank.old.disk).Keeps → Says (D.view bank.old.disk).reads (outcome_by (λ _. bank.new.records) (λ zones. rows_of zones.entries) (λ e. e) result) }
+    ensures zones { IfOk result (λ zones. HasZones bank.new.records (rows_of zones.entries)) }
+    ensures any_moment { (D.view bank.old.disk).Keeps → Leaves (D.view bank.old.disk) (D.view bank.new.disk) (KeepsMeaning (D.view bank.old.disk)) }
+    ensures lasts { (D.view bank.old.disk).Keeps → OnOk result ((image : List ℕ) → (D.view bank.new.disk).Now image → Stands image bank.new.records) }
+    ensures sound { bank.new.sound ≡ is_ok result }
+    ensures model { (D.view bank.old.disk).Keeps ↔ (D.view bank.new.disk).Keeps }
+    ensures faults { (D.view bank.old.disk).faults ≤ (D.view bank.new.disk).faults }
+    ensures cause { IsErrOf result StoreFault.DiskFault → Rose (D.view bank.old.disk).faults (D.view bank.new.disk).faults }
+    ensures only { IfErr result (λ e. e ≢ StoreFault.BankFull) }
+{
+    bank.reopen(alloc)?;
+    // The clauses of `count_of` bound the records, as `replay` asks.
+    let _count = count_of(bank);
+    match replay(alloc, bank.records()) {
+        Ok(zones) => Ok(zones),
+        Err(fault) => {
+            bank.close();
+            Err(fault)
+        }
+    }
 }
 
 // Whether a body and the next gate fit after the bytes in use.

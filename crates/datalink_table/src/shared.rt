@@ -52,6 +52,14 @@ impl ClaimShared {
         }
     }
 
+    /// The system restarts: the items stay declared, and nobody holds any. It takes no memory.
+    pub fn restart(&mut self, alloc: Global)
+        ensures declared { self.new.declared ≡ self.old.declared }
+        ensures holders { (c : claim_types.Claim) → holder c self.new ≡ None }
+    {
+        self.holders = Owners::new(alloc);
+    }
+
     // How many items of a kind are declared.
     fn count_of(&self, kind: ClaimKind) -> usize
         ensures { result ≡ count_of kind self.now }

@@ -64,6 +64,20 @@ impl KernelShared {
         }
     }
 
+    /// The system restarts: the devices stay declared, and all else is as in a new one. It takes no memory.
+    pub fn restart(&mut self, alloc: Global)
+        ensures pids { (n : ℕ) → pid_owner self.new n ≡ None }
+        ensures zids { (n : ℕ) → zid_owner self.new n ≡ None }
+        ensures last_pid { self.new.last_pid ≡ 1 }
+        ensures last_zid { self.new.last_zid ≡ 0 }
+        ensures devices { self.new.devices ≡ self.old.devices }
+    {
+        self.pids = Owners::new(alloc);
+        self.zids = Owners::new(alloc);
+        self.last_pid = PID_MIN - 1;
+        self.last_zid = ZID_MIN - 1;
+    }
+
     fn check_device(&self, path: &AbsPath) -> Result<(), KernelFault>
         ensures { result ≡ declare_answer path.now self.now }
     {

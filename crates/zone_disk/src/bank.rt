@@ -1,5 +1,5 @@
 //! A list of bodies on a disk, each after a gate byte that is opened once the body is on the disk.
-ghost use Rattle.std.specs.Prelude.{◌≡◌, ◌≢◌, ◌⊎◌, ◌*◌, ◌+◌, ◌<◌, ◌≤◌, ◌-◌, ◌^◌, ◌++◌, ◌↔◌, [], ◌∷◌, List, ℕ, length, IfOk, IfErr, OnOk, OnErr, IsErrOf, IsTrue, Bool, true, false, Result, vec_capacity};
+ghost use Rattle.std.specs.Prelude.{◌≡◌, ◌≢◌, ◌⊎◌, ◌*◌, ◌+◌, ◌<◌, ◌≤◌, ◌-◌, ◌^◌, ◌++◌, ◌↔◌, [], ◌∷◌, List, ℕ, length, IfOk, IfErr, OnOk, OnErr, IsErrOf, IsTrue, Bool, true, false, Result, is_ok, vec_capacity};
 ghost use Rattle.zn_io.specs.Disk.{View, Leaves, IsDurable};
 ghost use Rattle.zn_io.specs.Streams.{HasCause, Rose};
 ghost use Rattle.zone_disk.specs.Image.{used_by, IsUnformatted, Stands};
@@ -176,6 +176,34 @@ impl<D: Disk> Bank<D> {
         push(&mut self.records, kept);
         self.sound = true;
         Ok(())
+    }
+
+    /// Opens the store on the bank's disk again, as `open` does. After a fault nothing may be appended.
+    pub fn reopen(&mut self, alloc: Global) -> Result<(), BankFault>
+        ensures answers { (D.view self.old.disk).Keeps → Says (D.view self.old.disk).reads (outcome_by (λ _. self.new.records) (λ e. e) result) }
+        ensures any_moment { (D.view self.old.disk).Keeps → Leaves (D.view self.old.disk) (D.view self.new.disk) (KeepsMeaning (D.view self.old.disk)) }
+        ensures lasts { (D.view self.old.disk).Keeps → OnOk result ((image : List ℕ) → (D.view self.new.disk).Now image → Stands image self.new.records) }
+        ensures sound { self.new.sound ≡ is_ok result }
+        ensures used { OnOk result (self.new.used ≡ used_by self.new.records) }
+
+        ensures model { (D.view self.old.disk).Keeps ↔ (D.view self.new.disk).Keeps }
+        ensures faults { (D.view self.old.disk).faults ≤ (D.view self.new.disk).faults }
+        ensures cause { IsErrOf result BankFault.DiskFault → Rose (D.view self.old.disk).faults (D.view self.new.disk).faults }
+        ensures only { IfErr result (λ e. e ≢ BankFault.BankFull) }
+    {
+        self.sound = false;
+        let records = ready(alloc, &mut self.disk)?;
+        self.records = records.bodies;
+        self.used = records.used as u32;
+        self.sound = true;
+        Ok(())
+    }
+
+    /// Nothing may be appended any more. It takes no memory.
+    pub fn close(&mut self)
+        ensures { self.new ≡ record self.old { sound = false } }
+    {
+        self.sound = false;
     }
 
     /// The bodies, in the order of their appending.
