@@ -1,5 +1,6 @@
 -- What an event leaves on the disk, whatever state the machine's parts stand for.
-use Rattle.std.proofs.Common.{◌≡◌, ℕ, List, Option, Some, None, ap, sym, subst, ◌∙◌}
+use Rattle.std.proofs.Common.{◌≡◌, ℕ, List, Option, Some, None, ap, sym, subst, true, ◌∙◌}
+use Rattle.std.specs.Prelude.{◌≢◌, is_some}
 use Rattle.zn_io.specs.Disk.{IsSound, View as Disk_view}
 use Rattle.zn_base.specs.Names.{Name}
 use Rattle.zone_disk.specs.Bank.{Account}
@@ -10,14 +11,14 @@ use Rattle.zoneadmd_steps.specs.Arrivals.{Arrival, in_store}
 use Rattle.zone_machine.proofs.Standing.{cell-stands, decide-stands, subject-stands}
 use Rattle.zone_machine.proofs.Stepping.{takes-by, world-stands}
 use Rattle.zone_machine.proofs.Storing.{case-stored}
-use Rattle.zone_machine.proofs.Writing.{bodies-more, commits-global, commits-whole, commits-zone, goes-nowhere, goes-writes}
+use Rattle.zone_machine.proofs.Writing.{bodies-more, commits-global, commits-whole, commits-zone, goes-nowhere, goes-writes, grows}
 use Rattle.zone_machine.specs.Code.Cases.{decision_of}
 use Rattle.zone_machine.specs.Code.Cells.{CellOf, Outside, SharedOf, cell_at, cell_world, outside_in, world_or_empty}
 use Rattle.zone_machine.specs.Code.Decided.{IsCaseIn}
 use Rattle.zone_machine.specs.Code.Needs.{pools_in}
 use Rattle.zone_machine.specs.Code.Reads.{subject_in}
-use Rattle.zone_machine.specs.Code.Records.{GoesInCell, GoesUnder, HasNumber, IsReady, KeepsBodies, KeepsBodiesInCell, Writes, bodies_with, stored_by, taken}
-use Rattle.zone_machine.specs.Code.Steps.{IsGrantFor, IsTaken, Takes}
+use Rattle.zone_machine.specs.Code.Records.{GoesInCell, GoesUnder, HasNumber, IsReady, KeepsBodies, KeepsBodiesInCell, StoresUnder, Writes, bodies_with, stored_by, taken}
+use Rattle.zone_machine.specs.Code.Steps.{IsGrantFor, IsTaken, Leaves, LeavesGranted, Takes}
 use Rattle.zone_machine.specs.Machine.{decide, one, subject}
 use Rattle.zone_machine.specs.Machine.Common.{common}
 use Rattle.zone_machine.specs.Machine.Images.{Goes}
@@ -27,6 +28,8 @@ use Rattle.zone_machine.specs.State.Worlds.{View, view, world}
 use Rattle.zone_machine.specs.declared.cases.Case.{Case}
 use Rattle.zone_machine.specs.declared.events.Event.{Event}
 use Rattle.zone_machine.specs.declared.events.Subject.TheVariants.{Global, Whole, Zone}
+use Rattle.zone_machine.specs.declared.faults.StepFault.{StepFault}
+use Rattle.zone_machine.specs.declared.faults.StepFault.TheVariants.{BadGrant, DiskFault, Memory, WouldRecord}
 use Rattle.zone_machine.specs.declared.machine.cell.Cell.{Cell}
 use Rattle.zone_machine.specs.declared.machine.parts.Parts.{Parts}
 use Rattle.zone_machine.specs.declared.machine.shared.Shared.{Shared}
@@ -49,6 +52,9 @@ module _ (z : Name) (c : Cell) (s : Shared) (e : Event) (case : Case) (g : Grant
       goes-writes z came S.commits (one S e g).state.commits bodies (rows_of s.rows.entries) v w same (ap (λ k. k.rows) shared) (commits-zone S e g z of)
       (subst (λ o. Writes z o bodies (rows_of s.rows.entries) v w) (sym stored-is) writes)
 
+  pub case-more : is_some (stored_by case g) ≡ true → (one S e g).state.commits ≢ S.commits
+  case-more some same = grows z came S.commits (ap is_some stored-is ∙ some) (sym (commits-zone S e g z of) ∙ same)
+
   pub case-keeps : (old new : List (List ℕ)) → bodies_of S.commits ≡ old → new ≡ bodies_with z (stored_by case g) old → bodies_of (one S e g).state.commits ≡ new
   case-keeps old new same is =
       ap bodies_of (commits-zone S e g z of) ∙ (bodies-more z came S.commits ∙ (ap (λ o. bodies_with z o (bodies_of S.commits)) stored-is ∙ (ap (bodies_with z (stored_by case g)) same ∙ sym is)))
@@ -68,6 +74,9 @@ module _ (m : Parts) (z : Name) (c : Cell) (e : Event) (case : Case) (g : Grant)
   parts-goes bodies v w writes S stands are =
       case-goes z c m.shared e case g h has S stands.shared (world-stands S m z stands ∙ same (outside_in z m.shared)) (subject-stands S m.shared e stands.shared ∙ is) bodies v w are writes
 
+  pub parts-more : is_some (stored_by case g) ≡ true → StoresUnder (Some g) m e
+  parts-more some S stands = case-more z c m.shared e case g h has S stands.shared (world-stands S m z stands ∙ same (outside_in z m.shared)) (subject-stands S m.shared e stands.shared ∙ is) some
+
   pub parts-keeps : (old new : List (List ℕ)) → new ≡ bodies_with z (stored_by case g) old → KeepsBodies (Some g) m e old new
   parts-keeps old new now S stands are =
       case-keeps z c m.shared e case g h has S stands.shared (world-stands S m z stands ∙ same (outside_in z m.shared)) (subject-stands S m.shared e stands.shared ∙ is) old new are now
@@ -80,6 +89,9 @@ taken-is (Some stated) S e g takes = takes.0
 module _ (m : Parts) (e : Event) (stated : Option Grant) (g : Grant) (takes : IsTaken m stated e g) where
   pub goes-taken : (bodies : List (List ℕ)) (v w : Disk_view) → GoesUnder (Some g) m e bodies v w → GoesUnder stated m e bodies v w
   goes-taken bodies v w goes S stands same = subst (λ g. Goes S.commits (one S e g).state.commits v w) (taken-is stated S e g (takes S stands)) (goes S stands same)
+
+  pub more-taken : StoresUnder (Some g) m e → StoresUnder stated m e
+  more-taken more S stands = subst (λ g. (one S e g).state.commits ≢ S.commits) (taken-is stated S e g (takes S stands)) (more S stands)
 
   pub keeps-taken : (old new : List (List ℕ)) → KeepsBodies (Some g) m e old new → KeepsBodies stated m e old new
   keeps-taken old new keeps S stands same = subst (λ g. bodies_of (one S e g).state.commits ≡ new) (taken-is stated S e g (takes S stands)) (keeps S stands same)
@@ -112,3 +124,11 @@ module _ (stated : Option Grant) (m : Parts) (e : Event) (bodies : List (List �
 
   pub keeps-whole : subject_in m.shared e ≡ Whole → KeepsBodies stated m e bodies bodies
   keeps-whole is S stands same = ap bodies_of (commits-whole S e (taken stated S e) (subject-stands S m.shared e stands.shared ∙ is)) ∙ same
+
+-- what an event leaves that was not answered, by its grant
+pub leaves-stated : (stated : Option Grant) (g : Grant) (m u : Parts) (e : Event) → IsTaken m stated e g → (fault : StepFault) → LeavesGranted fault g m e u → Leaves fault stated m e u
+leaves-stated stated g m u e takes Memory h = h
+leaves-stated stated g m u e takes WouldRecord h = (h.0, more-taken m e stated g takes h.1)
+leaves-stated stated g m u e takes BadGrant h = absurd h
+leaves-stated None g m u e takes DiskFault h = tt
+leaves-stated (Some stated) g m u e takes DiskFault h = λ S stands. (takes S stands).1

@@ -21,6 +21,7 @@ pub mod Words
 pub mod Made
 pub mod Right_lines
 pub mod Pools_laws
+pub mod Indexing
 pub mod Lists_laws
 pub mod Waits_laws
 pub mod Doing_laws

@@ -9,7 +9,7 @@ use Rattle.zone_pools.specs.declared.owned.Owned.{Owned}
 use Rattle.zone_pools.specs.Firsts.{first_of}
 use Rattle.kernel_objects.specs.Shared.{Shared as Kernel, pid_owner, zid_owner}
 use Rattle.kernel_objects.specs.Processes.{Process, has_pid}
-use Rattle.std.proofs.Common.{◌≡◌, [], ℕ, Bool, Option, Some, None, true, false, inl, inr, refl, ap, sym, subst, ◌∙◌, IfSome, List}
+use Rattle.std.proofs.Common.{◌≡◌, [], ℕ, Bool, Option, Some, None, true, false, inl, inr, length, refl, ap, sym, subst, ◌∙◌, IfSome, List}
 use Rattle.indexmap.specs.IndexMap.{get}
 use Rattle.std.specs.Map.{lookup}
 use Rattle.std.specs.Prelude.{bytes_eq, is_some, nat_eq, filter, unwrap_or}
@@ -21,19 +21,22 @@ use Rattle.zone_pools.specs.declared.grant.Grant.{Grant}
 use Rattle.zone_pools.specs.Owners.{held_by, is_owner, owner}
 use Rattle.commit_journal.proofs.Zones.{row_is}
 use Rattle.commit_journal.specs.Store.{row_of}
+use Rattle.commit_journal.specs.Stored.{stored as stored_by}
 use Rattle.commit_journal.specs.Zones.{rows_of}
+use Rattle.commit_journal.specs.declared.records.Commit.{Commit}
 use Rattle.zone_machine.proofs.Common_laws.{common-acts, has_it, holder-none, holder-one}
 use Rattle.zone_machine.proofs.Doing_laws.{holds_wait}
 use Rattle.zone_machine.proofs.Acts_laws.{own-acts}
 use Rattle.zone_machine.proofs.Own_worlds.{own_session, view-world}
-use Rattle.zone_machine.specs.Code.Cells.{Acts, Agree, CellOf, Outside, SharedOf, Shows, cell_world, is_up_in, outside_in, outside_of, row_in}
+use Rattle.zone_machine.specs.Code.Cells.{Acts, Agree, CellOf, Outside, SharedOf, Shows, cell_world, declared_in, is_up_in, outside_in, outside_of, row_in}
 use Rattle.zone_machine.specs.Code.Reads.{decide_in, subject_at, subject_in, held_subject, idle_subject}
 use Rattle.zone_machine.specs.Machine.Common.{Common, acts_common, came_common, common}
 use Rattle.zone_machine.specs.State.Decisions.{Act, act_of, acts_world}
 use Rattle.zone_machine.specs.Session.Lines.{Line, line_of, Command, Kill}
 use Rattle.zone_machine.specs.Machine.{decide, done_by, opening, one, one_of, session_number, session_subject, subject, holder, line_subject}
 use Rattle.zone_machine.specs.State as state
-use Rattle.zone_machine.specs.State.{State, stored}
+use Rattle.zone_machine.specs.State.Declarations.{Declared}
+use Rattle.zone_machine.specs.State.{State, bytes_used, stored}
 use Rattle.zone_machine.specs.Code.Cell_steps.{IsCellStep}
 use Rattle.zone_machine.specs.State.Worlds.{World, doing, view, view_of, world}
 use Rattle.zone_machine.specs.declared.machine.cell.Cell.{Cell}
@@ -72,27 +75,27 @@ agrees z S c s cell shared = record {
   sessions = λ n. sym (holds_wait (get nat_eq c.waits n)) ∙ (ap (λ w. is_some (w.sessions n)) (sym cell) ∙ ap (λ k. k.sessions z n) shared);
 }
 
--- before any event nobody holds anything, and no zone is up
+-- before any event, and after a restart, nobody holds anything, and no zone is up
 held_nowhere : {K : Type 0} (o : K → Option Name) → ((k : K) → o k ≡ None) → (z : Name) (k : K) → false ≡ held_by o z k
 held_nowhere o none z k = sym (ap (is_owner z) (none k))
 
-pub nothing-shared : (s : Shared) (brands : List Tabled) → ((n : ℕ) → pid_owner s.kernel n ≡ None) → ((n : ℕ) → zid_owner s.kernel n ≡ None) → ((k : Claim) → claims.holder k s.claims ≡ None)
-    → ((n : ℕ) → owner nat_eq s.sessions n ≡ None) → s.ups.entries ≡ [] → s.rows.entries ≡ [] → s.serial ≡ 0 → s.used ≡ 1 → s.kernel.last_pid ≡ 1 → s.kernel.last_zid ≡ 0 → s.claims.declared ≡ []
-    → s.kernel.devices ≡ [] → s.brands ≡ brands → s.started ≡ false → SharedOf s (common (opening brands []))
-nothing-shared s brands pids zids held sessions ups rows serial used last_pid last_zid items devices brands-are started = λ i. record {
+pub begun-shared : (s : Shared) (brands : List Tabled) (R : List Commit) (d : Declared) (started : Bool) → ((n : ℕ) → pid_owner s.kernel n ≡ None) → ((n : ℕ) → zid_owner s.kernel n ≡ None) → ((k : Claim) → claims.holder k s.claims ≡ None)
+    → ((n : ℕ) → owner nat_eq s.sessions n ≡ None) → s.ups.entries ≡ [] → stored_by R ≡ rows_of s.rows.entries → length R ≡ s.serial → bytes_used R ≡ s.used → s.kernel.last_pid ≡ 1 → s.kernel.last_zid ≡ 0
+    → d ≡ declared_in s → s.brands ≡ brands → s.started ≡ started → SharedOf s (common (record (opening brands R) { declared = d; started = started }))
+begun-shared s brands R d started pids zids held sessions ups rows serial used last_pid last_zid declared brands-are began = λ i. record {
   pids = λ z n. held_nowhere (pid_owner s.kernel) pids z n i;
   zids = λ z n. held_nowhere (zid_owner s.kernel) zids z n i;
   claims = λ z k. held_nowhere (λ k. claims.holder k s.claims) held z k i;
   sessions = λ z n. held_nowhere (owner nat_eq s.sessions) sessions z n i;
   up = λ z. unwrap_or (lookup (bytes_eq z) (sym ups i)) false;
-  rows = ap rows_of (sym rows) i;
-  serial = sym serial i;
-  used = sym used i;
+  rows = rows i;
+  serial = serial i;
+  used = used i;
   last_pid = sym last_pid i;
   last_zid = sym last_zid i;
-  declared = record { items = sym items i; devices = sym devices i };
+  declared = declared i;
   brands = sym brands-are i;
-  started = sym started i;
+  started = sym began i;
 }
 
 -- whose an event is

@@ -42,10 +42,10 @@ use Rattle.zone_machine.specs.State.{Awaiting, State, stored}
 use Rattle.zone_machine.specs.Session.Typed.{typed}
 use Rattle.zn_io.specs.Disk.{View as Disk_view}
 use Rattle.zone_disk.specs.Bank.{Account}
-use Rattle.zone_machine.specs.Code.Records.{BankLeft}
+use Rattle.zone_machine.specs.Code.Records.{BankLeft, StoresUnder}
 use Rattle.zone_machine.specs.Code.Rooms.{Alike, IsFreeOf}
 use Rattle.zone_machine.specs.Code.Cell_steps.{CellAnswers, CellLeaves, IsCellStep, IsCellMisfitUnder, IsCellStepUnder}
-use Rattle.zone_machine.specs.Code.Steps.{IsRefusedIfUnfit, IsStep, IsStepUnder, IsZoneState, Answers, IsGrantFor, IsUnfit, IsMisfitUnder, IsTaken, Leaves, Takes, AsItWas}
+use Rattle.zone_machine.specs.Code.Steps.{IsRefusedIfUnfit, IsStep, IsStepUnder, IsZoneState, Answers, IsGrantFor, IsUnfit, IsMisfitUnder, IsTaken, Leaves, LeavesGranted, Takes, AsItWas}
 use Rattle.zone_machine.specs.declared.faults.StepFault.{StepFault}
 use Rattle.zone_machine.specs.declared.faults.StepFault.TheVariants.{BadGrant, DiskFault, Memory, WouldRecord}
 use Rattle.zone_machine.specs.State.Worlds.{World, objects_of, view, view_of, world, View}
@@ -302,19 +302,25 @@ module _ (m u : Parts) (z : Name) (e : Event) (c d : Cell) (same : (out : Outsid
           at_zone false k = sym (left_at y out false k)
 
   -- what an event leaves that was not answered
-  pub Leaves-cell : (fault : StepFault) → CellLeaves fault z None c m.shared e d u.shared → Leaves fault None m e u
-  Leaves-cell Memory h = AsItWas-cell h
-  Leaves-cell WouldRecord h = AsItWas-cell h
-  Leaves-cell BadGrant h = absurd h
-  Leaves-cell DiskFault h = tt
+  pub Leaves-cell : (g : Grant) (fault : StepFault) → CellLeaves fault z None c m.shared e d u.shared → (fault ≡ WouldRecord → StoresUnder (Some g) m e) → LeavesGranted fault g m e u
+  Leaves-cell g Memory h more = AsItWas-cell h
+  Leaves-cell g WouldRecord h more = (AsItWas-cell h, more refl)
+  Leaves-cell g BadGrant h more = absurd h
+  Leaves-cell g DiskFault h more = tt
 
--- of an event under no stated grant no grant can be a bad one
-pub leaves-stated : (stated : Option Grant) (g : Grant) (m u : Parts) (e : Event) → IsTaken m stated e g → (fault : StepFault) → Leaves fault None m e u → Leaves fault stated m e u
-leaves-stated stated g m u e takes Memory h = h
-leaves-stated stated g m u e takes WouldRecord h = h
-leaves-stated stated g m u e takes BadGrant h = absurd h
-leaves-stated None g m u e takes DiskFault h = tt
-leaves-stated (Some stated) g m u e takes DiskFault h = λ S stands. (takes S stands).1
+-- the same where a cell was to be kept and is not, and the others stand as they stood
+module _ (m u : Parts) (z : Name) (e : Event) (c d : Cell) (same : (y : Name) → cell_at y u ≡ cell_at y m) where
+  AsItWas-new : Alike c m.shared d u.shared → AsItWas m u
+  AsItWas-new alike S = (
+    λ h. record { worlds = λ y. h.worlds y ∙ ap (world_or_empty (outside_of (world y S))) (sym (same y)); shared = h.shared ∙ sym alike.common },
+    λ h. record { worlds = λ y. h.worlds y ∙ ap (world_or_empty (outside_of (world y S))) (same y); shared = h.shared ∙ alike.common },
+  )
+
+  pub Leaves-new : (g : Grant) (fault : StepFault) → CellLeaves fault z None c m.shared e d u.shared → (fault ≡ WouldRecord → StoresUnder (Some g) m e) → LeavesGranted fault g m e u
+  Leaves-new g Memory h more = AsItWas-new h
+  Leaves-new g WouldRecord h more = (AsItWas-new h, more refl)
+  Leaves-new g BadGrant h more = absurd h
+  Leaves-new g DiskFault h more = tt
 
 pub refused-unfit : {D : Type 0} (m u : Parts) (e : Event) (g : Grant) (r : Result Entry StepFault) (a b : Account D) (v w : Disk_view) (s : Shared)
     → IfOk r (λ entry. IsStepUnder (Some g) m e entry u) → IfErr r (λ fault. Leaves fault (Some g) m e u) → IfErr r (λ fault. BankLeft true fault a b v w s) → IsRefusedIfUnfit m e g r
@@ -399,7 +405,8 @@ module _ (m : Parts) (z : Name) (e : Event) (c : Cell) (decides : View → Decis
 pub left_so : {A : Type 0} (r : Result A StepFault) (stated : Option Grant) (m : Parts) (e : Event) → IsErrOf r BadGrant ⊎ IsErrOf r Memory → (IsErrOf r BadGrant → IsMisfitUnder stated m e m) → IfErr r (λ fault. Leaves fault stated m e m)
 left_so (Right x) stated m e some h = tt
 left_so (Err Memory) stated m e some h = λ S. (λ stands. stands, λ stands. stands)
-left_so (Err WouldRecord) stated m e some h = λ S. (λ stands. stands, λ stands. stands)
+left_so (Err WouldRecord) stated m e (inl is) h = cc
+left_so (Err WouldRecord) stated m e (inr is) h = cc
 left_so (Err BadGrant) stated m e some h = h refl
 left_so (Err DiskFault) stated m e (inl is) h = cc
 left_so (Err DiskFault) stated m e (inr is) h = cc

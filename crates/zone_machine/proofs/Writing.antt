@@ -1,8 +1,8 @@
 -- What is left on the disk where nothing is written, and by the commits of a store.
-use Rattle.std.proofs.Common.{◌≡◌, ◌⊎◌, ◌&&◌, Result, Ok as Right, Err, IfErr, ℕ, List, [], ◌∷◌, ◌++◌, Bool, true, false, Option, Some, None, inl, inr, refl, ap, sym, subst, ◌∙◌, arith}
-use Rattle.std.proofs.lemmas.List.{append-nil, map-append}
+use Rattle.std.proofs.Common.{◌≡◌, ◌⊎◌, ◌&&◌, Result, Ok as Right, Err, IfErr, ℕ, List, [], ◌∷◌, ◌++◌, Bool, true, false, Option, Some, None, inl, inr, length, refl, ap, sym, subst, ◌∙◌, arith}
+use Rattle.std.proofs.lemmas.List.{append-nil, length-append, map-append}
 use Rattle.std.proofs.lemmas.Bool.{false≢true}
-use Rattle.std.specs.Prelude.{IsErrOf, is_ok, is_some, not}
+use Rattle.std.specs.Prelude.{◌≢◌, IsErrOf, is_ok, is_some, not}
 use Rattle.zn_io.proofs.Moments.{weaker}
 use Rattle.zn_io.specs.Streams.{Rose}
 use Rattle.zn_io.specs.Disk.{IsSound, View}
@@ -92,6 +92,15 @@ rows-more z (Some (New_process p)) commits = ap stored (append-nil commits)
 rows-more z (Some (New_id i)) commits = ap stored (append-nil commits)
 rows-more z (Some (New_claim c)) commits = ap stored (append-nil commits)
 rows-more z (Some No_new_thing) commits = ap stored (append-nil commits)
+
+-- a record that is stored is one commit more
+pub grows : (z : Name) (came : Option Arrival) (commits : List Commit) → is_some (in_store came) ≡ true → commits ++ committed z came ≢ commits
+grows z (Some (New_record row)) commits some same = let long = length-append commits (record { zone = z; stored = row } ∷ []) in absurd (omega (arith, long, ap length same))
+grows z None commits some same = false≢true some
+grows z (Some (New_process p)) commits some same = false≢true some
+grows z (Some (New_id i)) commits some same = false≢true some
+grows z (Some (New_claim c)) commits some same = false≢true some
+grows z (Some No_new_thing) commits some same = false≢true some
 
 -- an image stands for bodies and rows, in other words
 pub stores-same : (a b : List (List ℕ)) (r s : Rows) (image : List ℕ) → a ≡ b → r ≡ s → Stores a r image → Stores b s image

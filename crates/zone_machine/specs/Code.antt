@@ -12,4 +12,5 @@ pub mod Rooms
 pub mod Steps
 pub mod Cell_steps
 pub mod Local_turns
+pub mod Openings
 pub mod Decided

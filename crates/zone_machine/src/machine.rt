@@ -1,5 +1,5 @@
 //! The machine.
-ghost use Rattle.std.specs.Prelude.{◌≡◌, ◌≢◌, ◌⊎◌, IfErr, IfOk, IsErrOf, IsOkUnless, Err, List, None, OnOk, Some, length, true};
+ghost use Rattle.std.specs.Prelude.{◌≡◌, ◌≢◌, ◌⊎◌, IfErr, IfOk, IsErrOf, IsOkUnless, Err, List, None, OnOk, Some, is_ok, length, true};
 ghost use Rattle.zn_io.specs.Disk.{Leaves as Disk_leaves};
 ghost use Rattle.zn_io.specs.Streams.{Rose};
 ghost use Rattle.brand_hooks.specs.Brands.{tables_of};
@@ -8,18 +8,23 @@ ghost use Rattle.commit_journal.specs.Store.{OpensStore};
 ghost use Rattle.commit_journal.specs.declared.records.Commit.{Commit};
 ghost use Rattle.zone_machine.specs.Code.Cells.{Stands};
 ghost use Rattle.zone_machine.specs.Code.Decided.{AsksBrands, IsHeard, MayGoOn, entry_by};
+ghost use Rattle.zone_machine.specs.Code.Openings.{Begins, BeginsAgain, StandsFor};
 ghost use Rattle.zone_machine.specs.Code.Records.{BankLeft, GoesUnder, KeepsBodies, Passes};
 ghost use Rattle.zone_machine.specs.Code.Steps.{AsItWas, IsAllowed, IsAllowedStep, IsFittingStep, IsMisfit, IsRefusedIfUnfit, IsStarted, IsSubject, IsZoneState, Leaves};
-ghost use Rattle.zone_machine.specs.Machine.{opening};
+ghost use Rattle.zone_machine.specs.Machine.{opening, restarted};
 ghost use Rattle.zone_machine.specs.Machine.Images.{Holds, IsStoreOf};
-ghost use Rattle.zone_machine.specs.State.{State, bodies_of};
+ghost use Rattle.zone_machine.specs.Machine.Indexed.{index_of};
+ghost use Rattle.zone_machine.specs.State.{State};
 
+pub(crate) mod answering;
 pub(crate) mod cell;
 pub(crate) mod comings;
 pub(crate) mod declarations;
 pub(crate) mod effects;
+pub(crate) mod indexed;
 pub(crate) mod local_turns;
 pub(crate) mod needs;
+pub(crate) mod other_events;
 pub(crate) mod parts;
 pub(crate) mod pools;
 pub(crate) mod reads;
@@ -30,13 +35,16 @@ pub(crate) mod shared;
 pub(crate) mod steps;
 pub(crate) mod ups;
 pub(crate) mod work;
+pub(crate) mod zone_events;
 
 use crate::events::{Answer, Entry, Event, Subject};
 use crate::faults::StepFault;
+use crate::machine::indexed::index_rows;
 use crate::machine::parts::Parts;
 use crate::machine::reads::{read_event, subject};
 use brand_hooks::{Brands, Change, HookAnswer};
-use commit_journal::{Store, StoreFault, opens_store_one_way};
+use commit_journal::{Store, StoreFault, opens_store_one_way, record_count, reopen};
+use index_file::IndexRow;
 use std::alloc::Global;
 use zn_base::{ZoneName, ZoneState};
 use zn_io::Disk;
@@ -57,9 +65,9 @@ impl<'b, D: Disk, F: Fn(&Change) -> HookAnswer> Machine<'b, D, F> {
     /// leaves what stands for the same commits. A fault hands the disk back.
     pub fn open(alloc: Global, disk: D, brands: &'b Brands<F>) -> Result<Self, (StoreFault, D)>
         requires { AllFollow F.Fn brands.now }
-        ensures stands { (D.view disk).Keeps → IfOk result (λ m. (R : List Commit) → Holds R (D.view disk).reads → Stands (opening (tables_of brands.now) R) m.parts) }
+        ensures begins { IfOk result (Begins (tables_of brands.now)) }
+        ensures stands { (D.view disk).Keeps → IfOk result (λ m. (R : List Commit) → Holds R (D.view disk).reads → StandsFor (opening (tables_of brands.now) R) m) }
         ensures opens { (D.view disk).Keeps → IfOk result (λ m. (R : List Commit) × Holds R (D.view disk).reads) }
-        ensures bodies { (D.view disk).Keeps → IfOk result (λ m. (R : List Commit) → Holds R (D.view disk).reads → bodies_of R ≡ m.bank.records) }
         ensures refuses { (D.view disk).Keeps → IfErr result (λ e. (e.0 ≡ StoreFault.Memory) ⊎ ((e.0 ≡ StoreFault.DiskFault) ⊎ OpensStore (D.view disk).reads (Err e.0))) }
         ensures any_moment { (R : List Commit) → IsStoreOf (D.view disk) R → IfOk result (λ m. Disk_leaves (D.view disk) (D.view m.bank.disk) (Holds R)) }
         ensures any_moment_err { (R : List Commit) → IsStoreOf (D.view disk) R → IfErr result (λ e. Disk_leaves (D.view disk) (D.view e.1) (Holds R)) }
@@ -77,8 +85,8 @@ impl<'b, D: Disk, F: Fn(&Change) -> HookAnswer> Machine<'b, D, F> {
         };
         match Store::open(alloc, disk) {
             Ok(store) => {
-                let records = store.next_serial() - 1;
                 let (bank, rows) = store.into_parts();
+                let records = record_count(&bank);
                 let used = bank.used();
                 Ok(Self {
                     parts: Parts::opened(alloc, tables, rows, records, used),
@@ -87,6 +95,35 @@ impl<'b, D: Disk, F: Fn(&Change) -> HookAnswer> Machine<'b, D, F> {
                 })
             }
             Err(refused) => Err(refused),
+        }
+    }
+
+    /// The system restarts: the store is opened again, what is declared stays, and all else begins anew. A crash at any moment
+    /// meanwhile leaves what stands for the same commits. After a fault no event may be taken any more.
+    pub fn restart(&mut self, alloc: Global) -> Result<(), StoreFault>
+        requires asks { AsksBrands F.Fn self.old }
+        requires ready { MayGoOn D.view self.old }
+        ensures begins { OnOk result ((S : State) → Stands S self.old.parts → BeginsAgain S self.new) }
+        ensures stands { (D.view self.old.bank.disk).Keeps → OnOk result ((S : State) → StandsFor S self.old → StandsFor (restarted S) self.new) }
+        ensures refuses { (D.view self.old.bank.disk).Keeps → IfErr result (λ e. (e ≡ StoreFault.Memory) ⊎ (e ≡ StoreFault.DiskFault)) }
+        ensures any_moment { (R : List Commit) → IsStoreOf (D.view self.old.bank.disk) R → Disk_leaves (D.view self.old.bank.disk) (D.view self.new.bank.disk) (Holds R) }
+        ensures ready { OnOk result (MayGoOn D.view self.new) }
+        ensures unsound { self.new.bank.sound ≡ is_ok result }
+        ensures passes { Passes (D.view self.old.bank.disk) (D.view self.new.bank.disk) }
+        ensures cause { IsErrOf result StoreFault.DiskFault → Rose (D.view self.old.bank.disk).faults (D.view self.new.bank.disk).faults }
+        ensures only { IfErr result (λ e. e ≢ StoreFault.BankFull) }
+        ensures asks { AsksBrands F.Fn self.new }
+    {
+        // A law: an image stands for the records of one store.
+        opens_store_one_way();
+        match reopen(&mut self.bank, alloc) {
+            Ok(rows) => {
+                let records = record_count(&self.bank);
+                let used = self.bank.used();
+                self.parts.restart(alloc, rows, records, used);
+                Ok(())
+            }
+            Err(fault) => Err(fault),
         }
     }
 
@@ -102,6 +139,14 @@ impl<'b, D: Disk, F: Fn(&Change) -> HookAnswer> Machine<'b, D, F> {
         ensures { (S : State) → Stands S self.now.parts → result ≡ length S.commits }
     {
         self.parts.shared.serial
+    }
+
+    /// The stored zones, in the order in which they were made, with their stored states.
+    pub fn index(&self, alloc: Global) -> Result<Vec<IndexRow>, StepFault>
+        ensures ok { IfOk result (λ index. (S : State) → Stands S self.now.parts → index.items ≡ index_of S.commits) }
+        ensures err { IsOkUnless result StepFault.Memory }
+    {
+        Ok(index_rows(alloc, &self.parts.shared.rows)?)
     }
 
     /// Hands the disk back. It takes no memory.

@@ -23,7 +23,8 @@ use Rattle.zone_machine.specs.declared.faults.StepFault.TheVariants.{DiskFault, 
 use Rattle.zone_machine.specs.declared.machine.Machine.{Machine}
 use Rattle.zone_machine.specs.declared.machine.parts.Parts.{Parts}
 use Rattle.zone_machine.specs.declared.machine.shared.Shared.{Shared}
-use Rattle.zones_run.specs.Answering.{Fails, FailsLine, IsAnswered, StandsFor, Steps, state_after}
+use Rattle.zone_machine.specs.Code.Openings.{StandsFor}
+use Rattle.zones_run.specs.Answering.{Fails, FailsLine, IsAnswered, Steps, state_after}
 use Rattle.zones_run.specs.Tracing.{entry_text, is_refusal}
 use Rattle.zones_run.specs.declared.fault.RunFault.{RunFault}
 use Rattle.zones_run.specs.declared.fault.RunFault.TheVariants.{Memory}
@@ -61,7 +62,7 @@ would_same true fault a b v w s is left = absurd (subst (λ f. BankLeft true f a
 would_same false fault a b v w s is left = subst (λ f. BankLeft false f a b v w s) is left
 
 pub would_as : (fault : StepFault) (t u : Parts) (e : Event) → fault ≡ WouldRecord → Leaves fault None t e u → AsItWas t u
-would_as fault t u e is left = subst (λ f. Leaves f None t e u) is left
+would_as fault t u e is left = (subst (λ f. Leaves f None t e u) is left).0
 
 -- or since the disk failed, which it does only in one that may record
 pub disk_rose : {D : Type 0} (may : Bool) (fault : StepFault) (a b : Account D) (v w : View) (s : Shared) → fault ≡ DiskFault → BankLeft may fault a b v w s → (may ≡ true) × Rose v.faults w.faults

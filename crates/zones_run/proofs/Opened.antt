@@ -11,7 +11,7 @@ use Rattle.commit_journal.specs.Stored.{stored}
 use Rattle.commit_journal.specs.declared.fault.StoreFault.{StoreFault}
 use Rattle.commit_journal.specs.declared.fault.StoreFault.TheVariants.{DiskFault, Memory as No_memory}
 use Rattle.commit_journal.specs.declared.records.Commit.{Commit}
-use Rattle.zone_machine.specs.Code.Cells.{Stands}
+use Rattle.zone_machine.specs.Code.Openings.{StandsFor}
 use Rattle.zone_machine.specs.Code.Records.{IsReady, Passes}
 use Rattle.zone_machine.specs.Machine.{opening}
 use Rattle.zone_machine.specs.Machine.Changes.{HoldsFront, changes}
@@ -19,7 +19,6 @@ use Rattle.zone_machine.specs.Machine.Images.{Holds, IsStoreOf}
 use Rattle.zone_machine.specs.State.{bodies_of}
 use Rattle.zone_machine.specs.declared.events.Entry.{Entry}
 use Rattle.zone_machine.specs.declared.machine.Machine.{Machine}
-use Rattle.zones_run.specs.Answering.{StandsFor}
 use Rattle.zones_run.specs.Complaints.{complaint_output, complaint_text}
 use Rattle.zones_run.specs.Opening.{Finds, Found}
 use Rattle.zones_run.specs.Program.{AnswersOn, traced_on}
@@ -42,18 +41,16 @@ holds_or_fault one R image fault holds opens = let same = one image (Ok (bodies_
 
 -- what holds of each list of commits that the machine was opened on holds of what was found
 pub opened : {D F : Type 0} (P : Found → Type 0) (brands : List Tabled) (v : View) (m : Machine D F) → P None → ((R : List Commit) → StandsFor (opening brands R) m → P (Some (Ok R)))
-    → (v.Keeps → (R : List Commit) → Holds R v.reads → Stands (opening brands R) m.parts) → (v.Keeps → (R : List Commit) → Holds R v.reads → bodies_of R ≡ m.bank.records) → (v.Keeps → (R : List Commit) × Holds R v.reads) → OpensStoreOneWay
+    → (v.Keeps → (R : List Commit) → Holds R v.reads → StandsFor (opening brands R) m) → (v.Keeps → (R : List Commit) × Holds R v.reads) → OpensStoreOneWay
     → (found : Found) → Finds v found → P found
-opened P brands v m none some stands bodies opens one None finds = none
-opened P brands v m none some stands bodies opens one (Some (Ok R)) finds = some R (record { parts = stands finds.0 R finds.1; bodies = bodies finds.0 R finds.1 })
-opened P brands v m none some stands bodies opens one (Some (Err fault)) finds = let o = opens finds.0 in absurd (holds_or_fault one o.0 v.reads fault o.1 finds.1)
+opened P brands v m none some stands opens one None finds = none
+opened P brands v m none some stands opens one (Some (Ok R)) finds = some R (stands finds.0 R finds.1)
+opened P brands v m none some stands opens one (Some (Err fault)) finds = let o = opens finds.0 in absurd (holds_or_fault one o.0 v.reads fault o.1 finds.1)
 
 -- a store of R is one on which the machine stands for its opening
-pub opened_store : {D F : Type 0} (brands : List Tabled) (R : List Commit) (v : View) (m : Machine D F) → IsSound v → IsStoreOf v R → (v.Keeps → (R : List Commit) → Holds R v.reads → Stands (opening brands R) m.parts) → (v.Keeps → (R : List Commit) → Holds R v.reads → bodies_of R ≡ m.bank.records)
+pub opened_store : {D F : Type 0} (brands : List Tabled) (R : List Commit) (v : View) (m : Machine D F) → IsSound v → IsStoreOf v R → (v.Keeps → (R : List Commit) → Holds R v.reads → StandsFor (opening brands R) m)
     → StandsFor (opening brands R) m
-opened_store brands R v m sound is stands bodies =
-    let holds : Holds R v.reads = is.now v.reads (sound.reads_now is.keeps) in
-    record { parts = stands is.keeps R holds; bodies = bodies is.keeps R holds }
+opened_store brands R v m sound is stands = stands is.keeps R (is.now v.reads (sound.reads_now is.keeps))
 
 pub still_store : {D F : Type 0} (brands : List Tabled) (R : List Commit) (v w : View) (m : Machine D F) → IsStoreOf v R → StandsFor (opening brands R) m → IsReady w m.bank m.parts.shared → Passes v w → IsStoreOf w R
 still_store brands R v w m is stands ready passes = record { keeps = passes.model.0 is.keeps; now = ready_holds (opening brands R) m w stands ready (passes.model.0 is.keeps) }

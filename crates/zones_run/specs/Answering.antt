@@ -4,16 +4,14 @@ use Rattle.std.specs.Prelude.{◌≡◌, ◌⊎◌, ℕ, List, [], Bool, Option,
 use Rattle.zn_io.specs.Disk.{View}
 use Rattle.zn_io.specs.Streams.{after_known}
 use Rattle.trace_text.specs.Lines.{Said}
-use Rattle.zone_machine.specs.Code.Cells.{Stands}
 use Rattle.zone_machine.specs.Code.Decided.{entry_by}
 use Rattle.zone_machine.specs.Machine.Histories.{after_entry, entry_at}
 use Rattle.zone_machine.specs.Machine.Images.{Goes}
 use Rattle.zone_machine.specs.Machine.Pools.{allowed}
-use Rattle.zone_machine.specs.State.{State, bodies_of}
+use Rattle.zone_machine.specs.State.{State}
 use Rattle.zone_machine.specs.declared.events.Answer.{Answer}
 use Rattle.zone_machine.specs.declared.events.Entry.{Entry}
 use Rattle.zone_machine.specs.declared.events.Event.{Event}
-use Rattle.zone_machine.specs.declared.machine.Machine.{Machine}
 use Rattle.zone_pools.specs.Pools.{or_else}
 use Rattle.zones_run.specs.Recording.{GoesSurely}
 use Rattle.zones_run.specs.Run.{HasFront}
@@ -24,11 +22,6 @@ use Rattle.zones_run.specs.declared.outcome.Complaint.{Complaint}
 use Rattle.zones_run.specs.declared.outcome.Complaint.TheVariants.{Grammar as Bad_line}
 use Rattle.zones_run.specs.declared.trace.Stop.{Stop}
 use Rattle.zones_run.specs.declared.trace.Stop.TheVariants.{Fault, Grammar}
-
--- the machine stands for a state, and its bank has the bodies of the state's commits
-pub record StandsFor {D F : Type 0} (S : State) (m : Machine D F) : Type 0 where
-  pub parts : Stands S m.parts
-  pub bodies : bodies_of S.commits ≡ m.bank.records
 
 -- the entry of an event in a state, under the grant that the pools give it
 abbrev pub entry_in : State → Event → Entry

@@ -5,13 +5,13 @@ ghost use Rattle.brand_hooks.specs.Hooks.{AllFollow};
 ghost use Rattle.commit_journal.specs.declared.records.Commit.{Commit};
 ghost use Rattle.zn_io.specs.Streams.{Rose, TakesFront, after_known};
 ghost use Rattle.zone_machine.specs.Code.Decided.{AsksBrands, MayGoOn};
+ghost use Rattle.zone_machine.specs.Code.Openings.{StandsFor};
 ghost use Rattle.zone_machine.specs.Code.Records.{Passes};
 ghost use Rattle.zone_machine.specs.Machine.{opening};
 ghost use Rattle.zone_machine.specs.Machine.Images.{IsStoreOf};
-ghost use Rattle.zones_run.specs.Answering.{StandsFor};
 ghost use Rattle.zones_run.specs.Complaints.{complaint_status, complaint_text};
 ghost use Rattle.zones_run.specs.Opening.{Finds, Found};
-ghost use Rattle.zones_run.specs.Program.{AnswersOn, AnswersTrace, HasAnswered, HasRecorded, IsNoStore, ReadsNothing, output_of, traced_on};
+ghost use Rattle.zones_run.specs.Program.{AnswersOn, AnswersTrace, HasAnswered, HasRecorded, IsNoStore, ReadsNothing, TracedOverSome, output_of, traced_on};
 ghost use Rattle.zones_run.specs.Recording.{RanBy};
 ghost use Rattle.zones_run.specs.Run.{HasFront, IsDecided, IsStatus, TakesFronts, TellsLine, TellsText, disk_fault_line, fault_status, memory_line, read_fault_line, write_fault_line};
 ghost use Rattle.zones_run.specs.Words.{command_of};
@@ -153,6 +153,7 @@ fn run_trace<S: Source, K: Sink, E: Sink, D: Disk, F: Fn(&Change) -> HookAnswer>
     ensures text { (found : Found) → Finds (D.view disk) found → IfSome (traced_on (tables_of brands.now) found (S.left src.old)) (λ o. TellsText o result.0 (K.holds out.old) (K.holds out.new)) }
     ensures line { (found : Found) → Finds (D.view disk) found → IfSome (traced_on (tables_of brands.now) found (S.left src.old)) (λ o. TellsLine o.err result.0 (E.holds err.old) (E.holds err.new) (E.faults err.old) (E.faults err.new)) }
     ensures answered { (found : Found) → Finds (D.view disk) found → AnswersOn (tables_of brands.now) found result.0 (S.left src.old) (S.left src.new) (K.holds out.old) (K.holds out.new) }
+    ensures any_disk { TracedOverSome (tables_of brands.now) result.0 (S.left src.old) (S.left src.new) (K.holds out.old) (K.holds out.new) (E.holds err.old) (E.holds err.new) (E.faults err.old) (E.faults err.new) }
     ensures store { result.0 ≡ NOT_A_STORE → (D.view disk).Keeps → IsNoStore (D.view disk) }
     ensures recorded { (R : List Commit) → IsStoreOf (D.view disk) R → RanBy (tables_of brands.now) R result.0 (S.left src.old) (K.holds out.old) (K.holds out.new) (D.view disk) (D.view result.1) }
     ensures read_fault { result.0 ≡ READ_FAULT → Rose (S.faults src.old) (S.faults src.new) }
@@ -202,6 +203,10 @@ pub fn run_zones<S: Source, K: Sink, E: Sink, D: Disk, F: Fn(&Change) -> HookAns
     // ended the run, what was written are the replies of lines that were taken.
     ensures answered { (found : Found) → Finds (D.view disk) found →
         HasAnswered (tables_of brands.now) (command_of (map string_bytes words.now)) found result.0 (S.left src.old) (S.left src.new) (K.holds out.old) (K.holds out.new) }
+
+    // Whatever the disk is, a trace is answered as one over the store of some commits, or nothing of it is taken and written.
+    ensures any_disk { command_of (map string_bytes words.now) ≡ Some Command.Trace →
+        TracedOverSome (tables_of brands.now) result.0 (S.left src.old) (S.left src.new) (K.holds out.old) (K.holds out.new) (E.holds err.old) (E.holds err.new) (E.faults err.old) (E.faults err.new) }
 
     // Where no command reads its input, none of it is taken.
     ensures unread { ReadsNothing (command_of (map string_bytes words.now)) → src.new ≡ src.old }

@@ -1,6 +1,6 @@
 //! The command `trace`: the events of the input go through a zone machine over the store on a disk, one after the other.
-//! Their replies are written together, before an event stores a record, before more is read where no line is begun, and when
-//! many of them wait.
+//! Their replies are written together, before an event stores a record and once it has, before more is read where no line is
+//! begun, and when many of them wait.
 ghost use Rattle.std.specs.Prelude.{◌≡◌, ◌≢◌, ◌<◌, ◌≤◌, ◌⊎◌, ◌++◌, ℕ, List, [], Err, IfErr, length, IfOk, IfSome, IsErrOf, OnErr, OnOk, true};
 ghost use Rattle.zn_io.specs.Streams.{Rose, after_known};
 ghost use Rattle.brand_hooks.specs.Brands.{Tabled};
@@ -9,10 +9,11 @@ ghost use Rattle.zone_machine.specs.Machine.{opening};
 ghost use Rattle.zone_machine.specs.Machine.Images.{IsStoreOf};
 ghost use Rattle.zone_machine.specs.State.{State};
 ghost use Rattle.zone_machine.specs.Code.Decided.{AsksBrands, MayGoOn, subject_by};
+ghost use Rattle.zone_machine.specs.Code.Openings.{StandsFor};
 ghost use Rattle.zone_machine.specs.Code.Records.{Passes};
 ghost use Rattle.trace_text.specs.Lines.{event_of};
 ghost use Rattle.trace_text.specs.Replies.{reply_text};
-ghost use Rattle.zones_run.specs.Answering.{Fails, IsAnswered, LeavesText, StandsFor, Steps, Stops, StopsText, TakesEvent, ended_by};
+ghost use Rattle.zones_run.specs.Answering.{Fails, IsAnswered, LeavesText, Steps, Stops, StopsText, TakesEvent, ended_by};
 ghost use Rattle.zones_run.specs.Complaints.{IsOfInput};
 ghost use Rattle.zones_run.specs.Recording.{RanAs};
 ghost use Rattle.zones_run.specs.Run.{HasFront};
@@ -237,8 +238,13 @@ fn take_line<D: Disk, F: Fn(&Change) -> HookAnswer, K: Sink>(
     }
 }
 
-// Writes the replies that wait, where there are many or nothing is ahead.
-fn write_some<K: Sink>(ahead: &Ahead, waiting: &mut Vec<u8>, out: &mut K) -> Result<(), RunFault>
+// Writes the replies that wait, where they are not to wait, there are many, or nothing is ahead.
+fn write_some<K: Sink>(
+    ahead: &Ahead,
+    may_wait: bool,
+    waiting: &mut Vec<u8>,
+    out: &mut K,
+) -> Result<(), RunFault>
     ensures same { OnOk result (after_known (K.holds out.new) waiting.new.items ≡ after_known (K.holds out.old) waiting.old.items) }
     ensures few { OnOk result ((waiting.new.items ≡ []) ⊎ ((length ahead.now ≢ 0) × (length waiting.new.items < 16384))) }
     ensures written { HasWritten (K.holds out.old) (K.holds out.new) }
@@ -247,7 +253,7 @@ fn write_some<K: Sink>(ahead: &Ahead, waiting: &mut Vec<u8>, out: &mut K) -> Res
     ensures fault { OnErr result ((result ≡ Err RunFault.Write) × Rose (K.faults out.old) (K.faults out.new)) }
     ensures later { K.faults out.old ≤ K.faults out.new }
 {
-    if !ahead.is_empty() && waiting.len() < WAITING_MAX {
+    if may_wait && !ahead.is_empty() && waiting.len() < WAITING_MAX {
         return Ok(());
     }
     write_waiting(waiting, out)
@@ -282,8 +288,11 @@ fn take_lines<D: Disk, F: Fn(&Change) -> HookAnswer, S: Source, K: Sink>(
     let mut ahead = Ahead::new();
     let mut line = Vec::new(alloc);
     let mut refused = None;
+    let mut records = machine.records();
     for before in 0..LINES_MAX {
-        write_some(&ahead, waiting, out)?;
+        // What is stored is told at once: so of two records after one another the second finds nothing that waits.
+        write_some(&ahead, machine.records() == records, waiting, out)?;
+        records = machine.records();
         match next_line(&mut ahead, source, &mut line)? {
             Got::End => return Ok(ended(refused)),
             Got::TooLong => return Ok(Some(Complaint::Limit(before + 1))),
@@ -303,7 +312,7 @@ fn take_lines<D: Disk, F: Fn(&Change) -> HookAnswer, S: Source, K: Sink>(
             Err(stop) => return ended_by(stop, before + 1),
         }
     }
-    write_some(&ahead, waiting, out)?;
+    write_some(&ahead, true, waiting, out)?;
     if ahead.refill(source)? {
         return Ok(Some(Complaint::Limit(LINES_MAX + 1)));
     }

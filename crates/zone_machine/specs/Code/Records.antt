@@ -1,5 +1,5 @@
 -- The record that a case stores, and what writing it leaves on the disk.
-use Rattle.std.specs.Prelude.{◌≡◌, ◌≤◌, ◌+◌, ◌++◌, ◌↔◌, ℕ, List, [], ◌∷◌, length, Bool, true, false, Option, Some, None, Result, Ok, Err, IfOk, IsTrue}
+use Rattle.std.specs.Prelude.{◌≡◌, ◌≢◌, ◌≤◌, ◌+◌, ◌++◌, ◌↔◌, ℕ, List, [], ◌∷◌, length, Bool, true, false, Option, Some, None, Result, Ok, Err, IfOk, IsTrue}
 use Rattle.zn_io.specs.Disk.{Leaves, View}
 use Rattle.zn_base.specs.Names.{Name}
 use Rattle.zone_disk.specs.Bank.{Account}
@@ -118,6 +118,10 @@ GoesUnder stated t e bodies v w = (S : State) → Parts_stand S t → bodies_of 
 
 abbrev pub KeepsBodies : Option Grant → Parts → Event → (old new : List (List ℕ)) → Type 0
 KeepsBodies stated t e old new = (S : State) → Parts_stand S t → bodies_of S.commits ≡ old → bodies_of (one S e (taken stated S e)).state.commits ≡ new
+
+-- the event stores a record, whatever state the parts stand for
+abbrev pub StoresUnder : Option Grant → Parts → Event → Type 0
+StoresUnder stated t e = (S : State) → Parts_stand S t → (one S e (taken stated S e)).state.commits ≢ S.commits
 
 -- the same of a zone's cell and the shared part
 abbrev pub GoesInCell : Name → Option Grant → Cell → Shared → Event → List (List ℕ) → View → View → Type 0

@@ -9,6 +9,7 @@ use Rattle.zone_machine.specs.Machine.{one, subject}
 use Rattle.zone_machine.specs.Machine.Pools.{allowed, fits}
 use Rattle.zone_machine.specs.State.{State, zone_state}
 use Rattle.zone_machine.specs.Code.Cells.{Stands}
+use Rattle.zone_machine.specs.Code.Records.{StoresUnder}
 use Rattle.zone_machine.specs.declared.events.Entry.{Entry}
 use Rattle.zone_machine.specs.declared.events.Event.{Event}
 use Rattle.zone_machine.specs.declared.events.Subject.{Subject}
@@ -84,13 +85,20 @@ abbrev pub FitsIn : Option Grant → Parts → Event → Type 0
 FitsIn None t e = Unit {0}
 FitsIn (Some g) t e = (S : State) → Stands S t → fits S e g ≡ true
 
--- what an event leaves that is not answered: memory ran out, the stated grant doesn't fit, it would record and may not yet, or
+-- what an event leaves that is not answered: memory ran out, the stated grant doesn't fit, it stores a record and may not yet, or
 -- the disk failed under a grant that fits, after which nothing is said of the parts
 abbrev pub Leaves : StepFault → Option Grant → Parts → Event → Parts → Type 0
 Leaves Memory stated t e u = AsItWas t u
 Leaves BadGrant stated t e u = IsMisfitUnder stated t e u
-Leaves WouldRecord stated t e u = AsItWas t u
+Leaves WouldRecord stated t e u = AsItWas t u × StoresUnder stated t e
 Leaves DiskFault stated t e u = FitsIn stated t e
+
+-- the same once its grant was found
+abbrev pub LeavesGranted : StepFault → Grant → Parts → Event → Parts → Type 0
+LeavesGranted Memory g t e u = AsItWas t u
+LeavesGranted BadGrant g t e u = ⊥
+LeavesGranted WouldRecord g t e u = AsItWas t u × StoresUnder (Some g) t e
+LeavesGranted DiskFault g t e u = Unit {0}
 
 -- the grant that a case takes: what the pools say, or the stated one, which fits what it asks
 abbrev pub IsGrantFor : Name → Pools → List Asked → Option Grant → Grant → Type 0

@@ -3,10 +3,10 @@ ghost use Rattle.std.specs.Prelude.{◌≡◌, [], List, length};
 ghost use Rattle.commit_journal.specs.Stored.{stored};
 ghost use Rattle.commit_journal.specs.Zones.{rows_of};
 ghost use Rattle.commit_journal.specs.declared.records.Commit.{Commit};
-ghost use Rattle.zone_machine.specs.State.{bytes_used};
+ghost use Rattle.zone_machine.specs.State.{State, bytes_used};
 ghost use Rattle.zone_machine.specs.Code.Cells.{SharedOf};
 ghost use Rattle.zone_machine.specs.Machine.Common.{common};
-ghost use Rattle.zone_machine.specs.Machine.{opening};
+ghost use Rattle.zone_machine.specs.Machine.{opening, restarted};
 
 use brand_hooks::BrandTables;
 use commit_journal::{Row, Zones};
@@ -77,5 +77,23 @@ impl Shared {
             used,
             ..Self::new(alloc, brands)
         }
+    }
+
+    /// The system restarts, where these zones are stored, by so many records that use so many bytes of the bank: what is declared
+    /// stays, and nobody holds anything. It takes no memory.
+    pub(crate) fn restart(&mut self, alloc: Global, rows: Zones, serial: u32, used: u32)
+        ensures stands { (S : State) (R : List Commit) → SharedOf self.old (common S) → stored R ≡ rows_of rows.entries → length R ≡ serial → bytes_used R ≡ used → SharedOf self.new (common (restarted (record S { commits = R }))) }
+        ensures rows { rows_of self.new.rows.entries ≡ rows_of rows.entries }
+        ensures used { self.new.used ≡ used }
+        ensures brands { self.new.brands ≡ self.old.brands }
+    {
+        self.kernel.restart(alloc);
+        self.claims.restart(alloc);
+        self.sessions = Owners::new(alloc);
+        self.rows = rows;
+        self.serial = serial;
+        self.used = used;
+        self.started = true;
+        self.ups = IndexMap::new(alloc);
     }
 }

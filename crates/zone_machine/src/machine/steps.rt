@@ -1,6 +1,6 @@
 //! One event of a zone, on its cell and on the shared part: it is read, its case is decided, its grant is found or
 //! looked at, room is taken, and only then anything is changed.
-ghost use Rattle.std.specs.Prelude.{◌≡◌, ◌⊎◌, IfErr, IfOk, IsErrOf, IsOkUnless, None, OnErr, OnOk, Option, Some, false, nat_eq, true, ℕ, List};
+ghost use Rattle.std.specs.Prelude.{◌≡◌, ◌⊎◌, IfErr, IfOk, IsErrOf, IsOkUnless, None, OnErr, OnOk, Option, Some, false, is_some, nat_eq, true, ℕ, List};
 ghost use Rattle.zone_machine.specs.Code.Cases.{IsCaseOf, IsNumbered, decision_of};
 ghost use Rattle.zone_machine.specs.Code.Cells.{is_up_in, Does, IsHeardIn, cell_world, outside_in};
 ghost use Rattle.zone_machine.specs.Code.Needs.{pools_in};
@@ -195,6 +195,7 @@ fn make_ready<D: Disk>(
     ensures settled { OnOk result ((D.view bank.new.disk).Keeps → (image : List ℕ) → (D.view bank.new.disk).Now image → Stands image bank.new.records) }
     ensures writes { Writes zone.now (stored_by case.now grant) bank.old.records (rows_of shared.old.rows.entries) (D.view bank.old.disk) (D.view bank.new.disk) }
     ensures fault { IfErr result (λ fault. (e : Event) → CellLeaves fault zone.now None cell.old shared.old e cell.new shared.new) }
+    ensures would { IfErr result (λ fault. fault ≡ StepFault.WouldRecord → is_some (stored_by case.now grant) ≡ true) }
     ensures left { IfErr result (λ fault. BankLeft may_record fault bank.old bank.new (D.view bank.old.disk) (D.view bank.new.disk) shared.new) }
     ensures brands { shared.new.brands ≡ shared.old.brands }
 {
@@ -228,6 +229,7 @@ pub(crate) fn perform_case<D: Disk>(
     ensures records { OnOk result (bank.new.records ≡ bodies_with zone.now (stored_by case grant) bank.old.records) }
     ensures writes { Writes zone.now (stored_by case grant) bank.old.records (rows_of shared.old.rows.entries) (D.view bank.old.disk) (D.view bank.new.disk) }
     ensures fault { IfErr result (λ fault. CellLeaves fault zone.now None cell.old shared.old event.now cell.new shared.new) }
+    ensures would { IfErr result (λ fault. fault ≡ StepFault.WouldRecord → is_some (stored_by case grant) ≡ true) }
     ensures left { IfErr result (λ fault. BankLeft may_record fault bank.old bank.new (D.view bank.old.disk) (D.view bank.new.disk) shared.new) }
     ensures brands { shared.new.brands ≡ shared.old.brands }
 {

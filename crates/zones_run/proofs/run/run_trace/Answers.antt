@@ -1,4 +1,4 @@
-use Rattle.std.proofs.Common.{IfSome, arith, rules}
+use Rattle.std.proofs.Common.{IfSome, arith, inl, rules}
 use Rattle.brand_hooks.specs.Brands.{tables_of}
 use Rattle.zones_run.specs.Opening.{Found}
 use Rattle.zones_run.specs.Output.{Output}
@@ -16,7 +16,7 @@ pub returns-in-Ok-clause-text : goal.returns-in-Ok-clause-text
 returns-in-Ok-clause-text g c =
     let held = g.K.Sink.holds c.args.out.now in
     let holds = g.K.Sink.holds c.run_machine-status.new.out in
-    opened (λ (f : Found). IfSome (traced_on (tables_of c.args.brands.now) f (g.S.Source.left c.args.src.now)) (λ o. TellsText o c.run_machine-status.result held holds)) (tables_of c.args.brands.now) (g.D.Disk.view c.args.disk) c.in-Ok.opened tt (λ R s. if_mapped (traced (tables_of c.args.brands.now) R) (λ (o : Output). TellsText o c.run_machine-status.result held holds) (g.S.Source.left c.args.src.now) (c.run_machine-status.ensures.text (tables_of c.args.brands.now) R s)) c.in-Ok.ensures.stands c.in-Ok.ensures.bodies c.in-Ok.ensures.opens c.opens_store_one_way.ensures
+    opened (λ (f : Found). IfSome (traced_on (tables_of c.args.brands.now) f (g.S.Source.left c.args.src.now)) (λ o. TellsText o c.run_machine-status.result held holds)) (tables_of c.args.brands.now) (g.D.Disk.view c.args.disk) c.in-Ok.opened tt (λ R s. if_mapped (traced (tables_of c.args.brands.now) R) (λ (o : Output). TellsText o c.run_machine-status.result held holds) (g.S.Source.left c.args.src.now) (c.run_machine-status.ensures.text (tables_of c.args.brands.now) R s)) c.in-Ok.ensures.stands c.in-Ok.ensures.opens c.opens_store_one_way.ensures
 
 pub returns-in-Ok-clause-line : goal.returns-in-Ok-clause-line
 returns-in-Ok-clause-line g c =
@@ -24,18 +24,23 @@ returns-in-Ok-clause-line g c =
     let holds = g.E.Sink.holds c.run_machine-status.new.err in
     let before = g.E.Sink.faults c.args.err.now in
     let now = g.E.Sink.faults c.run_machine-status.new.err in
-    opened (λ (f : Found). IfSome (traced_on (tables_of c.args.brands.now) f (g.S.Source.left c.args.src.now)) (λ o. TellsLine o.err c.run_machine-status.result held holds before now)) (tables_of c.args.brands.now) (g.D.Disk.view c.args.disk) c.in-Ok.opened tt (λ R s. if_mapped (traced (tables_of c.args.brands.now) R) (λ (o : Output). TellsLine o.err c.run_machine-status.result held holds before now) (g.S.Source.left c.args.src.now) (c.run_machine-status.ensures.line (tables_of c.args.brands.now) R s)) c.in-Ok.ensures.stands c.in-Ok.ensures.bodies c.in-Ok.ensures.opens c.opens_store_one_way.ensures
+    opened (λ (f : Found). IfSome (traced_on (tables_of c.args.brands.now) f (g.S.Source.left c.args.src.now)) (λ o. TellsLine o.err c.run_machine-status.result held holds before now)) (tables_of c.args.brands.now) (g.D.Disk.view c.args.disk) c.in-Ok.opened tt (λ R s. if_mapped (traced (tables_of c.args.brands.now) R) (λ (o : Output). TellsLine o.err c.run_machine-status.result held holds before now) (g.S.Source.left c.args.src.now) (c.run_machine-status.ensures.line (tables_of c.args.brands.now) R s)) c.in-Ok.ensures.stands c.in-Ok.ensures.opens c.opens_store_one_way.ensures
 
 pub returns-in-Ok-clause-answered : goal.returns-in-Ok-clause-answered
 returns-in-Ok-clause-answered g c =
-    opened (λ (f : Found). AnswersOn (tables_of c.args.brands.now) f c.run_machine-status.result (g.S.Source.left c.args.src.now) (g.S.Source.left c.run_machine-status.new.src) (g.K.Sink.holds c.args.out.now) (g.K.Sink.holds c.run_machine-status.new.out)) (tables_of c.args.brands.now) (g.D.Disk.view c.args.disk) c.in-Ok.opened tt (c.run_machine-status.ensures.answered (tables_of c.args.brands.now)) c.in-Ok.ensures.stands c.in-Ok.ensures.bodies c.in-Ok.ensures.opens c.opens_store_one_way.ensures
+    opened (λ (f : Found). AnswersOn (tables_of c.args.brands.now) f c.run_machine-status.result (g.S.Source.left c.args.src.now) (g.S.Source.left c.run_machine-status.new.src) (g.K.Sink.holds c.args.out.now) (g.K.Sink.holds c.run_machine-status.new.out)) (tables_of c.args.brands.now) (g.D.Disk.view c.args.disk) c.in-Ok.opened tt (c.run_machine-status.ensures.answered (tables_of c.args.brands.now)) c.in-Ok.ensures.stands c.in-Ok.ensures.opens c.opens_store_one_way.ensures
+
+pub returns-in-Ok-clause-any_disk : goal.returns-in-Ok-clause-any_disk
+returns-in-Ok-clause-any_disk g c =
+    let brands = tables_of c.args.brands.now in let ran = c.run_machine-status.ensures in let begins = c.in-Ok.ensures.begins in
+    inl (begins.0, record { text = ran.text brands begins.0 begins.1; line = ran.line brands begins.0 begins.1; answered = ran.answered brands begins.0 begins.1 })
 
 pub returns-in-Ok-clause-recorded : goal.returns-in-Ok-clause-recorded
 returns-in-Ok-clause-recorded g c = λ R is.
     let u = g.D.Disk.view c.args.disk in
     let v = g.D.Disk.view c.in-Ok.opened.bank.disk in
     let w = g.D.Disk.view c.run_machine-status.new.machine.bank.disk in
-    let stands = opened_store (tables_of c.args.brands.now) R u c.in-Ok.opened (g.met.D.Disk.sound c.args.disk) is c.in-Ok.ensures.stands c.in-Ok.ensures.bodies in
+    let stands = opened_store (tables_of c.args.brands.now) R u c.in-Ok.opened (g.met.D.Disk.sound c.args.disk) is c.in-Ok.ensures.stands in
     let store = still_store (tables_of c.args.brands.now) R u v c.in-Ok.opened is stands c.in-Ok.ensures.ready c.in-Ok.ensures.passes in
     rw c.into_disk.ensures (ran_later (tables_of c.args.brands.now) R c.run_machine-status.result _ _ _ u v w (c.in-Ok.ensures.any_moment R is) (c.run_machine-status.ensures.recorded (tables_of c.args.brands.now) R stands store))
 

@@ -1,7 +1,7 @@
 use Rattle.std.proofs.Common.{◌≡◌}
 use Rattle.zone_machine.specs.State.{State}
 use Rattle.zone_machine.specs.declared.events.Answer.{Answer}
-use Rattle.zones_run.specs.Answering.{StandsFor}
+use Rattle.zone_machine.specs.Code.Openings.{StandsFor}
 use Rattle.zones_run.proofs.Answered.{if_ok_steps, stands_on, steps_later, would_as, would_same}
 use Rattle.zones_run.proofs.trace.answer_after_waiting.Goals as goal
 

@@ -1,7 +1,8 @@
 use Rattle.std.proofs.Common.{◌≡◌, ◌+◌, ap, refl, rules, arith, sym, subst}
 use Rattle.std.specs.Prelude.{Err}
 use Rattle.zone_disk.specs.Bank.{Account}
-use Rattle.zones_run.specs.Answering.{StandsFor, entry_in}
+use Rattle.zone_machine.specs.Code.Openings.{StandsFor}
+use Rattle.zones_run.specs.Answering.{entry_in}
 use Rattle.zones_run.specs.Tracing.{At_end, Past_limit}
 use Rattle.zones_run.proofs.Answered.{passes_on}
 use Rattle.zones_run.proofs.Begins.{takes_just, takes_none}

@@ -5,7 +5,7 @@ use Rattle.commit_journal.specs.declared.records.Commit.{Commit}
 use Rattle.zone_machine.specs.Code.Decided.{AsksBrands, MayGoOn}
 use Rattle.zone_machine.specs.Code.Records.{Passes}
 use Rattle.zone_machine.specs.Machine.{opening}
-use Rattle.zones_run.specs.Answering.{StandsFor}
+use Rattle.zone_machine.specs.Code.Openings.{StandsFor}
 use Rattle.zones_run.specs.Tracing.{HasWritten}
 use Rattle.zones_run.proofs.Keeping.{Left}
 use Rattle.zones_run.proofs.TraceRuns.{Follows}

@@ -1,10 +1,10 @@
-use Rattle.std.proofs.Common.{◌≡◌, None, Some, ap, rules, subst, sym, ◌∙◌}
+use Rattle.std.proofs.Common.{◌≡◌, Some, ap, rules, subst, sym, ◌∙◌}
 use Rattle.std.specs.Prelude.{IfErr}
-use Rattle.zone_machine.proofs.Banking.{goes-taken, keeps-taken}
+use Rattle.zone_machine.proofs.Banking.{goes-taken, keeps-taken, leaves-stated}
 use Rattle.zone_machine.proofs.Results.{if_err}
-use Rattle.zone_machine.specs.Code.Steps.{IsTaken, Leaves}
+use Rattle.zone_machine.specs.Code.Steps.{IsTaken, LeavesGranted}
 use Rattle.zone_machine.proofs.Places.{place_case}
-use Rattle.zone_machine.proofs.Stepping.{case_freed, heard-at, here_at, leaves-stated, left_so, some_is, taken, unfit}
+use Rattle.zone_machine.proofs.Stepping.{case_freed, heard-at, here_at, left_so, some_is, taken, unfit}
 use Rattle.zone_machine.specs.Code.Cases.{decision_of}
 use Rattle.zone_machine.specs.Code.Cells.{cell_at, world_or_empty}
 use Rattle.zone_machine.specs.Code.Needs.{pools_in}
@@ -50,7 +50,7 @@ returns-in_err-reply-clause-fault g c =
     let takes : IsTaken m c.args.stated c.args.event.now c.in_ok-case.grant =
     taken m z c.args.event.now cell (λ v. decide_read v c.args.read) c.requires.of (λ out. ap (world_or_empty out) (here_at m z c.args.at cell c.requires.at c.index-cell.ensures)) c.requires.decides
     c.args.stated c.in_ok-case.case c.in_ok-case.grant c.in_ok-case.ensures.case c.in_ok-case.ensures.takes in
-    let said : IfErr c.from_residual-in_err-reply.result (λ fault. Leaves fault None m c.args.event.now c.do_at.new.self) = search rules in
+    let said : IfErr c.from_residual-in_err-reply.result (λ fault. LeavesGranted fault c.in_ok-case.grant m c.args.event.now c.do_at.new.self) = search rules in
     if_err c.from_residual-in_err-reply.result _ _ (leaves-stated c.args.stated c.in_ok-case.grant m c.do_at.new.self c.args.event.now takes) said
 
 pub returns-in_err-reply-clause-goes : goal.returns-in_err-reply-clause-goes

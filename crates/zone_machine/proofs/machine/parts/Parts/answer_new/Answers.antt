@@ -1,14 +1,14 @@
-use Rattle.std.proofs.Common.{None, rules}
+use Rattle.std.proofs.Common.{rules}
 use Rattle.zone_pools.specs.Decisions.{asked_of}
 use Rattle.std.specs.Prelude.{IfErr}
-use Rattle.zone_machine.proofs.Banking.{goes-taken, goes-unwritten, keeps-taken}
+use Rattle.zone_machine.proofs.Banking.{goes-taken, goes-unwritten, keeps-taken, leaves-stated}
 use Rattle.zone_machine.proofs.Results.{if_err}
 use Rattle.zone_machine.proofs.Places.{place_case}
-use Rattle.zone_machine.proofs.Stepping.{case_freed, heard-new, leaves-stated, left_so, same_none, taken, unfit}
+use Rattle.zone_machine.proofs.Stepping.{case_freed, heard-new, left_so, same_none, taken, unfit}
 use Rattle.zone_machine.specs.Code.Cells.{cell_world, outside_in}
 use Rattle.zone_machine.specs.Code.Needs.{pools_in}
 use Rattle.zone_machine.specs.Code.Reads.{decide_read}
-use Rattle.zone_machine.specs.Code.Steps.{IsTaken, IsUnfit, Leaves}
+use Rattle.zone_machine.specs.Code.Steps.{IsTaken, IsUnfit, LeavesGranted}
 use Rattle.zone_machine.specs.State.Worlds.{view_of}
 use Rattle.zone_machine.proofs.machine.parts.Parts.answer_new.Goals as goal
 
@@ -52,7 +52,7 @@ returns-in_err-reply-clause-fault g c =
     let takes : IsTaken m c.args.stated c.args.event.now c.in_ok-case.grant =
     taken m z c.args.event.now c.in_ok-cell.cell.value (λ v. decide_read v c.args.read) c.requires.of (same_none m z c.in_ok-cell.cell.value c.requires.none (λ out. rw c.in_ok-cell.ensures.ok (c.new.ensures out))) c.requires.decides
     c.args.stated c.in_ok-case.case c.in_ok-case.grant (rw c.deref.ensures at c.in_ok-case.ensures.case) (rw c.deref.ensures at c.in_ok-case.ensures.takes) in
-    let said : IfErr c.from_residual-in_err-reply.result (λ fault. Leaves fault None m c.args.event.now c.do_new.new.self) = search rules in
+    let said : IfErr c.from_residual-in_err-reply.result (λ fault. LeavesGranted fault c.in_ok-case.grant m c.args.event.now c.do_new.new.self) = search rules in
     if_err c.from_residual-in_err-reply.result _ _ (leaves-stated c.args.stated c.in_ok-case.grant m c.do_new.new.self c.args.event.now takes) said
 
 pub returns-in_err-reply-clause-goes : goal.returns-in_err-reply-clause-goes

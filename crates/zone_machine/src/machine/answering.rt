@@ -1,0 +1,227 @@
+//! An event is answered: it is found whose it is, and what is its subject's part of the machine answers.
+ghost use Rattle.std.specs.Prelude.{◌≡◌, ◌<◌, IfErr, IfOk, None, OnOk, true};
+ghost use Rattle.zone_machine.specs.Code.Reads.{IsRightRead, decide_read, global_read, is_turn, is_turn_read, subject_in};
+ghost use Rattle.zone_machine.specs.Code.Decided.{IsHeard, entry_by, entry_of, own_subject};
+ghost use Rattle.zone_machine.specs.Code.Records.{BankLeft, GoesUnder, IsReady, KeepsBodies, NeedsNoDisk, Passes};
+ghost use Rattle.zone_machine.specs.Code.Steps.{IsStepUnder, Leaves};
+ghost use Rattle.zone_machine.specs.Machine.{decide, global_reply};
+ghost use Rattle.zone_machine.specs.State.{State};
+ghost use Rattle.zone_machine.specs.State.Worlds.{View};
+ghost use Rattle.zone_machine.specs.declared.events.Subject.TheVariants as subject_variants;
+ghost use Rattle.zone_machine.specs.declared.events.Subject.TheVariants.{Zone};
+
+use crate::events::{Answer, Entry, Event, Subject, Whose};
+use crate::faults::StepFault;
+use crate::machine::parts::Parts;
+use crate::machine::reads::{Read, read_event, subject};
+use crate::replies::Reply;
+use brand_hooks::HookAnswer;
+use std::alloc::Global;
+use zn_base::ZoneName;
+use zn_io::Disk;
+use zone_disk::Bank;
+use zone_pools::Grant;
+
+impl Parts {
+    // An event is answered of which it was found whose it is.
+    fn answer_of<D: Disk>(
+        &mut self,
+        bank: &mut Bank<D>,
+        alloc: Global,
+        event: &Event,
+        read: Read<'_>,
+        subject: &Subject,
+        stated: Option<Grant>,
+        hook: HookAnswer,
+        may_record: bool,
+    ) -> Result<(Grant, Reply), StepFault>
+        requires of { subject_in self.old.shared event.now ≡ subject.now }
+        requires decides { (v : View) → decide_read v read ≡ decide v event.now }
+        requires turn { is_turn_read read ≡ is_turn event.now }
+        requires right { IsRightRead read }
+        requires hook { IsHeard self.old event.now hook }
+        requires global { (S : State) → global_read read ≡ global_reply S event.now }
+        requires ready { IsReady (D.view bank.old.disk) bank.old self.old.shared }
+        ensures ok { IfOk result (λ r. IsStepUnder stated self.old event.now (entry_of subject.now event.now r.0 r.1) self.new) }
+        ensures fault { IfErr result (λ fault. Leaves fault stated self.old event.now self.new) }
+        ensures ready { OnOk result (IsReady (D.view bank.new.disk) bank.new self.new.shared) }
+        ensures goes { GoesUnder stated self.old event.now bank.old.records (D.view bank.old.disk) (D.view bank.new.disk) }
+        ensures bodies { OnOk result (KeepsBodies stated self.old event.now bank.old.records bank.new.records) }
+        ensures passes { Passes (D.view bank.old.disk) (D.view bank.new.disk) }
+        ensures left { IfErr result (λ fault. BankLeft may_record fault bank.old bank.new (D.view bank.old.disk) (D.view bank.new.disk) self.new.shared) }
+        ensures brands { self.new.shared.brands ≡ self.old.shared.brands }
+    {
+        match subject {
+            Subject::Zone(zone) => self.answer_zone(
+                bank, alloc, event, read, zone, stated, hook, may_record,
+            ),
+            Subject::Global => self.answer_global(alloc, event, read, stated),
+            Subject::Whole => self.answer_whole(alloc, event, stated),
+        }
+    }
+
+    // What a session types is answered.
+    fn answer_line<D: Disk>(
+        &mut self,
+        bank: &mut Bank<D>,
+        alloc: Global,
+        event: &Event,
+        hook: HookAnswer,
+        may_record: bool,
+    ) -> Result<Answer, StepFault>
+        requires hook { IsHeard self.old event.now hook }
+        requires ready { IsReady (D.view bank.old.disk) bank.old self.old.shared }
+        ensures ok { IfOk result (λ answer. IsStepUnder None self.old event.now (entry_by event.now answer) self.new) }
+        ensures fault { IfErr result (λ fault. Leaves fault None self.old event.now self.new) }
+        ensures ready { OnOk result (IsReady (D.view bank.new.disk) bank.new self.new.shared) }
+        ensures goes { GoesUnder None self.old event.now bank.old.records (D.view bank.old.disk) (D.view bank.new.disk) }
+        ensures bodies { OnOk result (KeepsBodies None self.old event.now bank.old.records bank.new.records) }
+        ensures passes { Passes (D.view bank.old.disk) (D.view bank.new.disk) }
+        ensures left { IfErr result (λ fault. BankLeft may_record fault bank.old bank.new (D.view bank.old.disk) (D.view bank.new.disk) self.new.shared) }
+        ensures brands { self.new.shared.brands ≡ self.old.shared.brands }
+    {
+        let read = read_event(event);
+        let subject = subject(&self.shared, alloc, read)?;
+        let (grant, reply) = self.answer_of(
+            bank, alloc, event, read, &subject, None, hook, may_record,
+        )?;
+        Ok(Answer {
+            whose: Whose::Found(subject),
+            grant,
+            reply,
+        })
+    }
+
+    // An event of the whole system is answered, under the grant that it has.
+    fn answer_system(&mut self, alloc: Global, event: &Event) -> Result<Answer, StepFault>
+        requires { own_subject event.now ≡ subject_variants.Whole }
+        ensures ok { IfOk result (λ answer. IsStepUnder None self.old event.now (entry_by event.now answer) self.new) }
+        ensures fault { IfErr result (λ fault. Leaves fault None self.old event.now self.new) }
+        ensures apart { IfErr result NeedsNoDisk }
+        ensures rows { self.new.shared.rows ≡ self.old.shared.rows }
+        ensures used { self.new.shared.used ≡ self.old.shared.used }
+        ensures brands { self.new.shared.brands ≡ self.old.shared.brands }
+    {
+        let (grant, reply) = self.answer_whole(alloc, event, None)?;
+        Ok(Answer {
+            whose: Whose::Own,
+            grant,
+            reply,
+        })
+    }
+
+    // An event is answered that has its zone itself.
+    fn answer_own<D: Disk>(
+        &mut self,
+        bank: &mut Bank<D>,
+        alloc: Global,
+        event: &Event,
+        read: Read<'_>,
+        zone: &ZoneName,
+        hook: HookAnswer,
+        may_record: bool,
+    ) -> Result<Answer, StepFault>
+        requires of { own_subject event.now ≡ Zone zone.now }
+        requires decides { (v : View) → decide_read v read ≡ decide v event.now }
+        requires turn { is_turn_read read ≡ is_turn event.now }
+        requires right { IsRightRead read }
+        requires hook { IsHeard self.old event.now hook }
+        requires ready { IsReady (D.view bank.old.disk) bank.old self.old.shared }
+        ensures ok { IfOk result (λ answer. IsStepUnder None self.old event.now (entry_by event.now answer) self.new) }
+        ensures fault { IfErr result (λ fault. Leaves fault None self.old event.now self.new) }
+        ensures ready { OnOk result (IsReady (D.view bank.new.disk) bank.new self.new.shared) }
+        ensures goes { GoesUnder None self.old event.now bank.old.records (D.view bank.old.disk) (D.view bank.new.disk) }
+        ensures bodies { OnOk result (KeepsBodies None self.old event.now bank.old.records bank.new.records) }
+        ensures passes { Passes (D.view bank.old.disk) (D.view bank.new.disk) }
+        ensures left { IfErr result (λ fault. BankLeft may_record fault bank.old bank.new (D.view bank.old.disk) (D.view bank.new.disk) self.new.shared) }
+        ensures brands { self.new.shared.brands ≡ self.old.shared.brands }
+    {
+        let (grant, reply) = self.answer_zone(
+            bank, alloc, event, read, zone, None, hook, may_record,
+        )?;
+        Ok(Answer {
+            whose: Whose::Own,
+            grant,
+            reply,
+        })
+    }
+
+    /// An event that is lent is answered, under the grant that the pools give it; of a turn the brand answered `hook`.
+    #[tactic(auto, unfolding(crate::specs::Machine::decide))]
+    pub(crate) fn answer<D: Disk>(
+        &mut self,
+        bank: &mut Bank<D>,
+        alloc: Global,
+        event: &Event,
+        hook: HookAnswer,
+        may_record: bool,
+    ) -> Result<Answer, StepFault>
+        requires hook { IsHeard self.old event.now hook }
+        requires ready { IsReady (D.view bank.old.disk) bank.old self.old.shared }
+        ensures ok { IfOk result (λ answer. IsStepUnder None self.old event.now (entry_by event.now answer) self.new) }
+        ensures fault { IfErr result (λ fault. Leaves fault None self.old event.now self.new) }
+        ensures ready { OnOk result (IsReady (D.view bank.new.disk) bank.new self.new.shared) }
+        ensures goes { GoesUnder None self.old event.now bank.old.records (D.view bank.old.disk) (D.view bank.new.disk) }
+        ensures bodies { OnOk result (KeepsBodies None self.old event.now bank.old.records bank.new.records) }
+        ensures passes { Passes (D.view bank.old.disk) (D.view bank.new.disk) }
+        ensures left { IfErr result (λ fault. BankLeft may_record fault bank.old bank.new (D.view bank.old.disk) (D.view bank.new.disk) self.new.shared) }
+        ensures brands { self.new.shared.brands ≡ self.old.shared.brands }
+    {
+        match event {
+            Event::Session { .. } => self.answer_line(bank, alloc, event, hook, may_record),
+            Event::Turn { zone } => self.answer_own(
+                bank,
+                alloc,
+                event,
+                Read::Turn(zone),
+                zone,
+                hook,
+                may_record,
+            ),
+            Event::Process { zone, pid, call } => self.answer_own(
+                bank,
+                alloc,
+                event,
+                Read::Process(zone, *pid, call),
+                zone,
+                hook,
+                may_record,
+            ),
+            Event::System(_) => self.answer_system(alloc, event),
+        }
+    }
+
+    /// An event is answered, under the grant that the pools give it, or under one that is stated, where it fits; of a turn
+    /// the brand answered `hook`.
+    pub(crate) fn step<D: Disk>(
+        &mut self,
+        bank: &mut Bank<D>,
+        alloc: Global,
+        event: Event,
+        stated: Option<Grant>,
+        hook: HookAnswer,
+    ) -> Result<Entry, StepFault>
+        requires hook { IsHeard self.old event hook }
+        requires ready { IsReady (D.view bank.old.disk) bank.old self.old.shared }
+        ensures ok { IfOk result (λ entry. IsStepUnder stated self.old event entry self.new) }
+        ensures fault { IfErr result (λ fault. Leaves fault stated self.old event self.new) }
+        ensures ready { OnOk result (IsReady (D.view bank.new.disk) bank.new self.new.shared) }
+        ensures goes { GoesUnder stated self.old event bank.old.records (D.view bank.old.disk) (D.view bank.new.disk) }
+        ensures bodies { OnOk result (KeepsBodies stated self.old event bank.old.records bank.new.records) }
+        ensures passes { Passes (D.view bank.old.disk) (D.view bank.new.disk) }
+        ensures left { IfErr result (λ fault. BankLeft true fault bank.old bank.new (D.view bank.old.disk) (D.view bank.new.disk) self.new.shared) }
+        ensures brands { self.new.shared.brands ≡ self.old.shared.brands }
+    {
+        let read = read_event(&event);
+        let subject = subject(&self.shared, alloc, read)?;
+        let (grant, reply) = self.answer_of(
+            bank, alloc, &event, read, &subject, stated, hook, true,
+        )?;
+        Ok(Entry {
+            event,
+            subject,
+            grant,
+            reply,
+        })
+    }
+}
