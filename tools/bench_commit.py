@@ -5,8 +5,8 @@
 
 The records are those of zones that are made, a line each. Both programs write as many and as long ones, by turns, to a
 file in a new folder within FOLDER, which should be on a disk, and to one in memory. The time of a record is the
-difference of two lengths, and so is free of the program's start; the least of N rounds is taken. With valgrind the
-instructions of such a line are counted too. It is no part of the gate.
+difference of two lengths, and so is free of the program's start; of each length the least of N rounds is taken. With
+valgrind the instructions of such a line are counted too. It is no part of the gate.
 """
 
 import argparse
@@ -58,18 +58,16 @@ def per_record(seconds):
 
 
 def compared(program, bench, parent, rounds):
-    """The least seconds of a record, of the program and of the C program, in a folder within this one."""
-    least = {"zones": None, "calls": None}
+    """The seconds of a record, of the program and of the C program, in a folder within this one, by the least of each length."""
+    zones = [float("inf")] * len(LENGTHS)
+    calls = [float("inf")] * len(LENGTHS)
     with tempfile.TemporaryDirectory(prefix="zones-", dir=parent) as folder:
         for _ in range(rounds):
-            zones, calls = [], []
-            for records in LENGTHS:
+            for place, records in enumerate(LENGTHS):
                 took, size = seconds_of_zones(program, folder, records)
-                zones.append(took)
-                calls.append(seconds_of_calls(bench, folder, records, size))
-            for name, seconds in (("zones", per_record(zones)), ("calls", per_record(calls))):
-                least[name] = seconds if least[name] is None else min(least[name], seconds)
-    return least["zones"], least["calls"]
+                zones[place] = min(zones[place], took)
+                calls[place] = min(calls[place], seconds_of_calls(bench, folder, records, size))
+    return per_record(zones), per_record(calls)
 
 
 def main():

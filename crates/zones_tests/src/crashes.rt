@@ -308,14 +308,19 @@ fn a_read_that_fails_loses_nothing(rt: HostRuntime) -> Result<(), Fail> {
 }
 
 // Which write fails, where all lines are there at once, and how many changes are answered before it, and stored. What waits
-// is written before a record is stored: the disk, which then would fail too, isn't called.
-const WRITES: [(&[u64], usize, usize); 6] = [
+// is written before a record is stored: the disk, which then would fail too, isn't called. What is stored is told at once.
+const WRITES: [(&[u64], usize, usize); 11] = [
     (&[1], 0, 1),
     (&[2], 1, 2),
-    (&[3], 2, 3),
-    (&[4], 3, 4),
-    (&[5], 4, 5),
-    (&[6], 5, 6),
+    (&[3], 2, 2),
+    (&[4], 2, 3),
+    (&[5], 3, 3),
+    (&[6], 3, 4),
+    (&[7], 4, 4),
+    (&[8], 4, 5),
+    (&[9], 5, 5),
+    (&[10], 5, 6),
+    (&[11], 6, 6),
 ];
 
 #[test]

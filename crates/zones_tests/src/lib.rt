@@ -30,6 +30,8 @@ mod replies;
 #[cfg(test)]
 mod requests;
 #[cfg(test)]
+mod restarts;
+#[cfg(test)]
 mod runs;
 #[cfg(test)]
 mod stores;

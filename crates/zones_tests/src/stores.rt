@@ -31,10 +31,11 @@ pub fn run_over<R: Abort + AllocGlobal>(
 
 const MAKE_WEB: &[u8] = b"S 1 zonecfg -z web create -b; set zonepath=/zones/web; set brand=ipkg\n";
 
-// A store of no record, and one of web, as a plain script writes it from docs/STORE.md (tools/store_of_web.py).
+// A store of no record. Both are as a plain script writes them from docs/STORE.md (tools/store_of_web.py).
 const NOTHING: &[u8] = b"\x01ZNSTORE1A\0\0\0\0\0\0\0";
 
-const WEB: &[u8] = b"\x01ZNSTORE1A\0\0\0\0\0\0\x01\0\0\0\xafzone web
+/// A store of one record, of web.
+pub const WEB: &[u8] = b"\x01ZNSTORE1A\0\0\0\0\0\0\x01\0\0\0\xafzone web
 state configured
 uuid 8a2e61b6-8ea3-5b49-9719-c91d461d9a87
 revision 0000000001
