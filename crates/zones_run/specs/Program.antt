@@ -18,7 +18,7 @@ use Rattle.zones_run.specs.Obeyed.{ObeysLines, ObeysRead}
 use Rattle.zones_run.specs.Opening.{Found}
 use Rattle.zones_run.specs.Output.{Output, written}
 use Rattle.zones_run.specs.Recording.{RanBy}
-use Rattle.zones_run.specs.Run.{TellsLine, TellsText}
+use Rattle.zones_run.specs.Run.{IsWhole, TellsLine, TellsText}
 use Rattle.zones_run.specs.Tracing.{AnswersLines, AnswersRead, HasReplies, RunsLines, run_of, traced}
 use Rattle.zones_run.specs.Words.{command_of}
 
@@ -65,9 +65,14 @@ pub record TracedOver (brands : List Tabled) (R : List Commit) (status : ℕ) (i
   pub line : IfSome input (λ bytes. TellsLine (traced brands R bytes).err status told tells before now)
   pub answered : AnswersTrace brands R status input left held holds
 
--- a trace over the store of some commits or other, or one that has taken and written nothing
+-- a trace that was cut before its first line: it has taken and written nothing, and no status of a whole run
+pub record TracedNothing (status : ℕ) (input left held holds : Option (List ℕ)) : Type 0 where
+  pub answers : AnswersNothing input left held holds
+  pub cut : IsWhole status → ⊥
+
+-- a trace over the store of some commits or other, or one that was cut before its first line
 abbrev pub TracedOverSome : List Tabled → ℕ → (input left held holds told tells : Option (List ℕ)) → (before now : ℕ) → Type 0
-TracedOverSome brands status input left held holds told tells before now = ((R : List Commit) × TracedOver brands R status input left held holds told tells before now) ⊎ AnswersNothing input left held holds
+TracedOverSome brands status input left held holds told tells before now = ((R : List Commit) × TracedOver brands R status input left held holds told tells before now) ⊎ TracedNothing status input left held holds
 
 -- what `export` has taken: lines that it has obeyed. Where a fault ended it, it has written nothing
 pub record ObeysInput (status : ℕ) (input left held holds : Option (List ℕ)) : Type 0 where

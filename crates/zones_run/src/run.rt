@@ -204,7 +204,8 @@ pub fn run_zones<S: Source, K: Sink, E: Sink, D: Disk, F: Fn(&Change) -> HookAns
     ensures answered { (found : Found) → Finds (D.view disk) found →
         HasAnswered (tables_of brands.now) (command_of (map string_bytes words.now)) found result.0 (S.left src.old) (S.left src.new) (K.holds out.old) (K.holds out.new) }
 
-    // Whatever the disk is, a trace is answered as one over the store of some commits, or nothing of it is taken and written.
+    // Whatever the disk is, a trace is answered as one over the store of some commits, or cut before its first line: then nothing
+    // was taken and written, and the status is none of a whole run.
     ensures any_disk { command_of (map string_bytes words.now) ≡ Some Command.Trace →
         TracedOverSome (tables_of brands.now) result.0 (S.left src.old) (S.left src.new) (K.holds out.old) (K.holds out.new) (E.holds err.old) (E.holds err.new) (E.faults err.old) (E.faults err.new) }
 

@@ -1,7 +1,7 @@
 //! The command `trace`: the events of the input go through a zone machine over the store on a disk, one after the other.
 //! Their replies are written together, before an event stores a record and once it has, before more is read where no line is
 //! begun, and when many of them wait.
-ghost use Rattle.std.specs.Prelude.{◌≡◌, ◌≢◌, ◌<◌, ◌≤◌, ◌⊎◌, ◌++◌, ℕ, List, [], Err, IfErr, length, IfOk, IfSome, IsErrOf, OnErr, OnOk, true};
+ghost use Rattle.std.specs.Prelude.{◌≡◌, ◌≢◌, ◌<◌, ◌≤◌, ◌⊎◌, ◌++◌, ℕ, List, [], Err, IfErr, length, IfOk, IfSome, IsErrOf, OnErr, OnOk, false, true};
 ghost use Rattle.zn_io.specs.Streams.{Rose, after_known};
 ghost use Rattle.brand_hooks.specs.Brands.{Tabled};
 ghost use Rattle.commit_journal.specs.declared.records.Commit.{Commit};
@@ -247,6 +247,7 @@ fn write_some<K: Sink>(
 ) -> Result<(), RunFault>
     ensures same { OnOk result (after_known (K.holds out.new) waiting.new.items ≡ after_known (K.holds out.old) waiting.old.items) }
     ensures few { OnOk result ((waiting.new.items ≡ []) ⊎ ((length ahead.now ≢ 0) × (length waiting.new.items < 16384))) }
+    ensures told { OnOk result (may_wait ≡ false → waiting.new.items ≡ []) }
     ensures written { HasWritten (K.holds out.old) (K.holds out.new) }
     ensures none { OnErr result (waiting.new.items ≡ []) }
     ensures front { OnErr result (HasFront (K.holds out.old) (K.holds out.new) waiting.old.items) }

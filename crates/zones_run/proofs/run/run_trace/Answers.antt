@@ -1,4 +1,4 @@
-use Rattle.std.proofs.Common.{IfSome, arith, inl, rules}
+use Rattle.std.proofs.Common.{IfSome, arith, inl, inr, refl, rules}
 use Rattle.brand_hooks.specs.Brands.{tables_of}
 use Rattle.zones_run.specs.Opening.{Found}
 use Rattle.zones_run.specs.Output.{Output}
@@ -34,6 +34,15 @@ pub returns-in-Ok-clause-any_disk : goal.returns-in-Ok-clause-any_disk
 returns-in-Ok-clause-any_disk g c =
     let brands = tables_of c.args.brands.now in let ran = c.run_machine-status.ensures in let begins = c.in-Ok.ensures.begins in
     inl (begins.0, record { text = ran.text brands begins.0 begins.1; line = ran.line brands begins.0 begins.1; answered = ran.answered brands begins.0 begins.1 })
+
+pub returns-in-Err-Memory-default-clause-any_disk : goal.returns-in-Err-Memory-default-clause-any_disk
+returns-in-Err-Memory-default-clause-any_disk g c = inr (record { answers = record { taken = refl; nothing = refl }; cut = λ w. grind (arith, w, c.fail.ensures.status) })
+
+pub returns-in-Err-DiskFault-default-clause-any_disk : goal.returns-in-Err-DiskFault-default-clause-any_disk
+returns-in-Err-DiskFault-default-clause-any_disk g c = inr (record { answers = record { taken = refl; nothing = refl }; cut = λ w. grind (arith, w, c.fail-in-Err-DiskFault-default.ensures.status) })
+
+pub returns-in-Err-clause-any_disk : goal.returns-in-Err-clause-any_disk
+returns-in-Err-clause-any_disk g c = inr (record { answers = record { taken = refl; nothing = refl }; cut = never_whole c.complain.result c.in-Err.fault c.complain.ensures.statuses })
 
 pub returns-in-Ok-clause-recorded : goal.returns-in-Ok-clause-recorded
 returns-in-Ok-clause-recorded g c = λ R is.
