@@ -31,7 +31,10 @@ DIGITS = set(b"0123456789")
 
 
 class Refused(Exception):
-    """A refusal, as the program prints it after `line N: ` or `end: `."""
+    """A refusal, as the program prints it after `line N: `, `end: ` or `err `. `shown` are the lines that were told
+    before it."""
+
+    shown = ()
 
 
 # Tokens, subcommands and values.
@@ -236,7 +239,7 @@ def command_of(part):
         known = GLOBAL + list(ALIASES) + KINDS
         if rest and (len(rest) > 1 or word_at(part, rest) not in known):
             raise usage
-        return (verb,)
+        return (verb, word_at(part, rest))
     if verb == "clear":
         if len(rest) != 1 or rest[0][0] != "word":
             raise usage

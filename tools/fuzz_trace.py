@@ -1,9 +1,9 @@
 #!/usr/bin/env python3
 """Compares `zones trace` with the plain model in trace_model.py over random traces.
 
-    tools/fuzz_trace.py [--requests] [--twice] [--count N] [--seed S] [--program FILE]
+    tools/fuzz_trace.py [--requests] [--twice] [--lines KINDS] [--count N] [--seed S] [--program FILE]
     tools/fuzz_trace.py --self-test
-    tools/fuzz_trace.py --model-only [--requests] [--twice] [--count N] [--seed S]
+    tools/fuzz_trace.py --model-only [--requests] [--twice] [--lines KINDS] [--count N] [--seed S]
 
 Traces are made along the grammar (trace_maker.py, process_maker.py, object_maker.py, request_maker.py), with the model
 at hand so that most events do something, and then some are cut, joined or have bytes changed. With `--requests` they
@@ -11,9 +11,14 @@ are all of requests of zoneadm(8). The first input that differs is made as short
 and kept in fuzz-trace.input. Each trace has a store of its own; with `--twice` it is run on it a second time, and
 compared then. It is no part of the gate.
 
+`--lines` names kinds of lines that the program answers beside the older ones, with commas between them: zonecfg (a line
+of subcommands that makes, edits or deletes a zone), edit (sessions that edit), list, verify, help and restart. Most of
+the traces then have such lines (zonecfg_maker.py), and without it none has.
+
 `--self-test` compares the model with replies that are known, and looks at what holds of it in random systems
-(trace_rows.py, object_rows.py, request_rows.py, request_laws.py); it needs no program. Nor does `--model-only`, which
-shows what the traces would be answered, and ends at a reply that has no form (reply_forms.py).
+(trace_rows.py, object_rows.py, request_rows.py, zonecfg_rows.py, request_laws.py, zonecfg_laws.py); it needs no
+program. Nor does `--model-only`, which shows what the traces would be answered, and ends at a reply that has no form
+(reply_forms.py).
 """
 
 import collections
@@ -28,11 +33,15 @@ import request_laws
 import request_rows
 import trace_model as model
 import trace_rows
+import zonecfg_laws
+import zonecfg_rows
 from arguments import arguments
 from own_folder import own_folder
 from reply_forms import kind_of, kind_of_line, misformed
 from request_maker import RequestMaker
 from store_model import Store
+from trace_lines import KINDS_OF_LINES
+from zonecfg_maker import ZonecfgMaker
 
 
 SECONDS = 600
@@ -48,11 +57,11 @@ def answer_of(program, data, times=1):
     return done.returncode, done.stdout, done.stderr
 
 
-def told_of(data, times=1):
-    """What the model says that is."""
+def told_of(data, times, known):
+    """What the model says that is, where such kinds of lines are known."""
     store = Store()
     for _ in range(times):
-        said = model.run(data, store)
+        said = model.run(data, store, known)
     return said
 
 
@@ -79,7 +88,8 @@ def shortest(data, differs):
 
 
 def self_test():
-    fault = trace_rows.fault() or object_rows.fault() or request_rows.fault() or request_laws.fault()
+    fault = trace_rows.fault() or object_rows.fault() or request_rows.fault()
+    fault = fault or zonecfg_rows.fault() or request_laws.fault() or zonecfg_laws.fault()
     print("the model answers as it is known to" if fault is None else "the model differs: %s" % fault)
     return 0 if fault is None else 1
 
@@ -128,14 +138,23 @@ def compared(maker, args, wanted, got):
     return None, counts
 
 
+def kinds_in(text):
+    """The kinds of lines that are named."""
+    known = frozenset(text.split(",") if text else [])
+    if not known <= set(KINDS_OF_LINES):
+        raise SystemExit("kinds of lines are %s" % ",".join(KINDS_OF_LINES))
+    return known
+
+
 def main():
-    args = arguments(__doc__, "self-test", "model-only", "requests", "twice")
-    times = 2 if args.twice else 1
+    args = arguments(__doc__, "self-test", "model-only", "requests", "twice", options=["lines"])
+    times, known = 2 if args.twice else 1, kinds_in(args.lines)
     if args.self_test:
         return self_test()
-    maker = RequestMaker(random.Random(args.seed), 1 if args.requests else 0.3)
+    rng = random.Random(args.seed)
+    maker = ZonecfgMaker(rng, known) if known else RequestMaker(rng, 1 if args.requests else 0.3)
     got = None if args.model_only else (lambda data: answer_of(args.program, data, times))
-    fault, counts = compared(maker, args, lambda data: told_of(data, times), got)
+    fault, counts = compared(maker, args, lambda data: told_of(data, times, known), got)
     if fault is not None:
         print(fault)
         return 1

@@ -285,9 +285,9 @@ def told(configs, before, lines, host=None):
     return replies[len(before):]
 
 
-def row_fault(title, configs, before, pairs):
+def row_fault(title, configs, before, pairs, host=None):
     """The first line of a row that is answered otherwise, or None. What is ANY may be anything."""
-    replies = told(configs, before, [line for line, _ in pairs])
+    replies = told(configs, before, [line for line, _ in pairs], host)
     for (line, want), got in zip(pairs, replies):
         if want is not ANY and got != want:
             return "%s: %s: %s" % (title, line, got)

@@ -20,11 +20,13 @@ FLAW = "(%s)" % "|".join([
 ])
 PRIVILEGE = "(47 PrivWord N|48 PrivRequired [a-z_]+|49 PrivProhibited [a-z_]+)"
 CODE = "|".join([
-    "1 Empty", "2 TooLong", "3 BadByte N", "4 Reserved", "23 BadValue", "24 Duplicate", "27 TooMany N",
-    "29 TooLarge N", "34 NeedForce", "46 UnknownBrand BRAND",
-    "71 TooManyMounts", "81 WrongState " + STATE, "82 Denied " + POOL, "83 HookRefused N",
+    "1 Empty", "2 TooLong", "3 BadByte N", "4 Reserved", "11 OpenQuote N", "12 StrayByte N", "13 OpenBracket N",
+    "14 NoValue N", "22 UnknownProperty", "23 BadValue", "24 Duplicate", "25 NoMatch", "26 SeveralMatch N",
+    "27 TooMany N", "28 AliasHeld", "29 TooLarge N", "31 UnknownCommand",
+    "32 WrongScope (global|fs|net|device|rctl|attr|dataset)", "33 NothingOpen", "34 NeedForce", "35 Usage",
+    FLAW, PRIVILEGE, "71 TooManyMounts", "81 WrongState " + STATE, "82 Denied " + POOL, "83 HookRefused N",
     "84 Privilege " + PRIVILEGE, "85 NotVerified " + FLAW, "90 NoZone", "91 Waiting N", "92 DeskFull",
-    "93 Usage", "96 HoldState", "98 NoProcess", "99 NoMount",
+    "93 Usage", "94 Changed N N", "96 HoldState", "97 DeskInUse", "98 NoProcess", "99 NoMount",
 ])
 ERRNO = "ESRCH|EPERM|EAGAIN|EINVAL|ENOENT|EROFS|EBUSY|ENAMETOOLONG"
 STEP = "|".join([
@@ -42,13 +44,20 @@ MADE = [("N", NUMBER), ("PATH", PATH), ("ITEM", ITEM), ("ZONE", ZONE), ("BRAND",
 
 # What a line of a body is, the narrower forms first.
 BODIES = [
+    ("| ID:NAME:STATE:PATH:UUID:BRAND:IP", r"(N|-):[!-~]+:%s:PATH:[0-9a-f-]*:[\w.-]*:(shared|excl)" % STATE),
+    ("| ID NAME STATUS PATH BRAND IP", r" *(N|-) [!-~]+ +%s +PATH +[\w.-]* +(shared|excl) *" % STATE),
+    ("| ID NAME STATUS PATH BRAND IP", r"  ID NAME +STATUS +[P]ATH +[B]RAND +IP +"),
+    ("| KIND:", r"(fs|net|device|rctl|attr|dataset):"),
+    ("| PROPERTY: VALUE", r"(    )?[a-z-]+: [ -~]*"),
+    ("| SUBCOMMAND", r"create -b|(set|add) [ -~]+|end"),
+    ("| WORD WORD WORD", r"[a-z]+( [a-z]+){13,15}"),
     ("| child N", r"child N"),
     ("| DIR TYPE ro or rw", r"PATH [A-Za-z0-9]{1,15} r[ow]"),
     ("| N N NAME", r"N N [A-Za-z0-9_.-]{1,16}"),
     ("| ITEM", r"ITEM"),
     ("| PRIVILEGES", r"|[a-z_]+(,[a-z_]+)+"),
-    ("| PLACE", r"PATH"),
-    ("| <TYPE:PLACE>", r"<[A-Za-z0-9]{1,15}:[!-~]+>[!-~]*"),
+    ("| PLACE", r"/[ -~]*"),
+    ("| <TYPE:PLACE>", r"<[A-Za-z0-9]{1,15}:[ -~]+>[!-~]*"),
     ("| WORD", r"[!-~]+"),
 ]
 
@@ -70,7 +79,8 @@ def body_kind(said):
 
 
 def misformed(text):
-    """The first line of an output that has no form, that isn't ended, or that is a body without `ok` above it."""
+    """The first line of an output that has no form, that isn't ended, or that is a body without `ok` or a refusal above
+    it."""
     lines = text.decode("latin-1").split("\n")
     if lines.pop():
         return "a last line without its newline"
@@ -82,15 +92,15 @@ def misformed(text):
             continue
         if not HEAD_LINE.match(line):
             return line
-        has_body = line.endswith(" ok") and line.count(" ") == 1
+        has_body = line.split(" ")[1] in ("ok", "err")
     return None
 
 
 def kind_of(said):
     """What is said, without the numbers, directories, names and items that differ from trace to trace; codes stay."""
-    said = re.sub(r"\b(source|UnknownBrand) .*", r"\1 NAME", said)
+    said = re.sub(r"\b(source|UnknownBrand|AttrForm|BadAddress) .*", r"\1 NAME", said)
     said = re.sub(r"\b\d+\b(?! [A-Z])", "N", said)
-    said = re.sub(r"\b(mount|unmount) /.*", r"\1 DIR", said)
+    said = re.sub(r"\b(mount|unmount|SameDir) /.*", r"\1 DIR", said)
     return re.sub(r"\b(link|address|dataset) .*", r"\1 ITEM", said)
 
 

@@ -18,16 +18,23 @@ AROUND = 5
 
 @dataclasses.dataclass
 class Record:
-    """What is stored of a zone."""
+    """What is stored of a zone: beside its state and configuration the number of the configuration's last change, and
+    that of the record that made the zone, from which its UUID comes."""
 
     state: str
     config: Config
     revision: int = 0
+    made: int = 0
 
     def size(self, name):
         """The bytes of its body, in which a UUID has 36 and a revision ten digits."""
         head = "zone %s\nstate %s\nuuid %s\nrevision %s\n" % (name.decode(), self.state, "u" * 36, "0" * 10)
         return len(head) + len(self.config.text())
+
+
+def removal_size(name):
+    """The bytes of the body by which a zone is removed."""
+    return len("zone %s\nstate none\n" % name.decode())
 
 
 class Store:
@@ -37,16 +44,26 @@ class Store:
         self.records, self.serial, self.used = {}, 0, 1
 
     def change(self, name, record, commit=False):
-        """Stores a record, or tells which pool denies it. A commit and a move count as a change of the configuration,
-        and may give the zone another path."""
+        """Stores a record, or tells which pool denies it; None removes the zone. A commit and a move count as a change
+        of the configuration, and may give the zone another path."""
         old = self.records.get(name)
+        if record is None:
+            self.take(removal_size(name))
+            del self.records[name]
+            return
         if old is None and len(self.records) == MOST_ZONES:
             raise Refused("82 Denied zones")
         others = [it.config.path for other, it in self.records.items() if other != name]
         if (old is None or old.config.path != record.config.path) and record.config.path in others:
             raise Refused("82 Denied paths")
-        if self.used + AROUND + record.size(name) > MOST_BYTES:
+        self.take(record.size(name))
+        made = self.serial if old is None else old.made
+        revision = self.serial if commit else record.revision
+        self.records[name] = dataclasses.replace(record, made=made, revision=revision)
+
+    def take(self, size):
+        """Takes the room of one more record, and its number."""
+        if self.used + AROUND + size > MOST_BYTES:
             raise Refused("82 Denied store")
-        self.used += AROUND + record.size(name)
+        self.used += AROUND + size
         self.serial += 1
-        self.records[name] = dataclasses.replace(record, revision=self.serial) if commit else record

@@ -26,7 +26,17 @@ def bodies(image):
     return found
 
 
+def uuid_of(zone, number):
+    """The UUID of a zone that the record of a number made."""
+    return uuid.uuid5(NAMESPACE, "%s:%d" % (zone, number))
+
+
 def body(zone, state, number, revision, export):
     """The body of a zone that the record of a number made."""
-    made = uuid.uuid5(NAMESPACE, "%s:%d" % (zone, number))
-    return ("zone %s\nstate %s\nuuid %s\nrevision %010d\n%s" % (zone, state, made, revision, export)).encode()
+    head = (zone, state, uuid_of(zone, number), revision, export)
+    return ("zone %s\nstate %s\nuuid %s\nrevision %010d\n%s" % head).encode()
+
+
+def removal(zone):
+    """The body that removes a zone."""
+    return ("zone %s\nstate none\n" % zone).encode()

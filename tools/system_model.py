@@ -58,10 +58,15 @@ class System:
 
     def __init__(self, brands=None, store=None):
         self.brands = BRANDS if brands is None else brands
-        self.store, self.active = store or Store(), {}
+        self.store, self.items = store or Store(), Items()
+        self.restart()
+
+    def restart(self):
+        """Leaves nothing but what is stored and what is declared."""
+        self.active, self.items.claims = {}, []
         self.zids, self.limits, self.bootargs = {}, {}, {}
         self.processes, self.firsts = {}, {}
-        self.mounts, self.devices, self.items = collections.defaultdict(Mounts), {}, Items()
+        self.mounts, self.devices = collections.defaultdict(Mounts), {}
         self.last_zid, self.last_pid = 0, 0
 
     # Zones.

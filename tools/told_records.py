@@ -4,7 +4,8 @@ written."""
 import export_model
 import trace_model as model
 from store_model import Store
-from store_reader import body
+from store_reader import body, removal
+from trace_lines import OLD_LINES
 
 
 class LoggedStore(Store):
@@ -12,26 +13,26 @@ class LoggedStore(Store):
 
     def __init__(self, changes=()):
         super().__init__()
-        self.changes, self.makers, self.bodies = [], {}, []
+        self.changes, self.bodies = [], []
         for change in changes:
             self.change(*change)
 
     def change(self, name, record, commit=False):
-        maker = self.makers.get(name, self.serial + 1)
         super().change(name, record, commit)
-        now, self.makers[name] = self.records[name], maker
         self.changes.append((name, record, commit))
-        self.bodies.append(body(name.decode(), now.state, maker, now.revision, now.config.text()))
+        now, zone = self.records.get(name), name.decode()
+        self.bodies.append(
+            removal(zone) if now is None else body(zone, now.state, now.made, now.revision, now.config.text()))
 
 
 class Told:
-    """What the model says of a trace over a store that some changes made: the whole text, and for each record that the
-    trace adds how long the text is with its reply."""
+    """What the model says of a trace over a store that some changes made, where such kinds of lines are known: the
+    whole text, and for each record that the trace adds how long the text is with its reply."""
 
-    def __init__(self, data, changes=()):
+    def __init__(self, data, changes=(), known=OLD_LINES):
         self.store, self.text, self.ends = LoggedStore(changes), b"", []
         self.before = len(self.store.bodies)
-        host = model.Host(store=self.store)
+        host = model.Host(store=self.store, known=known)
         for line in export_model.lines_of(data):
             event, count = host.read(line), len(self.store.bodies)
             if event is not None:

@@ -1,11 +1,20 @@
 """The lines of a trace, as the model in trace_model.py reads them: events, calls of processes, and what sessions type.
 
-event_of(line, started) reads one line, typed(text) what a session types.
+event_of(line, started, known) reads one line, typed(text, known) what a session types. `known` are the kinds of lines
+that are read beside those that always are; a line of a kind that isn't among them is none of the grammar, or is no line
+that a session may type.
 """
 
 import re
 
 import export_model
+from export_model import Refused
+
+# zonecfg: subcommands after `zonecfg -z ZONE`; edit: sessions that edit, `zonecfg -z ZONE` alone; list, verify and
+# help: these of zoneadm(8); restart: the line `R`. Without zonecfg one line makes a zone, and no other edits one.
+KINDS_OF_LINES = ("zonecfg", "edit", "list", "verify", "help", "restart")
+ALL_LINES = frozenset(KINDS_OF_LINES)
+OLD_LINES = frozenset()
 
 LAST_NUMBER = 4294967295
 SESSIONS = {b"%d" % number: number for number in range(1, 65)}
@@ -23,10 +32,6 @@ PRIVILEGES = dict(named.split(":") for named in """
 
 class Outside(Exception):
     """A line outside the grammar, as the program prints it after `line N: `."""
-
-
-class Refused(Exception):
-    """A refusal, as the program prints it after `err `."""
 
 
 # Words.
@@ -166,19 +171,23 @@ def declaration_of(words, started):
     return ("Y", kind.decode(), item.decode())
 
 
-def event_of(line, started=False):
-    """("S", number, text), ("D", name), ("P", name, pid, words of the call), ("Y", kind, item), or None for a line that
-    is no event. `started` is whether an event other than a declaration came before."""
+def event_of(line, started=False, known=OLD_LINES):
+    """("S", number, text), ("D", name), ("P", name, pid, words of the call), ("Y", kind, item), ("R",) for a restart,
+    or None for a line that is no event. `started` is whether an event other than a declaration came before."""
     if line.strip(b" ") == b"" or line[:1] == b"#":
         return None
     if line[:1] == b"@":
         raise Outside("103 GrantForm")
-    if line.split(b" ", 1)[0] not in (b"S", b"D", b"P", b"Y"):
+    tags = (b"S", b"D", b"P", b"Y", b"R") if "restart" in known else (b"S", b"D", b"P", b"Y")
+    if line.split(b" ", 1)[0] not in tags:
         raise Outside("101 BadTag")
     words = Words(line)
     tag = words.next(lambda word: True)
     if tag == b"Y":
         return declaration_of(words, started)
+    if tag == b"R":
+        words.end()
+        return ("R",)
     if tag == b"S":
         number = words.next(lambda word: word in SESSIONS)
         return ("S", SESSIONS[number], words.text())
@@ -240,22 +249,59 @@ def request_of(words):
     return None
 
 
-def typed(text):
-    """What a session's line asks for: (what, name, rest), where name may be None. The rest is the path and brand of a
-    zone that is made, kind and detail of a request, signal and number of `kill`, or the directory of a hold."""
+def zonecfg_of(text, words, known):
+    """What a line of zonecfg(8) asks for, as typed() tells it, or None where it is none that is known. Subcommands are
+    taken as they stand, from the first byte after the spaces behind the zone's name to the end of the line."""
+    if words[:2] != [b"zonecfg", b"-z"] or len(words) < 3:
+        return None
+    if len(words) == 3:
+        return ("edit", words[2], None) if "edit" in known else None
+    if "zonecfg" in known:
+        return ("zonecfg", words[2], re.fullmatch(rb" *zonecfg +-z +[^ ]+ +(.*)", text, re.S).group(1))
+    return ("create", words[2], made_zone(words)) if made_zone(words) is not None else None
+
+
+def is_options(word):
+    """Whether a word is the options of a list of all zones: letters in any order, also repeated. A list is short, or
+    has the columns of -p or those of -v, but not of both."""
+    return re.fullmatch(rb"-[cinpv]+", word) is not None and not (b"p" in word and b"v" in word)
+
+
+def zoneadm_of(words, known):
+    """What a line of zoneadm(8) asks for, as typed() tells it, or None where it is none that is known."""
+    if "list" in known and words[1:2] == [b"list"] and (len(words) == 2 or len(words) == 3 and is_options(words[2])):
+        return ("list", None, words[2].decode() if words[2:] else "")
+    if "help" in known and words[1:] == [b"help"]:
+        return ("help", None, None)
+    if len(words) < 4 or words[1] != b"-z":
+        return None
+    name, rest = words[2], words[3:]
+    if "help" in known and rest == [b"help"]:
+        return ("help", name, None)
+    if "verify" in known and rest == [b"verify"]:
+        return ("verify", name, None)
+    if "list" in known and rest in ([b"list"], [b"list", b"-p"], [b"list", b"-v"]):
+        return ("list", name, b"".join(rest[1:]).decode())
+    if rest == [b"uninstall"]:
+        return ("unforced", name, None)
+    return ("request", name, request_of(rest)) if request_of(rest) is not None else None
+
+
+def typed(text, known=OLD_LINES):
+    """What an idle session's line asks for: (what, name, rest), where name may be None. The rest is the path and brand
+    of a zone that is made, subcommands of zonecfg(8), kind and detail of a request, the options of a list, signal and
+    number of `kill`, or the directory of a hold."""
     words = text.split()
     if not words:
         return ("nothing", None, None)
     name = None
     if b"-z" in words[:-1]:
         name = words[words.index(b"-z") + 1]
-    if len(words) > 3 and words[:2] == [b"zoneadm", b"-z"]:
-        if words[3:] == [b"uninstall"]:
-            return ("unforced", name, None)
-        if request_of(words[3:]) is not None:
-            return ("request", name, request_of(words[3:]))
-    if made_zone(words) is not None:
-        return ("create", name, made_zone(words))
+    asked = zonecfg_of(text, words, known) if words[0] == b"zonecfg" else None
+    if words[0] == b"zoneadm":
+        asked = zoneadm_of(words, known)
+    if asked is not None:
+        return asked
     if len(words) == 3 and words[0] == b"kill" and is_signal(words[1]) and is_number(words[2]):
         return ("kill", name, (words[1].decode(), int(words[2])))
     if len(words) == 4 and words[0] in (b"fhold", b"frelease") and words[1] == b"-z" and is_path(words[3]):

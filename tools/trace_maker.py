@@ -65,13 +65,15 @@ class Maker:
     """Makes traces without processes' calls. It runs each line by the model, to know what has a point next."""
 
     heads = HEADS
+    # The kinds of lines that are known beside those that always are.
+    known = trace_lines.OLD_LINES
 
     def __init__(self, rng):
         self.rng = rng
         self.begin(["web"], 1)
 
     def begin(self, names, sessions):
-        self.host = model.Host()
+        self.host = model.Host(known=self.known)
         self.lines = []
         self.names = names
         self.sessions = self.rng.sample(range(1, 65), sessions)
@@ -93,8 +95,9 @@ class Maker:
         return self.rng.choice(NO_NAMES if self.rng.random() < 0.03 else self.names)
 
     def session(self):
-        """A session, for the most part one that waits for no ticket."""
-        idle = [number for number in self.sessions if number not in self.host.tickets]
+        """A session, for the most part one that is idle."""
+        host = self.host
+        idle = [number for number in self.sessions if number not in host.tickets and number not in host.edits]
         return self.rng.choice(idle if idle and self.rng.random() < 0.9 else self.sessions)
 
     def spaced(self, text):

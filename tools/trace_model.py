@@ -5,22 +5,24 @@ program and is meant for comparing the two; tools/fuzz_trace.py does that, and t
 tools/object_rows.py and tools/request_rows.py compare the model with replies that are known. Lines are read by
 trace_lines.py; what zones have is kept by system_model.py, and their daemons are daemon_model.py's.
 
-**What no line reaches.** No line sets anything of a zone's configuration but its zonepath and its brand: so each zone
-that a line makes mounts its root alone, claims nothing and is given no device, and its processes may mount lofs, hsfs,
-nfs and smbfs. The steps `mount`, `link`, `address`, `dataset` and `release`, `undone`, 29, 84, 85, 94, 82 of a claim,
-the answers of `links`, `datasets` and `devices` with a line, ENOENT, EAGAIN, and a mount of the zone's own below its
-root are reached by the rows, which hand a `Config` in, and so are most of them by request_laws.py.
+`known` are the kinds of lines that are read beside those that always are (trace_lines.KINDS_OF_LINES). Without
+`zonecfg` and `edit` no line sets anything of a zone's configuration but its zonepath and its brand: so each zone that a
+line makes mounts its root alone, claims nothing and is given no device, and its processes may mount lofs, hsfs, nfs and
+smbfs. What such zones don't reach is reached by the rows, which hand a `Config` in, and most of it by request_laws.py.
 """
 
 import dataclasses
 
+import edit_model
 import export_model
+import list_model
 from config_model import Config
 from daemon_model import Daemon, Request
+from edit_model import Edit
 from mount_model import Mount
 from store_model import Record
 from system_model import Process, System
-from trace_lines import PRIVILEGES, Outside, Refused, event_of, name_fault, typed
+from trace_lines import OLD_LINES, PRIVILEGES, Outside, Refused, event_of, name_fault, typed
 
 MOST_LINES = 200000
 MOST_BYTES = 4096
@@ -29,16 +31,17 @@ NEEDED = {"fork": "proc_fork", "exec": "proc_exec", "mount": "sys_mount", "umoun
 
 
 class Host(System):
-    """The zones of one system, their daemons, and the sessions that ask them."""
+    """The zones of one system, their daemons, and the sessions that ask them: a session edits a zone, waits for a
+    ticket, or is idle."""
 
-    def __init__(self, brands=None, store=None):
+    def __init__(self, brands=None, store=None, known=OLD_LINES):
         super().__init__(brands, store)
+        self.known = known
         self.started = False
-        self.desks, self.tickets = {}, {}
 
     def read(self, line):
         """The event of a line that comes next, or None where it is none."""
-        return event_of(line, self.started)
+        return event_of(line, self.started, self.known)
 
     def answer(self, event):
         """The subject of an event, the lines of its reply (the first is the head), and whether it is refused."""
@@ -47,20 +50,23 @@ class Host(System):
         try:
             lines = self.obey(event)
         except Refused as refused:
-            lines = ["err %s" % refused]
+            lines = ["err %s" % refused, *refused.shown]
         head = lines[0]
         return subject, lines, head.startswith(("err ", "failed ", "stuck ")) or " err " in head
 
     def subject(self, event):
-        """The zone that an event belongs to, `global`, or `*` for all of the system."""
-        if event[0] == "Y":
+        """The zone that an event belongs to, `global`, or `*` for all of the system. A session that waits for a zone's
+        daemon or edits a zone gives all its lines to that zone."""
+        if event[0] in ("Y", "R"):
             return b"*"
         if event[0] != "S":
             return event[1]
         _, number, text = event
         if number in self.tickets:
             return self.tickets[number][0]
-        what, name, rest = typed(text)
+        if number in self.edits:
+            return self.edits[number].name
+        what, name, rest = typed(text, self.known)
         if what == "kill" and rest[1] in self.processes:
             return self.processes[rest[1]].zone
         return b"global" if name is None or name_fault(name) else name
@@ -70,6 +76,9 @@ class Host(System):
         if event[0] == "Y":
             self.items.declare(*event[1:])
             return ["ok"]
+        if event[0] == "R":
+            self.restart()
+            return ["ok"]
         if event[0] == "D":
             return [self.turn(event[1])]
         if event[0] == "P":
@@ -77,33 +86,67 @@ class Host(System):
         _, number, text = event
         if number in self.tickets:
             raise Refused("91 Waiting %d" % self.tickets[number][1])
-        return [self.line(number, *typed(text))]
+        if number in self.edits:
+            return self.edited(number, text)
+        return self.line(number, *typed(text, self.known))
+
+    def restart(self):
+        """Begins anew with what is stored and what is declared. Nobody edits or waits any longer, and nothing is asked
+        of a daemon; tickets, ids and processes are numbered from their first number on."""
+        super().restart()
+        self.desks, self.tickets, self.edits = {}, {}, {}
 
     # Sessions.
 
     def line(self, number, what, name, rest):
-        """Obeys the line of a session that waits for no ticket."""
+        """Obeys the line of a session that is idle: first its form, then the names in it, and then what it asks for."""
         if what == "nothing":
-            return "ok"
+            return ["ok"]
         if what == "unknown":
             raise Refused("93 Usage")
         if what == "kill":
             self.kill(None, *rest)
-            return "ok"
+            return ["ok"]
+        if what in ("list", "help") and name is None:
+            return ["ok"] + (list_model.zones(self, rest) if what == "list" else [list_model.HELP])
         if name_fault(name):
             raise Refused(name_fault(name))
         if what == "create":
-            return self.create(name, *rest)
+            return [self.create(name, *rest)]
+        if what == "zonecfg":
+            return ["ok"] + edit_model.run(Edit(name, self), rest, is_whole=True)[0]
+        if what == "edit":
+            self.edits[number] = Edit(name, self)
+            return ["ok"]
+        if what == "help":
+            return ["ok", list_model.HELP]
         if what == "request" and rest[0] == "clone" and name_fault(rest[1]):
             raise Refused(name_fault(rest[1]))
         if what == "unforced":
             raise Refused("34 NeedForce")
+        return self.line_of_zone(number, what, name, rest)
+
+    def line_of_zone(self, number, what, name, rest):
+        """Obeys a line that is about a zone that has to be stored."""
         if self.state(name) is None:
             raise Refused("90 NoZone")
         if what == "request":
-            return self.request(number, name, *rest)
-        self.mounts[name].set_held(rest, what == "fhold")
-        return "ok"
+            return [self.request(number, name, *rest)]
+        if what == "list":
+            return ["ok"] + list_model.zone(self, name, rest)
+        if what == "verify":
+            self.verify(self.config(name).values)
+            self.config(name).privileges()
+        else:
+            self.mounts[name].set_held(rest, what == "fhold")
+        return ["ok"]
+
+    def edited(self, number, line):
+        """Obeys the line of a session that edits a zone. It is idle again once it left."""
+        shown, last = edit_model.run(self.edits[number], line)
+        if last in ("delete", "exit"):
+            del self.edits[number]
+        return ["ok"] + shown
 
     def create(self, name, path, brand):
         """Makes a zone. What is typed is looked at from left to right, and then the configuration as it is left."""
@@ -113,11 +156,15 @@ class Host(System):
             raise Refused("23 BadValue")
         return self.commit(name, Config.of(zonepath=path, brand=brand))
 
-    def commit(self, name, config, seen=None):
-        """Stores a zone's configuration, of which `seen` was the revision that it was edited from."""
-        flaw = config.flaw(list(self.brands))
+    def verify(self, values):
+        """Looks for a flaw in a configuration."""
+        flaw = Config(values).flaw(list(self.brands))
         if flaw is not None:
             raise Refused(flaw)
+
+    def commit(self, name, config, seen=None):
+        """Stores a zone's configuration, of which `seen` was the revision that it was edited from."""
+        self.verify(config.values)
         old = self.store.records.get(name)
         now = old.revision if old else 0
         if seen not in (None, now):
@@ -130,6 +177,23 @@ class Host(System):
                 raise Refused("81 WrongState %s" % state)
             self.store.change(name, dataclasses.replace(old, config=config), commit=True)
         return "ok"
+
+    def commit_edited(self, name, values, seen):
+        """Stores what an editor has, which it keeps for itself."""
+        self.commit(name, Config(export_model.copy(values)), seen)
+
+    def delete(self, name, seen):
+        """Removes a zone that is configured alone, and of whose daemon nothing is asked."""
+        old = self.store.records.get(name)
+        if old is None:
+            raise Refused("90 NoZone")
+        if old.revision != seen:
+            raise Refused("94 Changed %d %d" % (seen, old.revision))
+        if self.state(name) != "configured":
+            raise Refused("81 WrongState %s" % self.state(name))
+        if name in self.desks and self.desks[name].is_busy():
+            raise Refused("97 DeskInUse")
+        self.store.change(name, None)
 
     def request(self, number, name, kind, detail):
         """Gives a request to the zone's daemon, and the session its ticket."""
@@ -207,10 +271,10 @@ class Host(System):
 
 # The whole run.
 
-def run(data, store=None):
+def run(data, store=None, known=OLD_LINES):
     """The status and both texts of `zones trace` over an input, on a store that it changes or, without one, on an empty
     one."""
-    host = Host(store=store)
+    host = Host(store=store, known=known)
     out, first = [], None
     for number, line in enumerate(export_model.lines_of(data), 1):
         if number > MOST_LINES or len(line) > MOST_BYTES:

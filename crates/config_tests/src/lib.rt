@@ -1,5 +1,5 @@
 //! Tests of a zone's configuration over public calls: lines and values, resources, configurations, their export
-//! texts, flaws, and the editor. What they expect is worked out from docs/ZONECFG.md by hand.
+//! texts, flaws, the editor, and lines of a session. What they expect is worked out from docs/ZONECFG.md by hand.
 #![tactic(auto)]
 
 #[cfg(test)]
@@ -14,5 +14,7 @@ mod flaws;
 mod lines;
 #[cfg(test)]
 mod resources;
+#[cfg(test)]
+mod sessions;
 #[cfg(test)]
 mod values;

@@ -24,10 +24,11 @@ fn push_escaped_byte(out: &mut Vec<u8>, byte: u8) -> Result<(), AllocError>
     Ok(())
 }
 
-fn push_path(out: &mut Vec<u8>, path: &[u8]) -> Result<(), AllocError>
-    ensures { OnOk result (out.new.items ≡ out.old.items ++ colon ∷ escaped path.now) }
+/// Puts a path after what is there, with a backslash before each colon and each backslash. Where memory runs out,
+/// what is there has a front of it after it.
+pub fn push_escaped(out: &mut Vec<u8>, path: &[u8]) -> Result<(), AllocError>
+    ensures { OnOk result (out.new.items ≡ out.old.items ++ escaped path.now) }
 {
-    out.push(b':')?;
     for byte in path {
         push_escaped_byte(out, *byte)?;
     }
@@ -49,7 +50,8 @@ pub(crate) fn push_line(out: &mut Vec<u8>, row: &IndexRow) -> Result<(), AllocEr
 {
     out.extend_from_slice(row.name.bytes())?;
     push_field(out, row.state.text())?;
-    push_path(out, row.path.bytes())?;
+    out.push(b':')?;
+    push_escaped(out, row.path.bytes())?;
     out.push(b':')?;
     push_uuid(out, row.uuid)?;
     out.push(b'\n')?;

@@ -3,11 +3,14 @@ ghost use Rattle.std.specs.Prelude.{◌≡◌, ◌++◌, OnOk};
 ghost use Rattle.trace_text.specs.Phrases.{phrase_text};
 ghost use Rattle.trace_text.specs.Turns.{claim_kind_text, claim_text, counted_text};
 
-use crate::flaws::push_flaw;
+use crate::edit_faults::push_edit;
+use crate::flaws::{push_flaw, push_limit_fault};
 use config_verify::Flaw;
 use datalink_table::{Claim, ClaimKind};
+use priv_sets::PrivFault;
 use std::alloc::AllocError;
 use zn_base::{ZoneState, push_both, push_numbered};
+use zonecfg_scopes::EditFault;
 
 #[derive(Clone, Copy)]
 pub(crate) enum Phrase<'a> {
@@ -21,6 +24,10 @@ pub(crate) enum Phrase<'a> {
     Claimed(&'a [u8], &'a Claim),
     /// A flaw, with its own words.
     Flawed(&'a Flaw),
+    /// What a subcommand is refused for, with its own words.
+    Edit(EditFault),
+    /// Why a limitpriv denotes no limit set, likewise.
+    Limited(PrivFault),
 }
 
 fn push_counted(out: &mut Vec<u8>, word: &[u8], count: &Option<u32>) -> Result<(), AllocError>
@@ -61,5 +68,7 @@ pub(crate) fn push_phrase(out: &mut Vec<u8>, phrase: Phrase) -> Result<(), Alloc
         Phrase::Counted(word, count) => push_counted(out, word, count),
         Phrase::Claimed(word, claim) => push_claim(out, word, claim),
         Phrase::Flawed(flaw) => push_flaw(out, flaw),
+        Phrase::Edit(fault) => push_edit(out, fault),
+        Phrase::Limited(fault) => push_limit_fault(out, fault),
     }
 }

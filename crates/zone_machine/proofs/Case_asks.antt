@@ -16,7 +16,10 @@ use Rattle.zoneadmd_steps.proofs.Of_turns.{is_asked_for}
 use Rattle.zoneadmd_steps.specs.Arrivals.{A_record, Arrival, Comes, arrived}
 use Rattle.zone_machine.specs.State.Decisions.{effects, turned}
 use Rattle.zoneadmd_steps.specs.Code.Cases.{asked_for, comes_of, edits_under, halt_begun, job_turn, object_edits, on_job, shown_under, turn_decision_of, undo_with}
-use Rattle.zone_machine.specs.Code.Cases.{decision_of}
+use Rattle.zn_base.specs.Names.{Name}
+use Rattle.zone_machine.specs.Code.Cases.{decision_of, made}
+use Rattle.zone_machine.specs.declared.cases.Novelty.{Novelty}
+use Rattle.zone_machine.specs.declared.cases.Novelty.TheVariants as novelty
 use Rattle.zoneadmd_steps.specs.Desks as desks
 use Rattle.zoneadmd_steps.specs.Code.Desks.{as_desk, as_job}
 use Rattle.zoneadmd_steps.specs.Objects.{Object_edit}
@@ -113,11 +116,19 @@ asks_turn_case d (turns.Refuse ticket outcome) = tt
 asks_turn_case d (turns.Again job) = tt
 asks_turn_case d (turns.GoOn c) = asks_on d d.job c
 
+-- a commit, by what is new in it
+pub asks_made : (new : Novelty) (z : Name) (row : records.Record) (told : List (List ℕ)) → AsksWell (made new z row told)
+asks_made novelty.Zone z row told = (refl, λ n. refl)
+asks_made novelty.Path z row told = (refl, λ n. refl)
+asks_made novelty.Nothing z row told = (refl, λ n. refl)
+
 pub asks_case : (d : Desk) (c : Case) → AsksWell (decision_of d c)
 asks_case d (cases.Says head) = tt
 asks_case d (cases.Tells body) = tt
 asks_case d (cases.Change edit) = tt
 asks_case d (cases.Fork p) = (refl, tt)
-asks_case d (cases.Make row owner) = (refl, λ n. refl)
+asks_case d (cases.Answers reply) = tt
+asks_case d (cases.Commit c) = asks_made c.value.novelty c.value.owner c.value.row.value c.value.told
+asks_case d (cases.Remove r) = (refl, λ n. refl)
 asks_case d (cases.Put kind owner) = tt
 asks_case d (cases.Turn c) = asks_turn (turn_decision_of d c) (asks_turn_case d c)

@@ -1,5 +1,6 @@
 -- Changes of a cell and the shared part.
 use Rattle.commit_journal.specs.Store.{change_text}
+use Rattle.commit_journal.specs.Stored.{without}
 use Rattle.std.proofs.Common.{◌≡◌, ◌∷◌, ◌++◌, [], ℕ, List, Bool, Option, Some, None, true, false, not, ◌&&◌, ◌||◌, inl, inr, refl, ap, sym, subst, ◌∙◌, ◌+◌, map, length, arith}
 use Rattle.indexmap.specs.IndexMap.{get, get_by, insert_entry}
 use Rattle.std.specs.Prelude.{◌≢◌, bytes_eq, nat_eq, is_some, unwrap_or, if◌then◌else◌}
@@ -20,7 +21,7 @@ use Rattle.zone_machine.proofs.Waits_laws.{some_wait}
 use Rattle.zone_machine.specs.Code.Cells.{Acts, Agree, Does, cell_world, common_in, declared_in, is_up_in, kept, outside_in, row_in}
 use Rattle.zoneadmd_steps.specs.Objects.{ids_of, has_zid}
 use Rattle.zone_machine.specs.Code.Waits.{is_wait_for, unless_ended}
-use Rattle.zone_machine.specs.Code.Works.{work_world, Works, rest_of, sits, work_act}
+use Rattle.zone_machine.specs.Code.Works.{arrival_by, work_world, Works, rest_of, sits, work_act}
 use Rattle.datalink_table.specs.Claims.{holds}
 use Rattle.datalink_table.specs.Shared.{holder}
 use Rattle.datalink_table.specs.declared.claims.Claim.{Claim}
@@ -45,7 +46,6 @@ use Rattle.zoneadmd_steps.specs.declared.desks.Desk.{Desk}
 use Rattle.zoneadmd_steps.specs.Desks as desks
 use Rattle.zoneadmd_steps.specs.Code.Desks.{as_desk}
 use Rattle.zoneadmd_steps.specs.Code.Cases.{object_edits}
-use Rattle.zoneadmd_steps.specs.Code.Works.{arrival_of}
 
 -- the columns that stay
 module _ (z : Name) (c : Cell) (s : Shared) (agree : Agree z c s) where
@@ -169,6 +169,15 @@ does_record z c s t r h found = record {
       refl (ap rows_of h ∙ placed_is z r s.rows.entries) refl (omega arith) refl refl refl refl refl;
 }
 
+pub does_removal : (z : Name) (c : Cell) (s t : Shared) → rows_of t.rows.entries ≡ without z (rows_of s.rows.entries) → row_in z t ≡ None
+    → Does z (comes_world (New_record None)) (came_common z (Some (New_record None))) c s c (record s { rows = t.rows; serial = s.serial + 1; used = s.used + (5 + length (change_text z None)) })
+does_removal z c s t h gone = record {
+  world = λ a i. record (cell_world (outside_in z s) c) { stored = gone i };
+  common = λ a. common_by z (record (cell_world (outside_in z s) c) { stored = None }) (record (common_in s) { rows = without z (rows_of s.rows.entries); serial = s.serial + 1; used = s.used + 5 + length (change_text z None) })
+      (record s { rows = t.rows; serial = s.serial + 1; used = s.used + (5 + length (change_text z None)) }) (get nat_eq c.waits) (same_pids z c s a) (same_zids z c s a) (same_claims z c s a) (same_sessions z c s a) (λ n. holds_wait (get nat_eq c.waits n))
+      refl h refl (omega arith) refl refl refl refl refl;
+}
+
 -- one after another
 same_again : (z y : Name) (a b d : Bool) → (if bytes_eq z y then a else (if bytes_eq z y then b else d)) ≡ (if bytes_eq z y then a else d)
 same_again z y a b d = at_zone (bytes_eq z y)
@@ -262,7 +271,7 @@ desk-objects n object.ClearLimits w d = refl
 
 work-desk : (n : Option ℕ) (w : World) (d : desks.Desk) (work : Work) → work_world n work (record w { desk = d }) ≡ acts_world n (work_act work d) w
 work-desk n w d work =
-    let came = arrival_of work.stored in
+    let came = arrival_by work.stored in
     let objects = map Of_objects (object_edits work.objects) in
     let after = after_came_world came w in
     ap (λ (v : World). edits_world n (sweeps work.ended) (edits_world n (sits work.sits) v)) (ap (edits_world n objects) (desk-came came w d) ∙ desk-objects n work.objects after d)
@@ -271,7 +280,7 @@ work-desk n w d work =
 
 -- so work that does what an act says does it, where the desk is changed before
 pub does_work : (z : Name) (n : Option ℕ) (a : Act) (work : Work) (c d : Cell) (desk : Desk) (s t : Shared) → Works n a (cell_world (outside_in z s) c) (as_desk desk) work
-    → Does z (work_world n work) (came_common z (arrival_of work.stored)) (record c { desk = desk }) s d t → Does z (acts_world n a) (came_common z a.came) c s d t
+    → Does z (work_world n work) (came_common z (arrival_by work.stored)) (record c { desk = desk }) s d t → Does z (acts_world n a) (came_common z a.came) c s d t
 does_work z n a work c d desk s t works does =
     let w = cell_world (outside_in z s) c in
     let lasts : work_world n work (record w { desk = as_desk desk }) ≡ acts_world n a w = work-desk n w (as_desk desk) work ∙ works.world in
@@ -279,7 +288,7 @@ does_work z n a work c d desk s t works does =
       world = λ a. does.world (record { pids = a.pids; zids = a.zids; claims = a.claims; sessions = a.sessions }) ∙ lasts;
       common = λ agree.
           does.common (record { pids = agree.pids; zids = agree.zids; claims = agree.claims; sessions = agree.sessions })
-          ∙ (ap (λ v. holding z v (came_common z (arrival_of work.stored) (common_in s))) lasts
+          ∙ (ap (λ v. holding z v (came_common z (arrival_by work.stored) (common_in s))) lasts
           ∙ ap (λ x. holding z (acts_world n a w) (came_common z x (common_in s))) works.came);
     }
 

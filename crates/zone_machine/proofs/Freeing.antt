@@ -1,8 +1,7 @@
 -- What comes with a grant that the pools give, or that fits, is free.
 use Rattle.commit_journal.specs.Bodies.{stored_text}
-use Rattle.commit_journal.specs.Uuids.{uuid_of}
 use Rattle.commit_journal.specs.declared.records.Record.{Record}
-use Rattle.zone_machine.proofs.Case_asks.{AsksWell, IsSizedFor, came, came_is}
+use Rattle.zone_machine.proofs.Case_asks.{AsksWell, IsSizedFor, asks_made, came, came_is}
 use Rattle.std.proofs.Common.{◌≡◌, ◌∷◌, ◌+◌, ◌-◌, ◌&&◌, [], ℕ, zero, suc, List, Bool, true, false, Option, Some, None, Result, Ok as Right, Err, refl, sym, ◌∙◌, subst, IfOk, length, ap, arith, ◌≤◌}
 use Rattle.std.specs.Prelude.{nat_le, not, if◌then◌else◌}
 use Rattle.std.proofs.lemmas.Bool.{and_parts, false≢true, leb-true}
@@ -24,7 +23,7 @@ use Rattle.zone_machine.specs.State.Decisions.{Decision, act_of, effects, turned
 use Rattle.zone_machine.specs.Code.Rooms.{IsFreeOf}
 use Rattle.zone_machine.specs.Code.Steps.{IsGrantFor}
 use Rattle.zoneadmd_steps.specs.Code.Cases.{asked_for, on_job, turn_decision_of, IsNumberedCame, IsNumberedTurn}
-use Rattle.zone_machine.specs.Code.Cases.{decision_of, IsNumbered}
+use Rattle.zone_machine.specs.Code.Cases.{decision_of, IsNumbered, numbered_row}
 use Rattle.zoneadmd_steps.specs.Turns.{Turn_decision}
 use Rattle.zone_machine.specs.declared.cases.Case.{Case}
 use Rattle.zone_machine.specs.declared.cases.Case.TheVariants as cases
@@ -270,6 +269,8 @@ module _ (P : Pools) (z : Name) (stated : Option Grant) (g : Grant) where
   asks_same (Ask c asked denied given) = refl
 
   pub numbered_case : (d : Desk) (case : Case) → IsGrantFor z P (asked_of (decision_of d case)) stated g → IsNumbered case g
-  numbered_case d (cases.Make row owner) takes = record_number P z (λ n. Some (record row.value { uuid = uuid_of owner n; revision = n })) (asked_of (decision_of d (cases.Make row owner))) stated g refl takes
+  numbered_case d (cases.Commit c) takes =
+      record_number P z (λ n. Some (numbered_row c.value.novelty c.value.owner c.value.row.value n)) (asked_of (decision_of d (cases.Commit c))) stated g
+      (asks_made c.value.novelty c.value.owner c.value.row.value c.value.told).0 takes
   numbered_case d (cases.Turn c) takes = numbered_turn d c (subst (λ asked. IsGrantFor z P asked stated g) (asks_same (turn_decision_of d c)) takes)
   numbered_case d _ takes = tt

@@ -1,5 +1,6 @@
 pub mod Examples
 mod Turn_examples
+pub mod Same_fault_laws
 pub mod Same_laws
 pub mod Acts_laws
 pub mod Own_worlds
@@ -22,6 +23,7 @@ pub mod Made
 pub mod Right_lines
 pub mod Pools_laws
 pub mod Indexing
+pub mod Listing_laws
 pub mod Lists_laws
 pub mod Waits_laws
 pub mod Doing_laws

@@ -6,11 +6,10 @@ use Rattle.zone_pools.specs.Decisions as decisions
 use Rattle.zone_pools.specs.Decisions.{Ask, Just}
 use Rattle.zone_pools.specs.declared.grant.Grant.TheVariants.{Nothing}
 use Rattle.zone_machine.proofs.Local_laws.{Local, is-local, local-one, not-local, stays, subject-turn, world-after}
-use Rattle.zone_machine.specs.Code.Works.{turned_act, Works, rest_of, sits, told_by}
+use Rattle.zone_machine.specs.Code.Works.{arrival_by, turned_act, Works, rest_of, sits, told_by}
 use Rattle.zone_machine.proofs.Turned_laws.{has-turned}
 use Rattle.zoneadmd_steps.specs.Arrivals.{Arrival}
 use Rattle.zoneadmd_steps.specs.Code.Cases.{object_edits}
-use Rattle.zoneadmd_steps.specs.Code.Works.{arrival_of}
 use Rattle.zone_machine.specs.Code.Cells.{CellOf, IsHeardIn, Outside, cell_objects, cell_world, outside_of}
 use Rattle.brand_hooks.specs.declared.table.HookAnswer.{HookAnswer}
 use Rattle.zoneadmd_steps.specs.Objects.{ids_of, Object_edit, Processes_go, devices_after, ids_after, mounts_after}
@@ -27,12 +26,15 @@ use Rattle.zone_machine.specs.declared.machine.cell.Cell.{Cell}
 use Rattle.zoneadmd_steps.specs.declared.requests.TurnReply.TheVariants.{Idle}
 use Rattle.zoneadmd_steps.specs.declared.desks.Desk.{Desk}
 use Rattle.zone_machine.specs.declared.events.Entry.{Entry}
+use Rattle.zone_machine.specs.declared.events.Event.{Event}
 use Rattle.zone_machine.specs.declared.events.Event.TheVariants.{Turn}
+use Rattle.zone_machine.specs.declared.events.Subject.{Subject}
 use Rattle.zone_machine.specs.declared.events.Subject.TheVariants.{Zone}
 use Rattle.zone_machine.specs.declared.replies.Head.TheVariants.{Turned as Told}
 use Rattle.zone_machine.specs.declared.replies.Reply.{Reply}
 use Rattle.zoneadmd_steps.specs.declared.objects.changes.ObjectEdit.{ObjectEdit}
-use Rattle.zoneadmd_steps.specs.declared.settling.Stored.{Stored}
+use Rattle.zone_machine.specs.declared.machine.work.Storing.{Storing}
+use Rattle.zone_machine.specs.declared.machine.work.Storing.TheVariants as storing
 use Rattle.zone_machine.specs.declared.machine.work.Work.{Work}
 
 -- the ids after a turn, where none came
@@ -45,9 +47,10 @@ ids-edits n (e ∷ es) d ended w = ids-edits n es d ended (edit_world n (Of_obje
 has-ids : (n : Option ℕ) (a : decisions.Act Arrival Turned) (w : World) → ((v : World) → (after_came_world a.came v).ids ≡ v.ids) → (acts_world n (turned_act a) w).ids ≡ ids_after a.effect.objects w.ids
 has-ids n a w apart = ids-edits n a.effect.objects a.effect.desk a.effect.ended (after_came_world a.came w) ∙ ap (ids_after a.effect.objects) (apart w)
 
-stored_apart : (s : Option Stored) (v : World) → (after_came_world (arrival_of s) v).ids ≡ v.ids
-stored_apart None v = refl
-stored_apart (Some s) v = refl
+stored_apart : (s : Storing) (v : World) → (after_came_world (arrival_by s) v).ids ≡ v.ids
+stored_apart storing.Nothing v = refl
+stored_apart (storing.Row s) v = refl
+stored_apart (storing.Removal z) v = refl
 
 devices-edits : (n : Option ℕ) (es : List Object_edit) (d : desks.Desk) (ended : Option ℕ) (w : World) → (edits_world n (map Of_objects es ++ Set_desk d ∷ sweeps ended) w).devices ≡ devices_after es w.devices
 devices-edits n [] d None w = refl
@@ -58,9 +61,10 @@ devices-edits n (e ∷ es) d ended w = devices-edits n es d ended (edit_world n 
 has-devices : (n : Option ℕ) (a : decisions.Act Arrival Turned) (w : World) → ((v : World) → (after_came_world a.came v).devices ≡ v.devices) → (acts_world n (turned_act a) w).devices ≡ devices_after a.effect.objects w.devices
 has-devices n a w apart = devices-edits n a.effect.objects a.effect.desk a.effect.ended (after_came_world a.came w) ∙ ap (devices_after a.effect.objects) (apart w)
 
-stored_beside : (s : Option Stored) (v : World) → (after_came_world (arrival_of s) v).devices ≡ v.devices
-stored_beside None v = refl
-stored_beside (Some s) v = refl
+stored_beside : (s : Storing) (v : World) → (after_came_world (arrival_by s) v).devices ≡ v.devices
+stored_beside storing.Nothing v = refl
+stored_beside (storing.Row s) v = refl
+stored_beside (storing.Removal z) v = refl
 
 -- what becomes of a cell's world
 pub record Lasts (o : ObjectEdit) (t : Turned) (d : desks.Desk) (v : World) : Type 0 where
@@ -73,12 +77,12 @@ pub record Lasts (o : ObjectEdit) (t : Turned) (d : desks.Desk) (v : World) : Ty
 pub settled : (decided : Decision) (t : Turned) (d : desks.Desk) (w : Work) (v : World) → decided ≡ effects turned (Just t) → w.sits ≡ None → Works None (rest_of (act_of decided Nothing)) v d w
     → Lasts w.objects t d v
 settled decided t d w v is sat works =
-    let told : decisions.Act Arrival Turned = record { came = arrival_of w.stored; effect = record { objects = object_edits w.objects; desk = d; ended = w.ended; reply = Idle } } in
+    let told : decisions.Act Arrival Turned = record { came = arrival_by w.stored; effect = record { objects = object_edits w.objects; desk = d; ended = w.ended; reply = Idle } } in
     let done : decisions.Act Arrival Turned = record { came = None; effect = t } in
     let left = has-turned None told v in let right = has-turned None done v in
     let left_ids = has-ids None told v (stored_apart w.stored) in let right_ids = has-ids None done v (λ w. refl) in
     let same : acts_world None (turned_act told) v ≡ acts_world None (turned_act done) v =
-    sym (ap (λ s. acts_world None (record { came = arrival_of w.stored; effect = record { edits = map Of_objects (object_edits w.objects) ++ (Set_desk d ∷ (sits s ++ sweeps w.ended)); reply = told_by w } }) v) sat)
+    sym (ap (λ s. acts_world None (record { came = arrival_by w.stored; effect = record { edits = map Of_objects (object_edits w.objects) ++ (Set_desk d ∷ (sits s ++ sweeps w.ended)); reply = told_by w } }) v) sat)
     ∙ (works.world ∙ ap (λ x. acts_world None (rest_of (act_of x Nothing)) v) is) in
     record {
       mounts = sym left.mounts ∙ (ap (λ (u : World). u.mounts) same ∙ right.mounts);
@@ -97,14 +101,14 @@ after out old mid new d o t same is processes devices mounts ids left =
     ∙ ((λ i. record (cell_world out mid) { processes = processes i; devices = (devices ∙ left.devices) i; mounts = (mounts ∙ left.mounts) i; ids = (ids ∙ left.ids) i; desk = left.desk i })
     ∙ ap (λ (w : World). record w { mounts = mounts_after t.objects w.mounts; devices = devices_after t.objects w.devices; ids = ids_after t.objects w.ids; desk = t.desk }) same)
 
-abbrev answered : Name → Name → Reply → Entry
-answered x y r = record { event = Turn x; subject = Zone y; grant = Nothing; reply = r }
+abbrev answered : Event → Subject → Reply → Entry
+answered e of r = record { event = e; subject = of; grant = Nothing; reply = r }
 
-pub answered-same : (x y z : Name) (r s : Reply) → x ≡ z → y ≡ z → r ≡ s → answered x y r ≡ answered z z s
-answered-same x y z r s a b c = ap (λ x. answered x y r) a ∙ (ap (λ y. answered z y r) b ∙ ap (answered z z) c)
+pub answered-same : (e : Event) (of : Subject) (z : Name) (r s : Reply) → e ≡ Turn z → of ≡ Zone z → r ≡ s → answered e of r ≡ answered (Turn z) (Zone z) s
+answered-same e of z r s a b c = λ i. answered (a i) (b i) (c i)
 
 abbrev entry_of : Name → Turned → Entry
-entry_of z t = answered z z (says (Told t.reply))
+entry_of z t = answered (Turn z) (Zone z) (says (Told t.reply))
 
 -- what a cell's world decides, its cell decides
 next-in : (w : World) (c : Cell) → CellOf c w → local_turn w.brands (objects_of w) w.desk ≡ local_turn w.brands (cell_objects c) (as_desk c.desk)

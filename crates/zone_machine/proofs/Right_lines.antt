@@ -1,8 +1,8 @@
 -- What a line asks for that is a text has contents that requests may have.
-use Rattle.std.proofs.Common.{◌≡◌, ◌≤◌, ◌+◌, ◌&&◌, ◌∷◌, ◌∙◌, [], ℕ, suc, Bool, true, false, not, filter, List, Option, Some, None, length, length-append, refl, ap, subst, arith}
+use Rattle.std.proofs.Common.{◌≡◌, ◌≤◌, ◌+◌, ◌&&◌, ◌∷◌, ◌∙◌, [], ℕ, suc, zero, drop, length-drop, Bool, true, false, not, filter, List, Option, Some, None, length, length-append, refl, ap, subst, arith}
 use Rattle.std.specs.Prelude.{IfSome, bytes_eq, codes, unwrap_or, if◌then◌else◌}
 use Rattle.std.specs.Bool.{IsTrue}
-use Rattle.std.specs.Option.{option_map}
+use Rattle.std.specs.Option.{option_map, option_or}
 use Rattle.std.specs.List.{list_all, onto_first, slice_split}
 use Rattle.std.proofs.lemmas.Bool.{and_from, and_parts}
 use Rattle.std.proofs.lemmas.List.Folds.{list_all-append}
@@ -12,7 +12,7 @@ use Rattle.zn_base.specs.Path.{is_path}
 use Rattle.zn_base.specs.Text.{is_text, is_text_byte}
 use Rattle.zone_pools.specs.Firsts.{is_nil}
 use Rattle.zone_machine.specs.Code.Lines.{IsRight}
-use Rattle.zone_machine.specs.Session.Lines.{Ask, Command, Clone, Hold, Kill, Make, Release, Unknown, ◌>>=◌, after_word, are_args, args_text, at_end, brand_word, command_by, command_of, dir_words, is_space, joined, kill_command, line_of, move_path, next_word, path_word, request_command, request_word, tool_command, uninstall_command, words, zone_command, zonecfg_command}
+use Rattle.zone_machine.specs.Session.Lines.{Ask, Command, Clone, Help, Hold, Kill, List_one, List_zones, Release, Unknown, Verify, ◌>>=◌, after_word, are_args, args_text, at_end, command_by, command_of, dir_words, form_word, from_word, general_command, general_subcommand, is_space, joined, kill_command, line_of, list_one_command, list_zones_command, move_path, next_word, options_word, past_spaces, past_word, request_command, request_word, subcommand, tool_command, uninstall_command, words, zone_command, zonecfg_command}
 use Rattle.zoneadmd_steps.specs.declared.requests.Request.{Request}
 use Rattle.zoneadmd_steps.specs.declared.requests.Request.TheVariants as request
 
@@ -84,6 +84,9 @@ kept_words text h =
       bytes = some_bytes (slice_split is_space text) (parts_bytes text printable.bytes);
       short = let s = printable.short in let all = parts_weight text in let some = some_weight (slice_split is_space text) in omega (arith, s, all, some);
     }
+
+short_text : (text : List ℕ) → is_text text ≡ true → length text ≤ 4200
+short_text text h = (of_text text h).short
 
 -- with a space between two they are a text
 joined_bytes : (ws : List (List ℕ)) → list_all (list_all is_text_byte) ws ≡ true → list_all is_text_byte (joined ws) ≡ true
@@ -198,36 +201,71 @@ request_right word ws h =
     (either_right (bytes_eq word (codes "clone")) _ _ (then_right (next_word ws) _ (λ r e. end_right (Clone r.0) r.1 tt))
     (then_right (request_word word) _ (λ asked e. plain_right word asked ws e)))))))
 
-zonecfg_right : (ws : List (List ℕ)) → Right (zonecfg_command ws)
-zonecfg_right ws =
-    then_right (after_word (codes "create") ws) _ (λ ws e. then_right (after_word (codes "-b;") ws) _ (λ ws e. then_right (after_word (codes "set") ws) _ (λ ws e.
-    then_right (next_word ws) _ (λ r e. then_right (path_word r.0) _ (λ path e. then_right (after_word (codes "set") r.1) _ (λ ws e.
-    then_right (next_word ws) _ (λ r e. then_right (brand_word r.0) _ (λ brand e. end_right (Make path brand) r.1 tt))))))))
+-- what stands from some word on is no longer than the whole
+drop_short : (n : ℕ) (text : List ℕ) → length text ≤ 4200 → length (drop n text) ≤ 4200
+drop_short n text h = simp length-drop (omega (arith, h))
+
+from_short : (n : ℕ) (text : List ℕ) → length text ≤ 4200 → length (from_word n text) ≤ 4200
+from_short zero text h = drop_short _ text h
+from_short (suc n) text h = from_short n (past_word text) (drop_short _ (past_spaces text) (drop_short _ text h))
+
+zonecfg_right : (text : List ℕ) (ws : List (List ℕ)) → length text ≤ 4200 → Right (zonecfg_command text ws)
+zonecfg_right text [] h = tt
+zonecfg_right text (word ∷ more) h = h
+
+list_one_right : (ws : List (List ℕ)) → Right (list_one_command ws)
+list_one_right [] = tt
+list_one_right (word ∷ more) = then_right (form_word word) _ (λ form e. end_right (List_one form) more tt)
+
+subcommand_right : (word : List ℕ) (ws : List (List ℕ)) → Kept ws → Right (subcommand word ws)
+subcommand_right word ws h =
+    either_right (bytes_eq word (codes "help")) _ _ (end_right Help ws tt)
+    (either_right (bytes_eq word (codes "verify")) _ _ (end_right Verify ws tt)
+    (either_right (bytes_eq word (codes "list")) _ _ (list_one_right ws) (request_right word ws h)))
 
 dirs_right : (f : List ℕ → Command) (o : Option (List ℕ)) → ((dir : List ℕ) → IsRight (f dir)) → Right (option_map f o)
 dirs_right f None ok = tt
 dirs_right f (Some dir) ok = ok dir
 
-tool_right : (tool : List ℕ) (ws : List (List ℕ)) → Kept ws → Right (tool_command tool ws)
-tool_right tool ws h =
-    either_right (bytes_eq tool (codes "zonecfg")) _ _ (zonecfg_right ws)
-    (either_right (bytes_eq tool (codes "zoneadm")) _ _ (then_right (next_word ws) _ (λ r e. request_right r.0 r.1 (kept_next ws r h e)))
+tool_right : (text tool : List ℕ) (ws : List (List ℕ)) → length text ≤ 4200 → Kept ws → Right (tool_command text tool ws)
+tool_right text tool ws short h =
+    either_right (bytes_eq tool (codes "zonecfg")) _ _ (zonecfg_right text ws short)
+    (either_right (bytes_eq tool (codes "zoneadm")) _ _ (then_right (next_word ws) _ (λ r e. subcommand_right r.0 r.1 (kept_next ws r h e)))
     (either_right (bytes_eq tool (codes "fhold")) _ _ (dirs_right Hold (dir_words ws) (λ dir. tt))
     (either_right (bytes_eq tool (codes "frelease")) _ None (dirs_right Release (dir_words ws) (λ dir. tt)) tt)))
 
-zone_right : (ws : List (List ℕ)) → Kept ws → Right (zone_command ws)
-zone_right ws h =
+zone_right : (text : List ℕ) (ws : List (List ℕ)) → length text ≤ 4200 → Kept ws → Right (zone_command text ws)
+zone_right text ws short h =
     then_right (next_word ws) _ (λ tool e. let h = kept_next ws tool h e in
     then_right (after_word (codes "-z") tool.1) _ (λ ws e. let h = kept_after (codes "-z") tool.1 ws h e in
-    then_right (next_word ws) _ (λ zone e. tool_right tool.0 zone.1 (kept_next ws zone h e))))
+    then_right (next_word ws) _ (λ zone e. tool_right (from_word 3 text) tool.0 zone.1 (from_short 3 text short) (kept_next ws zone h e))))
+
+list_zones_right : (ws : List (List ℕ)) → Right (list_zones_command ws)
+list_zones_right [] = tt
+list_zones_right (word ∷ more) = then_right (options_word word) _ (λ options e. end_right (List_zones options) more tt)
+
+general_subcommand_right : (word : List ℕ) (ws : List (List ℕ)) → Right (general_subcommand word ws)
+general_subcommand_right word ws =
+    either_right (bytes_eq word (codes "help")) _ _ (end_right Help ws tt)
+    (either_right (bytes_eq word (codes "list")) _ None (list_zones_right ws) tt)
+
+general_right : (ws : List (List ℕ)) → Right (general_command ws)
+general_right ws =
+    then_right (after_word (codes "zoneadm") ws) _ (λ ws e. then_right (next_word ws) _ (λ r e. general_subcommand_right r.0 r.1))
+
+or_right : (o p : Option Command) → Right o → Right p → Right (option_or o p)
+or_right None p h k = k
+or_right (Some c) p h k = h
 
 kill_right : (ws : List (List ℕ)) → Right (kill_command ws)
 kill_right ws =
     then_right (next_word ws) _ (λ r e. then_right (signal_in r.0) _ (λ signal e. then_right (next_word r.1) _ (λ r e. then_right (pid_in r.0) _ (λ pid e. end_right (Kill signal pid) r.1 tt))))
 
-command_right : (ws : List (List ℕ)) → Kept ws → IsRight (command_of ws)
-command_right [] h = tt
-command_right (word ∷ more) h = at_answer (command_by word more) (either_right (bytes_eq word (codes "kill")) _ _ (kill_right more) (zone_right (word ∷ more) h))
+command_right : (text : List ℕ) (ws : List (List ℕ)) → length text ≤ 4200 → Kept ws → IsRight (command_of text ws)
+command_right text [] short h = tt
+command_right text (word ∷ more) short h =
+    at_answer (command_by text word more)
+    (either_right (bytes_eq word (codes "kill")) _ _ (kill_right more) (or_right (general_command (word ∷ more)) _ (general_right (word ∷ more)) (zone_right text (word ∷ more) short h)))
   where
     at_answer : (o : Option Command) → Right o → IsRight (unwrap_or o Unknown)
     at_answer None h = tt
@@ -235,4 +273,4 @@ command_right (word ∷ more) h = at_answer (command_by word more) (either_right
 
 pub right_line : (text : List ℕ) → IsTrue (is_text text) → IsRight (line_of text).command
 unfolding line_of
-right_line text h = command_right (words text) (kept_words text h)
+right_line text h = command_right text (words text) (short_text text h) (kept_words text h)

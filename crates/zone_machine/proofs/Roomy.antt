@@ -1,8 +1,9 @@
 -- Room for what comes and what changes, and that what a case of the code asks goes with what comes.
-use Rattle.zoneadmd_steps.specs.Code.Works.{arrival_of}
-use Rattle.zoneadmd_steps.specs.declared.settling.Stored.{Stored}
+use Rattle.zone_machine.specs.Code.Works.{IsStoredOf, arrival_by}
+use Rattle.zone_machine.specs.declared.machine.work.Storing.{Storing}
+use Rattle.zone_machine.specs.declared.machine.work.Storing.TheVariants as storing
 use Rattle.zone_machine.proofs.Case_asks.{came, came_is}
-use Rattle.std.proofs.Common.{◌≡◌, ◌∷◌, [], ℕ, List, true, Option, Some, None, Result, Ok as Right, Err, sym, subst, IfSome}
+use Rattle.std.proofs.Common.{◌≡◌, ◌∙◌, ◌⊎◌, ◌∷◌, [], inl, inr, ℕ, List, true, Option, None, Result, Ok as Right, Err, refl, sym, subst}
 use Rattle.std.proofs.lemmas.Bool.{false≢true}
 use Rattle.zn_base.specs.Names.{Name}
 use Rattle.zone_pools.specs.Asked.{A_path, A_pid, A_serial, A_source, A_zid, A_zone, An_item, Asked}
@@ -41,6 +42,14 @@ pub room_change : (o p : ObjectEdit) (c : Cell) (d : Desk) → premise_of p ≡ 
 room_change o p c d same h = subst (λ q. HasRoomBy q c.mounts × Holds q c.mounts.list c.claims.claims) (sym same) h
 
 -- what is stored is free for the zone whose it is
-pub free_owner : (z : Name) (s : Option Stored) (a : Option Arrival) (P : Pools) → arrival_of s ≡ a → IfSome s (λ s. s.owner ≡ z) → IsFreeOf z a P → IfSome s (λ t. IsFreeOf t.owner (arrival_of s) P)
-free_owner z None a P is named h = tt
-free_owner z (Some s) a P is named h = subst (λ y. IsFreeOf y (arrival_of (Some s)) P) (sym named) (subst (λ o. IsFreeOf z o P) (sym is) h)
+one_owner : (y z : Name) (s : Storing) → IsStoredOf z s → IsStoredOf y s → (arrival_by s ≡ None) ⊎ (z ≡ y)
+one_owner y z storing.Nothing h k = inl refl
+one_owner y z (storing.Row s) h k = inr (sym h ∙ k)
+one_owner y z (storing.Removal x) h k = inr (sym h ∙ k)
+
+pub free_owner : (z : Name) (s : Storing) (a : Option Arrival) (P : Pools) → arrival_by s ≡ a → IsStoredOf z s → IsFreeOf z a P → (y : Name) → IsStoredOf y s → IsFreeOf y (arrival_by s) P
+free_owner z s a P is named h y of = at_owner (one_owner y z s named of)
+  where
+    at_owner : (arrival_by s ≡ None) ⊎ (z ≡ y) → IsFreeOf y (arrival_by s) P
+    at_owner (inl none) = subst (λ o. IsFreeOf y o P) (sym none) tt
+    at_owner (inr same) = subst (λ x. IsFreeOf x (arrival_by s) P) same (subst (λ o. IsFreeOf z o P) (sym is) h)

@@ -372,12 +372,12 @@ module _ (m : Parts) (e : Event) (is : subject_in m.shared e ≡ Global) where
   IsMisfitUnder-global None unfit = absurd (unfit (pools_in m.shared) [])
   IsMisfitUnder-global (Some stated) unfit = (λ S h. fits-of S e stated Global (of_global S h) ∙ (sym (nothing-fits (pools_of S) [] stated) ∙ unfit (pools_of S) []), refl)
 
-  pub IsStep-global : (g : Grant) (reply : Reply) → ((S : State) → reply ≡ global_reply S e)
+  pub IsStep-global : (g : Grant) (reply : Reply) → ((S : State) → Stands S m → reply ≡ global_reply S e)
       → IsStep m e g (record { event = e; subject = Global; grant = g; reply = reply }) (record m { shared = record m.shared { started = true } })
   IsStep-global g reply said S h =
       let steps = one-global S g h in
       record {
-        told = λ i. record { event = e; subject = sym (of_global S h) i; grant = g; reply = (said S ∙ ap (λ r. r.reply) (sym steps)) i };
+        told = λ i. record { event = e; subject = sym (of_global S h) i; grant = g; reply = (said S h ∙ ap (λ r. r.reply) (sym steps)) i };
         stands = subst (λ r. Stands r.state (record m { shared = record m.shared { started = true } })) (sym steps)
             (record { worlds = h.worlds; shared = ap (λ (k : Common). record k { started = true }) h.shared });
       }

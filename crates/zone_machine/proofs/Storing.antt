@@ -6,9 +6,7 @@ use Rattle.zone_pools.specs.Decisions as decisions
 use Rattle.zone_pools.specs.Decisions.{Ask, Just, asked_of, number_in}
 use Rattle.zone_pools.specs.declared.grant.Grant.{Grant}
 use Rattle.zone_pools.specs.declared.grant.Pool.{Pool}
-use Rattle.commit_journal.specs.Uuids.{uuid_of}
 use Rattle.commit_journal.specs.declared.records.Record as records
-use Rattle.zn_base.specs.Names.{Name}
 use Rattle.kernel_objects.specs.Processes.{process_of}
 use Rattle.zoneadmd_steps.specs.Arrivals.{A_process, A_record, Arrival, Comes, New_claim, New_id, New_process, New_record, No_new_thing, arrived, in_kernel, in_store}
 use Rattle.zoneadmd_steps.specs.Code.Cases.{IsJobCase, IsTurnOf, asked_for, comes_of, halt_begun, job_turn, object_edits, on_job, turn_decision_of, undo_with}
@@ -26,7 +24,7 @@ use Rattle.zoneadmd_steps.specs.declared.objects.changes.Came.{Came}
 use Rattle.zoneadmd_steps.specs.declared.objects.changes.Came.TheVariants as came_type
 use Rattle.zoneadmd_steps.specs.declared.requests.Request.{Request}
 use Rattle.zone_machine.proofs.Case_asks.{came, came_is}
-use Rattle.zone_machine.specs.Code.Cases.{IsCaseOf, decision_of}
+use Rattle.zone_machine.specs.Code.Cases.{IsCaseOf, decision_of, numbered_row}
 use Rattle.zone_machine.specs.Code.Records.{HasNumber, HasNumberTurn, stored_by, stored_if, stored_turn}
 use Rattle.zone_machine.specs.State.Decisions.{act_of, effects, turned}
 use Rattle.zone_machine.specs.declared.cases.Case.{Case}
@@ -40,17 +38,17 @@ asked-store : {E : Type 0} (c : Comes) (asked : List Asked) (denied : Pool → E
 asked-store c asked denied given g = ap in_store (came_is c asked denied given g)
 
 -- a record, a record that takes its number, and what is none
-plain-record : (r : Result ℕ Pool) (row : records.Record) → in_store (came (A_record (λ n. Some row)) r) ≡ stored_if r row
+plain-record : (r : Result ℕ Pool) (row : Option records.Record) → in_store (came (A_record (λ n. row)) r) ≡ stored_if r row
 plain-record (Right n) row = refl
 plain-record (Err pool) row = refl
 
-numbered-record : (r : Result ℕ Pool) (row : records.Record) → IfOk r (λ n. row.revision ≡ n) → in_store (came (A_record (λ n. Some (record row { revision = n }))) r) ≡ stored_if r row
+numbered-record : (r : Result ℕ Pool) (row : records.Record) → IfOk r (λ n. row.revision ≡ n) → in_store (came (A_record (λ n. Some (record row { revision = n }))) r) ≡ stored_if r (Some row)
 numbered-record (Right n) row h = λ i. Some (New_record (Some (record row { revision = sym h i })))
 numbered-record (Err pool) row h = refl
 
-made-record : (owner : Name) (r : Result ℕ Pool) (row : records.Record) → IfOk r (λ n. (row.uuid ≡ uuid_of owner n) × (row.revision ≡ n)) → in_store (came (A_record (λ n. Some (record row { uuid = uuid_of owner n; revision = n }))) r) ≡ stored_if r row
-made-record owner (Right n) row h = λ i. Some (New_record (Some (record row { uuid = sym h.0 i; revision = sym h.1 i })))
-made-record owner (Err pool) row h = refl
+made-record : (r : Result ℕ Pool) (row : records.Record) (f : ℕ → records.Record) → IfOk r (λ n. f n ≡ row) → in_store (came (A_record (λ n. Some (f n))) r) ≡ stored_if r (Some row)
+made-record (Right n) row f h = ap (λ r. Some (New_record (Some r))) h
+made-record (Err pool) row f h = refl
 
 no-record : (c : Comes) → ((n : ℕ) → in_store (Some (arrived c n)) ≡ None) → (r : Result ℕ Pool) → in_store (came c r) ≡ None
 no-record c none (Right n) = none n
@@ -62,7 +60,7 @@ came-stored (came_type.Process p args) at g h = no-record (comes_of (came_type.P
 came-stored came_type.Id at g h = no-record (comes_of came_type.Id) (λ n. refl) (number_in g)
 came-stored (came_type.Claim c) at g h = no-record (comes_of (came_type.Claim c)) (λ n. refl) (number_in g)
 came-stored (came_type.Source z) at g h = no-record (comes_of (came_type.Source z)) (λ n. refl) (number_in g)
-came-stored (came_type.Record r owner) at g h = plain-record (number_in g) r.value
+came-stored (came_type.Record r owner) at g h = plain-record (number_in g) (Some r.value)
 came-stored (came_type.Moved r owner new) at g h = numbered-record (number_in g) r.value h
 
 undo-stored : (d : desks.Desk) (j : desks.Job) (edits : List Object_edit) (stage : desks.Stage) (g : Grant) → into_store (undo_with d j edits stage) g ≡ None
@@ -105,7 +103,11 @@ case-stored d (cases.Says head) g of h = refl
 case-stored d (cases.Tells body) g of h = refl
 case-stored d (cases.Change edit) g of h = refl
 case-stored d (cases.Fork p) g of h = asked-store (A_process (process_of (0, p.value))) (A_pid ∷ []) _ _ g ∙ no-record (A_process (process_of (0, p.value))) (λ n. refl) (number_in g)
-case-stored d (cases.Make row owner) g of h = asked-store (A_record (λ n. Some (record row.value { uuid = uuid_of owner n; revision = n }))) (asked_of (decision_of d (cases.Make row owner))) _ _ g ∙ made-record owner (number_in g) row.value h
+case-stored d (cases.Answers reply) g of h = refl
+case-stored d (cases.Commit c) g of h =
+    asked-store (A_record (λ n. Some (numbered_row c.value.novelty c.value.owner c.value.row.value n))) (asked_of (decision_of d (cases.Commit c))) _ _ g
+    ∙ made-record (number_in g) c.value.row.value (numbered_row c.value.novelty c.value.owner c.value.row.value) h
+case-stored d (cases.Remove r) g of h = asked-store (A_record (λ n. None)) (asked_of (decision_of d (cases.Remove r))) _ _ g ∙ plain-record (number_in g) None
 case-stored d (cases.Put request owner) g of h = refl
 case-stored d (cases.Turn c) g of h = turned-store (turn_decision_of d c) g ∙ turn-stored d c g of h.1
 

@@ -20,6 +20,9 @@ use Rattle.commit_journal.specs.declared.records.Record.{Record}
 use Rattle.zoneadmd_steps.specs.Arrivals.{Arrival, New_claim, New_id, New_process, New_record, No_new_thing, in_store}
 use Rattle.zoneadmd_steps.specs.Objects.{Processes_go}
 use Rattle.zone_machine.proofs.Common_laws.{used-push}
+use Rattle.zone_machine.specs.Code.Cell_steps.{CellLeaves}
+use Rattle.zone_machine.specs.Code.Rooms.{Alike}
+use Rattle.zone_machine.specs.declared.machine.cell.Cell.{Cell}
 use Rattle.zone_machine.specs.Code.Records.{BankLeft, IsReady, NeedsNoDisk, StoresEither, Writes, bodies_with, rows_with, used_with}
 use Rattle.zone_machine.specs.Machine.{decide, one, one_of, session_number, subject}
 use Rattle.zone_machine.specs.Machine.Changes.{committed}
@@ -203,3 +206,14 @@ module _ {D : Type 0} (view : D → View) (a b : Account D) (s : Shared) where
   left-written may stored (Err WouldRecord) test none memory ready rose unsound (inr e) = cc
   left-written may stored (Err BadGrant) test none memory ready rose unsound (inl e) = cc
   left-written may stored (Err BadGrant) test none memory ready rose unsound (inr e) = cc
+
+-- what is left of the cell and the shared part where a record was not written
+pub write-fault : (z : Name) (stored : Option Arrival) (c d : Cell) (s t : Shared) (r : Result (Unit {0}) StepFault) → IfErr r (λ e. (e ≡ Memory) ⊎ (e ≡ DiskFault)) → (stored ≡ None → is_ok r ≡ true)
+    → ((stored ≡ None → ⊥) → Alike c s d t) → IfErr r (λ fault. (e : Event) → CellLeaves fault z None c s e d t)
+write-fault z stored c d s t (Right done) only none alike = tt
+write-fault z stored c d s t (Err Memory) only none alike = λ e. alike (λ is. absurd (false≢true (none is)))
+write-fault z stored c d s t (Err DiskFault) only none alike = λ e. tt
+write-fault z stored c d s t (Err WouldRecord) (inl e) none alike = absurd (cc)
+write-fault z stored c d s t (Err WouldRecord) (inr e) none alike = absurd (cc)
+write-fault z stored c d s t (Err BadGrant) (inl e) none alike = absurd (cc)
+write-fault z stored c d s t (Err BadGrant) (inr e) none alike = absurd (cc)

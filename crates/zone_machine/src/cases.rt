@@ -1,9 +1,36 @@
 //! What an event of a zone comes to. A case is decided before anything is changed, and holds all that its event needs.
-use crate::replies::{Body, Head};
+use crate::replies::{Body, Head, Reply};
 use commit_journal::Row;
 use kernel_objects::Running;
-use zn_base::ZoneName;
+use zn_base::{Bytes, Listing, ZoneName};
 use zoneadmd_steps::{ObjectEdit, QueuedRequest, TurnCase};
+
+/// What is new to the system in a configuration that is committed.
+#[derive(Clone, Copy)]
+pub(crate) enum Novelty {
+    /// The zone, with its path.
+    Zone,
+    /// The path, of a zone that is stored.
+    Path,
+    Nothing,
+}
+
+/// A configuration of a zone that is committed, and what the line tells.
+#[derive(Drop)]
+pub(crate) struct Committed {
+    /// The number that the grant gives is the record's revision, and gives a new zone's UUID.
+    pub(crate) row: Box<Row>,
+    pub(crate) owner: ZoneName,
+    pub(crate) novelty: Novelty,
+    pub(crate) told: Listing<Bytes>,
+}
+
+/// A zone that is removed, and what the line tells.
+#[derive(Drop)]
+pub(crate) struct Removed {
+    pub(crate) owner: ZoneName,
+    pub(crate) told: Listing<Bytes>,
+}
 
 /// What an event of a zone comes to.
 #[derive(Drop)]
@@ -12,13 +39,23 @@ pub(crate) enum Case {
     Says(Head),
     /// Nothing is done but a reply that tells something.
     Tells(Body),
+    /// Nothing is done but a reply, which may be a refusal that tells something.
+    Answers(Box<Reply>),
     /// The zone's objects change.
     Change(ObjectEdit),
     /// A process makes another.
     Fork(Box<Running>),
-    /// A zone is made. The number that the grant gives is the record's revision, and gives the UUID.
-    Make(Box<Row>, ZoneName),
+    /// A configuration is committed.
+    Commit(Box<Committed>),
+    /// A zone is removed.
+    Remove(Box<Removed>),
     /// A request is put on the desk, and the session waits for its ticket.
     Put(QueuedRequest, ZoneName),
     Turn(TurnCase),
+}
+
+impl Case {
+    /// Lets go of what a case holds that isn't done. An exit would drop each form of it where it stands.
+    #[inline(never)]
+    pub(crate) fn let_go(self) {}
 }

@@ -1,5 +1,5 @@
 //! The machine.
-ghost use Rattle.std.specs.Prelude.{◌≡◌, ◌≢◌, ◌⊎◌, IfErr, IfOk, IsErrOf, IsOkUnless, Err, List, None, OnOk, Some, is_ok, length, true};
+ghost use Rattle.std.specs.Prelude.{◌≡◌, ◌≢◌, ◌⊎◌, IfErr, IfOk, IsErrOf, IsOkUnless, Err, List, None, OnErr, OnOk, Some, is_ok, length, true};
 ghost use Rattle.zn_io.specs.Disk.{Leaves as Disk_leaves};
 ghost use Rattle.zn_io.specs.Streams.{Rose};
 ghost use Rattle.brand_hooks.specs.Brands.{tables_of};
@@ -22,6 +22,7 @@ pub(crate) mod comings;
 pub(crate) mod declarations;
 pub(crate) mod effects;
 pub(crate) mod indexed;
+pub(crate) mod listed;
 pub(crate) mod local_turns;
 pub(crate) mod needs;
 pub(crate) mod other_events;
@@ -99,12 +100,14 @@ impl<'b, D: Disk, F: Fn(&Change) -> HookAnswer> Machine<'b, D, F> {
     }
 
     /// The system restarts: the store is opened again, what is declared stays, and all else begins anew. A crash at any moment
-    /// meanwhile leaves what stands for the same commits. After a fault no event may be taken any more.
+    /// meanwhile leaves what stands for the same commits. After a fault all zones are as they were, and no event may be taken
+    /// any more.
     pub fn restart(&mut self, alloc: Global) -> Result<(), StoreFault>
         requires asks { AsksBrands F.Fn self.old }
         requires ready { MayGoOn D.view self.old }
         ensures begins { OnOk result ((S : State) → Stands S self.old.parts → BeginsAgain S self.new) }
         ensures stands { (D.view self.old.bank.disk).Keeps → OnOk result ((S : State) → StandsFor S self.old → StandsFor (restarted S) self.new) }
+        ensures same { OnErr result (self.new.parts ≡ self.old.parts) }
         ensures refuses { (D.view self.old.bank.disk).Keeps → IfErr result (λ e. (e ≡ StoreFault.Memory) ⊎ (e ≡ StoreFault.DiskFault)) }
         ensures any_moment { (R : List Commit) → IsStoreOf (D.view self.old.bank.disk) R → Disk_leaves (D.view self.old.bank.disk) (D.view self.new.bank.disk) (Holds R) }
         ensures ready { OnOk result (MayGoOn D.view self.new) }

@@ -1,4 +1,7 @@
 //! Sessions: how a line is read, what it comes to, and what sessions wait for.
+pub(crate) mod commits;
 pub(crate) mod line_cases;
 pub(crate) mod lines;
+pub(crate) mod listing;
+pub(crate) mod telling_cases;
 pub(crate) mod waits;

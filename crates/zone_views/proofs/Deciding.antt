@@ -1,5 +1,5 @@
 -- What an event of a zone leaves of the zone's world.
-use Rattle.std.specs.Prelude.{◌&&◌, Result, Ok as Right, Err}
+use Rattle.std.specs.Prelude.{◌&&◌, ◌||◌, Result, Ok as Right, Err, if◌then◌else◌}
 use Rattle.kernel_objects.specs.Kernel.{at_limit, fork_set, forked, fs_allowed_of}
 use Rattle.kernel_objects.specs.Processes.{Process, at_pid, below, dropping, ends, may_exec, may_mount, renamed, with_pid, without_pid}
 use Rattle.kernel_objects.specs.declared.faults.Errno.{Errno}
@@ -18,21 +18,28 @@ use Rattle.zone_machine.specs.Calls.{called, calls, calls_if_there, ending, exec
 use Rattle.std.proofs.Common.{◌≡◌, ◌+◌, ℕ, List, Bool, Option, Some, None, true, false, refl, subst, sym}
 use Rattle.zn_base.specs.Names.{Name, name_of}
 use Rattle.zn_base.specs.declared.name.NameFault.{NameFault}
-use Rattle.std.specs.Result.{result_ok}
+use Rattle.zone_config.specs.Same.{same_contents}
 use Rattle.zone_config.specs.declared.terms.Contents.{Contents}
+use Rattle.zonecfg_scopes.specs.Edited.{is_changed}
+use Rattle.zonecfg_scopes.specs.OpenOf.{config_of}
+use Rattle.zonecfg_lines.specs.Runs.{Run}
+use Rattle.zonecfg_lines.specs.declared.reply.Ending.{Ending}
+use Rattle.zonecfg_lines.specs.declared.reply.Ending.TheVariants as ending
+use Rattle.zonecfg_lines.specs.declared.refusal.LineRefusal.{LineRefusal}
 use Rattle.zone_pools.specs.declared.grant.Grant.{Grant}
 use Rattle.zone_machine.specs.Code.Works.{turned_act}
 use Rattle.zone_machine.proofs.Turned_laws.{In, decide-turn, has-turned, in-act, stored_after, turn_act}
 use Rattle.zone_pools.specs.Owned_lists.{Change, Put, edited}
 use Rattle.zoneadmd_steps.specs.Objects.{keeping_pid, kernel_of, mounts_after}
 use Rattle.zoneadmd_steps.specs.Arrivals.{Arrival}
-use Rattle.zone_machine.specs.State.Decisions.{Act, Effect, act_of, acts_world, after_came_world, done_saying}
-use Rattle.zoneadmd_steps.specs.Desks.{Desk, is_full, with_request}
+use Rattle.zone_machine.specs.State.Decisions.{Act, Decision, Effect, act_of, acts_world, after_came_world, done_saying}
+use Rattle.zoneadmd_steps.specs.Desks.{Desk, has_request, is_full, state_now, with_request}
 use Rattle.zone_machine.specs.State.Edits.{at_session, edits_world}
-use Rattle.zone_machine.specs.Session.Lines.{Ask as Asks, Blank, Clone, Command, Hold, Kill, Line, Make, Release, Unforced, Unknown, line_of}
+use Rattle.zone_machine.specs.Session.Lines.{Ask as Asks, Blank, Clone, Command, Help, Hold, Kill, Line, List_one, List_zones, Release, Unforced, Unknown, Verify, Zonecfg, line_of}
 use Rattle.zone_machine.specs.Machine.{decide, session_number}
 use Rattle.zone_machine.specs.State.{Awaiting, Doing}
-use Rattle.zone_machine.specs.Session.Typed.{held_answer, holding_at, holds, idle_line, made_config, make, make_unless, make_with, new_record, put_clone, put_request, typed}
+use Rattle.zone_machine.specs.Session.Commits.{commit, commit_over, commit_unless, commits, committed_record, delete, ended, is_configured, keeps_place, leaves, records, said_alone}
+use Rattle.zone_machine.specs.Session.Typed.{held_answer, holding_at, holds, idle_line, put_clone, put_request, typed}
 use Rattle.zone_machine.specs.State.Worlds.{World, objects_of, view_of}
 use Rattle.zoneadmd_steps.specs.declared.requests.Request.{Request}
 use Rattle.zoneadmd_steps.specs.declared.requests.Request.TheVariants as request
@@ -57,27 +64,59 @@ pub data Mounted (ms : List MountEntry) : List MountEntry → Type 0 where
   Unmounts : (dir : List ℕ) → Mounted ms (unmounted dir ms)
   Holds : (dir : List ℕ) (held : Bool) → Mounted ms (edited (Change (at_dir dir (with_hold held))) ms)
 
--- a line leaves all as it was, or the zone is made, or a request is put on its desk; a call, a signal or a hold leaves all as
+-- a line leaves all as it was, or a configuration is recorded over what is stored, or the zone is removed, or a request is put on the desk; a call, a signal or a hold leaves all as
 -- it was, or other processes, or other mounts
 module _ (P : World → Type 0) (z : Name) (w : World) (same : P w)
-    (made : (config : Contents) (k : ℕ) → w.stored ≡ None → P (record w { stored = Some (new_record z config k) }))
+    (recorded : (stored : Option Record) (config : Contents) (k : ℕ) → w.stored ≡ stored → P (record w { stored = Some (committed_record z stored config k) }))
+    (removed : (row : Record) → w.stored ≡ Some row → is_configured (state_now row w.desk) ≡ true → has_request w.desk ≡ false → P (record w { stored = None }))
     (asked : (r : Request) (sessions : ℕ → Option Doing) → P (record w { desk = with_request w.desk r; sessions = sessions }))
     (others : (ps : List Process) → Called w.processes ps → P (record w { processes = ps }))
     (remounted : (ms : List MountEntry) → Mounted w.mounts ms → P (record w { mounts = ms })) where
   abbrev After : Option ℕ → Option Arrival → Effect → Type 0
   After n c e = P (edits_world n e.edits (after_came_world c w))
 
-  of_unless : (n : Option ℕ) (config : Contents) (r : Result (Unit {0}) Flaw) → w.stored ≡ None → In (After n) (make_unless z config r)
-  of_unless n config (Err flaw) none = same
-  of_unless n config (Right fine) none = (λ pool. same, λ k. made config k none)
+  -- one of two decisions
+  of_either : (n : Option ℕ) (b : Bool) (d e : Decision) → In (After n) d → In (After n) e → In (After n) (if b then d else e)
+  of_either n true d e h k = h
+  of_either n false d e h k = k
 
-  of_config : (n : Option ℕ) (config : Option Contents) → w.stored ≡ None → In (After n) (make_with z w.brands config)
-  of_config n None none = same
-  of_config n (Some config) none = of_unless n config (first (flaws (tabled_names w.brands) config)) none
+  of_record : (n : Option ℕ) (stored : Option Record) → w.stored ≡ stored → (config : Contents) (told : List (List ℕ)) → In (After n) (records z stored config told)
+  of_record n stored is config told = (λ pool. same, λ k. recorded stored config k is)
 
-  of_make : (n : Option ℕ) (path brand : List ℕ) (row : Option Record) → w.stored ≡ row → In (After n) (make z w.brands row path brand)
-  of_make n path brand None is = of_config n (result_ok (made_config path brand)) is
-  of_make n path brand (Some row) is = same
+  of_over : (n : Option ℕ) (stored : Option Record) → w.stored ≡ stored → (d : Desk) (config : Contents) (told : List (List ℕ)) → In (After n) (commit_over z d stored config told)
+  of_over n None is d config told = of_record n None is config told
+  of_over n (Some row) is d config told =
+      of_either n (same_contents config row.config) _ _ same
+      (of_either n (keeps_place row config || is_configured (state_now row d)) _ _ (of_record n (Some row) is config told) same)
+
+  of_unless : (n : Option ℕ) (r : Result (Unit {0}) Flaw) (config : Contents) (told : List (List ℕ)) → In (After n) (commit_unless r z w.desk w.stored config told)
+  of_unless n (Err flaw) config told = same
+  of_unless n (Right fine) config told = of_over n w.stored refl w.desk config told
+
+  of_commit : (n : Option ℕ) (o : Option Contents) (told : List (List ℕ)) → In (After n) (commit (view_of z w) o told)
+  unfolding view_of
+  of_commit n None told = same
+  of_commit n (Some config) told = of_unless n (first (flaws (tabled_names w.brands) config)) config told
+
+  of_delete : (n : Option ℕ) (stored : Option Record) → w.stored ≡ stored → (told : List (List ℕ)) → In (After n) (delete w.desk stored told)
+  of_delete n None is told = same
+  of_delete n (Some row) is told = at_state (is_configured (state_now row w.desk)) refl (has_request w.desk) refl
+    where
+      at_state : (c : Bool) → is_configured (state_now row w.desk) ≡ c → (b : Bool) → has_request w.desk ≡ b → In (After n) (delete w.desk (Some row) told)
+      at_state false e b f = simp e same
+      at_state true e true f = simp (e, f) same
+      at_state true e false f = simp (e, f) (λ pool. same, λ k. removed row is e f)
+
+  of_leaves : (n : Option ℕ) (e : Ending) (told : List (List ℕ)) → In (After n) (leaves (view_of z w) e told)
+  unfolding view_of
+  of_leaves n ending.Delete told = of_delete n w.stored refl told
+  of_leaves n ending.Commit told = same
+  of_leaves n (ending.Exit force) told = same
+  of_leaves n ending.Nothing told = same
+
+  of_ended : (n : Option ℕ) (run : Run) (r : Result Ending LineRefusal) → In (After n) (ended (view_of z w) run r)
+  of_ended n run (Err refusal) = same
+  of_ended n run (Right e) = of_either n (commits e (is_changed run.edited)) _ _ (of_commit n (config_of run.edited.opened) run.told) (of_leaves n e run.told)
 
   of_request : (n : Option ℕ) (r : Request) (row : Option Record) → After n None (put_request w.desk r row)
   of_request n r None = same
@@ -107,8 +146,12 @@ module _ (P : World → Type 0) (z : Name) (w : World) (same : P w)
   of_line : (n : Option ℕ) (command : Command) → In (After n) (idle_line (view_of z w) command)
   unfolding view_of
   of_line n Blank = same
+  of_line n Help = same
+  of_line n Verify = same
+  of_line n (List_one form) = same
+  of_line n (List_zones options) = same
   of_line n Unknown = same
-  of_line n (Make path brand) = of_make n path brand w.stored refl
+  of_line n (Zonecfg text) = of_ended n (said_alone (view_of z w) text) (said_alone (view_of z w) text).end
   of_line n (Asks r) = of_request n r w.stored
   of_line n (Clone word) = of_clone n (name_of word)
   of_line n Unforced = same

@@ -55,40 +55,46 @@ use Rattle.zone_views.specs.Whole.{whole_replies}
 abbrev brands : List Tabled
 brands = record { name = codes "ipkg"; table = proceeding } ∷ []
 
-abbrev make : ℕ → List ℕ → Event
-make n zone = Session n (codes "zonecfg -z " ++ zone ++ codes " create -b; set zonepath=/zones/" ++ zone ++ codes "; set brand=ipkg")
+abbrev made : List ℕ → Commit
+made zone = record { zone = zone; stored = Some (record { state = Configured; uuid = replicate 16 0; revision = 1; config = record blank { zonepath = Some (codes "/zones/" ++ zone); brand = codes "ipkg" } }) }
+
+abbrev with_both : State
+with_both = opening brands (made (codes "a") ∷ made (codes "b") ∷ [])
+
+abbrev attach_a : Event
+attach_a = Session 1 (codes "zoneadm -z a attach")
 
 abbrev boot_a : Event
 boot_a = Session 1 (codes "zoneadm -z a boot")
 
 abbrev entries : List Entry
-entries = history (opening brands []) (make 1 (codes "a") ∷ make 2 (codes "b") ∷ Session 3 [] ∷ boot_a ∷ Turn (codes "b") ∷ Turn (codes "a") ∷ [])
+entries = history with_both (Session 3 [] ∷ boot_a ∷ Turn (codes "b") ∷ Turn (codes "a") ∷ [])
 
 abbrev told_to : List ℕ → List Head
 told_to zone = map (λ r. r.head) (replies zone entries)
 
-told_to_a : told_to (codes "a") ≡ Ok ∷ Ticket 1 ∷ Turned (Finished 1 (WrongState Configured)) ∷ []
+told_to_a : told_to (codes "a") ≡ Ticket 1 ∷ Turned (Finished 1 (WrongState Configured)) ∷ []
 unfolding line_of typed turn local_turn view decide subject one first_free record_text body_text padded by_index allowed edit comes with_property setting_named obeys setting export_text flaws limit_of judged set_of_words words_from rule_of named default_set all_of both_of has set_of union without is_of privileges
 told_to_a = refl
 
-told_to_b : told_to (codes "b") ≡ Ok ∷ Turned Idle ∷ []
+told_to_b : told_to (codes "b") ≡ Turned Idle ∷ []
 unfolding line_of typed turn local_turn view decide subject one first_free record_text body_text padded by_index allowed edit comes with_property setting_named obeys setting export_text flaws limit_of judged set_of_words words_from rule_of named default_set all_of both_of has set_of union without is_of privileges
 told_to_b = refl
 
 -- without the other zone's entries and those of none
-purged : asked (only (codes "a") entries) ≡ (make 1 (codes "a"), Number 1) ∷ (boot_a, Nothing) ∷ (Turn (codes "a"), Nothing) ∷ []
+purged : asked (only (codes "a") entries) ≡ (boot_a, Nothing) ∷ (Turn (codes "a"), Nothing) ∷ []
 unfolding line_of typed turn local_turn view decide subject one first_free record_text body_text padded by_index allowed edit comes with_property setting_named obeys setting export_text flaws limit_of judged set_of_words words_from rule_of named default_set all_of both_of has set_of union without is_of privileges
 purged = refl
 
-states : map (λ zone. zone_state zone (after (opening brands []) entries)) (codes "a" ∷ codes "b" ∷ codes "c" ∷ []) ≡ Some Configured ∷ Some Configured ∷ None ∷ []
+states : map (λ zone. zone_state zone (after with_both entries)) (codes "a" ∷ codes "b" ∷ codes "c" ∷ []) ≡ Some Configured ∷ Some Configured ∷ None ∷ []
 unfolding line_of typed turn local_turn view decide subject one first_free record_text body_text padded by_index allowed edit comes with_property setting_named obeys setting export_text flaws limit_of judged set_of_words words_from rule_of named default_set all_of both_of has set_of union without is_of privileges
 states = refl
 
 -- a stated grant may be another than the pools give, and then the history isn't legal
 abbrev stated : Grant → List Entry
-stated g = run (opening brands []) ((make 1 (codes "a"), g) ∷ [])
+stated g = run with_both (map (λ e. (e, Nothing)) (attach_a ∷ replicate 2 (Turn (codes "a"))) ++ (Turn (codes "a"), g) ∷ [])
 
-legal : map (λ n. is_legal (opening brands []) (stated (Number n))) (1 ∷ 2 ∷ []) ≡ true ∷ false ∷ []
+legal : map (λ n. is_legal with_both (stated (Number n))) (3 ∷ 4 ∷ []) ≡ true ∷ false ∷ []
 unfolding line_of typed turn local_turn view decide subject one first_free record_text body_text padded by_index allowed edit comes same_reply same_subject with_property setting_named obeys setting export_text flaws limit_of judged set_of_words words_from rule_of named default_set all_of both_of has set_of union without is_of privileges
 legal = refl
 
@@ -96,7 +102,7 @@ legal = refl
 abbrev to_boot : Entry → Entry
 to_boot e = record e { event = boot_a }
 
-told_of_another : is_history any_grant (opening brands []) (map to_boot (stated (Number 1))) ≡ false
+told_of_another : is_history any_grant with_both (map to_boot (stated (Number 3))) ≡ false
 unfolding line_of typed turn local_turn view decide subject one first_free record_text body_text padded by_index allowed edit comes same_reply same_subject with_property setting_named obeys setting export_text flaws limit_of judged set_of_words words_from rule_of named default_set all_of both_of has set_of union without is_of privileges
 told_of_another = refl
 

@@ -324,7 +324,7 @@ module _ (w : World) (may : Bool) (none : may ≡ false → w.processes ≡ []) 
 limited-event : (z : Name) (w : World) (e : Event) (g : Grant) → Limited w → Limited (acts_world (session_number e) (act_of (decide (view_of z w) e) g) w)
 limited-event z w e g is =
     let turned = in-act (Leaves w is.may is.none is.within) (turn (seen_of w)) g (limited_turn w is.may is.none is.within is.desk) in
-    of_event Limited z w is (λ config k none. is) (λ r sessions. is) (λ ps called. limited_called w is.may is.none is.within ps called is.desk)
+    of_event Limited z w is (λ stored config k same. is) (λ row same configured idle. is) (λ r sessions. is) (λ ps called. limited_called w is.may is.none is.within ps called is.desk)
     (λ ms mounted. record { may = is.may; none = is.none; within = is.within; desk = is.desk }) g turned e
 
 pub within-history : (z : Name) (brands : List Tabled) (commits : List Commit) (h : List Entry) → within_limit (kernel_of (objects_of (world z (after (opening brands commits) h)))) ≡ true

@@ -24,7 +24,7 @@ use Rattle.zone_machine.proofs.Own_worlds.{world-one}
 use Rattle.zone_machine.proofs.Turned_laws.{In, in-act, stored_after, turn_act}
 use Rattle.zone_machine.specs.State.Decisions.{act_of, acts_world}
 use Rattle.zoneadmd_steps.specs.Configs.{claims_of, fs_dirs, root_dir, with_zonepath}
-use Rattle.zoneadmd_steps.specs.Desks.{Desk, Fails, Goes as Goes_on, Job, Stage, empty_desk, state_of, with_request}
+use Rattle.zoneadmd_steps.specs.Desks.{Desk, Fails, Goes as Goes_on, Job, Stage, empty_desk, has_request, state_now, state_of, with_request}
 use Rattle.zone_machine.specs.Machine.Histories.{after, world_by}
 use Rattle.zone_machine.specs.Machine.{decide, one, opening, session_number, subject}
 use Rattle.zoneadmd_steps.specs.Objects.{Objects, Of_mounts}
@@ -33,7 +33,7 @@ use Rattle.zone_machine.proofs.Acts_laws.{stored-append}
 use Rattle.zone_config.specs.declared.terms.Contents.{Contents}
 use Rattle.zone_machine.specs.State.{State, stored}
 use Rattle.zoneadmd_steps.specs.Turns.{A_claim_left, A_mount, A_step, Next, Nothing_left, Seen, Turn_decision, Turned, active_after, begin, hooked, local_job, local_next, local_stage, local_step, local_turn, local_undo, new_path, next, next_request, or_shared, over, record_config, shared_next, shared_stage, shared_step, shared_turn, started, stuck, turn, undo_edits, undone, with_step}
-use Rattle.zone_machine.specs.Session.Typed.{new_record}
+use Rattle.zone_machine.specs.Session.Commits.{committed_record, is_configured}
 use Rattle.zone_machine.specs.State.Worlds.{World, objects_of, seen_of, view_of, world}
 use Rattle.zoneadmd_steps.specs.declared.requests.Outcome.{Outcome}
 use Rattle.zoneadmd_steps.specs.declared.requests.Request.{Request}
@@ -271,15 +271,27 @@ keeps_turn : (o : Objects) (declared : List (List ℕ)) (brands : List Tabled) (
 keeps_turn o declared brands None d h = keeps_nothing o declared brands d h
 keeps_turn o declared brands (Some row) d h = keeps_stored o declared brands row d h
 
--- a zone that is made has an idle desk
-keeps-made : (row : Option Record) (d : Desk) (z : Name) (config : Contents) (k : ℕ) → row ≡ None → steady row d ≡ true → Keeps row d (Some (new_record z config k)) d
-keeps-made None d z config k e h = at_desk d.active d.job h
+-- a zone that is made has an idle desk, and one that has another configuration keeps its state
+keeps-recorded : (row : Option Record) (d : Desk) (z : Name) (config : Contents) (k : ℕ) → steady row d ≡ true → Keeps row d (Some (committed_record z row config k)) d
+keeps-recorded None d z config k h = at_desk d.active d.job h
   where
-    at_desk : (active : Option ZoneState) (job : Option Job) → let e = record d { active = active; job = job } in steady None e ≡ true → Keeps None e (Some (new_record z config k)) e
+    at_desk : (active : Option ZoneState) (job : Option Job) → let e = record d { active = active; job = job } in steady None e ≡ true → Keeps None e (Some (committed_record z None config k)) e
     at_desk None None h = record { steady = refl; moves = inr refl }
     at_desk None (Some j) h = absurd (false≢true h)
     at_desk (Some a) job h = absurd (false≢true h)
-keeps-made (Some row) d z config k e h = cc
+keeps-recorded (Some row) d z config k h = record { steady = h; moves = inl refl }
+
+-- a zone that is removed was configured, and its desk idle
+keeps-removed : (row : Record) (d : Desk) → steady (Some row) d ≡ true → is_configured (state_now row d) ≡ true → has_request d ≡ false → Keeps (Some row) d None d
+keeps-removed row d h c r = at_desk d.active d.job row.state h c r
+  where
+    at_desk : (active : Option ZoneState) (job : Option Job) (s : ZoneState) → let e = record d { active = active; job = job } in let old = record row { state = s } in
+        steady (Some old) e ≡ true → is_configured (state_now old e) ≡ true → has_request e ≡ false → Keeps (Some old) e None e
+    at_desk None None Configured h c r = record { steady = refl; moves = inr refl }
+    at_desk None None s h c r = absurd (false≢true c)
+    at_desk None (Some j) s h c r = absurd (false≢true (sym r))
+    at_desk (Some Configured) job s h c r = absurd (false≢true h)
+    at_desk (Some a) job s h c r = absurd (false≢true c)
 
 -- a request that waits changes nothing of that
 keeps-asked : (row : Option Record) (d : Desk) (r : Request) → steady row d ≡ true → Keeps row d row (with_request d r)
@@ -290,7 +302,7 @@ keeps-asked (Some row) d r h = record { steady = h; moves = inl refl }
 keeps-event : (z : Name) (w : World) (e : Event) (g : Grant) → steady w.stored w.desk ≡ true
     → let v = acts_world (session_number e) (act_of (decide (view_of z w) e) g) w in Keeps w.stored w.desk v.stored v.desk
 keeps-event z w e g h =
-    of_event (λ v. Keeps w.stored w.desk v.stored v.desk) z w stays (λ config k none. keeps-made w.stored w.desk z config k none h) (λ r sessions. keeps-asked w.stored w.desk r h) (λ ps called. stays) (λ ms mounted. stays) g
+    of_event (λ v. Keeps w.stored w.desk v.stored v.desk) z w stays (λ stored config k is. subst (λ o. Keeps w.stored w.desk (Some (committed_record z o config k)) w.desk) is (keeps-recorded w.stored w.desk z config k h)) (λ row is c r. subst (λ o. Keeps o w.desk None w.desk) (sym is) (keeps-removed row w.desk (subst (λ o. steady o w.desk ≡ true) is h) c r)) (λ r sessions. keeps-asked w.stored w.desk r h) (λ ps called. stays) (λ ms mounted. stays) g
     (of_turned (λ row ms d. Keeps w.stored w.desk row d) w g turned) e
   where
     stays : Keeps w.stored w.desk w.stored w.desk

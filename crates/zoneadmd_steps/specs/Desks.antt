@@ -1,10 +1,11 @@
 -- A zone's desk: the requests that wait for its daemon, and the one under way.
-use Rattle.std.specs.Prelude.{ℕ, ◌+◌, ◌^◌, ◌-◌, ◌++◌, ◌∷◌, ◌==◌, ◌||◌, Bool, length, min, nat_le, List, [], Option, Some, None, unwrap_or}
+use Rattle.std.specs.Prelude.{ℕ, ◌+◌, ◌^◌, ◌-◌, ◌++◌, ◌∷◌, ◌==◌, ◌||◌, Bool, not, is_some, length, min, nat_le, List, [], Option, Some, None, unwrap_or}
 use Rattle.zn_base.specs.declared.state.ZoneState.{ZoneState}
 use Rattle.zoneadmd_steps.specs.declared.desks.TheConstants.{REQUESTS_MAX, TICKET_MAX}
 use Rattle.zoneadmd_steps.specs.declared.requests.Outcome.{Outcome}
 use Rattle.zoneadmd_steps.specs.declared.requests.Request.{Request}
 use Rattle.zoneadmd_steps.specs.declared.requests.Step.{Step}
+use Rattle.zone_pools.specs.Firsts.{is_nil}
 use Rattle.zone_config.specs.declared.terms.Contents.{Contents}
 use Rattle.commit_journal.specs.declared.records.Record.{Record}
 
@@ -51,6 +52,10 @@ state_now row d = unwrap_or d.active row.state
 abbrev pub state_of : Option Record → Desk → Option ZoneState
 state_of None d = None
 state_of (Some row) d = Some (state_now row d)
+
+-- a request waits, or is under way
+abbrev pub has_request : Desk → Bool
+has_request d = is_some d.job || not (is_nil d.waiting)
 
 -- eight requests wait, or the tickets are used up
 abbrev pub is_full : Desk → Bool

@@ -2,7 +2,7 @@
 ghost use Rattle.std.specs.Prelude.{◌+◌, ◌-◌, ◌<◌, ◌≤◌, ◌∷◌, ◌≡◌, [], IsSomeAnd, None, OnOk, Some, drop, false, is_ok, length, reverse, slice_get, true};
 ghost use Rattle.zoneadmd_steps.specs.Code.Cases.{IsInPlan, IsTurnOf, turn_decision_of};
 ghost use Rattle.zoneadmd_steps.specs.Code.Rooms.{HasRequestRoom, HasRoomToKeep, HasTurnRoom, is_undone, takes_room, turn_takes_room};
-ghost use Rattle.zoneadmd_steps.specs.Desks.{Fails, Goes, empty_desk, is_full, with_request};
+ghost use Rattle.zoneadmd_steps.specs.Desks.{Fails, Goes, empty_desk, has_request, is_full, with_request};
 ghost use Rattle.zoneadmd_steps.specs.Turns.{with_step};
 ghost use Rattle.zoneadmd_steps.specs.Code.Desks.{as_desk, as_job, as_outcome};
 ghost use Rattle.zoneadmd_steps.specs.Plans.{made_after};
@@ -84,6 +84,13 @@ impl Desk {
         ensures { result ≡ is_full (as_desk self.now) }
     {
         self.waiting.len() >= REQUESTS_MAX || self.last == TICKET_MAX
+    }
+
+    /// Whether a request waits or is under way.
+    pub fn has_request(&self) -> bool
+        ensures { result ≡ has_request (as_desk self.now) }
+    {
+        self.job.is_some() || !self.waiting.is_empty()
     }
 
     /// Room for one more request that waits. Nothing is changed by it, whether or not memory runs out.

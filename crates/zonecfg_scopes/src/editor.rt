@@ -137,6 +137,18 @@ impl Editor {
         self.opened.config()
     }
 
+    /// The same, out of the editor. It takes no memory.
+    pub fn into_config(self) -> Option<ZoneConfig>
+        ensures { result ≡ config_of self.opened }
+    {
+        let Editor {
+            name: _,
+            base: _,
+            opened,
+        } = self;
+        opened.into_config()
+    }
+
     /// Whether a configuration is open that differs from the base's, or that has no base. It takes no
     /// memory.
     #[tactic(auto, using(crate::proofs::Changed::is_changed_decides))]

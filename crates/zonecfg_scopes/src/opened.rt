@@ -90,6 +90,14 @@ impl Opened {
         self.config.as_ref()
     }
 
+    /// The same, out of what is open.
+    pub(crate) fn into_config(self) -> Option<ZoneConfig>
+        ensures { result ≡ config_of self }
+    {
+        let Opened { config, scope: _ } = self;
+        config
+    }
+
     /// The lines of what `info` shows, by the zone's name.
     #[tactic(auto, unfolding(crate::specs::Info::info_lines))]
     pub(crate) fn info(

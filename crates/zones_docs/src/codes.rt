@@ -3,6 +3,7 @@ use crate::runs::{Ended, run, run_on};
 use commit_journal::StoreFault;
 use config_verify::Flaw;
 use kernel_objects::Errno;
+use priv_sets::PrivFault;
 use std::alloc::{AllocError, Global};
 use std::rt::Files;
 use std::{fs, io, str};
@@ -165,8 +166,6 @@ fn name_runs() -> &'static [Run] {
 
 const ROOT_PATH: &str = "S 1 zonecfg -z a create -b; set zonepath=/; set brand=ipkg\n";
 
-const MADE_FLAWED: &str = "S 1 zonecfg -z a create -b; set zonepath=/a; set brand=lx9\n";
-
 const MADE_TWICE: &str = "S 1 zonecfg -z a create -b; set zonepath=/a; set brand=ipkg
 S 1 zonecfg -z a create -b; set zonepath=/a; set brand=ipkg\n";
 
@@ -179,16 +178,24 @@ const ASKED_TWICE: &str = "S 1 zonecfg -z a create -b; set zonepath=/a; set bran
 S 1 zoneadm -z a install
 S 1 zoneadm -z a install\n";
 
+const DELETED_WHILE_ASKED: &str = "S 1 zonecfg -z a create -b; set zonepath=/a; set brand=ipkg
+S 1 zoneadm -z a install
+S 2 zonecfg -z a delete -F\n";
+
 const ASKED_NINE_TIMES: &str = "S 1 zonecfg -z a create -b; set zonepath=/a; set brand=ipkg
 S 1 zoneadm -z a install\nS 2 zoneadm -z a install\nS 3 zoneadm -z a install
 S 4 zoneadm -z a install\nS 5 zoneadm -z a install\nS 6 zoneadm -z a install
 S 7 zoneadm -z a install\nS 8 zoneadm -z a install\nS 9 zoneadm -z a install\n";
 
+const VERIFIED: &str = "S 1 zonecfg -z a create; set zonepath=/a; set limitpriv=none
+S 1 zoneadm -z a verify\n";
+
 // `TooMany` and `TooManyMounts` want longer inputs; of the latter `too_many_mounts` makes one.
 fn reply_runs() -> &'static [Run] {
     runs_of!(Refusal:
         Refusal::BadName(_) => [],
-        Refusal::BadValue => [("trace", ROOT_PATH, "23 BadValue")],
+        Refusal::Edit(_) => [("trace", ROOT_PATH, "23 BadValue")],
+        Refusal::WrongState(_) => [(IN_A_ZONE, "S 1 zonecfg -z a set zonepath=/b\n", "81 WrongState")],
         Refusal::Flawed(_) => [("trace", UNKNOWN_BRAND, "46 UnknownBrand")],
         Refusal::NeedForce => [
             ("trace", MADE_TWICE, "34 NeedForce"),
@@ -198,6 +205,7 @@ fn reply_runs() -> &'static [Run] {
         Refusal::NoZone => [("trace", "S 1 zoneadm -z a boot\n", "90 NoZone")],
         Refusal::Waiting(_) => [("trace", ASKED_TWICE, "91 Waiting")],
         Refusal::DeskFull => [("trace", ASKED_NINE_TIMES, "92 DeskFull")],
+        Refusal::DeskInUse => [("trace", DELETED_WHILE_ASKED, "97 DeskInUse")],
         Refusal::Usage => [("trace", "S 1 zlogin a\n", "93 Usage")],
         Refusal::NoProcess => [("trace", "P a 2 true\n", "98 NoProcess")],
         Refusal::Duplicate => [("trace", "Y link a\nY link a\n", "24 Duplicate")],
@@ -206,8 +214,17 @@ fn reply_runs() -> &'static [Run] {
         Refusal::HoldState => [(IN_A_ZONE, "S 1 frelease -z a /\n", "96 HoldState")],
         Refusal::NoMount => [(IN_A_ZONE, "S 1 fhold -z a /x\n", "99 NoMount")],
         Refusal::Errno(_) => [],
+        Refusal::Privilege(_) => [("trace", VERIFIED, "47 PrivWord")],
     )
 }
+
+const ONE_PROCESS: &str =
+    "S 1 zonecfg -z a create -b; set zonepath=/a; set brand=ipkg; set max-processes=1
+S 1 zoneadm -z a attach
+D a\nD a\nD a\nD a\nD a
+S 1 zoneadm -z a boot
+D a\nD a\nD a\nD a\nD a\nD a\nD a\nD a\nD a\nD a\nD a\nD a\nD a
+P a 2 fork x\n";
 
 const FORKED_WITHOUT_PRIVILEGE: &str = "P a 2 drop proc_fork\nP a 2 fork x\n";
 
@@ -247,13 +264,13 @@ fn name_too_long(alloc: Global) -> Result<Vec<u8>, AllocError> {
     Ok(input)
 }
 
-// No zone's configuration limits its processes, so no trace prints `EAGAIN`; a zone with processes has its root mounted, so
-// none prints `ENOENT`; and `ENAMETOOLONG` wants a longer input, as `name_too_long` makes.
+// A zone with processes has its root mounted, so no trace prints `ENOENT`; and `ENAMETOOLONG` wants a longer input, as
+// `name_too_long` makes.
 fn errno_runs() -> &'static [Run] {
     runs_of!(Errno:
         Errno::ESRCH => [("trace", "S 1 kill 9 2\n", "ESRCH")],
         Errno::EPERM => [(IN_A_ZONE, FORKED_WITHOUT_PRIVILEGE, "EPERM")],
-        Errno::EAGAIN => [],
+        Errno::EAGAIN => [("trace", ONE_PROCESS, "EAGAIN")],
         Errno::EINVAL => [(IN_A_ZONE, "P a 2 umount /b\n", "EINVAL")],
         Errno::ENOENT => [],
         Errno::EROFS => [(IN_A_ZONE, WRITTEN_READ_ONLY, "EROFS")],
@@ -274,16 +291,45 @@ const CLONED_BY_LX: &str = "S 1 zonecfg -z a create -b; set zonepath=/a; set bra
 S 1 zoneadm -z a clone b
 D a\nD a\n";
 
-// No line sets anything of a configuration but a path and a brand, so none has a flaw, a wrong limit set or too long a text.
+// A commit looks for flaws before it records, so no zone that a trace makes has one; and a move whose text would be too
+// long prints the code and name that `too_large` does.
 fn outcome_runs() -> &'static [Run] {
     runs_of!(Outcome:
         Outcome::Done => [],
         Outcome::WrongState(_) => [("trace", HALTED_TOO_EARLY, "81 WrongState")],
         Outcome::Denied(_) => [("trace", CLONED_FROM_NONE, "82 Denied")],
         Outcome::HookRefused(_) => [("trace", CLONED_BY_LX, "83 HookRefused")],
-        Outcome::Privilege(_) => [],
+        Outcome::Privilege(_) => [("trace", NO_SUCH_PRIVILEGE, "84 Privilege")],
         Outcome::NotVerified(_) => [],
         Outcome::TooLarge(_) => [],
+    )
+}
+
+const NO_SUCH_PRIVILEGE: &str =
+    "S 1 zonecfg -z a create; set zonepath=/a; set limitpriv=default,file_all
+S 1 zoneadm -z a attach
+D a\nD a\nD a\nD a\nD a
+S 1 zoneadm -z a ready
+D a\n";
+
+const NO_FORK: &str = "S 1 zonecfg -z a create; set zonepath=/a; set limitpriv=default,!proc_fork
+S 1 zoneadm -z a attach
+D a\nD a\nD a\nD a\nD a
+S 1 zoneadm -z a ready
+D a\n";
+
+const ALL_PRIVILEGES: &str = "S 1 zonecfg -z a create; set zonepath=/a; set limitpriv=all
+S 1 zoneadm -z a attach
+D a\nD a\nD a\nD a\nD a
+S 1 zoneadm -z a ready
+D a\n";
+
+fn priv_runs() -> &'static [Run] {
+    runs_of!(PrivFault:
+        PrivFault::Memory => [],
+        PrivFault::PrivWord(_) => [("trace", NO_SUCH_PRIVILEGE, "47 PrivWord")],
+        PrivFault::PrivRequired(_) => [("trace", NO_FORK, "48 PrivRequired")],
+        PrivFault::PrivProhibited(_) => [("trace", ALL_PRIVILEGES, "49 PrivProhibited")],
     )
 }
 
@@ -393,6 +439,7 @@ pub fn check(rt: &(impl Files + Print + AllocGlobal)) -> io::Result<()> {
         reply_runs(),
         errno_runs(),
         outcome_runs(),
+        priv_runs(),
         store_runs(),
     ];
     for runs in all {

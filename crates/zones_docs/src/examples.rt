@@ -96,6 +96,22 @@ const EXAMPLES: &[Example] = &[
         out: Some("examples/requests.replies"),
         err: Some("examples/requests.message"),
     },
+    Example {
+        command: "trace",
+        before: None,
+        input: "examples/configured.trace",
+        status: 1,
+        out: Some("examples/configured.replies"),
+        err: Some("examples/configured.message"),
+    },
+    Example {
+        command: "trace",
+        before: None,
+        input: "examples/listed.trace",
+        status: 1,
+        out: Some("examples/listed.replies"),
+        err: Some("examples/listed.message"),
+    },
 ];
 
 fn text_of(rt: &(impl Files + AllocGlobal), file: Option<&str>) -> io::Result<Vec<u8>> {

@@ -7,7 +7,7 @@ use Rattle.zone_pools.specs.declared.owned.Owned.{Owned}
 use Rattle.zn_base.specs.Names.{Name, name_of}
 use Rattle.zn_base.specs.declared.name.NameFault.{NameFault}
 use Rattle.zone_machine.specs.Machine.{holder, line_subject, named_subject, one, one_of, session_subject, subject, subject_of_name}
-use Rattle.zone_machine.specs.Session.Lines.{Ask, Blank, Clone, Command, Hold, Kill, Line, Make, Release, Unforced, Unknown, line_of}
+use Rattle.zone_machine.specs.Session.Lines.{Ask, Blank, Clone, Command, Help, Hold, Kill, Line, List_one, List_zones, Release, Unforced, Unknown, Verify, Zonecfg, line_of}
 use Rattle.zone_machine.specs.State.{At, Idle, Session as Session_mode, State}
 use Rattle.zone_machine.specs.declared.events.Event.{Event}
 use Rattle.zone_machine.specs.declared.events.Event.TheVariants.{Process as Call_of, Session, System, Turn}
@@ -36,12 +36,16 @@ held (Some o) = tt
 of_line : (word : Option (List ℕ)) (os : List (Owned Process)) (c : Command) → IsZone (line_subject word os c)
 of_line word os (Kill signal pid) = held _
 of_line word os Blank = named word
-of_line word os (Make path brand) = named word
+of_line word os (Zonecfg text) = named word
 of_line word os (Ask request) = named word
 of_line word os (Clone source) = named word
 of_line word os Unforced = named word
 of_line word os (Hold dir) = named word
 of_line word os (Release dir) = named word
+of_line word os Help = named word
+of_line word os Verify = named word
+of_line word os (List_one form) = named word
+of_line word os (List_zones options) = named word
 of_line word os Unknown = named word
 
 of_session : (line : Line) (os : List (Owned Process)) (m : Session_mode) → IsZone (session_subject line os m)

@@ -8,6 +8,8 @@ mod brands;
 #[cfg(test)]
 mod cells;
 #[cfg(test)]
+mod commits;
+#[cfg(test)]
 mod crashes;
 #[cfg(test)]
 mod declarations;
@@ -18,6 +20,8 @@ mod holds;
 #[cfg(test)]
 mod limits;
 #[cfg(test)]
+mod listings;
+#[cfg(test)]
 mod lives;
 #[cfg(test)]
 mod machine;
@@ -26,7 +30,11 @@ mod mounts;
 #[cfg(test)]
 mod processes;
 #[cfg(test)]
+mod refusals;
+#[cfg(test)]
 mod replies;
+#[cfg(test)]
+mod reply_bodies;
 #[cfg(test)]
 mod requests;
 #[cfg(test)]

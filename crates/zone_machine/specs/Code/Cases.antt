@@ -1,8 +1,8 @@
 -- What the code's cases decide, as the definitions have it.
-use Rattle.std.specs.Prelude.{◌≡◌, ◌≤◌, ◌+◌, [], ◌∷◌, map, false, IfOk, Option, Some}
+use Rattle.std.specs.Prelude.{◌≡◌, ◌≤◌, ◌+◌, ◌++◌, ℕ, List, [], ◌∷◌, map, false, IfOk, Option, Some}
 use Rattle.zone_pools.specs.declared.grant.Grant.{Grant}
 use Rattle.zn_base.specs.Names.{Name}
-use Rattle.zone_pools.specs.Asked.{A_path, A_pid, A_zone}
+use Rattle.zone_pools.specs.Asked.{A_pid}
 use Rattle.zone_pools.specs.Decisions as decisions
 use Rattle.zoneadmd_steps.specs.Arrivals.{A_process, A_record, record_asked}
 use Rattle.zone_machine.specs.State.Decisions.{Decision, done_saying, effects, refused, tells, turned}
@@ -14,22 +14,31 @@ use Rattle.zone_machine.specs.State.Edits.{Here, Of_objects, Set_desk}
 use Rattle.zone_machine.specs.State.{Awaiting}
 use Rattle.zoneadmd_steps.specs.Desks.{is_full, with_request}
 use Rattle.zone_machine.specs.declared.cases.Case.{Case}
-use Rattle.zone_machine.specs.declared.cases.Case.TheVariants.{Change, Fork, Says, Make, Put, Tells, Turn}
+use Rattle.zone_machine.specs.declared.cases.Case.TheVariants.{Answers, Change, Commit, Fork, Says, Put, Remove, Tells, Turn}
+use Rattle.zone_machine.specs.declared.cases.Novelty.{Novelty}
+use Rattle.zone_machine.specs.declared.cases.Novelty.TheVariants as novelty
+use Rattle.zone_machine.specs.Session.Commits.{places_for, removes, telling}
 use Rattle.zn_base.specs.declared.state.ZoneState.{ZoneState}
 use Rattle.zoneadmd_steps.specs.Code.Cases.{turn_active}
 use Rattle.zoneadmd_steps.specs.declared.desks.Desk.{Desk}
 use Rattle.commit_journal.specs.Uuids.{uuid_of}
 use Rattle.commit_journal.specs.declared.records.Record as records
 use Rattle.config_terms.specs.Fields.{path_text}
-use Rattle.zone_machine.specs.declared.replies.Head.TheVariants.{Ok, Ticket}
+use Rattle.zone_machine.specs.declared.replies.Head.TheVariants.{Ok, Refused, Ticket}
 use Rattle.zone_machine.specs.declared.replies.Refusal.TheVariants.{Denied}
 
--- a zone is made, and its record takes its UUID and its revision from the number
-abbrev pub made : Name → records.Record → Decision
-made z row =
-    decisions.Ask (A_record (λ n. Some (record row { uuid = uuid_of z n; revision = n })))
-    (A_zone ∷ A_path (path_text row.config.zonepath) ∷ record_asked (λ n. Some (record row { uuid = uuid_of z n; revision = n })) ∷ [])
-    (λ pool. refused (Denied pool)) (λ n. done_saying [] Ok)
+-- the record of a commit under its number, by what is new: a new zone takes its UUID from it too
+abbrev pub numbered_row : Novelty → Name → records.Record → ℕ → records.Record
+numbered_row novelty.Zone z row n = record row { uuid = uuid_of z n; revision = n }
+numbered_row novelty.Path z row n = record row { revision = n }
+numbered_row novelty.Nothing z row n = record row { revision = n }
+
+-- a configuration is committed, and its record takes its number from the grant
+abbrev pub made : Novelty → Name → records.Record → List (List ℕ) → Decision
+made new z row told =
+    decisions.Ask (A_record (λ n. Some (numbered_row new z row n)))
+    (places_for new (path_text row.config.zonepath) ++ record_asked (λ n. Some (numbered_row new z row n)) ∷ [])
+    (λ pool. telling (Refused (Denied pool)) told) (λ n. telling Ok told)
 
 -- what an event decides
 abbrev pub decision_of : Desk → Case → Decision
@@ -37,7 +46,9 @@ decision_of d (Says head) = decisions.Just (done_saying [] head)
 decision_of d (Tells body) = decisions.Just (tells body)
 decision_of d (Change edit) = decisions.Just (done_saying (map Of_objects (object_edits edit)) Ok)
 decision_of d (Fork p) = decisions.Ask (A_process (process_of (0, p.value))) (A_pid ∷ []) (λ pool. refused (Denied pool)) (λ n. tells (Child n))
-decision_of d (Make row owner) = made owner row.value
+decision_of d (Answers reply) = decisions.Just (record { edits = []; reply = reply.value })
+decision_of d (Commit c) = made c.value.novelty c.value.owner c.value.row.value c.value.told
+decision_of d (Remove r) = removes r.value.told
 decision_of d (Put request owner) =
     decisions.Just (done_saying (Set_desk (with_request (as_desk d) request) ∷ Here (Some (Awaiting (d.last + 1))) ∷ []) (Ticket (d.last + 1)))
 decision_of d (Turn c) = effects turned (turn_decision_of d c)
@@ -49,12 +60,13 @@ IsCaseOf d _ = Unit {0}
 
 -- the grant of a case with a new record gives it a number from 1 on
 abbrev pub IsNumbered : Case → Grant → Type 0
-IsNumbered (Make row owner) g = IfOk (decisions.number_in g) (λ n. 1 ≤ n)
+IsNumbered (Commit c) g = IfOk (decisions.number_in g) (λ n. 1 ≤ n)
 IsNumbered (Turn c) g = IsNumberedTurn c g
 IsNumbered _ g = Unit {0}
 
 abbrev pub IsNamedCase : Name → Case → Type 0
-IsNamedCase z (Make row owner) = owner ≡ z
+IsNamedCase z (Commit c) = c.value.owner ≡ z
+IsNamedCase z (Remove r) = r.value.owner ≡ z
 IsNamedCase z (Put request owner) = owner ≡ z
 IsNamedCase z (Turn c) = IsNamedTurn z c
 IsNamedCase z _ = Unit {0}

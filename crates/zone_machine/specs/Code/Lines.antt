@@ -6,9 +6,9 @@ use Rattle.std.specs.Option.{option_map}
 use Rattle.zn_base.specs.Path.{is_path}
 use Rattle.zn_base.specs.Text.{is_text}
 use Rattle.zone_machine.specs.Session.Lines as lines
-use Rattle.zone_machine.specs.Session.Lines.{is_space, words}
+use Rattle.zone_machine.specs.Session.Lines.{is_space, past_spaces, past_word, words}
 use Rattle.zone_machine.specs.declared.session.lines.Command.{Command}
-use Rattle.zone_machine.specs.declared.session.lines.Command.TheVariants.{Blank, Boot, Clone, Hold, Kill, Make, Move, Reboot, Release, Request, Unforced, Unknown}
+use Rattle.zone_machine.specs.declared.session.lines.Command.TheVariants.{Blank, Boot, Clone, Help, Hold, Kill, ListOne, ListZones, Move, Reboot, Release, Request, Unforced, Unknown, Verify, Zonecfg}
 use Rattle.zoneadmd_steps.specs.declared.requests.Request.TheVariants as request
 use Rattle.zone_machine.specs.declared.session.lines.Line.{Line}
 
@@ -22,6 +22,11 @@ abbrev pub BeginsWord : Option (Bor (List ℕ)) → List ℕ → Type 0
 BeginsWord None text = words text ≡ []
 BeginsWord (Some rest) text = (words text ≡ words rest.now) × IsWordFirst rest.now
 
+-- it is what stands from the first word on
+abbrev pub GivesSpaceless : Option (Bor (List ℕ)) → List ℕ → Type 0
+GivesSpaceless None text = Unit {0}
+GivesSpaceless (Some rest) text = rest.now ≡ past_spaces text
+
 -- the word that a text begins with ends there
 pub record EndsWord (end : ℕ) (text : List ℕ) : Type 0 where
   pub fits : end ≤ length text
@@ -31,6 +36,11 @@ pub record EndsWord (end : ℕ) (text : List ℕ) : Type 0 where
 abbrev pub GivesWord : Option (Bor (List ℕ) × Bor (List ℕ)) → List (List ℕ) → Type 0
 GivesWord None ws = ws ≡ []
 GivesWord (Some r) ws = ws ≡ r.0.now ∷ words r.1.now
+
+-- what follows the first word of a text
+abbrev pub GivesPast : Option (Bor (List ℕ) × Bor (List ℕ)) → List ℕ → Type 0
+GivesPast None text = Unit {0}
+GivesPast (Some r) text = r.1.now ≡ past_word text
 
 -- a text of the words that are left, where some are
 abbrev pub GivesRest : Option (Bor (List ℕ)) → Option (List (List ℕ)) → Type 0
@@ -42,7 +52,7 @@ as_word o = option_map (λ word. word.now) o
 
 abbrev pub as_command : Command → lines.Command
 as_command Blank = lines.Blank
-as_command (Make path brand) = lines.Make path.now brand.now
+as_command (Zonecfg text) = lines.Zonecfg text.now
 as_command (Request kind) = lines.asks kind
 as_command (Boot args) = lines.Ask (request.Boot (lines.joined (words args.now)))
 as_command (Reboot args) = lines.Ask (request.Reboot (lines.joined (words args.now)))
@@ -52,6 +62,10 @@ as_command Unforced = lines.Unforced
 as_command (Kill signal pid) = lines.Kill signal pid
 as_command (Hold dir) = lines.Hold dir.now
 as_command (Release dir) = lines.Release dir.now
+as_command Help = lines.Help
+as_command Verify = lines.Verify
+as_command (ListOne form) = lines.List_one form
+as_command (ListZones options) = lines.List_zones options
 as_command Unknown = lines.Unknown
 
 -- the contents of a request that a command asks for are such contents
@@ -59,6 +73,7 @@ abbrev pub IsRight : lines.Command → Type 0
 IsRight (lines.Ask (request.Boot args)) = IsTrue (is_text args)
 IsRight (lines.Ask (request.Reboot args)) = IsTrue (is_text args)
 IsRight (lines.Ask (request.Move path)) = IsTrue (is_path path)
+IsRight (lines.Zonecfg text) = length text ≤ 4200
 IsRight _ = Unit {0}
 
 abbrev pub as_line : Line → lines.Line

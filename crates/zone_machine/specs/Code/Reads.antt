@@ -9,6 +9,7 @@ use Rattle.zone_machine.specs.declared.replies.Head.TheVariants.{Ok}
 use Rattle.zone_pools.specs.Owners.{owner}
 use Rattle.zone_machine.specs.Session.Lines.{Command, Kill, Line, line_of}
 use Rattle.zone_machine.specs.Machine.{decide, named_subject, turn}
+use Rattle.zone_machine.specs.State.{State}
 use Rattle.zone_machine.specs.State.Worlds.{view_of, View}
 use Rattle.zone_machine.specs.declared.machine.cell.Cell.{Cell}
 use Rattle.zone_machine.specs.declared.events.Event.{Event}
@@ -62,11 +63,11 @@ number_read (read.Turn z) = None
 number_read (read.Process z pid c) = None
 number_read (read.System what) = None
 
-abbrev pub global_read : Read → Reply
-global_read (read.Line n line) = global_line (as_line line)
-global_read (read.Turn z) = says Ok
-global_read (read.Process z pid c) = says Ok
-global_read (read.System what) = says Ok
+abbrev pub global_read : State → Read → Reply
+global_read S (read.Line n line) = global_line S (as_line line)
+global_read S (read.Turn z) = says Ok
+global_read S (read.Process z pid c) = says Ok
+global_read S (read.System what) = says Ok
 
 -- the case of an event of z, by its cell and what that hasn't
 abbrev pub decide_in : Name → Outside → Cell → Event → Decision

@@ -9,7 +9,6 @@ use Rattle.zone_pools.specs.declared.grant.Grant.{Grant}
 use Rattle.zone_pools.specs.declared.grant.Pool.{Pool}
 use Rattle.commit_journal.specs.Store.{HasZones, IsBeforeOrAfter, Stores, change_text}
 use Rattle.commit_journal.specs.Stored.{Rows, may_stand, with_stored}
-use Rattle.commit_journal.specs.Uuids.{uuid_of}
 use Rattle.commit_journal.specs.Zones.{rows_of}
 use Rattle.commit_journal.specs.declared.records.Record.{Record}
 use Rattle.zoneadmd_steps.specs.Arrivals.{Arrival, New_record}
@@ -19,7 +18,10 @@ use Rattle.zoneadmd_steps.specs.declared.cases.TurnCase.{TurnCase}
 use Rattle.zoneadmd_steps.specs.declared.cases.TurnCase.TheVariants.{GoOn}
 use Rattle.zoneadmd_steps.specs.declared.objects.changes.Came.TheVariants as came
 use Rattle.zone_machine.specs.declared.cases.Case.{Case}
-use Rattle.zone_machine.specs.declared.cases.Case.TheVariants.{Make, Turn}
+use Rattle.zone_machine.specs.declared.cases.Case.TheVariants.{Commit, Remove, Turn}
+use Rattle.zone_machine.specs.declared.machine.records.ToStore.{ToStore}
+use Rattle.zone_machine.specs.declared.machine.records.ToStore.TheVariants as stores
+use Rattle.zone_machine.specs.Code.Cases.{numbered_row}
 use Rattle.zn_io.specs.Streams.{Rose}
 use Rattle.zone_machine.specs.Code.Cells.{CellOf, SharedOf, Stands as Parts_stand}
 use Rattle.zone_machine.specs.Machine.Common.{common}
@@ -42,31 +44,33 @@ HasNumberTurn (GoOn (Ask (came.Moved r owner new) next)) g = IfOk (number_in g) 
 HasNumberTurn _ g = Unit {0}
 
 abbrev pub HasNumber : Case → Grant → Type 0
-HasNumber (Make row owner) g = IfOk (number_in g) (λ n. (row.value.uuid ≡ uuid_of owner n) × (row.value.revision ≡ n))
+HasNumber (Commit c) g = IfOk (number_in g) (λ n. numbered_row c.value.novelty c.value.owner c.value.row.value n ≡ c.value.row.value)
 HasNumber (Turn c) g = IsNumberedTurn c g × HasNumberTurn c g
 HasNumber _ g = Unit {0}
 
 -- what a case stores under a grant
-abbrev pub stored_if : Result ℕ Pool → Record → Option Arrival
-stored_if (Ok n) row = Some (New_record (Some row))
+abbrev pub stored_if : Result ℕ Pool → Option Record → Option Arrival
+stored_if (Ok n) row = Some (New_record row)
 stored_if (Err pool) row = None
 
 abbrev pub stored_turn : TurnCase → Grant → Option Arrival
-stored_turn (GoOn (Ask (came.Record r owner) next)) g = stored_if (number_in g) r.value
-stored_turn (GoOn (Ask (came.Moved r owner new) next)) g = stored_if (number_in g) r.value
+stored_turn (GoOn (Ask (came.Record r owner) next)) g = stored_if (number_in g) (Some r.value)
+stored_turn (GoOn (Ask (came.Moved r owner new) next)) g = stored_if (number_in g) (Some r.value)
 stored_turn _ g = None
 
 abbrev pub stored_by : Case → Grant → Option Arrival
-stored_by (Make row owner) g = stored_if (number_in g) row.value
+stored_by (Commit c) g = stored_if (number_in g) (Some c.value.row.value)
+stored_by (Remove r) g = stored_if (number_in g) None
 stored_by (Turn c) g = stored_turn c g
 stored_by _ g = None
 
-abbrev pub stored_row : Record → Option Arrival
-stored_row row = Some (New_record (Some row))
+abbrev pub stored_row : Option Record → Option Arrival
+stored_row row = Some (New_record row)
 
-abbrev pub stored_if_any : Result ℕ Pool → Option Record → Option Arrival
-stored_if_any r None = None
-stored_if_any r (Some row) = stored_if r row
+abbrev pub stored_if_any : Result ℕ Pool → ToStore → Option Arrival
+stored_if_any r stores.Nothing = None
+stored_if_any r (stores.Row row) = stored_if r (Some row.now)
+stored_if_any r stores.Removal = stored_if r None
 
 -- the bodies, the rows and the bytes of the bank with what is stored of z
 abbrev pub bodies_with : Name → Option Arrival → List (List ℕ) → List (List ℕ)

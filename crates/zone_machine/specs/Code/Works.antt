@@ -1,7 +1,7 @@
 -- What the code's works do, beside the change of the desk, as the definitions have it.
 use Rattle.std.specs.Prelude.{◌≡◌, ℕ, ◌+◌, List, [], ◌∷◌, ◌++◌, map, Option, Some, None, IfSome}
 use Rattle.zn_base.specs.Names.{Name}
-use Rattle.zoneadmd_steps.specs.Arrivals.{Arrival, in_store}
+use Rattle.zoneadmd_steps.specs.Arrivals.{Arrival, New_record, in_store}
 use Rattle.zone_pools.specs.Decisions as decisions
 use Rattle.zone_machine.specs.State.Decisions.{Act, acts_world, sweeps, after_came_world, turned}
 use Rattle.zoneadmd_steps.specs.Turns.{Turned}
@@ -15,19 +15,33 @@ use Rattle.zoneadmd_steps.specs.declared.desks.Desk.{Desk}
 use Rattle.zoneadmd_steps.specs.declared.objects.changes.ObjectEdit.{ObjectEdit}
 use Rattle.zoneadmd_steps.specs.declared.objects.changes.ObjectEdit.TheVariants.{Nothing}
 use Rattle.zone_machine.specs.declared.machine.work.Sitting.{Sitting}
+use Rattle.zone_machine.specs.declared.machine.work.Storing.{Storing}
+use Rattle.zone_machine.specs.declared.machine.work.Storing.TheVariants as storing
 use Rattle.zone_machine.specs.declared.machine.work.Work.{Work}
 use Rattle.zone_pools.specs.Owners.{owner}
 use Rattle.zoneadmd_steps.specs.Code.Cases.{IsFreeFor, object_edits, turn_objects}
 use Rattle.loopback_mounts.specs.declared.mount.MountEntry.{MountEntry}
-use Rattle.zoneadmd_steps.specs.Code.Works.{arrival_of, gone_by, with_gone}
+use Rattle.zoneadmd_steps.specs.Code.Works.{gone_by, with_gone}
 use Rattle.zoneadmd_steps.specs.declared.requests.Gone.{Gone}
 use Rattle.datalink_table.specs.declared.claims.Claim.{Claim}
 use Rattle.zone_machine.specs.declared.replies.Head.{Head}
 use Rattle.zone_machine.specs.declared.replies.Head.TheVariants.{Turned as Told}
 use Rattle.zone_machine.specs.declared.replies.Reply.{Reply}
 
+-- what comes by what is stored
+abbrev pub arrival_by : Storing → Option Arrival
+arrival_by storing.Nothing = None
+arrival_by (storing.Row s) = Some (New_record (Some s.row.value))
+arrival_by (storing.Removal z) = Some (New_record None)
+
+-- what is stored is of z
+abbrev pub IsStoredOf : Name → Storing → Type 0
+IsStoredOf z storing.Nothing = Unit {0}
+IsStoredOf z (storing.Row s) = s.owner ≡ z
+IsStoredOf z (storing.Removal y) = y ≡ z
+
 pub record IsNamedWork (z : Name) (w : Work) : Type 0 where
-  pub stored : IfSome w.stored (λ s. s.owner ≡ z)
+  pub stored : IsStoredOf z w.stored
   pub sits : IfSome w.sits (λ s. s.owner ≡ z)
 
 abbrev pub objects_of : Case → ObjectEdit
@@ -69,20 +83,20 @@ told_by w = reply_with (gone_by w.objects) w.reply
 
 abbrev pub work_act : Work → desks.Desk → Act
 work_act w d = record {
-  came = arrival_of w.stored;
+  came = arrival_by w.stored;
   effect = record { edits = map Of_objects (object_edits w.objects) ++ (Set_desk d ∷ (sits w.sits ++ sweeps w.ended)); reply = told_by w };
 }
 
 -- the work does what an act says in a world, and leaves the desk so
 pub record Works (n : Option ℕ) (a : Act) (v : World) (d : desks.Desk) (w : Work) : Type 0 where
-  pub came : arrival_of w.stored ≡ a.came
+  pub came : arrival_by w.stored ≡ a.came
   pub reply : told_by w ≡ a.effect.reply
   pub world : acts_world n (work_act w d) v ≡ acts_world n a v
 
 -- what some work does to a world beside its change of the desk
 abbrev pub work_world : Option ℕ → Work → World → World
 work_world n w v =
-    edits_world n (sweeps w.ended) (edits_world n (sits w.sits) (edits_world n (map Of_objects (object_edits w.objects)) (after_came_world (arrival_of w.stored) v)))
+    edits_world n (sweeps w.ended) (edits_world n (sits w.sits) (edits_world n (map Of_objects (object_edits w.objects)) (after_came_world (arrival_by w.stored) v)))
 
 -- a turn's act is what the turn decides, as the machine does it
 abbrev pub turned_act : decisions.Act Arrival Turned → Act

@@ -60,8 +60,15 @@ head_of (Some r) = Refused r
 abbrev pub refused : Refusal → Effect
 refused r = done_saying [] (Refused r)
 
+abbrev pub told : Body → Reply
+told body = record { head = Ok; body = body }
+
+-- nothing is done but a reply
+abbrev pub answers : Reply → Effect
+answers reply = record { edits = []; reply = reply }
+
 abbrev pub tells : Body → Effect
-tells body = record { edits = []; reply = record { head = Ok; body = body } }
+tells body = answers (told body)
 
 -- whoever waits for a ticket that ended is idle again
 abbrev pub ticket_ended : ℕ → Doing → Option Doing

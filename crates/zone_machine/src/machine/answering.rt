@@ -40,7 +40,7 @@ impl Parts {
         requires turn { is_turn_read read ≡ is_turn event.now }
         requires right { IsRightRead read }
         requires hook { IsHeard self.old event.now hook }
-        requires global { (S : State) → global_read read ≡ global_reply S event.now }
+        requires global { (S : State) → global_read S read ≡ global_reply S event.now }
         requires ready { IsReady (D.view bank.old.disk) bank.old self.old.shared }
         ensures ok { IfOk result (λ r. IsStepUnder stated self.old event.now (entry_of subject.now event.now r.0 r.1) self.new) }
         ensures fault { IfErr result (λ fault. Leaves fault stated self.old event.now self.new) }

@@ -88,8 +88,13 @@ fn case_newcomer(case: &Case) -> Newcomer<'_>
     match case {
         Case::Fork(running) => Newcomer::Process(running),
         Case::Turn(case) => turn_newcomer(case),
-        Case::Says(_) | Case::Tells(_) | Case::Change(_) | Case::Make(_, _) | Case::Put(_, _) =>
-            Newcomer::Nothing,
+        Case::Says(_)
+        | Case::Tells(_)
+        | Case::Answers(_)
+        | Case::Change(_)
+        | Case::Commit(_)
+        | Case::Remove(_)
+        | Case::Put(_, _) => Newcomer::Nothing,
     }
 }
 

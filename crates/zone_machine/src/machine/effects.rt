@@ -6,8 +6,8 @@ ghost use Rattle.zn_base.specs.Names.{Name};
 ghost use Rattle.zone_pools.specs.Owners.{owner};
 ghost use Rattle.zone_machine.specs.Code.Cases.{IsCaseOf, IsNamedCase, decision_of};
 ghost use Rattle.zoneadmd_steps.specs.Code.Cases.{object_edits};
-ghost use Rattle.zone_machine.specs.Code.Works.{IsNamedWork, rest_of, sits, told_by, work_world};
-ghost use Rattle.zoneadmd_steps.specs.Code.Works.{arrival_of, gone_by};
+ghost use Rattle.zone_machine.specs.Code.Works.{IsNamedWork, IsStoredOf, arrival_by, rest_of, sits, told_by, work_world};
+ghost use Rattle.zoneadmd_steps.specs.Code.Works.{gone_by};
 ghost use Rattle.zoneadmd_steps.specs.Code.Cases.{is_last};
 ghost use Rattle.loopback_mounts.specs.Mounts.{last_of};
 ghost use Rattle.std.specs.Option.{option_map};
@@ -29,7 +29,7 @@ use crate::machine::cell::Cell;
 use crate::machine::settling::settle;
 use crate::machine::shared::Shared;
 use crate::machine::ups::mark;
-use crate::machine::work::{Sitting, Work};
+use crate::machine::work::{Sitting, Storing, Work};
 use crate::maps::put;
 use crate::replies::Reply;
 use crate::session::waits::{end_waits, wait};
@@ -60,20 +60,38 @@ fn store(cell: &Cell, shared: &mut Shared, stored: Stored)
     put(&mut shared.rows, stored.owner, row);
 }
 
-// What is stored of the zone, if that changes.
-fn store_some(cell: &Cell, shared: &mut Shared, stored: Option<Stored>)
-    requires free { IfSome stored (λ s. IsFreeOf s.owner (arrival_of stored) (pools_in shared.old)) }
-    requires room { HasRoomOf (arrival_of stored) shared.old }
-    ensures does { (z : Name) → IfSome stored (λ s. s.owner ≡ z) → Does z (after_came_world (arrival_of stored)) (came_common z (arrival_of stored)) cell.now shared.old cell.now shared.new }
+// Nothing is stored of the zone any more.
+#[inline(never)]
+#[tactic(auto, using(commit_journal::proofs::Zones::without_is))]
+fn remove(cell: &Cell, shared: &mut Shared, owner: ZoneName)
+    requires free { IsFreeOf owner (Some (New_record None)) (pools_in shared.old) }
+    ensures does { Does owner (comes_world (New_record None)) (came_common owner (Some (New_record None))) cell.now shared.old cell.now shared.new }
     ensures sessions { shared.new.sessions ≡ shared.old.sessions }
     ensures ups { shared.new.ups ≡ shared.old.ups }
     ensures brands { shared.new.brands ≡ shared.old.brands }
-    ensures rows { (z : Name) → IfSome stored (λ s. s.owner ≡ z) → rows_of shared.new.rows.entries ≡ rows_with z (arrival_of stored) (rows_of shared.old.rows.entries) }
-    ensures used { (z : Name) → IfSome stored (λ s. s.owner ≡ z) → shared.new.used ≡ used_with z (arrival_of stored) shared.old.used }
+    ensures rows { rows_of shared.new.rows.entries ≡ rows_with owner (Some (New_record None)) (rows_of shared.old.rows.entries) }
+    ensures used { shared.new.used ≡ used_with owner (Some (New_record None)) shared.old.used }
+{
+    shared.used += 5 + body_length(&owner, None) as u32;
+    shared.serial += 1;
+    shared.rows.shift_remove(&owner);
+}
+
+// What is stored of the zone, if that changes.
+fn store_some(cell: &Cell, shared: &mut Shared, stored: Storing)
+    requires free { (z : Name) → IsStoredOf z stored → IsFreeOf z (arrival_by stored) (pools_in shared.old) }
+    requires room { HasRoomOf (arrival_by stored) shared.old }
+    ensures does { (z : Name) → IsStoredOf z stored → Does z (after_came_world (arrival_by stored)) (came_common z (arrival_by stored)) cell.now shared.old cell.now shared.new }
+    ensures sessions { shared.new.sessions ≡ shared.old.sessions }
+    ensures ups { shared.new.ups ≡ shared.old.ups }
+    ensures brands { shared.new.brands ≡ shared.old.brands }
+    ensures rows { (z : Name) → IsStoredOf z stored → rows_of shared.new.rows.entries ≡ rows_with z (arrival_by stored) (rows_of shared.old.rows.entries) }
+    ensures used { (z : Name) → IsStoredOf z stored → shared.new.used ≡ used_with z (arrival_by stored) shared.old.used }
 {
     match stored {
-        Some(stored) => store(cell, shared, stored),
-        None => {}
+        Storing::Row(stored) => store(cell, shared, stored),
+        Storing::Removal(owner) => remove(cell, shared, owner),
+        Storing::Nothing => {}
     }
 }
 
@@ -407,16 +425,16 @@ fn carry_out(
     number: Option<u8>,
     work: Work,
 ) -> Reply
-    requires free { IfSome work.stored (λ s. IsFreeOf s.owner (arrival_of work.stored) (pools_in shared.old)) }
-    requires stored { HasRoomOf (arrival_of work.stored) shared.old }
+    requires free { (z : Name) → IsStoredOf z work.stored → IsFreeOf z (arrival_by work.stored) (pools_in shared.old) }
+    requires stored { HasRoomOf (arrival_by work.stored) shared.old }
     requires objects { HasRoomToChange work.objects cell.old }
     requires sits { IfSome work.sits (λ s. HasRoomToSit cell.old shared.old) }
     ensures reply { result ≡ told_by work }
-    ensures does { (z : Name) → IsNamedWork z work → IfSome number (λ n. IsOpenTo z (owner nat_eq shared.old.sessions n)) → Does z (work_world number work) (came_common z (arrival_of work.stored)) cell.old shared.old cell.new shared.new }
+    ensures does { (z : Name) → IsNamedWork z work → IfSome number (λ n. IsOpenTo z (owner nat_eq shared.old.sessions n)) → Does z (work_world number work) (came_common z (arrival_by work.stored)) cell.old shared.old cell.new shared.new }
     ensures ups { shared.new.ups ≡ shared.old.ups }
     ensures brands { shared.new.brands ≡ shared.old.brands }
-    ensures rows { (z : Name) → IsNamedWork z work → rows_of shared.new.rows.entries ≡ rows_with z (arrival_of work.stored) (rows_of shared.old.rows.entries) }
-    ensures used { (z : Name) → IsNamedWork z work → shared.new.used ≡ used_with z (arrival_of work.stored) shared.old.used }
+    ensures rows { (z : Name) → IsNamedWork z work → rows_of shared.new.rows.entries ≡ rows_with z (arrival_by work.stored) (rows_of shared.old.rows.entries) }
+    ensures used { (z : Name) → IsNamedWork z work → shared.new.used ≡ used_with z (arrival_by work.stored) shared.old.used }
     ensures desk { cell.new.desk ≡ cell.old.desk }
 {
     store_some(cell, shared, work.stored);

@@ -142,10 +142,26 @@ fn do_local(alloc: Global, cell: &mut Cell, case: TurnCase) -> Result<Reply, All
     ensures memory { OnErr result (IsAsItWas cell.old cell.new) }
 {
     let case = Case::Turn(case);
-    room_for(cell, &case)?;
+    match room_for(cell, &case) {
+        Ok(()) => {}
+        Err(fault) => {
+            case.let_go();
+            return Err(fault);
+        }
+    }
     let work = settle(alloc, &mut cell.desk, case, Grant::Nothing);
     let gone = change_own(alloc, cell, work.objects);
     Ok(work.reply.with_gone(gone))
+}
+
+// A turn of a zone, and the zone whose it is.
+fn turn_of(alloc: Global, zone: &ZoneName) -> Result<(Event, Subject), AllocError>
+    ensures { IfOk result (λ r. (r.0 ≡ Event.Turn zone.now) × (r.1 ≡ Subject.Zone zone.now)) }
+{
+    let event = Event::Turn {
+        zone: zone.copy(alloc)?,
+    };
+    Ok((event, Subject::Zone(zone.copy(alloc)?)))
 }
 
 /// The next turn of a zone's daemon is done on the zone's cell, where it is local: it steps through a hook, whose answer
@@ -166,15 +182,19 @@ pub fn local_turn(
     let Some(case) = next_local(alloc, cell, hook)? else {
         return Ok(None);
     };
-    let event = Event::Turn {
-        zone: zone.copy(alloc)?,
-    };
-    let subject = Subject::Zone(zone.copy(alloc)?);
-    let reply = do_local(alloc, cell, case)?;
-    Ok(Some(Entry {
-        event,
-        subject,
-        grant: Grant::Nothing,
-        reply,
-    }))
+    match turn_of(alloc, zone) {
+        Ok((event, subject)) => {
+            let reply = do_local(alloc, cell, case)?;
+            Ok(Some(Entry {
+                event,
+                subject,
+                grant: Grant::Nothing,
+                reply,
+            }))
+        }
+        Err(fault) => {
+            Case::Turn(case).let_go();
+            Err(fault)
+        }
+    }
 }

@@ -1,19 +1,17 @@
 //! What a case asks of the pools.
-ghost use Rattle.commit_journal.specs.Uuids.{uuid_of};
 ghost use Rattle.config_terms.specs.Fields.{path_text};
-ghost use Rattle.zn_base.specs.Names.{Name};
-ghost use Rattle.zone_pools.specs.Asked.{A_path, A_zone};
+ghost use Rattle.zone_pools.specs.Asked.{A_path};
 ghost use Rattle.zoneadmd_steps.specs.Arrivals.{record_asked};
-ghost use Rattle.std.specs.Prelude.{◌∷◌, ◌≡◌, []};
+ghost use Rattle.std.specs.Prelude.{◌∷◌, ◌≡◌, [], None};
 ghost use Rattle.zone_pools.specs.Decisions.{asked_of};
-ghost use Rattle.zone_machine.specs.Code.Cases.{IsCaseOf, decision_of};
+ghost use Rattle.zone_machine.specs.Code.Cases.{IsCaseOf, decision_of, made};
 ghost use Rattle.zoneadmd_steps.specs.Code.Cases.{IsTurnOf, asked_for, job_turn, turn_decision_of};
 ghost use Rattle.zoneadmd_steps.specs.Desks as desks;
 ghost use Rattle.zone_machine.specs.Code.Needs.{asked_by};
 ghost use Rattle.zoneadmd_steps.specs.declared.desks.Desk as desk_types;
 ghost use Rattle.zoneadmd_steps.specs.declared.desks.Job as job_types;
 
-use crate::cases::Case;
+use crate::cases::{Case, Committed, Novelty};
 use commit_journal::{Row, record_length};
 use datalink_table::Claim;
 use zn_base::ZoneName;
@@ -57,15 +55,28 @@ fn moved_need(row: &Row) -> Need<'_>
     )
 }
 
-// A record of a new zone, with its path.
-fn zone_need(row: &Row) -> Need<'_>
-    ensures { (z : Name) → asked_by result ≡ A_zone ∷ A_path (path_text row.now.config.zonepath) ∷ record_asked (λ n. Some (record row.now { uuid = uuid_of z n; revision = n })) ∷ [] }
+// The record of a commit, with what is new in it.
+fn commit_need(committed: &Committed) -> Need<'_>
+    ensures { asked_by result ≡ asked_of (made committed.now.novelty committed.now.owner committed.now.row.value committed.now.told) }
 {
-    let stored = row.record();
-    Need::NewZone(
-        stored.config.shown(Property::Zonepath),
-        record_length(stored),
-    )
+    let stored = committed.row.record();
+    let path = stored.config.shown(Property::Zonepath);
+    let size = record_length(stored);
+    match committed.novelty {
+        Novelty::Zone => Need::NewZone(path, size),
+        Novelty::Path => Need::Moved(path, size),
+        Novelty::Nothing => Need::Record(size),
+    }
+}
+
+// How many bytes are stored of a zone that is removed.
+const REMOVAL_LENGTH: usize = 11;
+
+// The record by which a zone is removed.
+fn removal_need() -> Need<'static>
+    ensures { asked_by result ≡ record_asked (λ n. None) ∷ [] }
+{
+    Need::Record(REMOVAL_LENGTH)
 }
 
 fn came_need(it: &Came) -> Need<'_>
@@ -120,9 +131,10 @@ pub(crate) fn need_of(case: &Case) -> Need<'_>
     ensures { (d : desk_types.Desk) → IsCaseOf d case.now → asked_of (decision_of d case.now) ≡ asked_by result }
 {
     match case {
-        Case::Says(_) | Case::Tells(_) | Case::Change(_) => Need::Nothing,
+        Case::Says(_) | Case::Tells(_) | Case::Answers(_) | Case::Change(_) => Need::Nothing,
         Case::Fork(_) => Need::Pid,
-        Case::Make(row, _) => zone_need(row),
+        Case::Commit(committed) => commit_need(committed),
+        Case::Remove(_) => removal_need(),
         Case::Put(_, _) => Need::Nothing,
         Case::Turn(case) => turn_need(case),
     }

@@ -16,8 +16,8 @@ use crate::events::{Declaration, Event};
 use crate::faults::StepFault;
 use crate::machine::declarations::declare;
 use crate::machine::parts::Parts;
-use crate::machine::reads::{Read, global_refusal};
-use crate::replies::{Body, Head, Refusal, Reply};
+use crate::machine::reads::{Read, global_reply, says};
+use crate::replies::{Head, Refusal, Reply};
 use std::alloc::Global;
 use zone_pools::Grant;
 
@@ -32,17 +32,13 @@ fn nothing_of(stated: Option<Grant>) -> Result<Grant, StepFault>
     }
 }
 
-// A reply that says no more than whether a line is refused.
-fn answer_reply(refusal: Option<Refusal>) -> Reply
+// A reply that says no more than whether a declaration is refused.
+fn declared_reply(refusal: Option<Refusal>) -> Reply
     ensures { result ≡ says (head_of refusal) }
 {
-    let head = match refusal {
-        None => Head::Ok,
-        Some(refusal) => Head::Refused(refusal),
-    };
-    Reply {
-        head,
-        body: Body::Nothing,
+    match refusal {
+        None => says(Head::Ok),
+        Some(refusal) => says(Head::Refused(refusal)),
     }
 }
 
@@ -57,7 +53,7 @@ impl Parts {
         stated: Option<Grant>,
     ) -> Result<(Grant, Reply), StepFault>
         requires of { subject_in self.old.shared event.now ≡ subject_variants.Global }
-        requires global { (S : State) → global_read read ≡ global_reply S event.now }
+        requires global { (S : State) → global_read S read ≡ global_reply S event.now }
         ensures ok { IfOk result (λ r. IsStepUnder stated self.old event.now (entry_of subject_variants.Global event.now r.0 r.1) self.new) }
         ensures fault { IfErr result (λ fault. Leaves fault stated self.old event.now self.new) }
         ensures apart { IfErr result NeedsNoDisk }
@@ -65,10 +61,10 @@ impl Parts {
         ensures used { self.new.shared.used ≡ self.old.shared.used }
         ensures brands { self.new.shared.brands ≡ self.old.shared.brands }
     {
-        let refusal = global_refusal(alloc, read)?;
+        let reply = global_reply(alloc, self, read)?;
         let grant = nothing_of(stated)?;
         self.shared.started = true;
-        Ok((grant, answer_reply(refusal)))
+        Ok((grant, reply))
     }
 
     // What the whole system declares is answered.
@@ -87,7 +83,7 @@ impl Parts {
     {
         let grant = nothing_of(stated)?;
         let refusal = declare(alloc, &mut self.shared, what)?;
-        Ok((grant, answer_reply(refusal)))
+        Ok((grant, declared_reply(refusal)))
     }
 
     /// An event of the whole system is answered.

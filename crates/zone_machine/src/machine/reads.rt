@@ -2,23 +2,26 @@
 ghost use Rattle.std.specs.Prelude.{◌≡◌, IfOk, None, Some, Option};
 ghost use Rattle.zone_machine.specs.Code.Reads.{IsRightRead, decide_read, global_read, held_subject, idle_subject, is_turn, is_turn_read, number_read, subject_in, subject_read};
 ghost use Rattle.kernel_objects.specs.Shared.{pid_owner};
-ghost use Rattle.zone_machine.specs.State.Decisions.{head_of, says};
+ghost use Rattle.zone_machine.specs.Code.Cells.{Stands};
+ghost use Rattle.zone_machine.specs.State.Decisions.{says, told};
 ghost use Rattle.zone_machine.specs.Code.Lines.{as_line, as_word};
 ghost use Rattle.zone_machine.specs.Machine.{decide, global_reply, named_subject, session_number};
 ghost use Rattle.zone_machine.specs.State.{State};
-ghost use Rattle.zone_machine.specs.Session.Typed.{badly_named, global_line};
+ghost use Rattle.zone_machine.specs.Session.Typed.{badly_named, global_help, global_line};
 ghost use Rattle.zone_machine.specs.State.Worlds.{View};
 ghost use Rattle.zone_machine.specs.declared.events.Subject.TheVariants.{Zone};
 ghost use Rattle.zone_machine.specs.declared.machine.shared.Shared as shared_types;
 
 use crate::events::{Declaration, Event, Subject};
+use crate::machine::parts::Parts;
 use crate::machine::shared::Shared;
-use crate::replies::Refusal;
+use crate::replies::{Body, Head, Refusal, Reply};
 use crate::session::lines::{Command, Line, line_of};
+use crate::session::listing::help;
 use kernel_objects::{Errno, KernelShared};
 use process_calls::Call;
 use std::alloc::{AllocError, Global};
-use zn_base::{NameFault, ZoneName};
+use zn_base::{Bytes, Listing, NameFault, ZoneName};
 use zoneadmd_steps::RequestKind;
 
 /// An event as it is read, once: what a session types, a turn of a zone's daemon, a call of a zone's process, or what the whole
@@ -39,7 +42,7 @@ pub(crate) fn read_event(event: &Event) -> Read<'_>
     ensures number { number_read result ≡ session_number event.now }
     ensures turn { is_turn_read result ≡ is_turn event.now }
     ensures right { IsRightRead result }
-    ensures global { (S : State) → global_read result ≡ global_reply S event.now }
+    ensures global { (S : State) → global_read S result ≡ global_reply S event.now }
 {
     match event {
         Event::Session { number, text } => Read::Line(*number, line_of(text.bytes())),
@@ -84,7 +87,7 @@ fn idle_subject(kernel: &KernelShared, alloc: Global, line: Line<'_>) -> Result<
     match line.command {
         Command::Kill(_, pid) => holder(kernel, alloc, pid),
         Command::Blank
-        | Command::Make(_, _)
+        | Command::Zonecfg(_)
         | Command::Request(_)
         | Command::Boot(_)
         | Command::Reboot(_)
@@ -93,6 +96,10 @@ fn idle_subject(kernel: &KernelShared, alloc: Global, line: Line<'_>) -> Result<
         | Command::Unforced
         | Command::Hold(_)
         | Command::Release(_)
+        | Command::Help
+        | Command::Verify
+        | Command::ListOne(_)
+        | Command::ListZones(_)
         | Command::Unknown => named_subject(alloc, line.zone),
     }
 }
@@ -126,18 +133,55 @@ fn badly_named(alloc: Global, word: Option<&[u8]>) -> Result<Refusal, AllocError
     }
 }
 
-// Why a line is refused that belongs to no zone, if it is.
-fn global_line(alloc: Global, line: Line<'_>) -> Result<Option<Refusal>, AllocError>
-    ensures { IfOk result (λ refusal. says (head_of refusal) ≡ global_line (as_line line.entry)) }
+/// A reply without a body.
+pub(crate) fn says(head: Head) -> Reply
+    ensures { result ≡ says head }
+{
+    Reply {
+        head,
+        body: Body::Nothing,
+    }
+}
+
+fn refused(refusal: Refusal) -> Reply
+    ensures { result ≡ says (Head.Refused refusal) }
+{
+    says(Head::Refused(refusal))
+}
+
+fn told(lines: Listing<Bytes>) -> Reply
+    ensures { result ≡ told (Body.Lines lines) }
+{
+    Reply {
+        head: Head::Ok,
+        body: Body::Lines(lines),
+    }
+}
+
+// What a line is answered that asks for help and belongs to no zone.
+fn global_help(alloc: Global, word: Option<&[u8]>) -> Result<Reply, AllocError>
+    ensures { IfOk result (λ reply. reply ≡ global_help (as_word word.entry)) }
+{
+    if word.is_some() {
+        return Ok(refused(badly_named(alloc, word)?));
+    }
+    Ok(told(help(alloc)?))
+}
+
+// What a line is answered that belongs to no zone.
+fn global_line(alloc: Global, parts: &Parts, line: Line<'_>) -> Result<Reply, AllocError>
+    ensures { IfOk result (λ reply. (S : State) → Stands S parts.now → reply ≡ global_line S (as_line line.entry)) }
 {
     match line.command {
-        Command::Blank => Ok(None),
+        Command::Blank => Ok(says(Head::Ok)),
+        Command::Help => global_help(alloc, line.zone),
+        Command::ListZones(options) => Ok(told(parts.list_zones(alloc, options)?)),
         Command::Unknown
         | Command::Request(
             RequestKind::Clone | RequestKind::Boot | RequestKind::Reboot | RequestKind::Move,
-        ) => Ok(Some(Refusal::Usage)),
-        Command::Kill(_, _) => Ok(Some(Refusal::Errno(Errno::ESRCH))),
-        Command::Make(_, _)
+        ) => Ok(refused(Refusal::Usage)),
+        Command::Kill(_, _) => Ok(refused(Refusal::Errno(Errno::ESRCH))),
+        Command::Zonecfg(_)
         | Command::Request(_)
         | Command::Boot(_)
         | Command::Reboot(_)
@@ -145,16 +189,22 @@ fn global_line(alloc: Global, line: Line<'_>) -> Result<Option<Refusal>, AllocEr
         | Command::Clone(_)
         | Command::Unforced
         | Command::Hold(_)
-        | Command::Release(_) => Ok(Some(badly_named(alloc, line.zone)?)),
+        | Command::Release(_)
+        | Command::Verify
+        | Command::ListOne(_) => Ok(refused(badly_named(alloc, line.zone)?)),
     }
 }
 
-/// Why an event is refused that is no zone's, if it is.
-pub(crate) fn global_refusal(alloc: Global, read: Read<'_>) -> Result<Option<Refusal>, AllocError>
-    ensures { IfOk result (λ refusal. says (head_of refusal) ≡ global_read read.entry) }
+/// What an event is answered that is no zone's.
+pub(crate) fn global_reply(
+    alloc: Global,
+    parts: &Parts,
+    read: Read<'_>,
+) -> Result<Reply, AllocError>
+    ensures { IfOk result (λ reply. (S : State) → Stands S parts.now → reply ≡ global_read S read.entry) }
 {
     match read {
-        Read::Line(_, line) => global_line(alloc, line),
-        Read::Turn(_) | Read::Process(_, _, _) | Read::System(_) => Ok(None),
+        Read::Line(_, line) => global_line(alloc, parts, line),
+        Read::Turn(_) | Read::Process(_, _, _) | Read::System(_) => Ok(says(Head::Ok)),
     }
 }

@@ -5,7 +5,7 @@ ghost use Rattle.zone_disk.specs.Image.{Stands};
 ghost use Rattle.commit_journal.specs.Store.{HasZones};
 ghost use Rattle.commit_journal.specs.Zones.{rows_of};
 ghost use Rattle.zn_base.specs.Names.{Name};
-ghost use Rattle.zone_machine.specs.Code.Cases.{IsCaseOf, IsNamedCase, IsNumbered, decision_of};
+ghost use Rattle.zone_machine.specs.Code.Cases.{IsCaseOf, IsNamedCase, IsNumbered, decision_of, made, numbered_row};
 ghost use Rattle.zone_machine.specs.Code.Needs.{pools_in};
 ghost use Rattle.zone_machine.specs.Code.Records.{HasNumber, IsReady, MayStand, Writes, bodies_with, rows_with, stored_by, stored_if_any, stored_row};
 ghost use Rattle.zone_machine.specs.Code.Rooms.{IsFreeOf};
@@ -15,7 +15,7 @@ ghost use Rattle.zone_machine.specs.declared.cases.Case.TheVariants as cases;
 ghost use Rattle.zone_pools.specs.declared.grant.Grant as grant_types;
 ghost use Rattle.zoneadmd_steps.specs.declared.desks.Desk as desk_types;
 
-use crate::cases::Case;
+use crate::cases::{Case, Committed, Novelty};
 use crate::faults::StepFault;
 use crate::machine::shared::Shared;
 use commit_journal::{Row, StoreFault, append_record, uuid_of};
@@ -25,6 +25,19 @@ use zn_io::Disk;
 use zone_disk::Bank;
 use zone_pools::{Grant, number_in};
 use zoneadmd_steps::{Came, JobCase, TurnCase};
+
+// The record of a commit has a number as its revision, and a new zone its UUID by it.
+fn number_row(committed: &mut Committed, number: u32)
+    requires { 1 ≤ number }
+    ensures decision { made committed.new.novelty committed.new.owner committed.new.row.value committed.new.told ≡ made committed.old.novelty committed.old.owner committed.old.row.value committed.old.told }
+    ensures owner { committed.new.owner ≡ committed.old.owner }
+    ensures number { numbered_row committed.new.novelty committed.new.owner committed.new.row.value number ≡ committed.new.row.value }
+{
+    if let Novelty::Zone = committed.novelty {
+        committed.row.set_uuid(uuid_of(&committed.owner, number));
+    }
+    committed.row.set_revision(number);
+}
 
 /// The record of a case takes its number from the grant, if it takes one: its revision, and of a new zone the UUID.
 pub(crate) fn number(case: &mut Case, grant: Grant)
@@ -39,10 +52,7 @@ pub(crate) fn number(case: &mut Case, grant: Grant)
         return;
     };
     match case {
-        Case::Make(row, owner) => {
-            row.set_uuid(uuid_of(owner, number));
-            row.set_revision(number);
-        }
+        Case::Commit(committed) => number_row(committed, number),
         Case::Turn(TurnCase::GoOn(JobCase::Ask(Came::Moved(row, _, _), _))) => {
             row.set_revision(number);
         }
@@ -50,25 +60,40 @@ pub(crate) fn number(case: &mut Case, grant: Grant)
     }
 }
 
-// The row that a turn stores, if it is granted.
-fn turn_row(case: &TurnCase) -> Option<&Row>
-    ensures { (g : grant_types.Grant) → stored_by (cases.Turn case.now) g ≡ stored_if_any (number_in g) (option_map (λ row. row.now) result) }
+/// What a case stores of its zone, if it is granted.
+#[derive(Clone, Copy)]
+pub(crate) enum ToStore<'c> {
+    Nothing,
+    Row(&'c Row),
+    /// The zone is removed.
+    Removal,
+}
+
+// What a turn stores, if it is granted.
+fn turn_stores(case: &TurnCase) -> ToStore<'_>
+    ensures { (g : grant_types.Grant) → stored_by (cases.Turn case.now) g ≡ stored_if_any (number_in g) result }
 {
     match case {
-        TurnCase::GoOn(JobCase::Ask(Came::Record(row, _), _)) => Some(row),
-        TurnCase::GoOn(JobCase::Ask(Came::Moved(row, _, _), _)) => Some(row),
-        _ => None,
+        TurnCase::GoOn(JobCase::Ask(Came::Record(row, _), _)) => ToStore::Row(row),
+        TurnCase::GoOn(JobCase::Ask(Came::Moved(row, _, _), _)) => ToStore::Row(row),
+        _ => ToStore::Nothing,
     }
 }
 
-// The row that a case stores, if it is granted.
-fn row_of(case: &Case) -> Option<&Row>
-    ensures { (g : grant_types.Grant) → stored_by case.now g ≡ stored_if_any (number_in g) (option_map (λ row. row.now) result) }
+// What a case stores, if it is granted.
+fn stores_of(case: &Case) -> ToStore<'_>
+    ensures { (g : grant_types.Grant) → stored_by case.now g ≡ stored_if_any (number_in g) result }
 {
     match case {
-        Case::Make(row, _) => Some(row),
-        Case::Turn(case) => turn_row(case),
-        Case::Says(_) | Case::Tells(_) | Case::Change(_) | Case::Fork(_) | Case::Put(_, _) => None,
+        Case::Commit(committed) => ToStore::Row(&committed.row),
+        Case::Remove(_) => ToStore::Removal,
+        Case::Turn(case) => turn_stores(case),
+        Case::Says(_)
+        | Case::Tells(_)
+        | Case::Answers(_)
+        | Case::Change(_)
+        | Case::Fork(_)
+        | Case::Put(_, _) => ToStore::Nothing,
     }
 }
 
@@ -76,24 +101,24 @@ fn row_of(case: &Case) -> Option<&Row>
 pub(crate) fn stores(case: &Case, grant: Grant) -> bool
     ensures { result ≡ is_some (stored_by case.now grant) }
 {
-    number_in(grant).is_ok() && row_of(case).is_some()
+    number_in(grant).is_ok() && !matches!(stores_of(case), ToStore::Nothing)
 }
 
-// A row is written to the disk. All memory for that is taken before the disk is written.
+// What is stored of a zone is written to the disk. All memory for that is taken before the disk is written.
 fn write_row<D: Disk>(
     alloc: Global,
     bank: &mut Bank<D>,
     shared: &Shared,
     zone: &ZoneName,
-    row: &Row,
+    row: Option<&Row>,
 ) -> Result<(), StepFault>
     requires ready { IsReady (D.view bank.old.disk) bank.old shared.now }
-    requires place { MayStand zone.now (stored_row row.now) (rows_of shared.now.rows.entries) }
-    requires room { IsFreeOf zone.now (stored_row row.now) (pools_in shared.now) }
-    ensures writes { Writes zone.now (stored_row row.now) bank.old.records (rows_of shared.now.rows.entries) (D.view bank.old.disk) (D.view bank.new.disk) }
-    ensures records { OnOk result (bank.new.records ≡ bodies_with zone.now (stored_row row.now) bank.old.records) }
+    requires place { MayStand zone.now (stored_row (option_map (λ r. r.now) row)) (rows_of shared.now.rows.entries) }
+    requires room { IsFreeOf zone.now (stored_row (option_map (λ r. r.now) row)) (pools_in shared.now) }
+    ensures writes { Writes zone.now (stored_row (option_map (λ r. r.now) row.entry)) bank.old.records (rows_of shared.now.rows.entries) (D.view bank.old.disk) (D.view bank.new.disk) }
+    ensures records { OnOk result (bank.new.records ≡ bodies_with zone.now (stored_row (option_map (λ r. r.now) row.entry)) bank.old.records) }
     ensures sound { OnOk result (bank.new.sound ≡ true) }
-    ensures zones { OnOk result (HasZones bank.new.records (rows_with zone.now (stored_row row.now) (rows_of shared.now.rows.entries))) }
+    ensures zones { OnOk result (HasZones bank.new.records (rows_with zone.now (stored_row (option_map (λ r. r.now) row.entry)) (rows_of shared.now.rows.entries))) }
     ensures settled { OnOk result ((D.view bank.new.disk).Keeps → (image : List ℕ) → (D.view bank.new.disk).Now image → Stands image bank.new.records) }
     ensures memory { IsErrOf result StepFault.Memory → bank.new ≡ bank.old }
     ensures fault { IsErrOf result StepFault.DiskFault → Rose (D.view bank.old.disk).faults (D.view bank.new.disk).faults }
@@ -102,7 +127,7 @@ fn write_row<D: Disk>(
 {
     // Its clauses count the bytes in use.
     let _used = bank.used();
-    match append_record(bank, alloc, zone, Some(row)) {
+    match append_record(bank, alloc, zone, row) {
         Ok(()) => Ok(()),
         Err(StoreFault::Memory) => Err(StepFault::Memory),
         Err(_) => Err(StepFault::DiskFault),
@@ -132,8 +157,9 @@ pub(crate) fn write<D: Disk>(
     ensures none { stored_by case.now grant ≡ None → is_ok result ≡ true }
     ensures only { IfErr result (λ e. (e ≡ StepFault.Memory) ⊎ (e ≡ StepFault.DiskFault)) }
 {
-    match (number_in(grant), row_of(case)) {
-        (Ok(_), Some(row)) => write_row(alloc, bank, shared, zone, row),
+    match (number_in(grant), stores_of(case)) {
+        (Ok(_), ToStore::Row(row)) => write_row(alloc, bank, shared, zone, Some(row)),
+        (Ok(_), ToStore::Removal) => write_row(alloc, bank, shared, zone, None),
         _ => Ok(()),
     }
 }

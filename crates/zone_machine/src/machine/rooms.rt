@@ -30,9 +30,13 @@ pub(crate) fn room_on_desk(desk: &mut Desk, case: &Case) -> Result<(), AllocErro
     match case {
         Case::Put(_, _) => desk.reserve(),
         Case::Turn(case) => desk.reserve_turn(case),
-        Case::Says(_) | Case::Tells(_) | Case::Change(_) | Case::Fork(_) | Case::Make(_, _) => Ok(
-            (),
-        ),
+        Case::Says(_)
+        | Case::Tells(_)
+        | Case::Answers(_)
+        | Case::Change(_)
+        | Case::Fork(_)
+        | Case::Commit(_)
+        | Case::Remove(_) => Ok(()),
     }
 }
 

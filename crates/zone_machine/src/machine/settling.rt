@@ -1,16 +1,16 @@
 //! How a case is settled: the desk changes, and what else is to be done is told. No memory is taken, and nothing fails.
 ghost use Rattle.std.specs.Prelude.{◌+◌, ◌<◌, ◌≤◌, ◌≡◌, IfOk, IfSome, None, Option, Some, false, true, ℕ};
 ghost use Rattle.zn_base.specs.Names.{Name};
-ghost use Rattle.zone_machine.specs.Code.Cases.{IsCaseOf, IsNamedCase, case_active, decision_of, made};
+ghost use Rattle.zone_machine.specs.Code.Cases.{IsCaseOf, IsNamedCase, case_active, decision_of, made, numbered_row};
 ghost use Rattle.std.specs.List.{list_all};
 ghost use Rattle.zoneadmd_steps.specs.Code.Cases.{object_edits, premise_of};
 ghost use Rattle.zoneadmd_steps.specs.Local.{is_of_own};
 ghost use Rattle.zone_machine.specs.Code.Records.{HasNumber};
 ghost use Rattle.zone_machine.specs.Code.Rooms.{HasRoomFor};
 ghost use Rattle.zoneadmd_steps.specs.Code.Rooms.{HasRequestRoom};
-ghost use Rattle.zone_machine.specs.Code.Works.{IsNamedWork, Works, objects_of, rest_of, sitting_of};
+ghost use Rattle.zone_machine.specs.Code.Works.{IsNamedWork, IsStoredOf, Works, objects_of, rest_of, sitting_of};
+ghost use Rattle.zone_machine.specs.Session.Commits.{removes};
 ghost use Rattle.zone_machine.specs.State.Decisions.{act_of, says};
-ghost use Rattle.commit_journal.specs.Uuids.{uuid_of};
 ghost use Rattle.zone_pools.specs.Decisions.{number_in};
 ghost use Rattle.zoneadmd_steps.specs.Desks as desks;
 ghost use Rattle.zoneadmd_steps.specs.Code.Desks.{as_desk};
@@ -18,30 +18,62 @@ ghost use Rattle.zoneadmd_steps.specs.Desks.{is_full, with_request};
 ghost use Rattle.zone_machine.specs.State.Worlds.{World};
 ghost use Rattle.zoneadmd_steps.specs.declared.desks.Desk as desk_types;
 
-use crate::cases::Case;
-use crate::machine::work::{Sitting, Work};
-use crate::replies::{Body, Head, Refusal};
-use commit_journal::Row;
+use crate::cases::{Case, Committed, Removed};
+use crate::machine::work::{Sitting, Storing, Work};
+use crate::replies::{Body, Head, Refusal, Reply};
 use kernel_objects::Running;
 use std::alloc::Global;
-use zn_base::ZoneName;
-use zone_pools::{Grant, number_in};
+use zn_base::{Bytes, Listing, ZoneName};
+use zone_pools::{Grant, Pool, number_in};
 use zoneadmd_steps::{Desk, ObjectEdit, QueuedRequest, Stored, settle_turn};
 
-// A zone is made, where the grant gives its record a number.
-fn make(row: Box<Row>, owner: ZoneName, grant: Grant) -> Work
-    requires { IfOk (number_in grant) (λ n. (row.value.uuid ≡ uuid_of owner n) × (row.value.revision ≡ n)) }
-    ensures works { (n : Option ℕ) (v : World) (d : desks.Desk) → v.desk ≡ d → Works n (rest_of (act_of (made owner row.value) grant)) v d result }
+// A pool denies what would be stored; what was told before is told.
+fn denied(pool: Pool, told: Listing<Bytes>) -> Work
+    ensures { result ≡ record { stored = Storing.Nothing; objects = ObjectEdit.Nothing; sits = None; ended = None; reply = record { head = Head.Refused (Refusal.Denied pool); body = Body.Lines told } } }
+{
+    Work::replying(Reply {
+        head: Head::Refused(Refusal::Denied(pool)),
+        body: Body::Lines(told),
+    })
+}
+
+// A configuration is committed, where the grant gives its record a number.
+fn commit(committed: Box<Committed>, grant: Grant) -> Work
+    requires { IfOk (number_in grant) (λ n. numbered_row committed.value.novelty committed.value.owner committed.value.row.value n ≡ committed.value.row.value) }
+    ensures works { (n : Option ℕ) (v : World) (d : desks.Desk) → v.desk ≡ d → Works n (rest_of (act_of (made committed.value.novelty committed.value.owner committed.value.row.value committed.value.told) grant)) v d result }
     ensures objects { result.objects ≡ ObjectEdit.Nothing }
     ensures sits { result.sits ≡ None }
-    ensures owner { IfSome result.stored (λ s. s.owner ≡ owner) }
+    ensures owner { IsStoredOf committed.value.owner result.stored }
 {
+    let Committed {
+        row,
+        owner,
+        novelty: _,
+        told,
+    } = Box::into_inner(committed);
     match number_in(grant) {
         Ok(_) => Work {
-            stored: Some(Stored { row, owner }),
-            ..Work::saying(Head::Ok)
+            stored: Storing::Row(Stored { row, owner }),
+            ..Work::telling(Body::Lines(told))
         },
-        Err(pool) => Work::saying(Head::Refused(Refusal::Denied(pool))),
+        Err(pool) => denied(pool, told),
+    }
+}
+
+// A zone is removed, where the grant gives its record a number.
+fn remove(removed: Box<Removed>, grant: Grant) -> Work
+    ensures works { (n : Option ℕ) (v : World) (d : desks.Desk) → v.desk ≡ d → Works n (rest_of (act_of (removes removed.value.told) grant)) v d result }
+    ensures objects { result.objects ≡ ObjectEdit.Nothing }
+    ensures sits { result.sits ≡ None }
+    ensures owner { IsStoredOf removed.value.owner result.stored }
+{
+    let Removed { owner, told } = Box::into_inner(removed);
+    match number_in(grant) {
+        Ok(_) => Work {
+            stored: Storing::Removal(owner),
+            ..Work::telling(Body::Lines(told))
+        },
+        Err(pool) => denied(pool, told),
     }
 }
 
@@ -50,7 +82,7 @@ fn fork(running: Box<Running>, grant: Grant) -> Work
     ensures works { (n : Option ℕ) (v : World) (d : desk_types.Desk) (e : desks.Desk) → v.desk ≡ e → Works n (rest_of (act_of (decision_of d (Case.Fork running)) grant)) v e result }
     ensures objects { result.objects ≡ ObjectEdit.Nothing }
     ensures sits { result.sits ≡ None }
-    ensures stored { result.stored ≡ None }
+    ensures stored { result.stored ≡ Storing.Nothing }
 {
     match number_in(grant) {
         Ok(pid) => Work::telling(Body::Child(pid)),
@@ -64,7 +96,7 @@ fn put(desk: &mut Desk, request: QueuedRequest, owner: ZoneName) -> Work
     requires room { HasRequestRoom desk.old }
     ensures desk { as_desk desk.new ≡ with_request (as_desk desk.old) request }
     ensures active { desk.new.active ≡ desk.old.active }
-    ensures work { result ≡ record { stored = None; objects = ObjectEdit.Nothing; sits = Some (record { ticket = desk.old.last + 1; owner = owner }); ended = None; reply = says (Head.Ticket (desk.old.last + 1)) } }
+    ensures work { result ≡ record { stored = Storing.Nothing; objects = ObjectEdit.Nothing; sits = Some (record { ticket = desk.old.last + 1; owner = owner }); ended = None; reply = says (Head.Ticket (desk.old.last + 1)) } }
 {
     let ticket = desk.put(request);
     Work {
@@ -94,7 +126,9 @@ pub(crate) fn settle(alloc: Global, desk: &mut Desk, case: Case, grant: Grant) -
             ..Work::saying(Head::Ok)
         },
         Case::Fork(running) => fork(running, grant),
-        Case::Make(row, owner) => make(row, owner, grant),
+        Case::Answers(reply) => Work::replying(Box::into_inner(reply)),
+        Case::Commit(committed) => commit(committed, grant),
+        Case::Remove(removed) => remove(removed, grant),
         Case::Put(request, owner) => put(desk, request, owner),
         Case::Turn(case) => Work::of_turn(settle_turn(alloc, desk, case, grant)),
     }

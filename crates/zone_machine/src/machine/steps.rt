@@ -233,7 +233,13 @@ pub(crate) fn perform_case<D: Disk>(
     ensures left { IfErr result (λ fault. BankLeft may_record fault bank.old bank.new (D.view bank.old.disk) (D.view bank.new.disk) shared.new) }
     ensures brands { shared.new.brands ≡ shared.old.brands }
 {
-    make_ready(alloc, cell, shared, bank, zone, &case, grant, may_record)?;
+    match make_ready(alloc, cell, shared, bank, zone, &case, grant, may_record) {
+        Ok(()) => {}
+        Err(fault) => {
+            case.let_go();
+            return Err(fault);
+        }
+    }
     let number = session_number(event);
     let reply = perform(alloc, cell, shared, zone, number, case, grant);
     shared.started = true;
@@ -284,9 +290,16 @@ pub(crate) fn granted_case(
     ensures fault { OnErr result (IsErrOf result StepFault.BadGrant ⊎ IsErrOf result StepFault.Memory) }
 {
     let mut case = case_of(alloc, zone, cell, shared, read, hook)?;
-    let grant = grant_of(zone, cell, shared, &case, stated)?;
-    number(&mut case, grant);
-    Ok((case, grant))
+    match grant_of(zone, cell, shared, &case, stated) {
+        Ok(grant) => {
+            number(&mut case, grant);
+            Ok((case, grant))
+        }
+        Err(fault) => {
+            case.let_go();
+            Err(fault)
+        }
+    }
 }
 
 /// The grant that the pools give an event of a zone.
@@ -303,7 +316,8 @@ pub(crate) fn cell_grant(
     ensures ok { IfOk result (IsGrantFor zone.now (pools_in shared.now) (asked_of (decide_read (view_of zone.now (cell_world (outside_in zone.now shared.now) cell.now)) read.entry)) None) }
     ensures err { IsOkUnless result StepFault.Memory }
 {
-    let (_case, grant) = granted_case(alloc, zone, cell, shared, read, None, hook)?;
+    let (case, grant) = granted_case(alloc, zone, cell, shared, read, None, hook)?;
+    case.let_go();
     Ok(grant)
 }
 

@@ -165,7 +165,13 @@ impl Parts {
         ensures left { IfErr result (λ fault. BankLeft may_record fault bank.old bank.new (D.view bank.old.disk) (D.view bank.new.disk) self.new.shared) }
         ensures brands { self.new.shared.brands ≡ self.old.shared.brands }
     {
-        let key = room_for_cell(&mut self.cells, alloc, zone)?;
+        let key = match room_for_cell(&mut self.cells, alloc, zone) {
+            Ok(key) => key,
+            Err(_) => {
+                case.let_go();
+                return Err(StepFault::Memory);
+            }
+        };
         let mut cell = Box::into_inner(cell);
         let reply = perform_case(
             alloc,

@@ -1,9 +1,7 @@
 //! What the lines come to that sessions type.
-ghost use Rattle.std.specs.Prelude.{◌∷◌, ◌≡◌, [], IfOk, IfSome, IsSome, IsTrue, List, MatchBool, MatchOption, None, Ok, Option, false, true, ℕ};
-ghost use Rattle.std.specs.Result.{result_ok};
+ghost use Rattle.std.specs.Prelude.{◌∷◌, ◌≡◌, [], IfOk, IfSome, IsTrue, List, None, Option, false, true, ℕ};
 ghost use Rattle.std.specs.Option.{option_map, unwrap_or};
 ghost use Rattle.zn_base.specs.Text.{is_text};
-ghost use Rattle.zone_config.specs.Edits.{with_property};
 ghost use Rattle.zone_pools.specs.Decisions.{Just};
 ghost use Rattle.zone_machine.specs.Code.Cases.{IsCaseOf, IsNamedCase, decision_of};
 ghost use Rattle.zoneadmd_steps.specs.Code.Desks.{as_desk};
@@ -20,7 +18,7 @@ ghost use Rattle.zoneadmd_steps.specs.Code.Cases.{IsFreeFor, object_edits};
 ghost use Rattle.zn_base.specs.Names.{Name, name_of};
 ghost use Rattle.zone_machine.specs.Code.Cells.{Shows};
 ghost use Rattle.zone_machine.specs.Code.Works.{IsFreeCase, MountsNothing};
-ghost use Rattle.zone_machine.specs.Session.Typed.{held_answer, hold_refusal, holding_at, holds, idle_line, made_config, make, make_unless, make_with, put_clone, put_request, typed};
+ghost use Rattle.zone_machine.specs.Session.Typed.{held_answer, hold_refusal, holding_at, holds, idle_line, put_clone, put_request, typed};
 ghost use Rattle.zoneadmd_steps.specs.Desks.{is_full};
 ghost use Rattle.zone_machine.specs.State.Worlds.{View};
 ghost use Rattle.zoneadmd_steps.specs.declared.desks.Desk as desk_types;
@@ -29,129 +27,20 @@ use crate::calls::signal_case;
 use crate::cases::Case;
 use crate::machine::cell::Cell;
 use crate::replies::{Head, Refusal};
+use crate::session::commits::zonecfg_case;
 use crate::session::lines::{Command, split_word};
+use crate::session::telling_cases::{help_case, list_case, verify_case};
 use brand_hooks::BrandTables;
-use commit_journal::{Record, Row};
-use config_terms::ConfigFault;
-use config_verify::{Flaw, verify};
+use commit_journal::Row;
 use loopback_mounts::{HoldFault, MountCell};
 use std::alloc::{AllocError, Global};
-use uuid::Uuid;
-use zn_base::{
-    AbsPath, NameFault, Text, TextFault, Value, ZoneName, ZoneState, is_path, push_both,
-};
-use zone_config::{ZoneConfig, blank};
+use zn_base::{AbsPath, NameFault, Text, ZoneName, is_path, push_both};
 use zoneadmd_steps::{Desk, ObjectEdit, QueuedRequest, Request, RequestKind};
 
-fn refused(refusal: Refusal) -> Case
+pub(crate) fn refused(refusal: Refusal) -> Case
     ensures { result ≡ Case.Says (Head.Refused refusal) }
 {
     Case::Says(Head::Refused(refusal))
-}
-
-// Sets a property to a text, and answers whether that is allowed.
-fn set(alloc: Global, config: &mut ZoneConfig, name: &[u8], text: Text) -> Result<bool, AllocError>
-    ensures { IfOk result (λ done. MatchBool done (with_property name.now (Value.Simple text) config.old ≡ Ok config.new) (result_ok (with_property name.now (Value.Simple text) config.old) ≡ None)) }
-{
-    match config.set_property(alloc, name, Value::Simple(text)) {
-        Ok(()) => Ok(true),
-        Err(ConfigFault::Memory) => Err(AllocError),
-        Err(_) => Ok(false),
-    }
-}
-
-// The text that a word is. A word that is none is no path.
-fn text_of(alloc: Global, word: &[u8]) -> Result<Option<Text>, AllocError>
-    ensures { IfOk result (λ text. MatchOption text (is_text word.now ≡ false) (λ t. t ≡ word.now)) }
-{
-    match Text::read(alloc, word) {
-        Ok(text) => Ok(Some(text)),
-        Err(TextFault::Memory) => Err(AllocError),
-        Err(TextFault::BadText(_) | TextFault::TextLong) => Ok(None),
-    }
-}
-
-// The configuration of a zone that is made with words for its zonepath and its brand.
-#[tactic(auto, using(crate::proofs::Made::no_path, crate::proofs::Made::no_brand))]
-fn made_config(alloc: Global, path: &[u8], brand: &[u8]) -> Result<Option<ZoneConfig>, AllocError>
-    ensures { IfOk result (λ config. config ≡ result_ok (made_config path.now brand.now)) }
-{
-    let Some(path) = text_of(alloc, path)? else {
-        return Ok(None);
-    };
-    let Some(brand) = text_of(alloc, brand)? else {
-        return Ok(None);
-    };
-    let mut config = blank(alloc);
-    let is_set = set(alloc, &mut config, b"zonepath", path)?
-        && set(alloc, &mut config, b"brand", brand)?;
-    if is_set { Ok(Some(config)) } else { Ok(None) }
-}
-
-// A zone is made with a configuration that has no flaw.
-fn make_verified(alloc: Global, zone: &ZoneName, config: ZoneConfig) -> Result<Case, AllocError>
-    requires { IsSome config.zonepath }
-    ensures decides { IfOk result (λ c. (d : desk_types.Desk) → make_unless zone.now config (Ok record {}) ≡ decision_of d c) }
-    ensures of { IfOk result (λ c. (d : desk_types.Desk) → IsCaseOf d c) }
-    ensures named { IfOk result (IsNamedCase zone.now) }
-    ensures free { IfOk result MountsNothing }
-{
-    let row = Row::new(Record {
-        state: ZoneState::Configured,
-        // The grant gives the UUID and the revision.
-        uuid: Uuid::nil(),
-        revision: 1,
-        config,
-    });
-    let row = Box::new(alloc, row)?;
-    Ok(Case::Make(row, zone.copy(alloc)?))
-}
-
-// A zone is made with a configuration.
-#[tactic(auto, using(crate::proofs::Made::has_zonepath))]
-fn make_with(
-    alloc: Global,
-    zone: &ZoneName,
-    brands: &BrandTables,
-    config: Option<ZoneConfig>,
-) -> Result<Case, AllocError>
-    ensures decides { IfOk result (λ c. (d : desk_types.Desk) → make_with zone.now brands.now config ≡ decision_of d c) }
-    ensures of { IfOk result (λ c. (d : desk_types.Desk) → IsCaseOf d c) }
-    ensures named { IfOk result (IsNamedCase zone.now) }
-    ensures free { IfOk result MountsNothing }
-{
-    let Some(config) = config else {
-        return Ok(refused(Refusal::BadValue));
-    };
-    match verify(alloc, &config, brands.names()) {
-        Ok(()) => make_verified(alloc, zone, config),
-        Err(Flaw::Memory) => Err(AllocError),
-        Err(flaw) => Ok(refused(Refusal::Flawed(flaw))),
-    }
-}
-
-// A zone is made with words for its zonepath and its brand.
-#[inline(never)]
-fn make_case(
-    alloc: Global,
-    zone: &ZoneName,
-    brands: &BrandTables,
-    row: Option<&Row>,
-    path: &[u8],
-    brand: &[u8],
-) -> Result<Case, AllocError>
-    ensures decides { IfOk result (λ c. (d : desk_types.Desk) → make zone.now brands.now (option_map (λ r. r.now) row.entry) path.now brand.now ≡ decision_of d c) }
-    ensures of { IfOk result (λ c. (d : desk_types.Desk) → IsCaseOf d c) }
-    ensures named { IfOk result (IsNamedCase zone.now) }
-    ensures free { IfOk result MountsNothing }
-{
-    match row {
-        Some(_) => Ok(refused(Refusal::NeedForce)),
-        None => {
-            let config = made_config(alloc, path, brand)?;
-            make_with(alloc, zone, brands, config)
-        }
-    }
 }
 
 // A request is put on the desk of a zone that is stored.
@@ -350,7 +239,7 @@ fn idle_case(
     let desk = &cell.desk;
     match command {
         Command::Blank => Ok(Case::Says(Head::Ok)),
-        Command::Make(path, brand) => make_case(alloc, zone, brands, row, path, brand),
+        Command::Zonecfg(text) => zonecfg_case(alloc, zone, desk, brands, row, text),
         Command::Request(kind) => plain_case(alloc, zone, desk, row, kind),
         Command::Boot(text) => put_case(
             alloc,
@@ -378,7 +267,10 @@ fn idle_case(
         Command::Kill(signal, pid) => Ok(signal_case(&cell.kernel, false, signal, pid)),
         Command::Hold(word) => hold_case(alloc, &cell.mounts, row, word, true),
         Command::Release(word) => hold_case(alloc, &cell.mounts, row, word, false),
-        Command::Unknown => Ok(refused(Refusal::Usage)),
+        Command::Help => help_case(alloc),
+        Command::Verify => verify_case(alloc, brands, row),
+        Command::ListOne(form) => list_case(alloc, zone, cell, row, form),
+        Command::ListZones(_) | Command::Unknown => Ok(refused(Refusal::Usage)),
     }
 }
 

@@ -1,13 +1,14 @@
 //! How a line of an idle session is read, by the words of zonecfg(8) and zoneadm(8).
-ghost use Rattle.std.specs.Prelude.{◌∷◌, ◌≡◌, IsTrue, None, Some, codes, length, nat_eq, not, position};
-ghost use Rattle.std.specs.List.{ends_with, list_all, starts_with};
-ghost use Rattle.std.specs.Option.{option_map};
+ghost use Rattle.std.specs.Prelude.{◌∷◌, ◌≡◌, IfSome, IsTrue, None, Some, length, nat_eq, not, position, unwrap_or};
+ghost use Rattle.std.specs.List.{list_all};
+ghost use Rattle.std.specs.Option.{option_map, option_or};
 ghost use Rattle.zoneadmd_steps.specs.declared.requests.Request.TheVariants.{Boot, Reboot};
 ghost use Rattle.zn_base.specs.Text.{is_text};
 ghost use Rattle.zone_pools.specs.Firsts.{first_of, is_nil};
-ghost use Rattle.zone_machine.specs.Session.Lines.{Ask, after_word, are_args, args_text, begins_token, brand_word, asks, at_end, clone_command, command_by, command_of, dir_words, is_space, is_word, is_word_byte, joined, kill_command, line_of, mark_command, move_command, move_path, path_word, request_command, request_word, tool_command, uninstall_command, word_after_flag, words, zone_command, zoneadm_command, zonecfg_command};
-ghost use Rattle.zone_machine.specs.Code.Lines.{BeginsWord, EndsWord, GivesRest, GivesWord, IsRight, IsWordFirst, as_command, as_line, as_word};
+ghost use Rattle.zone_machine.specs.Session.Lines.{Ask, after_word, are_args, are_options, args_text, asks, at_end, clone_command, command_by, command_of, dir_words, form_by, form_word, general_command, general_subcommand, has_option, is_option, is_space, joined, kill_command, line_of, list_one_command, list_zones_command, mark_command, move_command, move_path, options_of, options_word, past_spaces, past_word, request_command, request_word, subcommand, tool_command, uninstall_command, word_after_flag, words, zone_command, zoneadm_command, zonecfg_command};
+ghost use Rattle.zone_machine.specs.Code.Lines.{BeginsWord, EndsWord, GivesPast, GivesRest, GivesSpaceless, GivesWord, IsRight, IsWordFirst, as_command, as_line, as_word};
 
+use crate::session::listing::{Form, Options};
 use kernel_objects::Signal;
 use process_calls::{pid_in, signal_in};
 use zn_base::is_path;
@@ -17,8 +18,8 @@ use zoneadmd_steps::RequestKind;
 #[derive(Clone, Copy)]
 pub(crate) enum Command<'t> {
     Blank,
-    /// A zone is made, with these words for its zonepath and its brand.
-    Make(&'t [u8], &'t [u8]),
+    /// These subcommands of zonecfg(8) are said to an editor of their own.
+    Zonecfg(&'t [u8]),
     /// The zone's daemon is asked for something that has no contents.
     Request(RequestKind),
     /// It is asked to boot the zone, with the words of this text as arguments.
@@ -36,6 +37,14 @@ pub(crate) enum Command<'t> {
     Hold(&'t [u8]),
     /// The global zone holds the mount at this directory no more.
     Release(&'t [u8]),
+    /// It is told what zoneadm(8) can be asked for.
+    Help,
+    /// The zone's stored configuration is looked at.
+    Verify,
+    /// The zone is told of in this form, and no other.
+    ListOne(Form),
+    /// The zones are told of that the options say.
+    ListZones(Options),
     Unknown,
 }
 
@@ -61,7 +70,8 @@ fn first_space(text: &[u8]) -> Option<usize>
 // The text from its first word on.
 #[tactic(auto, using(crate::proofs::Words::no_words))]
 fn after_spaces(text: &[u8]) -> Option<&[u8]>
-    ensures { BeginsWord result text.now }
+    ensures begins { BeginsWord result text.now }
+    ensures text { GivesSpaceless result text.now }
 {
     let start = first_other(text)?;
     Some(&text[start..])
@@ -71,14 +81,16 @@ fn after_spaces(text: &[u8]) -> Option<&[u8]>
 #[tactic(auto, using(crate::proofs::Words::ends_at_space, crate::proofs::Words::ends_all))]
 fn word_end(text: &[u8]) -> usize
     requires { IsWordFirst text.now }
-    ensures { EndsWord result text.now }
+    ensures ends { EndsWord result text.now }
+    ensures end { result ≡ unwrap_or (position is_space text.now) (length text.now) }
 {
     first_space(text).unwrap_or(text.len())
 }
 
 /// The first word of a text, and the text after it.
 pub(crate) fn split_word(text: &[u8]) -> Option<(&[u8], &[u8])>
-    ensures { GivesWord result (words text.now) }
+    ensures word { GivesWord result (words text.now) }
+    ensures past { GivesPast result text.now }
 {
     let text = after_spaces(text)?;
     let end = word_end(text);
@@ -87,7 +99,8 @@ pub(crate) fn split_word(text: &[u8]) -> Option<(&[u8], &[u8])>
 
 // The text after a word that is wanted.
 fn behind_word<'t>(text: &'t [u8], wanted: &[u8]) -> Option<&'t [u8]>
-    ensures { GivesRest result (after_word wanted.now (words text.now)) }
+    ensures words { GivesRest result (after_word wanted.now (words text.now)) }
+    ensures past { IfSome result (λ rest. rest.now ≡ past_word text.now) }
 {
     let (word, rest) = split_word(text)?;
     if word == wanted { Some(rest) } else { None }
@@ -120,81 +133,6 @@ fn word_after_flag(text: &[u8]) -> Option<&[u8]>
     None
 }
 
-fn is_word_byte(byte: u8) -> bool
-    ensures { result ≡ is_word_byte byte }
-{
-    !matches!(byte, b'"' | b'(' | b')' | b';' | b'=')
-}
-
-fn has_word_bytes(bytes: &[u8]) -> bool
-    ensures { result ≡ list_all is_word_byte bytes.now }
-{
-    bytes.iter().all(|byte| is_word_byte(*byte))
-}
-
-fn begins_token(bytes: &[u8]) -> bool
-    ensures { result ≡ begins_token bytes.now }
-{
-    match bytes.first() {
-        Some(byte) => !matches!(*byte, b'[' | b']'),
-        None => false,
-    }
-}
-
-fn is_word(bytes: &[u8]) -> bool
-    ensures { result ≡ is_word bytes.now }
-{
-    begins_token(bytes) && has_word_bytes(bytes)
-}
-
-fn begins_with_zonepath(word: &[u8]) -> bool
-    ensures { result ≡ starts_with nat_eq word.now (codes "zonepath=") }
-{
-    word.starts_with(b"zonepath=")
-}
-
-fn ends_with_semicolon(word: &[u8]) -> bool
-    ensures { result ≡ ends_with nat_eq word.now (codes ";") }
-{
-    word.ends_with(b";")
-}
-
-// V, where the word is `zonepath=V;`.
-fn path_word(word: &[u8]) -> Option<&[u8]>
-    ensures { as_word result ≡ path_word word.now }
-{
-    if word.len() < 10 {
-        return None;
-    }
-    let path = &word[9..word.len() - 1];
-    if is_word(path) && begins_with_zonepath(word) && ends_with_semicolon(word) {
-        Some(path)
-    } else {
-        None
-    }
-}
-
-fn begins_with_brand(word: &[u8]) -> bool
-    ensures { result ≡ starts_with nat_eq word.now (codes "brand=") }
-{
-    word.starts_with(b"brand=")
-}
-
-// V, where the word is `brand=V`.
-fn brand_word(word: &[u8]) -> Option<&[u8]>
-    ensures { as_word result ≡ brand_word word.now }
-{
-    if word.len() < 6 {
-        return None;
-    }
-    let brand = &word[6..];
-    if is_word(brand) && begins_with_brand(word) {
-        Some(brand)
-    } else {
-        None
-    }
-}
-
 // What ends a line's words.
 fn at_end<'t>(text: &[u8], command: Command<'t>) -> Option<Command<'t>>
     ensures { option_map as_command result ≡ at_end (as_command command.entry) (words text.now) }
@@ -202,18 +140,11 @@ fn at_end<'t>(text: &[u8], command: Command<'t>) -> Option<Command<'t>>
     if is_blank(text) { Some(command) } else { None }
 }
 
+// Subcommands, where some word is left.
 fn zonecfg_command(text: &[u8]) -> Option<Command<'_>>
-    ensures { option_map as_command result ≡ zonecfg_command (words text.now) }
+    ensures { option_map as_command result ≡ zonecfg_command (past_spaces text.now) (words text.now) }
 {
-    let text = behind_word(text, b"create")?;
-    let text = behind_word(text, b"-b;")?;
-    let text = behind_word(text, b"set")?;
-    let (word, text) = split_word(text)?;
-    let path = path_word(word)?;
-    let text = behind_word(text, b"set")?;
-    let (word, text) = split_word(text)?;
-    let brand = brand_word(word)?;
-    at_end(text, Command::Make(path, brand))
+    Some(Command::Zonecfg(after_spaces(text)?))
 }
 
 // A request that is one word.
@@ -355,11 +286,50 @@ fn request_command<'t>(word: &[u8], text: &'t [u8]) -> Option<Command<'t>>
     }
 }
 
+// `-p` or `-v`.
+fn form_word(word: &[u8]) -> Option<Form>
+    ensures { result ≡ form_word word.now }
+{
+    if word == b"-p".as_slice() {
+        Some(Form::Fields)
+    } else if word == b"-v".as_slice() {
+        Some(Form::Columns)
+    } else {
+        None
+    }
+}
+
+// `list`, with `-p` or `-v` or neither.
+fn list_one_command(text: &[u8]) -> Option<Command<'_>>
+    ensures { option_map as_command result ≡ list_one_command (words text.now) }
+{
+    let Some((word, text)) = split_word(text) else {
+        return Some(Command::ListOne(Form::Names));
+    };
+    let form = form_word(word)?;
+    at_end(text, Command::ListOne(form))
+}
+
+// What only tells something, or a request.
+fn subcommand<'t>(word: &[u8], text: &'t [u8]) -> Option<Command<'t>>
+    ensures { option_map as_command result ≡ subcommand word.now (words text.now) }
+{
+    if word == b"help".as_slice() {
+        at_end(text, Command::Help)
+    } else if word == b"verify".as_slice() {
+        at_end(text, Command::Verify)
+    } else if word == b"list".as_slice() {
+        list_one_command(text)
+    } else {
+        request_command(word, text)
+    }
+}
+
 fn zoneadm_command(text: &[u8]) -> Option<Command<'_>>
     ensures { option_map as_command result ≡ zoneadm_command (words text.now) }
 {
     let (word, text) = split_word(text)?;
-    request_command(word, text)
+    subcommand(word, text)
 }
 
 // A directory, and no more.
@@ -375,7 +345,7 @@ fn dir_words(text: &[u8]) -> Option<&[u8]>
 }
 
 fn tool_command<'t>(tool: &[u8], text: &'t [u8]) -> Option<Command<'t>>
-    ensures { option_map as_command result ≡ tool_command tool.now (words text.now) }
+    ensures { option_map as_command result ≡ tool_command (past_spaces text.now) tool.now (words text.now) }
 {
     if tool == b"zonecfg".as_slice() {
         zonecfg_command(text)
@@ -391,7 +361,7 @@ fn tool_command<'t>(tool: &[u8], text: &'t [u8]) -> Option<Command<'t>>
 }
 
 fn zone_command(text: &[u8]) -> Option<Command<'_>>
-    ensures { option_map as_command result ≡ zone_command (words text.now) }
+    ensures { option_map as_command result ≡ zone_command text.now (words text.now) }
 {
     let (tool, text) = split_word(text)?;
     let text = behind_word(text, b"-z")?;
@@ -410,20 +380,123 @@ fn kill_command(text: &[u8]) -> Option<Command<'_>>
     at_end(text, Command::Kill(signal, pid))
 }
 
+fn is_option(byte: u8) -> bool
+    ensures { result ≡ is_option byte }
+{
+    matches!(byte, b'c' | b'i' | b'n' | b'p' | b'v')
+}
+
+fn all_options(letters: &[u8]) -> bool
+    ensures { result ≡ list_all is_option letters.now }
+{
+    letters.iter().all(|byte| is_option(*byte))
+}
+
+// `-` and letters, each of which is an option.
+fn are_options(word: &[u8]) -> bool
+    ensures { result ≡ are_options word.now }
+{
+    match word {
+        [] => false,
+        [first, letters @ ..] => *first == b'-' && !letters.is_empty() && all_options(letters),
+    }
+}
+
+fn has_option(letter: u8, word: &[u8]) -> bool
+    ensures { result ≡ has_option letter word.now }
+{
+    word.iter().any(|byte| *byte == letter)
+}
+
+// `-p` and `-v` exclude each other.
+fn form_by(fields: bool, columns: bool) -> Option<Form>
+    ensures { result ≡ form_by fields columns }
+{
+    match (fields, columns) {
+        (false, false) => Some(Form::Names),
+        (true, false) => Some(Form::Fields),
+        (false, true) => Some(Form::Columns),
+        (true, true) => None,
+    }
+}
+
+fn options_of(word: &[u8], form: Form) -> Options
+    ensures { result ≡ options_of word.now form }
+{
+    Options {
+        configured: has_option(b'c', word),
+        installed: has_option(b'i', word),
+        no_global: has_option(b'n', word),
+        form,
+    }
+}
+
+fn options_word(word: &[u8]) -> Option<Options>
+    ensures { result ≡ options_word word.now }
+{
+    if !are_options(word) {
+        return None;
+    }
+    let form = form_by(has_option(b'p', word), has_option(b'v', word))?;
+    Some(options_of(word, form))
+}
+
+// `list` of all zones.
+fn list_zones_command(text: &[u8]) -> Option<Command<'_>>
+    ensures { option_map as_command result ≡ list_zones_command (words text.now) }
+{
+    let Some((word, text)) = split_word(text) else {
+        return Some(Command::ListZones(options_of(b"", Form::Names)));
+    };
+    let options = options_word(word)?;
+    at_end(text, Command::ListZones(options))
+}
+
+fn general_subcommand<'t>(word: &[u8], text: &'t [u8]) -> Option<Command<'t>>
+    ensures { option_map as_command result ≡ general_subcommand word.now (words text.now) }
+{
+    if word == b"help".as_slice() {
+        at_end(text, Command::Help)
+    } else if word == b"list".as_slice() {
+        list_zones_command(text)
+    } else {
+        None
+    }
+}
+
+// `zoneadm help` and `zoneadm list`, which name no zone.
+fn general_command(text: &[u8]) -> Option<Command<'_>>
+    ensures { option_map as_command result ≡ general_command (words text.now) }
+{
+    let text = behind_word(text, b"zoneadm")?;
+    let (word, text) = split_word(text)?;
+    general_subcommand(word, text)
+}
+
+// Of a line that names no zone, or else of one that does.
+fn tool_line(text: &[u8]) -> Option<Command<'_>>
+    ensures { option_map as_command result ≡ option_or (general_command (words text.now)) (zone_command text.now (words text.now)) }
+{
+    match general_command(text) {
+        Some(command) => Some(command),
+        None => zone_command(text),
+    }
+}
+
 // By its first word.
 fn command_by<'t>(word: &[u8], rest: &'t [u8], text: &'t [u8]) -> Option<Command<'t>>
     requires { words text.now ≡ word.now ∷ words rest.now }
-    ensures { option_map as_command result ≡ command_by word.now (words rest.now) }
+    ensures { option_map as_command result ≡ command_by text.now word.now (words rest.now) }
 {
     if word == b"kill".as_slice() {
         kill_command(rest)
     } else {
-        zone_command(text)
+        tool_line(text)
     }
 }
 
 fn command_of(text: &[u8]) -> Command<'_>
-    ensures { as_command result ≡ command_of (words text.now) }
+    ensures { as_command result ≡ command_of text.now (words text.now) }
 {
     match split_word(text) {
         Some((word, rest)) => command_by(word, rest, text).unwrap_or(Command::Unknown),

@@ -1,8 +1,7 @@
 use Rattle.std.proofs.Common.{map}
 use Rattle.zone_machine.proofs.Doing_laws.{does_then, kept_apart}
 use Rattle.zoneadmd_steps.specs.Code.Cases.{object_edits}
-use Rattle.zoneadmd_steps.specs.Code.Works.{arrival_of}
-use Rattle.zone_machine.specs.Code.Works.{sits}
+use Rattle.zone_machine.specs.Code.Works.{arrival_by, sits}
 use Rattle.zone_machine.specs.Machine.Common.{came_common}
 use Rattle.zone_machine.specs.State.Decisions.{after_came_world, sweeps}
 use Rattle.zone_machine.specs.State.Edits.{Of_objects, edits_world}
@@ -13,7 +12,7 @@ use Rattle.zone_machine.proofs.machine.effects.carry_out.Goals as goal
 pub returns-clause-does : goal.returns-clause-does
 returns-clause-does c = λ z named opens.
     let n = c.args.number in let work = c.args.work in let c0 = c.args.cell.now in let s0 = c.args.shared.now in
-    let came = arrival_of work.stored in
+    let came = arrival_by work.stored in
     let comes : World → World = after_came_world came in
     let objects : World → World = edits_world n (map Of_objects (object_edits work.objects)) in
     let waits : World → World = edits_world n (sits work.sits) in

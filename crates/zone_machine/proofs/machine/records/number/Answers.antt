@@ -15,8 +15,8 @@ returns-in-Turn-GoOn-Ask-Moved-default-clause-decision c = λ d.
     let row = c.in-Turn-GoOn-Ask-Moved-default.row in
     let owner = c.in-Turn-GoOn-Ask-Moved-default.field-0-0-0-1 in
     let is_new = c.in-Turn-GoOn-Ask-Moved-default.field-0-0-0-2 in
-    let new = c.set_revision-in-Turn-GoOn-Ask-Moved-default.new.self in
-    let same = c.set_revision-in-Turn-GoOn-Ask-Moved-default.ensures ∙ ap (λ (r : Record). record r { revision = c.in-Ok.number }) c.deref_mut-in-Turn-GoOn-Ask-Moved-default.ensures.value in
+    let new = c.set_revision.new.self in
+    let same = c.set_revision.ensures ∙ ap (λ (r : Record). record r { revision = c.in-Ok.number }) c.deref_mut-in-Turn-GoOn-Ask-Moved-default.ensures.value in
     rw (c.in-Turn-GoOn-Ask-Moved-default.is, c.in-Turn-GoOn-Ask-Moved-default.field-0-is, c.in-Turn-GoOn-Ask-Moved-default.field-0-0-is, c.in-Turn-GoOn-Ask-Moved-default.field-0-0-0-is)
     (ap (effects turned) (asks-alike d d.job (Moved (with_value row new) owner is_new) (Moved row owner is_new) c.in-Turn-GoOn-Ask-Moved-default.field-0-0-1
     (ap (λ (r : Record). A_record (λ n. Some (record r { revision = n }))) same)

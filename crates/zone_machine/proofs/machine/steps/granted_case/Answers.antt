@@ -2,8 +2,8 @@ use Rattle.std.proofs.Common.{sym, subst, ◌∙◌}
 use Rattle.zoneadmd_steps.specs.Code.Cases.{IsFreeFor}
 use Rattle.zone_machine.proofs.machine.steps.granted_case.Goals as goal
 
-pub returns-clause-case : goal.returns-clause-case
-returns-clause-case c =
+pub returns-in-Ok-clause-case : goal.returns-in-Ok-clause-case
+returns-in-Ok-clause-case c =
     let h = c.in_ok-case.ensures in let d = c.args.cell.now.desk in
     record {
       decided = h.decided ∙ sym (c.number.ensures.decision d);

@@ -1,8 +1,11 @@
 use Rattle.std.proofs.Common.{◌≡◌, ◌&&◌, ◌∙◌, false, ap, sym}
 use Rattle.std.specs.Prelude.{is_some, not}
 use Rattle.commit_journal.specs.Zones.{rows_of}
-use Rattle.zone_machine.proofs.Writing.{and_false, left-written, ready-alike, writes-nothing}
+use Rattle.zone_machine.proofs.Storing.{case-stored, store-alone}
+use Rattle.zone_machine.proofs.Writing.{and_false, left-written, ready-alike, write-fault, writes-nothing}
+use Rattle.zone_machine.specs.Code.Cases.{decision_of}
 use Rattle.zone_machine.specs.Code.Records.{stored_by}
+use Rattle.zone_machine.specs.State.Decisions.{act_of}
 use Rattle.zone_machine.proofs.machine.steps.make_ready.Goals as goal
 use Rattle.zone_machine.proofs.machine.steps.make_ready.Goals.{else-not-may_record-via-then-not-may_record+else-stores, else-not-may_record-via-else-not-may_record}
 
@@ -20,3 +23,9 @@ returns-clause-left g c =
     ] in
     left-written g.D.Disk.view c.args.bank.now c.write.new.bank c.prepare.new.shared c.args.may_record stored c.write.result test c.write.ensures.none c.write.ensures.memory
     (ready-alike (g.D.Disk.view c.args.bank.now.disk) c.args.bank.now c.args.shared.now c.prepare.new.shared c.in_ok-prepare.ensures.rows c.in_ok-prepare.ensures.used c.requires.ready) c.write.ensures.fault c.write.ensures.unsound c.write.ensures.only
+
+pub returns-clause-fault : goal.returns-clause-fault
+returns-clause-fault g c =
+    let d = c.args.cell.now.desk in let case = c.args.case.now in let stored = stored_by case c.args.grant in
+    write-fault c.args.zone.now stored c.args.cell.now c.prepare.new.cell c.args.shared.now c.prepare.new.shared c.write.result c.write.ensures.only c.write.ensures.none
+    (λ some. c.in_ok-prepare.ensures.alike (store-alone (act_of (decision_of d case) c.args.grant).came stored (case-stored d case c.args.grant c.requires.of c.requires.numbered) some))

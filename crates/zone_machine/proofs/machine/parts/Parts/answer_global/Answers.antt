@@ -9,5 +9,5 @@ returns-in_err-grant-clause-fault c =
 pub returns-clause-ok : goal.returns-clause-ok
 returns-clause-ok c = λ S h. record {
   takes = IsTaken-global c.args.self.now c.args.event.now c.requires.of c.args.stated c.in_ok-grant.grant c.in_ok-grant.ensures.takes S h;
-  answers = IsStep-global c.args.self.now c.args.event.now c.requires.of c.in_ok-grant.grant c.answer_reply.result (λ S. c.answer_reply.ensures ∙ (c.in_ok-refusal.ensures ∙ c.requires.global S)) S h;
+  answers = IsStep-global c.args.self.now c.args.event.now c.requires.of c.in_ok-grant.grant c.in_ok-reply.reply (λ S h. c.in_ok-reply.ensures S h ∙ c.requires.global S) S h;
 }

@@ -1,6 +1,0 @@
-use Rattle.std.proofs.Common.{◌≡◌, ◌∷◌, ◌++◌, take}
-use Rattle.index_file.specs.Index.{colon, escaped}
-use Rattle.index_file.proofs.printing.push_path.Given as goal
-
-abbrev pub invariant-loop-byte : goal.invariant-loop-byte
-invariant-loop-byte l = l.out.items ≡ l.fn.out.items ++ colon ∷ escaped (take l.byte-index l.path)

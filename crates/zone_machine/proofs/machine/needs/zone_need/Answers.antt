@@ -1,8 +1,0 @@
-use Rattle.std.proofs.Common.{◌∙◌, ap}
-use Rattle.config_terms.specs.Fields.{path_text}
-use Rattle.zone_config.specs.declared.terms.Contents.{Contents}
-use Rattle.zone_machine.proofs.Sizes.{record-made}
-use Rattle.zone_machine.proofs.machine.needs.zone_need.Goals as goal
-
-pub returns : goal.returns
-returns c = record-made c.record_length.result c.record-stored.result.now c.args.row.now c.record-stored.ensures.same c.record_length.ensures.same c.shown.result.now (c.shown.ensures.text ∙ ap (λ (k : Contents). path_text k.zonepath) c.deref.ensures)

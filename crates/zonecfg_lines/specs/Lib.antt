@@ -1,0 +1,5 @@
+pub mod Order
+pub mod Runs
+pub mod Halts
+pub mod Replies
+pub mod Laws
