@@ -18,7 +18,7 @@ use Rattle.process_calls.proofs.Numbers.{pid_again, pid_lacks}
 use Rattle.datalink_table.specs.declared.claims.ClaimKind.TheVariants.{Address, Dataset, Link}
 use Rattle.zone_machine.specs.declared.events.Declaration.{Declaration}
 use Rattle.zone_machine.specs.declared.events.Declaration.TheVariants.{Device, Item}
-use Rattle.zone_machine.specs.declared.events.Event.TheVariants.{Process, Session, System, Turn}
+use Rattle.zone_machine.specs.declared.events.Event.TheVariants.{Process, Restart, Session, System, Turn}
 use Rattle.trace_text.proofs.Items.{item_lacks}
 use Rattle.trace_text.specs.Declarations.{declaration_text, is_declaration}
 use Rattle.trace_text.specs.Lines.{Said, after_word, declaration_by, declaration_of, item_at, pid_by, event_by, event_of, first_word, line_text, pid_at, process_by, process_of, session_of, turn_of, typed_text, types, types_unless}
@@ -151,3 +151,6 @@ declaration_again (Device path) right = by_kind (codes "device") path _ refl (it
 
 pub system_again : (what : Declaration) → IsTrue (is_declaration what) → event_of false (line_text (System what)) ≡ Ok (Some (System what))
 system_again what right = by_tag 89 (declaration_text what) (Ok (Some (System what))) refl (declaration_again what right)
+
+pub restart_again : event_of false (line_text Restart) ≡ Ok (Some Restart)
+restart_again = refl

@@ -1,5 +1,6 @@
 //! Phrases: a word, and what follows it. What is to be printed is made a phrase, and the phrase is put down.
-ghost use Rattle.std.specs.Prelude.{◌≡◌, ◌++◌, OnOk};
+ghost use Rattle.std.specs.Prelude.{◌∷◌, ◌≡◌, ◌++◌, OnOk};
+ghost use Rattle.std.specs.Fmt.{decimal};
 ghost use Rattle.trace_text.specs.Phrases.{phrase_text};
 ghost use Rattle.trace_text.specs.Turns.{claim_kind_text, claim_text, counted_text};
 
@@ -19,6 +20,8 @@ pub(crate) enum Phrase<'a> {
     Text(&'a [u8], &'a [u8]),
     State(&'a [u8], ZoneState),
     Number(&'a [u8], u64),
+    /// Two numbers, with a space between them.
+    Numbers(&'a [u8], u32, u32),
     /// The number follows a space, where it is known.
     Counted(&'a [u8], &'a Option<u32>),
     Claimed(&'a [u8], &'a Claim),
@@ -57,6 +60,13 @@ fn push_claim(out: &mut Vec<u8>, word: &[u8], claim: &Claim) -> Result<(), Alloc
     push_both(out, claim_kind_text(claim.kind), claim.item.bytes())
 }
 
+fn push_numbers(out: &mut Vec<u8>, word: &[u8], first: u32, second: u32) -> Result<(), AllocError>
+    ensures { OnOk result (out.new.items ≡ out.old.items ++ (word.now ++ decimal first ++ 32 ∷ decimal second)) }
+{
+    push_numbered(out, word, first as u64)?;
+    push_numbered(out, b" ", second as u64)
+}
+
 pub(crate) fn push_phrase(out: &mut Vec<u8>, phrase: Phrase) -> Result<(), AllocError>
     ensures { OnOk result (out.new.items ≡ out.old.items ++ phrase_text phrase.entry) }
 {
@@ -65,6 +75,7 @@ pub(crate) fn push_phrase(out: &mut Vec<u8>, phrase: Phrase) -> Result<(), Alloc
         Phrase::Text(word, text) => push_both(out, word, text),
         Phrase::State(word, state) => push_both(out, word, state.text()),
         Phrase::Number(word, number) => push_numbered(out, word, number),
+        Phrase::Numbers(word, first, second) => push_numbers(out, word, first, second),
         Phrase::Counted(word, count) => push_counted(out, word, count),
         Phrase::Claimed(word, claim) => push_claim(out, word, claim),
         Phrase::Flawed(flaw) => push_flaw(out, flaw),

@@ -13,7 +13,7 @@ use Rattle.kernel_objects.specs.Processes.{has_pid}
 use Rattle.zoneadmd_steps.specs.Objects.{has_zid}
 use Rattle.zone_machine.specs.Code.Cells.{Agree, Does, cell_world, outside_in}
 use Rattle.zone_machine.specs.Code.Rooms.{Alike, IsOpenTo}
-use Rattle.zone_machine.proofs.Doing_laws.{holds_wait}
+use Rattle.zone_machine.proofs.Doing_laws.{holds_doing}
 use Rattle.zone_machine.specs.Machine.Common.{Common, holding}
 use Rattle.zone_machine.specs.State.Worlds.{World}
 use Rattle.zone_machine.specs.declared.machine.cell.Cell.{Cell}
@@ -36,7 +36,7 @@ agree_alike z c d s t alike a =
       zids = λ n. ap (λ w. list_any (has_zid n) w.ids) w ∙ (a.zids n ∙ sym (ap (λ k. k.zids z n) alike.common));
       claims = λ k. ap (λ w. holds k w.claims) w ∙ (a.claims k ∙ sym (ap (λ c. c.claims z k) alike.common));
       sessions = λ n.
-          sym (holds_wait (get nat_eq d.waits n)) ∙ (ap (λ w. is_some (w.sessions n)) w ∙ (holds_wait (get nat_eq c.waits n) ∙ (a.sessions n ∙ sym (ap (λ k. k.sessions z n) alike.common))));
+          sym (holds_doing (get nat_eq d.doings n)) ∙ (ap (λ w. is_some (w.sessions n)) w ∙ (holds_doing (get nat_eq c.doings n) ∙ (a.sessions n ∙ sym (ap (λ k. k.sessions z n) alike.common))));
     }
 
 pub outside_alike : (z : Name) (c d : Cell) (s t : Shared) → Alike c s d t → outside_in z t ≡ outside_in z s

@@ -29,7 +29,7 @@ use Rattle.zone_machine.specs.declared.cases.Case.{Case}
 use Rattle.zone_machine.specs.declared.events.Event.{Event}
 use Rattle.zone_machine.specs.declared.events.Subject.TheVariants.{Global, Whole, Zone}
 use Rattle.zone_machine.specs.declared.faults.StepFault.{StepFault}
-use Rattle.zone_machine.specs.declared.faults.StepFault.TheVariants.{BadGrant, DiskFault, Memory, WouldRecord}
+use Rattle.zone_machine.specs.declared.faults.StepFault.TheVariants.{BadGrant, DiskFault, Memory, NoStore, WouldRecord}
 use Rattle.zone_machine.specs.declared.machine.cell.Cell.{Cell}
 use Rattle.zone_machine.specs.declared.machine.parts.Parts.{Parts}
 use Rattle.zone_machine.specs.declared.machine.shared.Shared.{Shared}
@@ -130,5 +130,6 @@ pub leaves-stated : (stated : Option Grant) (g : Grant) (m u : Parts) (e : Event
 leaves-stated stated g m u e takes Memory h = h
 leaves-stated stated g m u e takes WouldRecord h = (h.0, more-taken m e stated g takes h.1)
 leaves-stated stated g m u e takes BadGrant h = absurd h
+leaves-stated stated g m u e takes (NoStore fault) h = absurd h
 leaves-stated None g m u e takes DiskFault h = tt
 leaves-stated (Some stated) g m u e takes DiskFault h = λ S stands. (takes S stands).1

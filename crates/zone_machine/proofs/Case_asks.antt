@@ -18,6 +18,7 @@ use Rattle.zone_machine.specs.State.Decisions.{effects, turned}
 use Rattle.zoneadmd_steps.specs.Code.Cases.{asked_for, comes_of, edits_under, halt_begun, job_turn, object_edits, on_job, shown_under, turn_decision_of, undo_with}
 use Rattle.zn_base.specs.Names.{Name}
 use Rattle.zone_machine.specs.Code.Cases.{decision_of, made}
+use Rattle.zone_machine.specs.declared.cases.Committer.{Committer}
 use Rattle.zone_machine.specs.declared.cases.Novelty.{Novelty}
 use Rattle.zone_machine.specs.declared.cases.Novelty.TheVariants as novelty
 use Rattle.zoneadmd_steps.specs.Desks as desks
@@ -117,10 +118,10 @@ asks_turn_case d (turns.Again job) = tt
 asks_turn_case d (turns.GoOn c) = asks_on d d.job c
 
 -- a commit, by what is new in it
-pub asks_made : (new : Novelty) (z : Name) (row : records.Record) (told : List (List ℕ)) → AsksWell (made new z row told)
-asks_made novelty.Zone z row told = (refl, λ n. refl)
-asks_made novelty.Path z row told = (refl, λ n. refl)
-asks_made novelty.Nothing z row told = (refl, λ n. refl)
+pub asks_made : (new : Novelty) (z : Name) (row : records.Record) (told : List (List ℕ)) (c : Committer) → AsksWell (made new z row told c)
+asks_made novelty.Zone z row told c = (refl, λ n. refl)
+asks_made novelty.Path z row told c = (refl, λ n. refl)
+asks_made novelty.Nothing z row told c = (refl, λ n. refl)
 
 pub asks_case : (d : Desk) (c : Case) → AsksWell (decision_of d c)
 asks_case d (cases.Says head) = tt
@@ -128,7 +129,8 @@ asks_case d (cases.Tells body) = tt
 asks_case d (cases.Change edit) = tt
 asks_case d (cases.Fork p) = (refl, tt)
 asks_case d (cases.Answers reply) = tt
-asks_case d (cases.Commit c) = asks_made c.value.novelty c.value.owner c.value.row.value c.value.told
+asks_case d (cases.Sit s) = tt
+asks_case d (cases.Commit c) = asks_made c.value.novelty c.value.owner c.value.row.value c.value.told c.value.committer
 asks_case d (cases.Remove r) = (refl, λ n. refl)
 asks_case d (cases.Put kind owner) = tt
 asks_case d (cases.Turn c) = asks_turn (turn_decision_of d c) (asks_turn_case d c)

@@ -16,7 +16,7 @@ use Rattle.zone_pools.specs.Owned_lists.{but_last}
 use Rattle.zone_pools.specs.Owners as owners
 use Rattle.zone_pools.specs.Owners.{held_by, is_owner}
 use Rattle.zone_machine.proofs.Acts_laws.{same_other}
-use Rattle.zone_machine.proofs.Doing_laws.{common_by, holds_wait, same_pids, same_sessions, same_zids}
+use Rattle.zone_machine.proofs.Doing_laws.{common_by, holds_doing, same_pids, same_sessions, same_zids}
 use Rattle.zone_machine.specs.Code.Cells.{Agree, Does, cell_world, common_in, kept, outside_in}
 use Rattle.zone_machine.specs.Machine.Common.{Common, came_common, holding}
 use Rattle.zone_machine.specs.State.Edits.{Of_objects, comes_world, edits_world}
@@ -54,8 +54,8 @@ module _ (z : Name) (c : Cell) (s : Shared) (d : claims.Cell) (t : Claim_shared)
   does_claims f g world declared keeps held = record {
     world = λ a. ap (λ ds. cell_world (record (outside_in z s) { declared = record { items = ds; devices = s.kernel.devices } }) then_cell) declared ∙ world;
     common = λ a.
-        common_by z (cell_world (outside_in z s) then_cell) (common_in s) then_shared (get nat_eq c.waits)
-        (same_pids z c s a) (same_zids z c s a) (held a) (same_sessions z c s a) (λ n. holds_wait (get nat_eq c.waits n)) refl refl refl refl refl refl
+        common_by z (cell_world (outside_in z s) then_cell) (common_in s) then_shared (get nat_eq c.doings)
+        (same_pids z c s a) (same_zids z c s a) (held a) (same_sessions z c s a) (λ n. holds_doing (get nat_eq c.doings n)) refl refl refl refl refl refl
         (ap (λ ds. record { items = ds; devices = s.kernel.devices }) declared) refl refl
         ∙ (ap (λ k. holding z (cell_world (outside_in z s) then_cell) k) (sym keeps) ∙ ap (λ w. holding z w (g (common_in s))) world);
   }

@@ -22,11 +22,11 @@ use Rattle.zone_pools.specs.declared.owned.Owned.{Owned}
 use Rattle.zone_machine.proofs.Acts_laws.{OwnSession, other-acts, own-acts}
 use Rattle.zone_machine.proofs.Own_worlds.{decide-world, need-world, own_session, view-world}
 use Rattle.zoneadmd_steps.specs.Arrivals.{Arrival, New_claim, New_id, New_process, New_record, No_new_thing}
-use Rattle.zone_machine.specs.Machine.Common.{Common, HoldOnce, acts_common, came_common, common, holds_claim, holds_pid, holds_session, holds_zid, is_up}
+use Rattle.zone_machine.specs.Machine.Common.{Common, HoldOnce, acts_common, came_common, common, holds_claim, holds_pid, holds_session, holds_zid, is_up, whole_common}
 use Rattle.zone_machine.specs.State.Decisions.{Act, act_of, acts, acts_world, after_came}
 use Rattle.zone_machine.specs.State.Edits.{Edit, Of_objects, comes, edit, edits}
 use Rattle.zone_machine.specs.Session.Lines.{Command, Kill, Line, line_of}
-use Rattle.zone_machine.specs.Machine.{decide, declared_by, holder, line_subject, need, one, one_of, session_number, session_subject, started, subject}
+use Rattle.zone_machine.specs.Machine.{decide, holder, line_subject, need, one, one_of, session_number, session_subject, started, subject, whole}
 use Rattle.kernel_objects.specs.Processes.{Process, has_pid}
 use Rattle.zoneadmd_steps.specs.Objects.{Processes_go, all_of, has_zid}
 use Rattle.zone_pools.specs.Firsts.{first_of}
@@ -38,7 +38,7 @@ use Rattle.zone_machine.specs.State.Declarations.{Declared}
 use Rattle.zone_machine.specs.State.{At, Idle, Session as Session_mode, State, bodies_of, bytes_used}
 use Rattle.zone_machine.specs.State.Worlds.{World, doing, view, view_of, world}
 use Rattle.zone_machine.specs.declared.events.Event.{Event}
-use Rattle.zone_machine.specs.declared.events.Event.TheVariants.{Process as Call_of, Session, System, Turn}
+use Rattle.zone_machine.specs.declared.events.Event.TheVariants.{Process as Call_of, Restart, Session, System, Turn}
 use Rattle.zone_machine.specs.declared.events.Subject.TheVariants.{Global, Whole, Zone}
 use Rattle.commit_journal.specs.declared.records.Commit.{Commit}
 
@@ -141,9 +141,17 @@ pub common-global : (S : State) (e : Event) (g : Grant) → subject S e ≡ Glob
 unfolding one
 common-global S e g is = ap (λ s. common (one_of s S e g).state) is
 
-pub common-whole : (S : State) (e : Event) (g : Grant) → subject S e ≡ Whole → common (one S e g).state ≡ record (common S) { declared = declared_by e S.declared }
+-- what is common after an event of the whole system
+pub common-of-whole : (S : State) (e : Event) → common (whole e S) ≡ whole_common e (common S)
+common-of-whole S (Session n text) = refl
+common-of-whole S (Turn z) = refl
+common-of-whole S (Call_of z pid c) = refl
+common-of-whole S (System what) = refl
+common-of-whole S Restart = refl
+
+pub common-whole : (S : State) (e : Event) (g : Grant) → subject S e ≡ Whole → common (one S e g).state ≡ whole_common e (common S)
 unfolding one
-common-whole S e g is = ap (λ s. common (one_of s S e g).state) is
+common-whole S e g is = ap (λ s. common (one_of s S e g).state) is ∙ common-of-whole S e
 
 -- lists with the same held by each zone have the same among them
 module _ {A : Type 0} (p : A → Bool) where
@@ -304,6 +312,7 @@ subject-common S T (Session n text) once h =
 subject-common S T (Turn z) once h = refl
 subject-common S T (Call_of z pid c) once h = refl
 subject-common S T (System what) once h = refl
+subject-common S T Restart once h = refl
 
 module _ (z : Name) (S T : State) (e : Event) (is : subject S e ≡ Zone z) (once : HoldOnce (common S).pids) (h : common S ≡ common T) (w : world z S ≡ world z T) where
   it : subject T e ≡ Zone z

@@ -1,7 +1,7 @@
 -- Changes of a cell and the shared part.
 use Rattle.commit_journal.specs.Store.{change_text}
 use Rattle.commit_journal.specs.Stored.{without}
-use Rattle.std.proofs.Common.{◌≡◌, ◌∷◌, ◌++◌, [], ℕ, List, Bool, Option, Some, None, true, false, not, ◌&&◌, ◌||◌, inl, inr, refl, ap, sym, subst, ◌∙◌, ◌+◌, map, length, arith}
+use Rattle.std.proofs.Common.{◌≡◌, ◌∷◌, ◌++◌, [], ℕ, List, Bool, Option, Some, None, true, false, not, ◌&&◌, inl, inr, refl, ap, sym, subst, ◌∙◌, ◌+◌, map, length, arith}
 use Rattle.indexmap.specs.IndexMap.{get, get_by, insert_entry}
 use Rattle.std.specs.Prelude.{◌≢◌, bytes_eq, nat_eq, is_some, unwrap_or, if◌then◌else◌}
 use Rattle.std.specs.Cmp.{nat_eq_equiv}
@@ -17,16 +17,16 @@ use Rattle.zone_pools.specs.Owners.{held_by, is_owner, owner}
 use Rattle.commit_journal.proofs.Zones.{placed_is}
 use Rattle.commit_journal.specs.Zones.{rows_of}
 use Rattle.zone_machine.proofs.Acts_laws.{same_other}
-use Rattle.zone_machine.proofs.Waits_laws.{some_wait}
+use Rattle.zone_machine.proofs.Doings_laws.{some_wait}
 use Rattle.zone_machine.specs.Code.Cells.{Acts, Agree, Does, cell_world, common_in, declared_in, is_up_in, kept, outside_in, row_in}
 use Rattle.zoneadmd_steps.specs.Objects.{ids_of, has_zid}
-use Rattle.zone_machine.specs.Code.Waits.{is_wait_for, unless_ended}
-use Rattle.zone_machine.specs.Code.Works.{arrival_by, work_world, Works, rest_of, sits, work_act}
+use Rattle.zone_machine.specs.Code.Doings.{as_doing, is_wait_for, sits, unless_ended, waits_for}
+use Rattle.zone_machine.specs.Code.Works.{arrival_by, work_world, Works, rest_of, work_act}
 use Rattle.datalink_table.specs.Claims.{holds}
 use Rattle.datalink_table.specs.Shared.{holder}
 use Rattle.datalink_table.specs.declared.claims.Claim.{Claim}
 use Rattle.zone_machine.specs.Machine.Common.{Common, came_common, holding, holds_claim, holds_pid, holds_zid, standing}
-use Rattle.zone_machine.specs.State.Edits.{Edit, Of_objects, Set_desk, at_session, comes_world, edit_world, edits_world, swept_doing}
+use Rattle.zone_machine.specs.State.Edits.{Edit, Here, Of_objects, Set_desk, at_session, comes_world, edit_world, edits_world, swept_doing}
 use Rattle.zone_machine.specs.State as state
 use Rattle.zone_machine.specs.State.Worlds.{World}
 use Rattle.zone_machine.specs.declared.machine.cell.Cell.{Cell}
@@ -39,7 +39,9 @@ use Rattle.zoneadmd_steps.specs.declared.objects.changes.ObjectEdit.TheVariants 
 use Rattle.zoneadmd_steps.specs.Arrivals.{Arrival, New_claim, New_id, New_process, New_record, No_new_thing, in_kernel, in_store}
 use Rattle.zone_machine.specs.State.Decisions.{Act, acts_world, after_came_world, sweeps, ticket_ended}
 use Rattle.zone_machine.specs.Code.Rooms.{IsOpenTo}
-use Rattle.zone_machine.specs.declared.machine.work.Sitting.{Sitting}
+use Rattle.zone_machine.specs.declared.cases.Sitting.{Sitting}
+use Rattle.zone_machine.specs.declared.session.doings.Doing.{Doing}
+use Rattle.zone_machine.specs.declared.session.doings.Doing.TheVariants.{Awaits, Edits}
 use Rattle.zone_machine.specs.declared.machine.work.Work.{Work}
 use Rattle.zoneadmd_steps.specs.declared.objects.changes.ObjectEdit.{ObjectEdit}
 use Rattle.zoneadmd_steps.specs.declared.desks.Desk.{Desk}
@@ -58,23 +60,23 @@ module _ (z : Name) (c : Cell) (s : Shared) (agree : Agree z c s) where
   pub same_claims : (y : Name) (k : Claim) → held_by (λ k. holder k s.claims) y k ≡ owners.holding z (λ k. holds k c.claims.claims) (held_by (λ k. holder k s.claims)) y k
   same_claims = kept_column z (λ k. holds k c.claims.claims) (λ k. holder k s.claims) agree.claims
 
-  pub same_sessions : (y : Name) (n : ℕ) → held_by (owner nat_eq s.sessions) y n ≡ owners.holding z (λ n. is_some (get nat_eq c.waits n)) (held_by (owner nat_eq s.sessions)) y n
-  same_sessions = kept_column z (λ n. is_some (get nat_eq c.waits n)) (owner nat_eq s.sessions) agree.sessions
+  pub same_sessions : (y : Name) (n : ℕ) → held_by (owner nat_eq s.sessions) y n ≡ owners.holding z (λ n. is_some (get nat_eq c.doings n)) (held_by (owner nat_eq s.sessions)) y n
+  same_sessions = kept_column z (λ n. is_some (get nat_eq c.doings n)) (owner nat_eq s.sessions) agree.sessions
 
-pub holds_wait : (o : Option ℕ) → is_some (option_map state.Awaiting o) ≡ is_some o
-holds_wait None = refl
-holds_wait (Some t) = refl
+pub holds_doing : (o : Option Doing) → is_some (option_map as_doing o) ≡ is_some o
+holds_doing None = refl
+holds_doing (Some d) = refl
 
 -- what is common, by its columns
-pub common_by : (z : Name) (w : World) (g : Common) (t : Shared) (waits : ℕ → Option ℕ)
+pub common_by : (z : Name) (w : World) (g : Common) (t : Shared) (doings : ℕ → Option Doing)
     → ((y : Name) (n : ℕ) → held_by (pid_owner t.kernel) y n ≡ owners.holding z (holds_pid w) g.pids y n)
     → ((y : Name) (n : ℕ) → held_by (zid_owner t.kernel) y n ≡ owners.holding z (holds_zid w) g.zids y n)
     → ((y : Name) (k : Claim) → held_by (λ k. holder k t.claims) y k ≡ owners.holding z (holds_claim w) g.claims y k)
-    → ((y : Name) (n : ℕ) → held_by (owner nat_eq t.sessions) y n ≡ owners.holding z (λ n. is_some (waits n)) g.sessions y n)
-    → ((n : ℕ) → is_some (w.sessions n) ≡ is_some (waits n))
+    → ((y : Name) (n : ℕ) → held_by (owner nat_eq t.sessions) y n ≡ owners.holding z (λ n. is_some (doings n)) g.sessions y n)
+    → ((n : ℕ) → is_some (w.sessions n) ≡ is_some (doings n))
     → is_up_in t ≡ g.up → rows_of t.rows.entries ≡ g.rows → t.serial ≡ g.serial → t.used ≡ g.used → t.kernel.last_pid ≡ g.last_pid → t.kernel.last_zid ≡ g.last_zid → declared_in t ≡ g.declared → t.brands ≡ g.brands → t.started ≡ g.started
     → common_in t ≡ holding z w g
-common_by z w g t waits pids zids claims sessions seen up rows serial used last_pid last_zid declared brands started = λ i. record {
+common_by z w g t doings pids zids claims sessions seen up rows serial used last_pid last_zid declared brands started = λ i. record {
   pids = λ y n. pids y n i;
   zids = λ y n. zids y n i;
   claims = λ y k. claims y k i;
@@ -90,70 +92,72 @@ common_by z w g t waits pids zids claims sessions seen up rows serial used last_
   started = started i;
 }
 
--- a session waits, or those of a ticket wait no more; d is the cell with what sessions wait for then
-pub does_sits : (z : Name) (c d : Cell) (s t : Shared) (k : ℕ) (x : Sitting) → IsOpenTo z (owner nat_eq s.sessions k)
-    → ((n : ℕ) → owner nat_eq t.sessions n ≡ (if nat_eq k n then Some z else owner nat_eq s.sessions n))
-    → ((n : ℕ) → get nat_eq d.waits n ≡ at_session (Some k) n (Some x.ticket) (get nat_eq c.waits n))
-    → Does z (edits_world (Some k) (sits (Some x))) kept c s (record c { waits = d.waits }) (record s { sessions = t.sessions })
+-- a session does something or nothing from now on, or those of a ticket wait no more; d is the cell with what sessions do then
+pub does_sits : (z : Name) (c d : Cell) (s t : Shared) (k : ℕ) (x : Option Doing) → IsOpenTo z (owner nat_eq s.sessions k)
+    → ((n : ℕ) → owner nat_eq t.sessions n ≡ (if nat_eq k n then option_map (λ _. z) x else owner nat_eq s.sessions n))
+    → ((n : ℕ) → get nat_eq d.doings n ≡ at_session (Some k) n x (get nat_eq c.doings n))
+    → Does z (edits_world (Some k) (Here (option_map as_doing x) ∷ [])) kept c s (record c { doings = d.doings }) (record s { sessions = t.sessions })
 does_sits z c d s t k x is_open taken h = record {
-  world = λ a i. record (cell_world (outside_in z s) c) { sessions = λ n. waits n i };
-  common = λ a. common_by z (record (cell_world (outside_in z s) c) { sessions = λ n. at_session (Some k) n (Some (state.Awaiting x.ticket)) (option_map state.Awaiting (get nat_eq c.waits n)) }) (common_in s)
-      (record s { sessions = t.sessions }) (get nat_eq d.waits) (same_pids z c s a) (same_zids z c s a) (same_claims z c s a)
-      (column z (λ n. is_some (get nat_eq d.waits n)) (owner nat_eq s.sessions) (owner nat_eq t.sessions)
-      (λ n. ap (is_owner z) (taken n) ∙ (here a n (nat_eq k n) ∙ sym (ap is_some (h n) ∙ more (nat_eq k n) (get nat_eq c.waits n)))) (λ y ne n. ap (is_owner y) (taken n) ∙ there y ne n (nat_eq k n) refl))
-      (λ n. ap is_some (sym (waits n)) ∙ holds_wait (get nat_eq d.waits n)) refl refl refl refl refl refl refl refl refl;
+  world = λ a i. record (cell_world (outside_in z s) c) { sessions = λ n. doings n i };
+  common = λ a. common_by z (record (cell_world (outside_in z s) c) { sessions = λ n. at_session (Some k) n (option_map as_doing x) (option_map as_doing (get nat_eq c.doings n)) }) (common_in s)
+      (record s { sessions = t.sessions }) (get nat_eq d.doings) (same_pids z c s a) (same_zids z c s a) (same_claims z c s a)
+      (column z (λ n. is_some (get nat_eq d.doings n)) (owner nat_eq s.sessions) (owner nat_eq t.sessions)
+      (λ n. ap (is_owner z) (taken n) ∙ (here a n x (nat_eq k n) ∙ sym (ap is_some (h n)))) (λ y ne n. ap (is_owner y) (taken n) ∙ there y ne n x (nat_eq k n) refl))
+      (λ n. ap is_some (sym (doings n)) ∙ holds_doing (get nat_eq d.doings n)) refl refl refl refl refl refl refl refl refl;
 }
   where
-    mapped : (b : Bool) (o : Option ℕ) → option_map state.Awaiting (if b then Some x.ticket else o) ≡ (if b then Some (state.Awaiting x.ticket) else option_map state.Awaiting o)
+    mapped : (b : Bool) (o : Option Doing) → option_map as_doing (if b then x else o) ≡ (if b then option_map as_doing x else option_map as_doing o)
     mapped true o = refl
     mapped false o = refl
 
-    waits : (n : ℕ) → option_map state.Awaiting (get nat_eq d.waits n) ≡ at_session (Some k) n (Some (state.Awaiting x.ticket)) (option_map state.Awaiting (get nat_eq c.waits n))
-    waits n = ap (option_map state.Awaiting) (h n) ∙ mapped (nat_eq k n) (get nat_eq c.waits n)
+    doings : (n : ℕ) → option_map as_doing (get nat_eq d.doings n) ≡ at_session (Some k) n (option_map as_doing x) (option_map as_doing (get nat_eq c.doings n))
+    doings n = ap (option_map as_doing) (h n) ∙ mapped (nat_eq k n) (get nat_eq c.doings n)
 
-    more : (b : Bool) (o : Option ℕ) → is_some (if b then Some x.ticket else o) ≡ (b || is_some o)
-    more true o = refl
-    more false o = refl
-
-    here : Agree z c s → (n : ℕ) (b : Bool) → is_owner z (if b then Some z else owner nat_eq s.sessions n) ≡ (b || is_some (get nat_eq c.waits n))
-    here a n true = same_self z
-    here a n false = sym (a.sessions n)
+    here : Agree z c s → (n : ℕ) (x : Option Doing) (b : Bool) → is_owner z (if b then option_map (λ _. z) x else owner nat_eq s.sessions n) ≡ is_some (if b then x else get nat_eq c.doings n)
+    here a n (Some x) true = same_self z
+    here a n None true = refl
+    here a n x false = sym (a.sessions n)
 
     not_mine : (y : Name) → y ≢ z → (o : Option Name) → IsOpenTo z o → is_owner y o ≡ false
     not_mine y ne None is_open = refl
     not_mine y ne (Some w) (inl none) = absurd (cc)
     not_mine y ne (Some w) (inr some) = let same : w ≡ z = cc in ap (bytes_eq y) same ∙ same_other y z ne
 
-    there : (y : Name) → y ≢ z → (n : ℕ) (b : Bool) → nat_eq k n ≡ b → is_owner y (if b then Some z else owner nat_eq s.sessions n) ≡ is_owner y (owner nat_eq s.sessions n)
-    there y ne n true e = same_other y z ne ∙ sym (subst (λ m. is_owner y (owner nat_eq s.sessions m) ≡ false) (eqb-true k n e) (not_mine y ne (owner nat_eq s.sessions k) is_open))
-    there y ne n false e = refl
+    not_then : (y : Name) → y ≢ z → (x : Option Doing) → is_owner y (option_map (λ _. z) x) ≡ false
+    not_then y ne None = refl
+    not_then y ne (Some x) = same_other y z ne
 
-pub does_ends : (z : Name) (c d : Cell) (s t : Shared) (ticket : ℕ) → ((n : ℕ) → get nat_eq d.waits n ≡ unless_ended ticket (get nat_eq c.waits n))
-    → ((n : ℕ) → owner nat_eq t.sessions n ≡ (if is_wait_for ticket (get nat_eq c.waits n) then None else owner nat_eq s.sessions n))
-    → (n : Option ℕ) → Does z (edits_world n (sweeps (Some ticket))) kept c s (record c { waits = d.waits }) (record s { sessions = t.sessions })
+    there : (y : Name) → y ≢ z → (n : ℕ) (x : Option Doing) (b : Bool) → nat_eq k n ≡ b → is_owner y (if b then option_map (λ _. z) x else owner nat_eq s.sessions n) ≡ is_owner y (owner nat_eq s.sessions n)
+    there y ne n x true e = not_then y ne x ∙ sym (subst (λ m. is_owner y (owner nat_eq s.sessions m) ≡ false) (eqb-true k n e) (not_mine y ne (owner nat_eq s.sessions k) is_open))
+    there y ne n x false e = refl
+
+pub does_ends : (z : Name) (c d : Cell) (s t : Shared) (ticket : ℕ) → ((n : ℕ) → get nat_eq d.doings n ≡ unless_ended ticket (get nat_eq c.doings n))
+    → ((n : ℕ) → owner nat_eq t.sessions n ≡ (if is_wait_for ticket (get nat_eq c.doings n) then None else owner nat_eq s.sessions n))
+    → (n : Option ℕ) → Does z (edits_world n (sweeps (Some ticket))) kept c s (record c { doings = d.doings }) (record s { sessions = t.sessions })
 does_ends z c d s t ticket h given n = record {
-  world = λ a i. record (cell_world (outside_in z s) c) { sessions = λ n. waits n i };
-  common = λ a. common_by z (record (cell_world (outside_in z s) c) { sessions = λ n. swept_doing (ticket_ended ticket) (option_map state.Awaiting (get nat_eq c.waits n)) }) (common_in s)
-      (record s { sessions = t.sessions }) (get nat_eq d.waits) (same_pids z c s a) (same_zids z c s a) (same_claims z c s a)
-      (gone_column z (λ n. is_some (get nat_eq c.waits n)) (λ n. is_some (get nat_eq d.waits n)) (λ n. is_wait_for ticket (get nat_eq c.waits n)) (owner nat_eq s.sessions) (owner nat_eq t.sessions)
-      a.sessions (λ n. some_wait ticket (get nat_eq c.waits n)) given (λ n. ap is_some (h n) ∙ less (get nat_eq c.waits n)))
-      (λ n. ap is_some (sym (waits n)) ∙ holds_wait (get nat_eq d.waits n)) refl refl refl refl refl refl refl refl refl;
+  world = λ a i. record (cell_world (outside_in z s) c) { sessions = λ n. doings n i };
+  common = λ a. common_by z (record (cell_world (outside_in z s) c) { sessions = λ n. swept_doing (ticket_ended ticket) (option_map as_doing (get nat_eq c.doings n)) }) (common_in s)
+      (record s { sessions = t.sessions }) (get nat_eq d.doings) (same_pids z c s a) (same_zids z c s a) (same_claims z c s a)
+      (gone_column z (λ n. is_some (get nat_eq c.doings n)) (λ n. is_some (get nat_eq d.doings n)) (λ n. is_wait_for ticket (get nat_eq c.doings n)) (owner nat_eq s.sessions) (owner nat_eq t.sessions)
+      a.sessions (λ n. some_wait ticket (get nat_eq c.doings n)) given (λ n. ap is_some (h n) ∙ less (get nat_eq c.doings n)))
+      (λ n. ap is_some (sym (doings n)) ∙ holds_doing (get nat_eq d.doings n)) refl refl refl refl refl refl refl refl refl;
 }
   where
-    mapped : (o : Option ℕ) → option_map state.Awaiting (unless_ended ticket o) ≡ swept_doing (ticket_ended ticket) (option_map state.Awaiting o)
+    mapped : (o : Option Doing) → option_map as_doing (unless_ended ticket o) ≡ swept_doing (ticket_ended ticket) (option_map as_doing o)
     mapped None = refl
-    mapped (Some u) = rw (nat_eq_equiv.symm u ticket) (at_test (nat_eq ticket u))
+    mapped (Some (Edits e)) = refl
+    mapped (Some (Awaits u)) = rw (nat_eq_equiv.symm u ticket) (at_test (nat_eq ticket u))
       where
-        at_test : (b : Bool) → option_map state.Awaiting (if b then None else Some u) ≡ (if b then None else Some (state.Awaiting u))
+        at_test : (b : Bool) → option_map as_doing (if b then None else Some (Awaits u)) ≡ (if b then None else Some (state.Awaiting u))
         at_test true = refl
         at_test false = refl
 
-    waits : (n : ℕ) → option_map state.Awaiting (get nat_eq d.waits n) ≡ swept_doing (ticket_ended ticket) (option_map state.Awaiting (get nat_eq c.waits n))
-    waits n = ap (option_map state.Awaiting) (h n) ∙ mapped (get nat_eq c.waits n)
+    doings : (n : ℕ) → option_map as_doing (get nat_eq d.doings n) ≡ swept_doing (ticket_ended ticket) (option_map as_doing (get nat_eq c.doings n))
+    doings n = ap (option_map as_doing) (h n) ∙ mapped (get nat_eq c.doings n)
 
-    less : (o : Option ℕ) → is_some (unless_ended ticket o) ≡ (is_some o && not (is_wait_for ticket o))
+    less : (o : Option Doing) → is_some (unless_ended ticket o) ≡ (is_some o && not (is_wait_for ticket o))
     less None = refl
-    less (Some u) = at_test (nat_eq u ticket)
+    less (Some u) = at_test (waits_for ticket u)
       where
         at_test : (b : Bool) → is_some (if b then None else Some u) ≡ not b
         at_test true = refl
@@ -165,7 +169,7 @@ pub does_record : (z : Name) (c : Cell) (s t : Shared) (r : Record) → t.rows.e
 does_record z c s t r h found = record {
   world = λ a i. record (cell_world (outside_in z s) c) { stored = found i };
   common = λ a. common_by z (record (cell_world (outside_in z s) c) { stored = Some r }) (record (common_in s) { rows = placed z r (rows_of s.rows.entries); serial = s.serial + 1; used = s.used + 5 + length (change_text z (Some r)) })
-      (record s { rows = t.rows; serial = s.serial + 1; used = s.used + (5 + length (change_text z (Some r))) }) (get nat_eq c.waits) (same_pids z c s a) (same_zids z c s a) (same_claims z c s a) (same_sessions z c s a) (λ n. holds_wait (get nat_eq c.waits n))
+      (record s { rows = t.rows; serial = s.serial + 1; used = s.used + (5 + length (change_text z (Some r))) }) (get nat_eq c.doings) (same_pids z c s a) (same_zids z c s a) (same_claims z c s a) (same_sessions z c s a) (λ n. holds_doing (get nat_eq c.doings n))
       refl (ap rows_of h ∙ placed_is z r s.rows.entries) refl (omega arith) refl refl refl refl refl;
 }
 
@@ -174,7 +178,7 @@ pub does_removal : (z : Name) (c : Cell) (s t : Shared) → rows_of t.rows.entri
 does_removal z c s t h gone = record {
   world = λ a i. record (cell_world (outside_in z s) c) { stored = gone i };
   common = λ a. common_by z (record (cell_world (outside_in z s) c) { stored = None }) (record (common_in s) { rows = without z (rows_of s.rows.entries); serial = s.serial + 1; used = s.used + 5 + length (change_text z None) })
-      (record s { rows = t.rows; serial = s.serial + 1; used = s.used + (5 + length (change_text z None)) }) (get nat_eq c.waits) (same_pids z c s a) (same_zids z c s a) (same_claims z c s a) (same_sessions z c s a) (λ n. holds_wait (get nat_eq c.waits n))
+      (record s { rows = t.rows; serial = s.serial + 1; used = s.used + (5 + length (change_text z None)) }) (get nat_eq c.doings) (same_pids z c s a) (same_zids z c s a) (same_claims z c s a) (same_sessions z c s a) (λ n. holds_doing (get nat_eq c.doings n))
       refl h refl (omega arith) refl refl refl refl refl;
 }
 
@@ -203,7 +207,7 @@ does_agree z f g c d s t does a = record {
   pids = λ n. ap (λ w. list_any (has_pid n) w.processes) (does.world a) ∙ sym (ap (λ k. k.pids z n) (does.common a) ∙ own_if z _ _);
   zids = λ n. ap (λ w. list_any (has_zid n) w.ids) (does.world a) ∙ sym (ap (λ k. k.zids z n) (does.common a) ∙ own_if z _ _);
   claims = λ k. ap (λ w. holds k w.claims) (does.world a) ∙ sym (ap (λ g. g.claims z k) (does.common a) ∙ own_if z _ _);
-  sessions = λ n. sym (holds_wait (get nat_eq d.waits n)) ∙ (ap (λ w. is_some (w.sessions n)) (does.world a) ∙ sym (ap (λ k. k.sessions z n) (does.common a) ∙ own_if z _ _));
+  sessions = λ n. sym (holds_doing (get nat_eq d.doings n)) ∙ (ap (λ w. is_some (w.sessions n)) (does.world a) ∙ sym (ap (λ k. k.sessions z n) (does.common a) ∙ own_if z _ _));
 }
 
 pub does_then : (z : Name) (f f' : World → World) (g g' : Common → Common) (c d e : Cell) (s t u : Shared) → ((w : World) (k : Common) → g' (holding z w k) ≡ holding z w (g' k))
@@ -234,6 +238,14 @@ came_apart z (Some No_new_thing) w k = refl
 pub retaken : (b : Bool) (z : Name) (o : Option Name) → (if b then Some z else (if b then None else o)) ≡ (if b then Some z else o)
 retaken true z o = refl
 retaken false z o = refl
+
+-- what becomes of the event's session, on a world whose desk is changed to what it was
+pub sits_alone : (n : Option ℕ) (v : World) (d : desks.Desk) (es : List Edit) (x : Option Sitting) → sits x ≡ es → v.desk ≡ d → edits_world n (Set_desk d ∷ (sits x ++ [])) v ≡ edits_world n es v
+sits_alone n v d es x is desk = at_sitting x ∙ ap (λ es. edits_world n es v) is
+  where
+    at_sitting : (x : Option Sitting) → edits_world n (Set_desk d ∷ (sits x ++ [])) v ≡ edits_world n (sits x) v
+    at_sitting None = ap (λ (d : desks.Desk). record v { desk = d }) (sym desk)
+    at_sitting (Some s) = ap (λ (d : desks.Desk). edits_world n (sits (Some s)) (record v { desk = d })) (sym desk)
 
 -- the act of some work on a world whose desk is changed already
 edits-then : (n : Option ℕ) (xs ys : List Edit) (w : World) → edits_world n (xs ++ ys) w ≡ edits_world n ys (edits_world n xs w)

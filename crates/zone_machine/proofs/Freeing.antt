@@ -271,6 +271,6 @@ module _ (P : Pools) (z : Name) (stated : Option Grant) (g : Grant) where
   pub numbered_case : (d : Desk) (case : Case) → IsGrantFor z P (asked_of (decision_of d case)) stated g → IsNumbered case g
   numbered_case d (cases.Commit c) takes =
       record_number P z (λ n. Some (numbered_row c.value.novelty c.value.owner c.value.row.value n)) (asked_of (decision_of d (cases.Commit c))) stated g
-      (asks_made c.value.novelty c.value.owner c.value.row.value c.value.told).0 takes
+      (asks_made c.value.novelty c.value.owner c.value.row.value c.value.told c.value.committer).0 takes
   numbered_case d (cases.Turn c) takes = numbered_turn d c (subst (λ asked. IsGrantFor z P asked stated g) (asks_same (turn_decision_of d c)) takes)
   numbered_case d _ takes = tt

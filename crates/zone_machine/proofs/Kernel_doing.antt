@@ -29,7 +29,7 @@ use Rattle.zoneadmd_steps.specs.declared.objects.changes.ObjectEdit.TheVariants.
 use Rattle.zoneadmd_steps.specs.Arrivals.{New_id, New_process}
 use Rattle.zoneadmd_steps.specs.Code.Cases.{object_edits}
 use Rattle.kernel_objects.proofs.Kept.{at_pid_keeps, holds-change, holds-without}
-use Rattle.zone_machine.proofs.Doing_laws.{common_by, holds_wait, same_claims, same_pids, same_sessions, same_zids}
+use Rattle.zone_machine.proofs.Doing_laws.{common_by, holds_doing, same_claims, same_pids, same_sessions, same_zids}
 
 -- nobody holds a key that is this one
 free_at : (o : ℕ → Option Name) (n : ℕ) → o n ≡ None → (k : ℕ) → nat_eq n k ≡ true → o k ≡ None
@@ -83,8 +83,8 @@ module _ (z : Name) (c : Cell) (s : Shared) (k : Kernel) (t : Kernel_shared) whe
   does_kernel f g devices world pids zids last = record {
     world = λ a. ap (λ ds. cell_world (record (outside_in z s) { declared = record { items = s.claims.declared; devices = ds } }) then_cell) devices ∙ world a;
     common = λ a.
-        common_by z (cell_world (outside_in z s) then_cell) (with_kernel s t) then_shared (get nat_eq c.waits)
-        (pids a) (zids a) (same_claims z c s a) (same_sessions z c s a) (λ n. holds_wait (get nat_eq c.waits n)) refl refl refl refl refl refl refl refl refl
+        common_by z (cell_world (outside_in z s) then_cell) (with_kernel s t) then_shared (get nat_eq c.doings)
+        (pids a) (zids a) (same_claims z c s a) (same_sessions z c s a) (λ n. holds_doing (get nat_eq c.doings n)) refl refl refl refl refl refl refl refl refl
         ∙ (ap (λ g. holding z (cell_world (outside_in z s) then_cell) g) last ∙ ap (λ w. holding z w (g (common_in s))) (world a));
   }
 

@@ -25,7 +25,7 @@ pub mod Pools_laws
 pub mod Indexing
 pub mod Listing_laws
 pub mod Lists_laws
-pub mod Waits_laws
+pub mod Doings_laws
 pub mod Doing_laws
 pub mod Kernel_doing
 pub mod Kernel_cases
@@ -37,3 +37,4 @@ pub mod Banking
 pub mod Claim_doing
 pub mod Roomy
 pub mod Acting
+pub mod Restarting

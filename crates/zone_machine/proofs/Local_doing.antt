@@ -6,7 +6,8 @@ use Rattle.zone_pools.specs.Decisions as decisions
 use Rattle.zone_pools.specs.Decisions.{Ask, Just}
 use Rattle.zone_pools.specs.declared.grant.Grant.TheVariants.{Nothing}
 use Rattle.zone_machine.proofs.Local_laws.{Local, is-local, local-one, not-local, stays, subject-turn, world-after}
-use Rattle.zone_machine.specs.Code.Works.{arrival_by, turned_act, Works, rest_of, sits, told_by}
+use Rattle.zone_machine.specs.Code.Works.{arrival_by, turned_act, Works, rest_of, told_by}
+use Rattle.zone_machine.specs.Code.Doings.{sits}
 use Rattle.zone_machine.proofs.Turned_laws.{has-turned}
 use Rattle.zoneadmd_steps.specs.Arrivals.{Arrival}
 use Rattle.zoneadmd_steps.specs.Code.Cases.{object_edits}

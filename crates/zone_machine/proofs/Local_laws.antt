@@ -39,7 +39,7 @@ use Rattle.zoneadmd_steps.specs.declared.requests.TurnReply.{TurnReply}
 use Rattle.zoneadmd_steps.specs.declared.requests.TurnReply.TheVariants.{Idle}
 use Rattle.zone_machine.specs.declared.events.Entry.{Entry}
 use Rattle.zone_machine.specs.declared.events.Event.{Event}
-use Rattle.zone_machine.specs.declared.events.Event.TheVariants.{Process as Call_of, Session, System, Turn}
+use Rattle.zone_machine.specs.declared.events.Event.TheVariants.{Process as Call_of, Restart, Session, System, Turn}
 use Rattle.zone_machine.specs.declared.events.Subject.TheVariants.{Zone}
 use Rattle.loopback_mounts.specs.declared.mount.MountEntry.{MountEntry}
 use Rattle.zone_machine.specs.declared.replies.Head.TheVariants.{Turned as Told}
@@ -74,6 +74,7 @@ local-turn z w e h =
     turn_of (Turn y) h = ap Turn (sym (same_true z y h))
     turn_of (Call_of y pid c) h = absurd (false≢true h)
     turn_of (System what) h = absurd (false≢true h)
+    turn_of Restart h = absurd (false≢true h)
 
     at_turn : (l : Option Turned) → local_turn w.brands (objects_of w) w.desk ≡ l → e.event ≡ Turn z → e.subject ≡ Zone z → e.grant ≡ Nothing → tells_local l e.reply ≡ true → (t : Turned) × Local z w e t
     at_turn (Some t) is event subject grant h = (

@@ -209,7 +209,7 @@ from_short : (n : ℕ) (text : List ℕ) → length text ≤ 4200 → length (fr
 from_short zero text h = drop_short _ text h
 from_short (suc n) text h = from_short n (past_word text) (drop_short _ (past_spaces text) (drop_short _ text h))
 
-zonecfg_right : (text : List ℕ) (ws : List (List ℕ)) → length text ≤ 4200 → Right (zonecfg_command text ws)
+zonecfg_right : (text : List ℕ) (ws : List (List ℕ)) → length text ≤ 4200 → Right (Some (zonecfg_command text ws))
 zonecfg_right text [] h = tt
 zonecfg_right text (word ∷ more) h = h
 
@@ -274,3 +274,6 @@ command_right text (word ∷ more) short h =
 pub right_line : (text : List ℕ) → IsTrue (is_text text) → IsRight (line_of text).command
 unfolding line_of
 right_line text h = command_right text (words text) (short_text text h) (kept_words text h)
+
+pub short_line : (text : List ℕ) → IsTrue (is_text text) → length text ≤ 4200
+short_line text h = short_text text h

@@ -2,13 +2,12 @@
 use Rattle.std.proofs.Common.{◌≡◌, ◌∷◌, [], Bool, List, false, true, refl, ◌∙◌, ap, subst, sym}
 use Rattle.zone_machine.specs.Code.Cells.{cell_world, common_in, is_up_in, row_in}
 use Rattle.zoneadmd_steps.specs.Code.Desks.{as_desk}
-use Rattle.zone_machine.specs.Code.Cases.{decision_of}
-use Rattle.zone_machine.specs.Code.Rooms.{Alike, HasRoom, HasRoomIfSits, HasRoomToStore}
+use Rattle.zone_machine.specs.Code.Cases.{case_active, decision_of}
+use Rattle.zone_machine.specs.Code.Rooms.{Alike, HasRoom, HasRoomFor, HasRoomIf, HasRoomIfSits, HasRoomToChange, HasRoomToRise, HasRoomToStore}
 use Rattle.loopback_mounts.specs.Mounts.{Mounts}
 use Rattle.zoneadmd_steps.specs.Code.Cases.{Holds, IsFreeFor, No_premise, Premise}
-use Rattle.zone_machine.specs.Code.Works.{objects_of}
+use Rattle.zone_machine.specs.Code.Works.{objects_of, seats}
 use Rattle.zone_machine.specs.declared.cases.Case.{Case}
-use Rattle.zone_machine.specs.declared.cases.Case.TheVariants as cases
 use Rattle.zone_pools.specs.Asked.{A_pid, A_source, A_zid, An_item, Asked}
 use Rattle.datalink_table.specs.Claims as claims
 use Rattle.datalink_table.specs.Claims.{holds}
@@ -18,6 +17,7 @@ use Rattle.zn_base.specs.Names.{Name}
 use Rattle.zone_pools.specs.Decisions.{asked_of}
 use Rattle.zone_machine.specs.declared.machine.cell.Cell.{Cell}
 use Rattle.zoneadmd_steps.specs.declared.desks.Desk.{Desk}
+use Rattle.zoneadmd_steps.specs.Desks as desks
 use Rattle.zone_machine.specs.declared.machine.shared.Shared.{Shared}
 use Rattle.kernel_objects.specs.Kernel as Kernels
 use Rattle.std.specs.Prelude.{bytes_eq, is_some, length, not, ◌&&◌}
@@ -38,6 +38,10 @@ alike_then c d e s t u one two = record {
 -- room on the desk; d is the desk as it is then
 pub alike_desk : (c : Cell) (s : Shared) (d : Desk) → as_desk d ≡ as_desk c.desk → Alike c s (record c { desk = d }) s
 alike_desk c s d h = record { world = λ row i. record (cell_world row c) { desk = h i }; rows = refl; common = refl; pools = refl }
+
+-- room for a mount
+pub alike_mounts : (c d : Cell) (s : Shared) → d.mounts.list ≡ c.mounts.list → d ≡ record c { mounts = d.mounts } → Alike c s d s
+alike_mounts c d s mounts same = record { world = λ out. ap (cell_world out) same ∙ (λ i. record (cell_world out c) { mounts = mounts i }); rows = refl; common = refl; pools = refl }
 
 -- the kernel's shared part is as it was, but for room
 pub alike_kernel : (c : Cell) (s : Shared) (t : Kernel) → Kernel_alike s.kernel t → Alike c s c (record s { kernel = t })
@@ -108,9 +112,9 @@ store_came (An_item pool item ∷ asked) s t u h = tt
 store_came (A_source z ∷ asked) s t u h = tt
 store_came (_ ∷ asked) s t u h = h
 
-sits_came : (case : Case) (c : Cell) (s : Shared) (k : Kernels.Kernel) (cs : claims.Cell) (t : Kernel) (u : Claim_shared) → HasRoomIfSits case c s → HasRoomIfSits case (record c { kernel = k; claims = cs }) (record s { kernel = t; claims = u })
-sits_came (cases.Put request owner) c s k cs t u h = h
-sits_came _ c s k cs t u h = tt
+sits_came : (b : Bool) (c : Cell) (s : Shared) (k : Kernels.Kernel) (cs : claims.Cell) (t : Kernel) (u : Claim_shared) → HasRoomIf b c s → HasRoomIf b (record c { kernel = k; claims = cs }) (record s { kernel = t; claims = u })
+sits_came true c s k cs t u h = h
+sits_came false c s k cs t u h = tt
 
 pub room_came : (z : Name) (case : Case) (c d : Cell) (s t : Shared) → d ≡ record c { kernel = d.kernel; claims = d.claims } → t ≡ record s { kernel = t.kernel; claims = t.claims }
     → IsFreeFor (objects_of case) d.mounts.list d.claims.claims → HasRoom z case c s → HasRoom z case d t
@@ -120,7 +124,33 @@ room_came z case c d s t cell shared free room =
     subst (λ d. HasRoom z case d t) (sym cell) (subst (λ t. HasRoom z case now t) (sym shared) (record {
       stored = store_came (asked_of (decision_of c.desk case)) s t.kernel t.claims room.stored;
       objects = (room.objects.0, left);
-      sits = sits_came case c s d.kernel d.claims t.kernel t.claims room.sits;
+      sits = sits_came (seats case) c s d.kernel d.claims t.kernel t.claims room.sits;
       rises = room.rises;
       desk = room.desk;
     }))
+
+-- room was made, one after another: for what the case does to the cell and for its session, for a record, for a zone that comes up
+-- and on the desk
+store_kept : (asked : List Asked) (t u : Shared) → u.rows ≡ t.rows → HasRoomToStore asked t → HasRoomToStore asked u
+store_kept [] t u same h = tt
+store_kept (A_pid ∷ asked) t u same h = tt
+store_kept (A_zid ∷ asked) t u same h = tt
+store_kept (An_item pool item ∷ asked) t u same h = tt
+store_kept (A_source z ∷ asked) t u same h = tt
+store_kept (_ ∷ asked) t u same h = rw same h
+
+sits_kept : (b : Bool) (c : Cell) (d : Desk) (s u : Shared) → u.sessions ≡ s.sessions → HasRoomIf b c s → HasRoomIf b (record c { desk = d }) u
+sits_kept true c d s u same h = (h.0, rw same h.1)
+sits_kept false c d s u same h = tt
+
+pub made_room : (z : Name) (case : Case) (c : Cell) (s t u : Shared) (d : Desk) (asked : List Asked) → t ≡ record s { rows = t.rows } → u ≡ record t { ups = u.ups } → as_desk d ≡ as_desk c.desk → asked_of (decision_of d case) ≡ asked
+    → HasRoomToChange (objects_of case) c → HasRoomIfSits case c s → HasRoomToStore asked t → HasRoomToRise z case c u → HasRoomFor d case → HasRoom z case (record c { desk = d }) u
+made_room z case c s t u d asked stored rises desk asks objects sits store rise room =
+    let active : d.active ≡ c.desk.active = ap (λ (d : desks.Desk). d.active) desk in
+    record {
+      stored = rw asks (store_kept asked t u (ap (λ (t : Shared). t.rows) rises) store);
+      objects = objects;
+      sits = sits_kept (seats case) c d s u (ap (λ (t : Shared). t.sessions) rises ∙ ap (λ (t : Shared). t.sessions) stored) sits;
+      rises = λ down up. rise (ap is_some (sym active) ∙ down) (ap (λ a. is_some (case_active case a)) (sym active) ∙ up);
+      desk = room;
+    }

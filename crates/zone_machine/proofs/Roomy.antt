@@ -3,7 +3,7 @@ use Rattle.zone_machine.specs.Code.Works.{IsStoredOf, arrival_by}
 use Rattle.zone_machine.specs.declared.machine.work.Storing.{Storing}
 use Rattle.zone_machine.specs.declared.machine.work.Storing.TheVariants as storing
 use Rattle.zone_machine.proofs.Case_asks.{came, came_is}
-use Rattle.std.proofs.Common.{◌≡◌, ◌∙◌, ◌⊎◌, ◌∷◌, [], inl, inr, ℕ, List, true, Option, None, Result, Ok as Right, Err, refl, sym, subst}
+use Rattle.std.proofs.Common.{◌≡◌, ◌∙◌, ◌⊎◌, ◌∷◌, [], inl, inr, ℕ, List, Bool, true, false, Option, Some, None, IfSome, Result, Ok as Right, Err, refl, sym, subst}
 use Rattle.std.proofs.lemmas.Bool.{false≢true}
 use Rattle.zn_base.specs.Names.{Name}
 use Rattle.zone_pools.specs.Asked.{A_path, A_pid, A_serial, A_source, A_zid, A_zone, An_item, Asked}
@@ -15,7 +15,8 @@ use Rattle.zone_machine.proofs.Asking.{asks_rightly}
 use Rattle.zoneadmd_steps.proofs.Of_turns.{is_asked_for}
 use Rattle.zoneadmd_steps.specs.Arrivals.{A_claim, A_process, A_record, An_id, Arrival, Comes, No_thing, in_store}
 use Rattle.zone_machine.specs.State.Decisions.{Decision, act_of}
-use Rattle.zone_machine.specs.Code.Rooms.{HasRoomBy, HasRoomOf, HasRoomToChange, HasRoomToStore, IsFreeOf}
+use Rattle.zone_machine.specs.Code.Rooms.{HasRoomBy, HasRoomIf, HasRoomOf, HasRoomToChange, HasRoomToSit, HasRoomToStore, IsFreeOf}
+use Rattle.zone_machine.specs.declared.cases.Sitting.{Sitting}
 use Rattle.zone_machine.specs.declared.machine.cell.Cell.{Cell}
 use Rattle.zone_machine.specs.declared.machine.shared.Shared.{Shared}
 use Rattle.zoneadmd_steps.specs.Code.Cases.{Holds, premise_of}
@@ -40,6 +41,12 @@ roomy (Ask c asked denied given) g s h room = subst (λ o. HasRoomOf (in_store o
 -- room doesn't go by the desk, and not by more of an edit than what it takes for granted
 pub room_change : (o p : ObjectEdit) (c : Cell) (d : Desk) → premise_of p ≡ premise_of o → HasRoomToChange o c → HasRoomToChange p (record c { desk = d })
 room_change o p c d same h = subst (λ q. HasRoomBy q c.mounts × Holds q c.mounts.list c.claims.claims) (sym same) h
+
+-- where the event's session does something else from now on, there is room for it
+pub room_to_sit : (b : Bool) (c : Cell) (s : Shared) (o : Option Sitting) → (b ≡ false → o ≡ None) → HasRoomIf b c s → IfSome o (λ x. HasRoomToSit c s)
+room_to_sit true c s None none room = tt
+room_to_sit true c s (Some x) none room = room
+room_to_sit false c s o none room = subst (λ o. IfSome o (λ x. HasRoomToSit c s)) (sym (none refl)) tt
 
 -- what is stored is free for the zone whose it is
 one_owner : (y z : Name) (s : Storing) → IsStoredOf z s → IsStoredOf y s → (arrival_by s ≡ None) ⊎ (z ≡ y)

@@ -25,7 +25,7 @@ use Rattle.commit_journal.specs.Stored.{stored as stored_by}
 use Rattle.commit_journal.specs.Zones.{rows_of}
 use Rattle.commit_journal.specs.declared.records.Commit.{Commit}
 use Rattle.zone_machine.proofs.Common_laws.{common-acts, has_it, holder-none, holder-one}
-use Rattle.zone_machine.proofs.Doing_laws.{holds_wait}
+use Rattle.zone_machine.proofs.Doing_laws.{holds_doing}
 use Rattle.zone_machine.proofs.Acts_laws.{own-acts}
 use Rattle.zone_machine.proofs.Own_worlds.{own_session, view-world}
 use Rattle.zone_machine.specs.Code.Cells.{Acts, Agree, CellOf, Outside, SharedOf, Shows, cell_world, declared_in, is_up_in, outside_in, outside_of, row_in}
@@ -72,7 +72,7 @@ agrees z S c s cell shared = record {
   pids = λ n. ap (λ w. list_any (has_pid n) w.processes) (sym cell) ∙ ap (λ k. k.pids z n) shared;
   zids = λ n. ap (λ w. list_any (has_zid n) w.ids) (sym cell) ∙ ap (λ k. k.zids z n) shared;
   claims = λ k. ap (λ w. holds k w.claims) (sym cell) ∙ ap (λ c. c.claims z k) shared;
-  sessions = λ n. sym (holds_wait (get nat_eq c.waits n)) ∙ (ap (λ w. is_some (w.sessions n)) (sym cell) ∙ ap (λ k. k.sessions z n) shared);
+  sessions = λ n. sym (holds_doing (get nat_eq c.doings n)) ∙ (ap (λ w. is_some (w.sessions n)) (sym cell) ∙ ap (λ k. k.sessions z n) shared);
 }
 
 -- before any event, and after a restart, nobody holds anything, and no zone is up
@@ -125,6 +125,7 @@ subject-stands S s (event.Session n text) h =
 subject-stands S s (event.Turn z) h = refl
 subject-stands S s (event.Process z pid c) h = refl
 subject-stands S s (event.System what) h = refl
+subject-stands S s event.Restart h = refl
 
 -- what a view of the cell's zone shows
 first_id : (o : Option Id) → first_of (ids_of o) ≡ o
@@ -144,6 +145,7 @@ pub open-to : (z : Name) (s : Shared) (e : Event) → subject_in s e ≡ Zone z 
 open-to z s (event.Turn y) is = tt
 open-to z s (event.Process y pid c) is = tt
 open-to z s (event.System what) is = tt
+open-to z s event.Restart is = tt
 open-to z s (event.Session n text) is = at_owner (owner nat_eq s.sessions n) is
   where
     at_owner : (o : Option Name) → subject_at (line_of text) s.kernel o ≡ Zone z → IsOpenTo z o

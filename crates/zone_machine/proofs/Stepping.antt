@@ -36,9 +36,11 @@ use Rattle.zone_machine.specs.Machine.Common.{Common, common}
 use Rattle.zone_machine.specs.Machine.Histories.{concerns}
 use Rattle.zone_machine.specs.Session.Lines.{Command, Kill, Line, line_of}
 use Rattle.zone_machine.specs.declared.events.Declaration.{Declaration}
-use Rattle.zone_machine.specs.Machine.{decide, declare_reply, declared_by, global_reply, named_subject, one, one_of, subject, subject_of_name}
+use Rattle.zone_machine.specs.Machine.{decide, declare_reply, declared_by, global_reply, is_restart, named_subject, one, one_of, subject, subject_of_name, whole}
 use Rattle.zone_machine.specs.Machine.Pools.{allowed, allowed_of, fits, fits_of, is_installed, kind_of, of_kind, path_taken, pools_of}
-use Rattle.zone_machine.specs.State.{Awaiting, State, stored}
+use Rattle.zone_machine.specs.State.{State, stored}
+use Rattle.zone_machine.specs.Code.Doings.{as_doing}
+use Rattle.zone_machine.specs.declared.session.doings.Doing.{Doing}
 use Rattle.zone_machine.specs.Session.Typed.{typed}
 use Rattle.zn_io.specs.Disk.{View as Disk_view}
 use Rattle.zone_disk.specs.Bank.{Account}
@@ -47,7 +49,7 @@ use Rattle.zone_machine.specs.Code.Rooms.{Alike, IsFreeOf}
 use Rattle.zone_machine.specs.Code.Cell_steps.{CellAnswers, CellLeaves, IsCellStep, IsCellMisfitUnder, IsCellStepUnder}
 use Rattle.zone_machine.specs.Code.Steps.{IsRefusedIfUnfit, IsStep, IsStepUnder, IsZoneState, Answers, IsGrantFor, IsUnfit, IsMisfitUnder, IsTaken, Leaves, LeavesGranted, Takes, AsItWas}
 use Rattle.zone_machine.specs.declared.faults.StepFault.{StepFault}
-use Rattle.zone_machine.specs.declared.faults.StepFault.TheVariants.{BadGrant, DiskFault, Memory, WouldRecord}
+use Rattle.zone_machine.specs.declared.faults.StepFault.TheVariants.{BadGrant, DiskFault, Memory, NoStore, WouldRecord}
 use Rattle.zone_machine.specs.State.Worlds.{World, objects_of, view, view_of, world, View}
 use Rattle.zoneadmd_steps.specs.declared.desks.Desk.{Desk}
 use Rattle.zone_machine.specs.declared.machine.cell.Cell.{Cell}
@@ -67,7 +69,11 @@ use Rattle.zoneadmd_steps.specs.Desks.{state_of}
 use Rattle.zone_machine.specs.State.Decisions.{Decision, act_of}
 use Rattle.zone_machine.proofs.Case_asks.{asks_case}
 use Rattle.zone_machine.proofs.Freeing.{freed, numbered_case}
-use Rattle.zone_machine.specs.Code.Cases.{IsNumbered, decision_of}
+use Rattle.zone_machine.specs.Code.Cases.{IsCaseOf, IsNamedCase, IsNumbered, decision_of}
+use Rattle.zone_machine.specs.Code.Works.{MountsNothing}
+use Rattle.zoneadmd_steps.specs.Code.Desks.{as_desk}
+use Rattle.zonecfg_scopes.specs.Edited.{Edited}
+use Rattle.zone_machine.specs.Session.Commits.{edits_line}
 use Rattle.zone_machine.specs.Code.Decided.{IsCaseIn, IsCellAt, IsHeard, IsNextHook}
 use Rattle.brand_hooks.specs.Brands.{Tabled}
 use Rattle.brand_hooks.specs.declared.change.Change.{Change}
@@ -307,6 +313,7 @@ module _ (m u : Parts) (z : Name) (e : Event) (c d : Cell) (same : (out : Outsid
   Leaves-cell g WouldRecord h more = (AsItWas-cell h, more refl)
   Leaves-cell g BadGrant h more = absurd h
   Leaves-cell g DiskFault h more = tt
+  Leaves-cell g (NoStore fault) h more = absurd h
 
 -- the same where a cell was to be kept and is not, and the others stand as they stood
 module _ (m u : Parts) (z : Name) (e : Event) (c d : Cell) (same : (y : Name) → cell_at y u ≡ cell_at y m) where
@@ -321,6 +328,7 @@ module _ (m u : Parts) (z : Name) (e : Event) (c d : Cell) (same : (y : Name) �
   Leaves-new g WouldRecord h more = (AsItWas-new h, more refl)
   Leaves-new g BadGrant h more = absurd h
   Leaves-new g DiskFault h more = tt
+  Leaves-new g (NoStore fault) h more = absurd h
 
 pub refused-unfit : {D : Type 0} (m u : Parts) (e : Event) (g : Grant) (r : Result Entry StepFault) (a b : Account D) (v w : Disk_view) (s : Shared)
     → IfOk r (λ entry. IsStepUnder (Some g) m e entry u) → IfErr r (λ fault. Leaves fault (Some g) m e u) → IfErr r (λ fault. BankLeft true fault a b v w s) → IsRefusedIfUnfit m e g r
@@ -329,6 +337,7 @@ refused-unfit m u e g (Err Memory) a b v w s ok fault left = λ S stands unfit. 
 refused-unfit m u e g (Err BadGrant) a b v w s ok fault left = λ S stands unfit. inl refl
 refused-unfit m u e g (Err WouldRecord) a b v w s ok fault left = absurd left
 refused-unfit m u e g (Err DiskFault) a b v w s ok fault left = λ S stands unfit. absurd (false≢true (sym unfit ∙ fault S stands))
+refused-unfit m u e g (Err (NoStore f)) a b v w s ok fault left = absurd left
 
 -- the same of a cell and the shared part
 module _ (z : Name) (c : Cell) (s : Shared) (e : Event) where
@@ -339,12 +348,15 @@ module _ (z : Name) (c : Cell) (s : Shared) (e : Event) where
   cell-left_so (Err BadGrant) stated some h = h refl
   cell-left_so (Err DiskFault) stated (inl is) h = cc
   cell-left_so (Err DiskFault) stated (inr is) h = cc
+  cell-left_so (Err (NoStore f)) stated (inl is) h = cc
+  cell-left_so (Err (NoStore f)) stated (inr is) h = cc
 
   pub cell-leaves-stated : (stated : Option Grant) (g : Grant) (asked : List Asked) → asked_of (decide_in z (outside_in z s) c e) ≡ asked → IsGrantFor z (pools_in s) asked stated g → (d : Cell) (t : Shared) (fault : StepFault)
       → CellLeaves fault z None c s e d t → CellLeaves fault z stated c s e d t
   cell-leaves-stated stated g asked asks takes d t Memory h = h
   cell-leaves-stated stated g asked asks takes d t WouldRecord h = h
   cell-leaves-stated stated g asked asks takes d t BadGrant h = absurd h
+  cell-leaves-stated stated g asked asks takes d t (NoStore f) h = absurd h
   cell-leaves-stated None g asked asks takes d t DiskFault h = tt
   cell-leaves-stated (Some stated) g asked asks takes d t DiskFault h = λ S cell shared of. (takes-by S s z (cell_world (outside_in z s) c) e asked shared (cell-stands z S c s cell shared) of asks (Some stated) g takes).1
 
@@ -410,6 +422,8 @@ left_so (Err WouldRecord) stated m e (inr is) h = cc
 left_so (Err BadGrant) stated m e some h = h refl
 left_so (Err DiskFault) stated m e (inl is) h = cc
 left_so (Err DiskFault) stated m e (inr is) h = cc
+left_so (Err (NoStore f)) stated m e (inl is) h = cc
+left_so (Err (NoStore f)) stated m e (inr is) h = cc
 
 -- what comes with it is free
 pub case_freed : (P : Pools) (z : Name) (d : Desk) (case : Case) (stated : Option Grant) (g : Grant) → IsGrantFor z P (asked_of (decision_of d case)) stated g → IsFreeOf z (act_of (decision_of d case) g).came P
@@ -430,7 +444,7 @@ pub Keeps-roomy : (m u : Parts) (z key : Name) (d : Cell) (roomy : Name → Opti
 Keeps-roomy m u z key d roomy is same keeps out y =
     keeps out y ∙ (ap (λ k. if bytes_eq k y then cell_world out d else world_or_empty out (roomy y)) is ∙ ap (λ o. if bytes_eq z y then cell_world out d else world_or_empty out o) (same y))
 
--- only a declaration is the whole system's
+-- only a declaration and a restart are the whole system's
 never_named : (word : Option (List ℕ)) → Whole ≡ named_subject word → ⊥
 never_named None h = cc
 never_named (Some word) h = at_name (name_of word) h
@@ -451,11 +465,12 @@ never_at : (line : Line) (k : Kernel) (o : Option Name) → Whole ≡ subject_at
 never_at line k None h = never_idle line.zone k line.command h
 never_at line k (Some y) h = cc
 
-pub never_other : (s : Shared) (e : Event) → subject_in s e ≡ Whole → ((what : Declaration) → e ≡ event.System what → ⊥) → ⊥
-never_other s (event.Session n text) h other = never_at (line_of text) s.kernel (owner nat_eq s.sessions n) (sym h)
-never_other s (event.Turn z) h other = cc
-never_other s (event.Process z pid c) h other = cc
-never_other s (event.System what) h other = other what refl
+pub never_other : (s : Shared) (e : Event) → subject_in s e ≡ Whole → is_restart e ≡ false → ((what : Declaration) → e ≡ event.System what → ⊥) → ⊥
+never_other s (event.Session n text) h stays other = never_at (line_of text) s.kernel (owner nat_eq s.sessions n) (sym h)
+never_other s (event.Turn z) h stays other = cc
+never_other s (event.Process z pid c) h stays other = cc
+never_other s (event.System what) h stays other = other what refl
+never_other s event.Restart h stays other = absurd (false≢true (sym stays))
 
 -- a world by what is declared now
 declared-at : (out : Outside) (d : Declared) (o : Option Cell) → record (world_or_empty out o) { declared = d } ≡ world_or_empty (record out { declared = d }) o
@@ -479,10 +494,10 @@ module _ (m : Parts) (e : Event) (is : subject_in m.shared e ≡ Whole) where
   IsMisfitUnder-whole None unfit = absurd (unfit (pools_in m.shared) [])
   IsMisfitUnder-whole (Some stated) unfit = (λ S h. fits-of S e stated Whole (of_whole S h) ∙ (sym (nothing-fits (pools_of S) [] stated) ∙ unfit (pools_of S) []), refl)
 
-  pub IsStep-whole : (g : Grant) (reply : Reply) (t : Shared) → reply ≡ declare_reply e (common_in m.shared).declared → common_in t ≡ record (common_in m.shared) { declared = declared_by e (common_in m.shared).declared }
+  pub IsStep-whole : (g : Grant) (reply : Reply) (t : Shared) → ((S : State) → whole e S ≡ record S { declared = declared_by e S.declared }) → reply ≡ declare_reply e (common_in m.shared).declared → common_in t ≡ record (common_in m.shared) { declared = declared_by e (common_in m.shared).declared }
       → IsStep m e g (record { event = e; subject = Whole; grant = g; reply = reply }) (record m { shared = t })
-  IsStep-whole g reply t said left S h =
-      let steps = one-whole S g h in
+  IsStep-whole g reply t only said left S h =
+      let steps : one S e g ≡ record { state = record S { declared = declared_by e S.declared }; reply = declare_reply e S.declared } = one-whole S g h ∙ ap (λ (T : State). record { state = T; reply = declare_reply e S.declared }) (only S) in
       let same : S.declared ≡ (common_in m.shared).declared = ap (λ (k : Common). k.declared) h.shared in
       record {
         told = λ i. record { event = e; subject = sym (of_whole S h) i; grant = g; reply = (said ∙ (ap (declare_reply e) (sym same) ∙ ap (λ r. r.reply) (sym steps))) i };
@@ -499,6 +514,7 @@ pub heard-at : (m : Parts) (e : Event) (z : Name) (c : Cell) (answer : HookAnswe
 heard-at m (event.Session n text) z c answer heard is here turn = absurd (false≢true turn)
 heard-at m (event.Process y pid x) z c answer heard is here turn = absurd (false≢true turn)
 heard-at m (event.System what) z c answer heard is here turn = absurd (false≢true turn)
+heard-at m event.Restart z c answer heard is here turn = absurd (false≢true turn)
 heard-at m (event.Turn y) z c answer heard is here turn = heard c (ap (λ y. cell_at y m) (same is) ∙ here)
   where
     same : Zone y ≡ Zone z → y ≡ z
@@ -513,16 +529,31 @@ pub hears : (m : Parts) (e : Event) (asked : Option (Option ℕ × Change)) (ans
 hears m (event.Session n text) asked answer next is = tt
 hears m (event.Process y pid x) asked answer next is = tt
 hears m (event.System what) asked answer next is = tt
+hears m event.Restart asked answer next is = tt
 hears m (event.Turn z) asked answer next is = λ c here. is ∙ ap (heard m.shared.brands) (next c here)
 
 -- a line's case, in the view that the cell and the shared part make
-pub line-case : (z : Name) (s : Shared) (c : Cell) (n : ℕ) (line : Line) (stored : Option Record) (ticket : Option ℕ) (case : Case) → stored ≡ row_in z s → ticket ≡ get nat_eq c.waits n
-    → IsCaseIn z (record { stored = stored; declared = declared_in s; brands = s.brands }) c (λ v. typed v (option_map Awaiting ticket) line) case
+pub line-case : (z : Name) (s : Shared) (c : Cell) (n : ℕ) (line : Line) (stored : Option Record) (doing : Option Doing) (case : Case) → stored ≡ row_in z s → doing ≡ get nat_eq c.doings n
+    → IsCaseIn z (record { stored = stored; declared = declared_in s; brands = s.brands }) c (λ v. typed v (option_map as_doing doing) line) case
     → IsCaseIn z (outside_in z s) c (λ v. typed v (v.world.sessions n) line) case
 unfolding view_of
-line-case z s c n line stored ticket case row waits h = record {
-  decided = (λ i. typed (view_of z (cell_world (record { stored = sym row i; declared = declared_in s; brands = s.brands }) c)) (option_map Awaiting (sym waits i)) line) ∙ h.decided;
+line-case z s c n line stored doing case row does h = record {
+  decided = (λ i. typed (view_of z (cell_world (record { stored = sym row i; declared = declared_in s; brands = s.brands }) c)) (option_map as_doing (sym does i)) line) ∙ h.decided;
   of = h.of;
   named = h.named;
   free = h.free;
 }
+
+-- a line of a session that edits, by what is known of its case
+pub edits-case : {E : Type 0} (r : Result Case E) (z : Name) (c : Cell) (stored : Option Record) (brands : List Tabled) (e : Edited) (text : List ℕ) (decides : View → Decision) → ((v : View) → decides v ≡ edits_line v e text)
+    → IfOk r (λ case. (d : Desk) (v : View) → v.zone ≡ z → v.world.stored ≡ stored → v.world.brands ≡ brands → v.world.desk ≡ as_desk c.desk → edits_line v e text ≡ decision_of d case)
+    → IfOk r (λ case. (d : Desk) → IsCaseOf d case) → IfOk r (IsNamedCase z) → IfOk r MountsNothing
+    → IfOk r (λ case. (declared : Declared) → IsCaseIn z (record { stored = stored; declared = declared; brands = brands }) c decides case)
+unfolding view_of
+edits-case (Right case) z c stored brands e text decides same decided of named free = λ declared. record {
+  decided = same _ ∙ decided c.desk (view_of z (cell_world (record { stored = stored; declared = declared; brands = brands }) c)) refl refl refl refl;
+  of = of c.desk;
+  named = named;
+  free = free c.mounts.list c.claims.claims;
+}
+edits-case (Err fault) z c stored brands e text decides same decided of named free = tt

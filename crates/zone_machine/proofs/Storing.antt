@@ -104,6 +104,7 @@ case-stored d (cases.Tells body) g of h = refl
 case-stored d (cases.Change edit) g of h = refl
 case-stored d (cases.Fork p) g of h = asked-store (A_process (process_of (0, p.value))) (A_pid ∷ []) _ _ g ∙ no-record (A_process (process_of (0, p.value))) (λ n. refl) (number_in g)
 case-stored d (cases.Answers reply) g of h = refl
+case-stored d (cases.Sit s) g of h = refl
 case-stored d (cases.Commit c) g of h =
     asked-store (A_record (λ n. Some (numbered_row c.value.novelty c.value.owner c.value.row.value n))) (asked_of (decision_of d (cases.Commit c))) _ _ g
     ∙ made-record (number_in g) c.value.row.value (numbered_row c.value.novelty c.value.owner c.value.row.value) h

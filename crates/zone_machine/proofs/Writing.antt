@@ -24,7 +24,7 @@ use Rattle.zone_machine.specs.Code.Cell_steps.{CellLeaves}
 use Rattle.zone_machine.specs.Code.Rooms.{Alike}
 use Rattle.zone_machine.specs.declared.machine.cell.Cell.{Cell}
 use Rattle.zone_machine.specs.Code.Records.{BankLeft, IsReady, NeedsNoDisk, StoresEither, Writes, bodies_with, rows_with, used_with}
-use Rattle.zone_machine.specs.Machine.{decide, one, one_of, session_number, subject}
+use Rattle.zone_machine.specs.Machine.{decide, one, one_of, session_number, subject, whole}
 use Rattle.zone_machine.specs.Machine.Changes.{committed}
 use Rattle.zone_machine.specs.Machine.Images.{Goes, HoldsEither}
 use Rattle.zone_machine.specs.State.{State, bodies_of}
@@ -32,10 +32,11 @@ use Rattle.zone_machine.specs.State.Decisions.{Act, act_of, acts, after_came}
 use Rattle.zone_machine.specs.State.Edits.{Edit, Of_objects, comes, edit, edits}
 use Rattle.zone_machine.specs.State.Worlds.{view}
 use Rattle.zone_machine.specs.declared.events.Event.{Event}
+use Rattle.zone_machine.specs.declared.events.Event.TheVariants.{Process as Call_of, Restart, Session, System, Turn}
 use Rattle.zone_machine.specs.declared.events.Subject.{Subject}
 use Rattle.zone_machine.specs.declared.events.Subject.TheVariants.{Global, Whole, Zone}
 use Rattle.zone_machine.specs.declared.faults.StepFault.{StepFault}
-use Rattle.zone_machine.specs.declared.faults.StepFault.TheVariants.{BadGrant, DiskFault, Memory, WouldRecord}
+use Rattle.zone_machine.specs.declared.faults.StepFault.TheVariants.{BadGrant, DiskFault, Memory, NoStore, WouldRecord}
 use Rattle.zone_machine.specs.declared.machine.shared.Shared.{Shared}
 
 -- where nothing is written, what was stored is one of the two
@@ -175,8 +176,15 @@ commits-zone S e g z is = ap (λ r. r.state.commits) (one-by S e g (Zone z) is) 
 pub commits-global : (S : State) (e : Event) (g : Grant) → subject S e ≡ Global → (one S e g).state.commits ≡ S.commits
 commits-global S e g is = ap (λ r. r.state.commits) (one-by S e g Global is)
 
+whole-commits : (S : State) (e : Event) → (whole e S).commits ≡ S.commits
+whole-commits S (Session n text) = refl
+whole-commits S (Turn z) = refl
+whole-commits S (Call_of z pid c) = refl
+whole-commits S (System what) = refl
+whole-commits S Restart = refl
+
 pub commits-whole : (S : State) (e : Event) (g : Grant) → subject S e ≡ Whole → (one S e g).state.commits ≡ S.commits
-commits-whole S e g is = ap (λ r. r.state.commits) (one-by S e g Whole is)
+commits-whole S e g is = ap (λ r. r.state.commits) (one-by S e g Whole is) ∙ whole-commits S e
 
 -- the bank after a fault that no disk has a part in
 pub left-apart : {D : Type 0} (may : Bool) (fault : StepFault) (v : View) (b : Account D) (s : Shared) → NeedsNoDisk fault → IsReady v b s → BankLeft may fault b b v v s
@@ -184,6 +192,7 @@ left-apart may Memory v b s apart ready = (refl, ready)
 left-apart may BadGrant v b s apart ready = (refl, ready)
 left-apart may WouldRecord v b s apart ready = absurd apart
 left-apart may DiskFault v b s apart ready = absurd apart
+left-apart may (NoStore fault) v b s apart ready = absurd apart
 
 pub and_false : (a b : Bool) → b ≡ false → (a && b) ≡ false
 and_false true b h = h
@@ -206,6 +215,8 @@ module _ {D : Type 0} (view : D → View) (a b : Account D) (s : Shared) where
   left-written may stored (Err WouldRecord) test none memory ready rose unsound (inr e) = cc
   left-written may stored (Err BadGrant) test none memory ready rose unsound (inl e) = cc
   left-written may stored (Err BadGrant) test none memory ready rose unsound (inr e) = cc
+  left-written may stored (Err (NoStore f)) test none memory ready rose unsound (inl e) = cc
+  left-written may stored (Err (NoStore f)) test none memory ready rose unsound (inr e) = cc
 
 -- what is left of the cell and the shared part where a record was not written
 pub write-fault : (z : Name) (stored : Option Arrival) (c d : Cell) (s t : Shared) (r : Result (Unit {0}) StepFault) → IfErr r (λ e. (e ≡ Memory) ⊎ (e ≡ DiskFault)) → (stored ≡ None → is_ok r ≡ true)
@@ -217,3 +228,5 @@ write-fault z stored c d s t (Err WouldRecord) (inl e) none alike = absurd (cc)
 write-fault z stored c d s t (Err WouldRecord) (inr e) none alike = absurd (cc)
 write-fault z stored c d s t (Err BadGrant) (inl e) none alike = absurd (cc)
 write-fault z stored c d s t (Err BadGrant) (inr e) none alike = absurd (cc)
+write-fault z stored c d s t (Err (NoStore f)) (inl e) none alike = absurd (cc)
+write-fault z stored c d s t (Err (NoStore f)) (inr e) none alike = absurd (cc)

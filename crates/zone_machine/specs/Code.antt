@@ -1,7 +1,7 @@
 -- What the code's values stand for, and what its steps do to them.
 pub mod Lines
 pub mod Listed
-pub mod Waits
+pub mod Doings
 pub mod Cells
 pub mod Reads
 pub mod Needs
@@ -16,3 +16,4 @@ pub mod Cell_steps
 pub mod Local_turns
 pub mod Openings
 pub mod Decided
+pub mod Restarts

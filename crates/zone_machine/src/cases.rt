@@ -1,5 +1,7 @@
 //! What an event of a zone comes to. A case is decided before anything is changed, and holds all that its event needs.
 use crate::replies::{Body, Head, Reply};
+use crate::session::doings::Doing;
+use crate::session::held::{HeldConfig, HeldEditor};
 use commit_journal::Row;
 use kernel_objects::Running;
 use zn_base::{Bytes, Listing, ZoneName};
@@ -15,6 +17,38 @@ pub(crate) enum Novelty {
     Nothing,
 }
 
+/// What the event's session does from now on, nothing where it is idle, and the name of the zone in which it does.
+#[derive(Drop)]
+pub(crate) struct Sitting {
+    pub(crate) doing: Option<Doing>,
+    pub(crate) owner: ZoneName,
+}
+
+/// What becomes of the event's session alone, and the reply.
+#[derive(Drop)]
+pub(crate) struct Seated {
+    pub(crate) sitting: Sitting,
+    pub(crate) reply: Reply,
+}
+
+/// A session's editor, and the name of the zone that it edits.
+#[derive(Drop)]
+pub(crate) struct Seat {
+    pub(crate) editor: HeldEditor,
+    pub(crate) owner: ZoneName,
+}
+
+/// Who commits or removes a zone. A session stays in the editor where that is denied.
+#[derive(Drop)]
+pub(crate) enum Committer {
+    /// A line that is a session of its own.
+    Alone,
+    /// A session that goes on, with this configuration for the base of its editor.
+    GoesOn(Seat, HeldConfig),
+    /// A session that leaves.
+    Leaves(Seat),
+}
+
 /// A configuration of a zone that is committed, and what the line tells.
 #[derive(Drop)]
 pub(crate) struct Committed {
@@ -23,6 +57,7 @@ pub(crate) struct Committed {
     pub(crate) owner: ZoneName,
     pub(crate) novelty: Novelty,
     pub(crate) told: Listing<Bytes>,
+    pub(crate) committer: Committer,
 }
 
 /// A zone that is removed, and what the line tells.
@@ -30,6 +65,7 @@ pub(crate) struct Committed {
 pub(crate) struct Removed {
     pub(crate) owner: ZoneName,
     pub(crate) told: Listing<Bytes>,
+    pub(crate) committer: Committer,
 }
 
 /// What an event of a zone comes to.
@@ -41,6 +77,8 @@ pub(crate) enum Case {
     Tells(Body),
     /// Nothing is done but a reply, which may be a refusal that tells something.
     Answers(Box<Reply>),
+    /// What its session does in the zone changes.
+    Sit(Box<Seated>),
     /// The zone's objects change.
     Change(ObjectEdit),
     /// A process makes another.

@@ -4,12 +4,12 @@ ghost use Rattle.zn_base.specs.Names.{Name};
 ghost use Rattle.commit_journal.specs.Store.{row_of};
 ghost use Rattle.kernel_objects.specs.declared.objects.Id.{Id};
 ghost use Rattle.zone_pools.specs.declared.grant.Grant.{Grant};
-ghost use Rattle.zone_machine.specs.Machine.Common.{HoldOnce, acts_common, common};
+ghost use Rattle.zone_machine.specs.Machine.Common.{HoldOnce, acts_common, common, whole_common};
 ghost use Rattle.zone_machine.specs.State.Decisions.{act_of, says};
 ghost use Rattle.zoneadmd_steps.specs.Desks.{Desk};
 ghost use Rattle.zone_machine.specs.Machine.Histories.{is_allowed, is_told};
 ghost use Rattle.zone_machine.specs.Machine.Local.{is_busy, is_local};
-ghost use Rattle.zone_machine.specs.Machine.{decide, declared_by, need, one, session_number, subject};
+ghost use Rattle.zone_machine.specs.Machine.{decide, need, one, session_number, subject};
 ghost use Rattle.zone_machine.specs.Machine.Pools.{allowed, fits};
 ghost use Rattle.zone_machine.specs.State.{State, stored};
 ghost use Rattle.zone_machine.specs.State.Worlds.{World, view_of, world};
@@ -28,9 +28,9 @@ pub fn changes_what_is_common()
     // An event of the global zone only says that an event has come.
     ensures global { (S : State) (e : Event) (g : Grant) → subject S e ≡ Global
         → common (one S e g).state ≡ record (common S) { started = true } }
-    // An event of the whole system only declares something.
+    // An event of the whole system only declares something, or it is a restart, after which nobody holds anything.
     ensures whole { (S : State) (e : Event) (g : Grant) → subject S e ≡ Whole
-        → common (one S e g).state ≡ record (common S) { declared = declared_by e S.declared } }
+        → common (one S e g).state ≡ whole_common e (common S) }
 {}
 
 /// Whose an event is follows from what is common, where no two zones hold one number of a process.

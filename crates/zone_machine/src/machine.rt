@@ -9,8 +9,9 @@ ghost use Rattle.commit_journal.specs.declared.records.Commit.{Commit};
 ghost use Rattle.zone_machine.specs.Code.Cells.{Stands};
 ghost use Rattle.zone_machine.specs.Code.Decided.{AsksBrands, IsHeard, MayGoOn, entry_by};
 ghost use Rattle.zone_machine.specs.Code.Openings.{Begins, BeginsAgain, StandsFor};
-ghost use Rattle.zone_machine.specs.Code.Records.{BankLeft, GoesUnder, KeepsBodies, Passes};
-ghost use Rattle.zone_machine.specs.Code.Steps.{AsItWas, IsAllowed, IsAllowedStep, IsFittingStep, IsMisfit, IsRefusedIfUnfit, IsStarted, IsSubject, IsZoneState, Leaves};
+ghost use Rattle.zone_machine.specs.Code.Records.{GoesUnder, Passes};
+ghost use Rattle.zone_machine.specs.Code.Restarts.{BankLeftAny, BeginsAgainAfter, IsAllowedStepOf, IsFittingStepOf, KeepsBodiesOf, LeavesAny, LosesStore};
+ghost use Rattle.zone_machine.specs.Code.Steps.{AsItWas, IsAllowed, IsMisfit, IsRefusedIfUnfit, IsStarted, IsSubject, IsZoneState};
 ghost use Rattle.zone_machine.specs.Machine.{opening, restarted};
 ghost use Rattle.zone_machine.specs.Machine.Images.{Holds, IsStoreOf};
 ghost use Rattle.zone_machine.specs.Machine.Indexed.{index_of};
@@ -30,6 +31,7 @@ pub(crate) mod parts;
 pub(crate) mod pools;
 pub(crate) mod reads;
 pub(crate) mod records;
+pub(crate) mod restarts;
 pub(crate) mod rooms;
 pub(crate) mod settling;
 pub(crate) mod shared;
@@ -101,7 +103,7 @@ impl<'b, D: Disk, F: Fn(&Change) -> HookAnswer> Machine<'b, D, F> {
 
     /// The system restarts: the store is opened again, what is declared stays, and all else begins anew. A crash at any moment
     /// meanwhile leaves what stands for the same commits. After a fault all zones are as they were, and no event may be taken
-    /// any more.
+    /// any more. As an event it is `Event::Restart`.
     pub fn restart(&mut self, alloc: Global) -> Result<(), StoreFault>
         requires asks { AsksBrands F.Fn self.old }
         requires ready { MayGoOn D.view self.old }
@@ -170,9 +172,9 @@ impl<'b, D: Disk, F: Fn(&Change) -> HookAnswer> Machine<'b, D, F> {
         }
     }
 
-    /// Whose an event is: of a session the zone in which it waits for a ticket, else the zone that the
+    /// Whose an event is: of a session the zone in which it waits for a ticket or which it edits, else the zone that the
     /// line names, else the global zone; of a turn the zone whose daemon it is; of a call the zone of the
-    /// process; of a declaration the whole system.
+    /// process; of a declaration and of a restart the whole system.
     pub fn subject(&self, alloc: Global, event: &Event) -> Result<Subject, StepFault>
         ensures ok { IfOk result (IsSubject self.now.parts event.now) }
         ensures err { IsOkUnless result StepFault.Memory }
@@ -191,27 +193,32 @@ impl<'b, D: Disk, F: Fn(&Change) -> HookAnswer> Machine<'b, D, F> {
 
     /// An event is answered under the grant that the pools give it. A crash at any moment meanwhile leaves the commits from
     /// before, or these and the event's. Where memory runs out, the machine is as it was; where the disk fails, no event may be
-    /// taken any more.
+    /// taken any more. A restart reads the store again: on a disk that keeps to its model it finds the same commits, and on any
+    /// other some. Where it isn't done, no event may be taken any more, for whatever reason.
     pub fn step(&mut self, alloc: Global, event: Event) -> Result<Entry, StepFault>
         requires asks { AsksBrands F.Fn self.old }
         requires ready { MayGoOn D.view self.old }
-        ensures ok { IfOk result (λ entry. IsAllowedStep self.old.parts event entry self.new.parts) }
+        ensures ok { IfOk result (λ entry. IsAllowedStepOf D.view self.old event entry self.new) }
+        ensures again { OnOk result (BeginsAgainAfter event self.old self.new) }
         ensures goes { GoesUnder None self.old.parts event self.old.bank.records (D.view self.old.bank.disk) (D.view self.new.bank.disk) }
-        ensures bodies { OnOk result (KeepsBodies None self.old.parts event self.old.bank.records self.new.bank.records) }
+        ensures bodies { OnOk result (KeepsBodiesOf D.view None self.old event self.new) }
         ensures ready { OnOk result (MayGoOn D.view self.new) }
         ensures passes { Passes (D.view self.old.bank.disk) (D.view self.new.bank.disk) }
-        ensures err { IfErr result (λ fault. (fault ≡ StepFault.Memory) ⊎ (fault ≡ StepFault.DiskFault)) }
+        ensures err { IfErr result (λ fault. (fault ≡ StepFault.Memory) ⊎ ((fault ≡ StepFault.DiskFault) ⊎ LosesStore event (D.view self.old.bank.disk) fault)) }
         ensures memory { IsErrOf result StepFault.Memory → AsItWas self.old.parts self.new.parts }
-        ensures left { IfErr result (λ fault. BankLeft true fault self.old.bank self.new.bank (D.view self.old.bank.disk) (D.view self.new.bank.disk) self.new.parts.shared) }
+        ensures left { IfErr result (λ fault. BankLeftAny true event fault self.old.bank self.new.bank (D.view self.old.bank.disk) (D.view self.new.bank.disk) self.new.parts.shared) }
         ensures asks { AsksBrands F.Fn self.new }
     {
+        if event.is_restart() {
+            return self.step_restart(alloc, None);
+        }
         let hook = self.hear(&event);
         self.parts.step(&mut self.bank, alloc, event, None, hook)
     }
 
     /// The same of an event that is only lent: of the entry no more is made than the event doesn't say itself. Where the event
-    /// may not record and would, nothing is done: so whoever has replies that wait can write them before a record is stored,
-    /// and then have it stored.
+    /// may not record and would, or is a restart, nothing is done: so whoever has replies that wait can write them before the disk
+    /// is touched, and then have it done.
     pub fn answer(
         &mut self,
         alloc: Global,
@@ -220,16 +227,20 @@ impl<'b, D: Disk, F: Fn(&Change) -> HookAnswer> Machine<'b, D, F> {
     ) -> Result<Answer, StepFault>
         requires asks { AsksBrands F.Fn self.old }
         requires ready { MayGoOn D.view self.old }
-        ensures ok { IfOk result (λ answer. IsAllowedStep self.old.parts event.now (entry_by event.now answer) self.new.parts) }
+        ensures ok { IfOk result (λ answer. IsAllowedStepOf D.view self.old event.now (entry_by event.now answer) self.new) }
+        ensures again { OnOk result (BeginsAgainAfter event.now self.old self.new) }
         ensures goes { GoesUnder None self.old.parts event.now self.old.bank.records (D.view self.old.bank.disk) (D.view self.new.bank.disk) }
-        ensures bodies { OnOk result (KeepsBodies None self.old.parts event.now self.old.bank.records self.new.bank.records) }
+        ensures bodies { OnOk result (KeepsBodiesOf D.view None self.old event.now self.new) }
         ensures ready { OnOk result (MayGoOn D.view self.new) }
         ensures passes { Passes (D.view self.old.bank.disk) (D.view self.new.bank.disk) }
         ensures err { IfErr result (λ fault. fault ≢ StepFault.BadGrant) }
-        ensures fault { IfErr result (λ fault. Leaves fault None self.old.parts event.now self.new.parts) }
-        ensures left { IfErr result (λ fault. BankLeft may_record fault self.old.bank self.new.bank (D.view self.old.bank.disk) (D.view self.new.bank.disk) self.new.parts.shared) }
+        ensures fault { IfErr result (λ fault. LeavesAny fault None self.old.parts event.now self.new.parts) }
+        ensures left { IfErr result (λ fault. BankLeftAny may_record event.now fault self.old.bank self.new.bank (D.view self.old.bank.disk) (D.view self.new.bank.disk) self.new.parts.shared) }
         ensures asks { AsksBrands F.Fn self.new }
     {
+        if event.is_restart() {
+            return self.answer_restart(alloc, may_record);
+        }
         let hook = self.hear(event);
         self.parts
             .answer(&mut self.bank, alloc, event, hook, may_record)
@@ -245,17 +256,21 @@ impl<'b, D: Disk, F: Fn(&Change) -> HookAnswer> Machine<'b, D, F> {
     ) -> Result<Entry, StepFault>
         requires asks { AsksBrands F.Fn self.old }
         requires ready { MayGoOn D.view self.old }
-        ensures ok { IfOk result (λ entry. IsFittingStep self.old.parts event grant entry self.new.parts) }
+        ensures ok { IfOk result (λ entry. IsFittingStepOf D.view self.old event grant entry self.new) }
+        ensures again { OnOk result (BeginsAgainAfter event self.old self.new) }
         ensures goes { GoesUnder (Some grant) self.old.parts event self.old.bank.records (D.view self.old.bank.disk) (D.view self.new.bank.disk) }
-        ensures bodies { OnOk result (KeepsBodies (Some grant) self.old.parts event self.old.bank.records self.new.bank.records) }
+        ensures bodies { OnOk result (KeepsBodiesOf D.view (Some grant) self.old event self.new) }
         ensures ready { OnOk result (MayGoOn D.view self.new) }
         ensures passes { Passes (D.view self.old.bank.disk) (D.view self.new.bank.disk) }
         ensures misfit { IsErrOf result StepFault.BadGrant → IsMisfit self.old.parts event grant self.new.parts }
         ensures unfit { IsRefusedIfUnfit self.old.parts event grant result }
         ensures memory { IsErrOf result StepFault.Memory → AsItWas self.old.parts self.new.parts }
-        ensures left { IfErr result (λ fault. BankLeft true fault self.old.bank self.new.bank (D.view self.old.bank.disk) (D.view self.new.bank.disk) self.new.parts.shared) }
+        ensures left { IfErr result (λ fault. BankLeftAny true event fault self.old.bank self.new.bank (D.view self.old.bank.disk) (D.view self.new.bank.disk) self.new.parts.shared) }
         ensures asks { AsksBrands F.Fn self.new }
     {
+        if event.is_restart() {
+            return self.step_restart(alloc, Some(grant));
+        }
         let hook = self.hear(&event);
         self.parts
             .step(&mut self.bank, alloc, event, Some(grant), hook)

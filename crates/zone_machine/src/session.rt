@@ -1,7 +1,8 @@
-//! Sessions: how a line is read, what it comes to, and what sessions wait for.
+//! Sessions: how a line is read, what it comes to, and what sessions do in a zone.
 pub(crate) mod commits;
+pub(crate) mod doings;
+pub(crate) mod held;
 pub(crate) mod line_cases;
 pub(crate) mod lines;
 pub(crate) mod listing;
 pub(crate) mod telling_cases;
-pub(crate) mod waits;

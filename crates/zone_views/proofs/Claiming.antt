@@ -15,13 +15,14 @@ use Rattle.zone_machine.proofs.Asking.{asks-decide, asks_rightly}
 use Rattle.zone_machine.proofs.Own_worlds.{view-world, world-one}
 use Rattle.zone_machine.specs.Machine.Histories.{after, after_entry, is_history, world_by}
 use Rattle.zone_machine.specs.Machine.Pools.{fits, fits_of, held_elsewhere, may_hold, pools_of}
-use Rattle.zone_machine.specs.Machine.{decide, one, opening, session_number, subject}
+use Rattle.zone_machine.specs.Machine.{decide, one, opening, session_number, subject, whole_world}
 use Rattle.zone_machine.specs.State.Decisions.{Act, Decision, act_of, acts_world, after_came_world}
 use Rattle.zone_machine.specs.State.Edits.{Edit, Of_objects, edit_world, edits_world}
 use Rattle.zone_machine.specs.State.Worlds.{World, view, view_of, world}
 use Rattle.zone_machine.specs.State.{State}
 use Rattle.zone_machine.specs.declared.events.Entry.{Entry}
 use Rattle.zone_machine.specs.declared.events.Event.{Event}
+use Rattle.zone_machine.specs.declared.events.Event.TheVariants.{Process as Call_of, Restart, Session, System, Turn}
 use Rattle.zone_machine.specs.declared.events.Subject.{Subject}
 use Rattle.zone_machine.specs.declared.events.Subject.TheVariants.{Global, Whole, Zone}
 use Rattle.zone_pools.proofs.Owned_laws.{same_true}
@@ -142,9 +143,17 @@ IsApart S = (y z : Name) (c : Claim) → holds c (world y S).claims ≡ true →
 abbrev Was : Subject → State → Claim → Name → Type 0
 Was s S k y = (holds k (world y S).claims ≡ true) ⊎ ((s ≡ Zone y) × ((x : Name) → holds k (world x S).claims ≡ true → y ≡ x))
 
+-- an event of the whole system gives nobody an item
+held-before : (k : Claim) (w : World) (e : Event) → holds k (whole_world e w).claims ≡ true → holds k w.claims ≡ true
+held-before k w (Session n text) h = h
+held-before k w (Turn z) h = h
+held-before k w (Call_of z pid c) h = h
+held-before k w (System what) h = h
+held-before k w Restart h = absurd (false≢true h)
+
 was-of : (s : Subject) (S : State) (e : Event) (g : Grant) (k : Claim) (y : Name) → fits_of s S e g ≡ true → holds k (world_by s y (world y S) e g).claims ≡ true → Was s S k y
 was-of Global S e g k y f h = inl h
-was-of Whole S e g k y f h = inl h
+was-of Whole S e g k y f h = inl (held-before k (world y S) e h)
 was-of (Zone z) S e g k y f h = at_test (bytes_eq y z) refl
   where
     at_act : y ≡ z → (holds k (world y S).claims ≡ true) ⊎ ((act_of (decide (view_of y (world y S)) e) g).came ≡ Some (New_claim k)) → Was (Zone z) S k y

@@ -1,5 +1,5 @@
 -- What an event of a zone leaves of the zone's world.
-use Rattle.std.specs.Prelude.{◌&&◌, ◌||◌, Result, Ok as Right, Err, if◌then◌else◌}
+use Rattle.std.specs.Prelude.{◌&&◌, ◌||◌, ◌==◌, Result, Ok as Right, Err, if◌then◌else◌}
 use Rattle.kernel_objects.specs.Kernel.{at_limit, fork_set, forked, fs_allowed_of}
 use Rattle.kernel_objects.specs.Processes.{Process, at_pid, below, dropping, ends, may_exec, may_mount, renamed, with_pid, without_pid}
 use Rattle.kernel_objects.specs.declared.faults.Errno.{Errno}
@@ -20,7 +20,8 @@ use Rattle.zn_base.specs.Names.{Name, name_of}
 use Rattle.zn_base.specs.declared.name.NameFault.{NameFault}
 use Rattle.zone_config.specs.Same.{same_contents}
 use Rattle.zone_config.specs.declared.terms.Contents.{Contents}
-use Rattle.zonecfg_scopes.specs.Edited.{is_changed}
+use Rattle.zonecfg_scopes.specs.Edited.{Edited, is_changed, opened_on, revision_of}
+use Rattle.zonecfg_scopes.specs.declared.base.Base.{Base}
 use Rattle.zonecfg_scopes.specs.OpenOf.{config_of}
 use Rattle.zonecfg_lines.specs.Runs.{Run}
 use Rattle.zonecfg_lines.specs.declared.reply.Ending.{Ending}
@@ -31,14 +32,14 @@ use Rattle.zone_machine.specs.Code.Works.{turned_act}
 use Rattle.zone_machine.proofs.Turned_laws.{In, decide-turn, has-turned, in-act, stored_after, turn_act}
 use Rattle.zone_pools.specs.Owned_lists.{Change, Put, edited}
 use Rattle.zoneadmd_steps.specs.Objects.{keeping_pid, kernel_of, mounts_after}
-use Rattle.zoneadmd_steps.specs.Arrivals.{Arrival}
+use Rattle.zoneadmd_steps.specs.Arrivals.{Arrival, New_record}
 use Rattle.zone_machine.specs.State.Decisions.{Act, Decision, Effect, act_of, acts_world, after_came_world, done_saying}
 use Rattle.zoneadmd_steps.specs.Desks.{Desk, has_request, is_full, state_now, with_request}
 use Rattle.zone_machine.specs.State.Edits.{at_session, edits_world}
-use Rattle.zone_machine.specs.Session.Lines.{Ask as Asks, Blank, Clone, Command, Help, Hold, Kill, Line, List_one, List_zones, Release, Unforced, Unknown, Verify, Zonecfg, line_of}
+use Rattle.zone_machine.specs.Session.Lines.{Ask as Asks, Blank, Clone, Command, Edit, Help, Hold, Kill, Line, List_one, List_zones, Release, Unforced, Unknown, Verify, Zonecfg, line_of}
 use Rattle.zone_machine.specs.Machine.{decide, session_number}
-use Rattle.zone_machine.specs.State.{Awaiting, Doing}
-use Rattle.zone_machine.specs.Session.Commits.{commit, commit_over, commit_unless, commits, committed_record, delete, ended, is_configured, keeps_place, leaves, records, said_alone}
+use Rattle.zone_machine.specs.State.{Awaiting, Doing, Editing}
+use Rattle.zone_machine.specs.Session.Commits.{A_session, Alone, Goes_on, Hearer, Leaves, Of_its_own, Typist, base_now, based, commit, commit_over, commit_unless, commits, committed_record, delete, delete_seen, edits_line, ended, goes, goes_over, is_configured, keeps_place, leaves, line_refusal, records, refuses, removes, revision_now, said_alone, said_to, telling, typist, zonecfg}
 use Rattle.zone_machine.specs.Session.Typed.{held_answer, holding_at, holds, idle_line, put_clone, put_request, typed}
 use Rattle.zone_machine.specs.State.Worlds.{World, objects_of, view_of}
 use Rattle.zoneadmd_steps.specs.declared.requests.Request.{Request}
@@ -47,8 +48,10 @@ use Rattle.brand_hooks.specs.Brands.{tabled_names}
 use Rattle.config_verify.specs.Flaws.{first, flaws}
 use Rattle.config_verify.specs.declared.flaw.Flaw.{Flaw}
 use Rattle.zone_machine.specs.declared.events.Event.{Event}
-use Rattle.zone_machine.specs.declared.events.Event.TheVariants.{Process as Call_of, Session, System, Turn}
+use Rattle.zone_machine.specs.declared.events.Event.TheVariants.{Process as Call_of, Restart, Session, System, Turn}
 use Rattle.zone_machine.specs.declared.replies.Head.TheVariants.{Ok}
+use Rattle.zone_machine.specs.declared.replies.Refusal.{Refusal}
+use Rattle.zone_machine.specs.declared.replies.Refusal.TheVariants.{Changed, Denied, DeskInUse, Flawed, NoZone, WrongState}
 use Rattle.commit_journal.specs.declared.records.Record.{Record}
 
 -- what a call of a zone's process makes of the zone's processes, or a signal from the global zone
@@ -64,59 +67,138 @@ pub data Mounted (ms : List MountEntry) : List MountEntry → Type 0 where
   Unmounts : (dir : List ℕ) → Mounted ms (unmounted dir ms)
   Holds : (dir : List ℕ) (held : Bool) → Mounted ms (edited (Change (at_dir dir (with_hold held))) ms)
 
--- a line leaves all as it was, or a configuration is recorded over what is stored, or the zone is removed, or a request is put on the desk; a call, a signal or a hold leaves all as
--- it was, or other processes, or other mounts
-module _ (P : World → Type 0) (z : Name) (w : World) (same : P w)
-    (recorded : (stored : Option Record) (config : Contents) (k : ℕ) → w.stored ≡ stored → P (record w { stored = Some (committed_record z stored config k) }))
-    (removed : (row : Record) → w.stored ≡ Some row → is_configured (state_now row w.desk) ≡ true → has_request w.desk ≡ false → P (record w { stored = None }))
-    (asked : (r : Request) (sessions : ℕ → Option Doing) → P (record w { desk = with_request w.desk r; sessions = sessions }))
+-- what a session of z does after an event, where that is not what it did
+pub data Seats (z : Name) (w : World) : Option Doing → Type 0 where
+  Idles : Seats z w None
+  Waits : (t : ℕ) → Seats z w (Some (Awaiting t))
+  Opens : (base : Option Base) → Seats z w (Some (Editing (opened_on z base)))
+  Says : (n : ℕ) (e : Edited) (text : List ℕ) → w.sessions n ≡ Some (Editing e) → Seats z w (Some (Editing (said_to (view_of z w) e text).edited))
+  Stores : (n : ℕ) (e : Edited) (text : List ℕ) (config : Contents) (k : ℕ) → w.sessions n ≡ Some (Editing e) → (said_to (view_of z w) e text).end ≡ Right ending.Commit
+      → config_of (said_to (view_of z w) e text).edited.opened ≡ Some config → Seats z w (Some (Editing (based config k (said_to (view_of z w) e text).edited)))
+
+-- what all sessions do after an event of z
+pub data Sit (z : Name) (w : World) : (ℕ → Option Doing) → Type 0 where
+  All_stay : Sit z w w.sessions
+  One_sits : (n : Option ℕ) (d : Option Doing) → Seats z w d → Sit z w (λ k. at_session n k d (w.sessions k))
+
+-- a line leaves all as it was but for what sessions do, or a configuration is recorded over what is stored, or the zone is removed, or a request is put on the desk; a call, a signal or a
+-- hold leaves all as it was, or other processes, or other mounts
+module _ (P : World → Type 0) (z : Name) (w : World) (seated : (sessions : ℕ → Option Doing) → Sit z w sessions → P (record w { sessions = sessions }))
+    (recorded : (stored : Option Record) (config : Contents) (k : ℕ) (sessions : ℕ → Option Doing) → Sit z w sessions → w.stored ≡ stored → P (record w { stored = Some (committed_record z stored config k); sessions = sessions }))
+    (removed : (row : Record) (sessions : ℕ → Option Doing) → Sit z w sessions → w.stored ≡ Some row → is_configured (state_now row w.desk) ≡ true → has_request w.desk ≡ false → P (record w { stored = None; sessions = sessions }))
+    (asked : (r : Request) (sessions : ℕ → Option Doing) → Sit z w sessions → P (record w { desk = with_request w.desk r; sessions = sessions }))
     (others : (ps : List Process) → Called w.processes ps → P (record w { processes = ps }))
     (remounted : (ms : List MountEntry) → Mounted w.mounts ms → P (record w { mounts = ms })) where
   abbrev After : Option ℕ → Option Arrival → Effect → Type 0
   After n c e = P (edits_world n e.edits (after_came_world c w))
+
+  same : P w
+  same = seated w.sessions All_stay
+
+  -- what the event's session does from now on
+  abbrev here : Option ℕ → Option Doing → ℕ → Option Doing
+  here n d = λ k. at_session n k d (w.sessions k)
+
+  -- what a session may do that types a line, and what it may do where it has stored what is open
+  abbrev Sits : Typist → Type 0
+  Sits Alone = Unit {0}
+  Sits (Goes_on e) = Seats z w (Some (Editing e))
+  Sits (Leaves e) = Seats z w (Some (Editing e))
+
+  abbrev Stored_sits : Option Contents → Typist → Type 0
+  Stored_sits o (Goes_on e) = (config : Contents) (k : ℕ) → o ≡ Some config → Seats z w (Some (Editing (based config k e)))
+  Stored_sits o t = Unit {0}
 
   -- one of two decisions
   of_either : (n : Option ℕ) (b : Bool) (d e : Decision) → In (After n) d → In (After n) e → In (After n) (if b then d else e)
   of_either n true d e h k = h
   of_either n false d e h k = k
 
-  of_record : (n : Option ℕ) (stored : Option Record) → w.stored ≡ stored → (config : Contents) (told : List (List ℕ)) → In (After n) (records z stored config told)
-  of_record n stored is config told = (λ pool. same, λ k. recorded stored config k is)
+  -- a line is refused, or is done and stores nothing
+  of_refused : (n : Option ℕ) (t : Typist) (refusal : Refusal) (told : List (List ℕ)) → Sits t → After n None (refuses t refusal told)
+  of_refused n Alone refusal told s = same
+  of_refused n (Goes_on e) refusal told s = seated (here n (Some (Editing e))) (One_sits n _ s)
+  of_refused n (Leaves e) refusal told s = seated (here n (Some (Editing e))) (One_sits n _ s)
 
-  of_over : (n : Option ℕ) (stored : Option Record) → w.stored ≡ stored → (d : Desk) (config : Contents) (told : List (List ℕ)) → In (After n) (commit_over z d stored config told)
-  of_over n None is d config told = of_record n None is config told
-  of_over n (Some row) is d config told =
-      of_either n (same_contents config row.config) _ _ same
-      (of_either n (keeps_place row config || is_configured (state_now row d)) _ _ (of_record n (Some row) is config told) same)
+  of_done : (n : Option ℕ) (t : Typist) (told : List (List ℕ)) → Sits t → After n None (telling (goes t) Ok told)
+  of_done n Alone told s = same
+  of_done n (Goes_on e) told s = seated (here n (Some (Editing e))) (One_sits n _ s)
+  of_done n (Leaves e) told s = seated (here n None) (One_sits n _ Idles)
 
-  of_unless : (n : Option ℕ) (r : Result (Unit {0}) Flaw) (config : Contents) (told : List (List ℕ)) → In (After n) (commit_unless r z w.desk w.stored config told)
-  of_unless n (Err flaw) config told = same
-  of_unless n (Right fine) config told = of_over n w.stored refl w.desk config told
-
-  of_commit : (n : Option ℕ) (o : Option Contents) (told : List (List ℕ)) → In (After n) (commit (view_of z w) o told)
-  unfolding view_of
-  of_commit n None told = same
-  of_commit n (Some config) told = of_unless n (first (flaws (tabled_names w.brands) config)) config told
-
-  of_delete : (n : Option ℕ) (stored : Option Record) → w.stored ≡ stored → (told : List (List ℕ)) → In (After n) (delete w.desk stored told)
-  of_delete n None is told = same
-  of_delete n (Some row) is told = at_state (is_configured (state_now row w.desk)) refl (has_request w.desk) refl
+  of_record : (n : Option ℕ) (stored : Option Record) → w.stored ≡ stored → (config : Contents) (told : List (List ℕ)) (t : Typist) → Sits t → Stored_sits (Some config) t → In (After n) (records z stored config told t)
+  of_record n stored is config told t s b = (λ pool. of_refused n t (Denied pool) told s, λ k. at_typist k t b)
     where
-      at_state : (c : Bool) → is_configured (state_now row w.desk) ≡ c → (b : Bool) → has_request w.desk ≡ b → In (After n) (delete w.desk (Some row) told)
-      at_state false e b f = simp e same
-      at_state true e true f = simp (e, f) same
-      at_state true e false f = simp (e, f) (λ pool. same, λ k. removed row is e f)
+      at_typist : (k : ℕ) (t : Typist) → Stored_sits (Some config) t → After n (Some (New_record (Some (committed_record z stored config k)))) (telling (goes_over config k t) Ok told)
+      at_typist k Alone b = recorded stored config k w.sessions All_stay is
+      at_typist k (Goes_on e) b = recorded stored config k (here n (Some (Editing (based config k e)))) (One_sits n _ (b config k refl)) is
+      at_typist k (Leaves e) b = recorded stored config k (here n None) (One_sits n _ Idles) is
 
-  of_leaves : (n : Option ℕ) (e : Ending) (told : List (List ℕ)) → In (After n) (leaves (view_of z w) e told)
+  of_over : (n : Option ℕ) (stored : Option Record) → w.stored ≡ stored → (d : Desk) (config : Contents) (told : List (List ℕ)) (t : Typist) → Sits t → Stored_sits (Some config) t → In (After n) (commit_over z d stored config told t)
+  of_over n None is d config told t s b = of_record n None is config told t s b
+  of_over n (Some row) is d config told t s b =
+      of_either n (same_contents config row.config) _ _ (of_done n t told s)
+      (of_either n (keeps_place row config || is_configured (state_now row d)) _ _ (of_record n (Some row) is config told t s b) (of_refused n t (WrongState (state_now row d)) told s))
+
+  of_unless : (n : Option ℕ) (r : Result (Unit {0}) Flaw) (seen : ℕ) (config : Contents) (told : List (List ℕ)) (t : Typist) → Sits t → Stored_sits (Some config) t → In (After n) (commit_unless r seen z w.desk w.stored config told t)
+  of_unless n (Err flaw) seen config told t s b = of_refused n t (Flawed flaw) told s
+  of_unless n (Right fine) seen config told t s b = of_either n (revision_now w.stored == seen) _ _ (of_over n w.stored refl w.desk config told t s b) (of_refused n t (Changed seen (revision_now w.stored)) told s)
+
+  of_commit : (n : Option ℕ) (seen : ℕ) (o : Option Contents) (told : List (List ℕ)) (t : Typist) → Sits t → Stored_sits o t → In (After n) (commit (view_of z w) seen o told t)
   unfolding view_of
-  of_leaves n ending.Delete told = of_delete n w.stored refl told
-  of_leaves n ending.Commit told = same
-  of_leaves n (ending.Exit force) told = same
-  of_leaves n ending.Nothing told = same
+  of_commit n seen None told t s b = of_done n t told s
+  of_commit n seen (Some config) told t s b = of_unless n (first (flaws (tabled_names w.brands) config)) seen config told t s b
 
-  of_ended : (n : Option ℕ) (run : Run) (r : Result Ending LineRefusal) → In (After n) (ended (view_of z w) run r)
-  of_ended n run (Err refusal) = same
-  of_ended n run (Right e) = of_either n (commits e (is_changed run.edited)) _ _ (of_commit n (config_of run.edited.opened) run.told) (of_leaves n e run.told)
+  of_removal : (n : Option ℕ) (row : Record) → w.stored ≡ Some row → is_configured (state_now row w.desk) ≡ true → has_request w.desk ≡ false → (told : List (List ℕ)) (t : Typist) → Sits t → In (After n) (removes told t)
+  of_removal n row is e f told t s = (λ pool. of_refused n t (Denied pool) told s, λ k. at_typist t s)
+    where
+      at_typist : (t : Typist) → Sits t → After n (Some (New_record None)) (telling (goes t) Ok told)
+      at_typist Alone s = removed row w.sessions All_stay is e f
+      at_typist (Goes_on edited) s = removed row (here n (Some (Editing edited))) (One_sits n _ s) is e f
+      at_typist (Leaves edited) s = removed row (here n None) (One_sits n _ Idles) is e f
+
+  of_delete : (n : Option ℕ) (seen : ℕ) (stored : Option Record) → w.stored ≡ stored → (told : List (List ℕ)) (t : Typist) → Sits t → In (After n) (delete seen w.desk stored told t)
+  of_delete n seen None is told t s = of_refused n t NoZone told s
+  of_delete n seen (Some row) is told t s = of_either n (row.revision == seen) _ _ (at_state (is_configured (state_now row w.desk)) refl (has_request w.desk) refl) (of_refused n t (Changed seen row.revision) told s)
+    where
+      at_state : (c : Bool) → is_configured (state_now row w.desk) ≡ c → (b : Bool) → has_request w.desk ≡ b → In (After n) (delete_seen w.desk row told t)
+      at_state false e b f = simp e (of_refused n t (WrongState (state_now row w.desk)) told s)
+      at_state true e true f = simp (e, f) (of_refused n t DeskInUse told s)
+      at_state true e false f = simp (e, f) (of_removal n row is e f told t s)
+
+  of_leaves : (n : Option ℕ) (seen : ℕ) (e : Ending) (told : List (List ℕ)) (t : Typist) → Sits t → In (After n) (leaves (view_of z w) seen e told t)
+  unfolding view_of
+  of_leaves n seen ending.Delete told t s = of_delete n seen w.stored refl told t s
+  of_leaves n seen ending.Commit told t s = of_done n t told s
+  of_leaves n seen (ending.Exit force) told t s = of_done n t told s
+  of_leaves n seen ending.Nothing told t s = of_done n t told s
+
+  -- by what the line's session may do after it, whatever its end, and after a commit that doesn't leave
+  of_ended : (n : Option ℕ) (h : Hearer) (run : Run) (r : Result Ending LineRefusal) → ((e : Ending) → Sits (typist h e run.edited))
+      → (r ≡ Right ending.Commit → Stored_sits (config_of run.edited.opened) (typist h ending.Commit run.edited))
+      → ((force : Bool) → Stored_sits (config_of run.edited.opened) (typist h (ending.Exit force) run.edited)) → In (After n) (ended (view_of z w) h run r)
+  of_ended n h run (Err refusal) s b x = of_refused n (typist h ending.Nothing run.edited) (line_refusal refusal) run.told (s ending.Nothing)
+  of_ended n h run (Right ending.Commit) s b x =
+      of_commit n (revision_of run.edited.base) (config_of run.edited.opened) run.told (typist h ending.Commit run.edited) (s ending.Commit) (b refl)
+  of_ended n h run (Right (ending.Exit force)) s b x =
+      let seen = revision_of run.edited.base in let t = typist h (ending.Exit force) run.edited in
+      of_either n (commits (ending.Exit force) (is_changed run.edited)) _ _ (of_commit n seen (config_of run.edited.opened) run.told t (s (ending.Exit force)) (x force))
+      (of_leaves n seen (ending.Exit force) run.told t (s (ending.Exit force)))
+  of_ended n h run (Right ending.Delete) s b x = of_leaves n (revision_of run.edited.base) ending.Delete run.told (typist h ending.Delete run.edited) (s ending.Delete)
+  of_ended n h run (Right ending.Nothing) s b x = of_leaves n (revision_of run.edited.base) ending.Nothing run.told (typist h ending.Nothing run.edited) (s ending.Nothing)
+
+  -- a line that is a session of its own, and one of a session that edits
+  of_alone : (n : Option ℕ) (text : List ℕ) → In (After n) (zonecfg (view_of z w) text)
+  of_alone n text = of_ended n Of_its_own (said_alone (view_of z w) text) (said_alone (view_of z w) text).end (λ e. tt) (λ is. tt) (λ force. tt)
+
+  of_edits : (n : Option ℕ) (k : ℕ) (e : Edited) (text : List ℕ) → w.sessions k ≡ Some (Editing e) → In (After n) (edits_line (view_of z w) e text)
+  of_edits n k e text there =
+      of_ended n A_session (said_to (view_of z w) e text) (said_to (view_of z w) e text).end sits (λ is config c shown. Stores k e text config c there is shown) (λ force. tt)
+    where
+      sits : (ending : Ending) → Sits (typist A_session ending (said_to (view_of z w) e text).edited)
+      sits ending.Commit = Says k e text there
+      sits (ending.Exit force) = Says k e text there
+      sits ending.Delete = Says k e text there
+      sits ending.Nothing = Says k e text there
 
   of_request : (n : Option ℕ) (r : Request) (row : Option Record) → After n None (put_request w.desk r row)
   of_request n r None = same
@@ -124,7 +206,7 @@ module _ (P : World → Type 0) (z : Name) (w : World) (same : P w)
     where
       at_test : (b : Bool) → is_full w.desk ≡ b → After n None (put_request w.desk r (Some row))
       at_test true e = simp e same
-      at_test false e = simp e (asked r (λ k. at_session n k (Some (Awaiting (w.desk.last + 1))) (w.sessions k)))
+      at_test false e = simp e (asked r (here n (Some (Awaiting (w.desk.last + 1)))) (One_sits n _ (Waits (w.desk.last + 1))))
 
   of_clone : (n : Option ℕ) (r : Result Name NameFault) → After n None (put_clone w.desk r w.stored)
   of_clone n (Err fault) = same
@@ -151,7 +233,8 @@ module _ (P : World → Type 0) (z : Name) (w : World) (same : P w)
   of_line n (List_one form) = same
   of_line n (List_zones options) = same
   of_line n Unknown = same
-  of_line n (Zonecfg text) = of_ended n (said_alone (view_of z w) text) (said_alone (view_of z w) text).end
+  of_line n Edit = seated (here n (Some (Editing (opened_on z (base_now (view_of z w)))))) (One_sits n _ (Opens _))
+  of_line n (Zonecfg text) = of_alone n text
   of_line n (Asks r) = of_request n r w.stored
   of_line n (Clone word) = of_clone n (name_of word)
   of_line n Unforced = same
@@ -159,10 +242,11 @@ module _ (P : World → Type 0) (z : Name) (w : World) (same : P w)
   of_line n (Hold dir) = of_hold n w.stored (held_answer true dir w.mounts) true dir
   of_line n (Release dir) = of_hold n w.stored (held_answer false dir w.mounts) false dir
 
-  of_typed : (n : Option ℕ) (d : Option Doing) (line : Line) → In (After n) (typed (view_of z w) d line)
+  of_typed : (n : Option ℕ) (k : ℕ) (d : Option Doing) → w.sessions k ≡ d → (line : Line) → In (After n) (typed (view_of z w) d line)
   unfolding typed view_of
-  of_typed n None line = of_line n line.command
-  of_typed n (Some (Awaiting t)) line = same
+  of_typed n k None there line = of_line n line.command
+  of_typed n k (Some (Awaiting t)) there line = same
+  of_typed n k (Some (Editing e)) there line = of_edits n k e line.text there
 
   -- calls
   of_fork : (pid : ℕ) (p : Process) (name : List ℕ) (set : Result (List ℕ) Errno) → with_pid pid w.processes ≡ Some p → In (After None) (forks p name set)
@@ -226,9 +310,10 @@ module _ (P : World → Type 0) (z : Name) (w : World) (same : P w)
   -- so P holds after an event under a grant, where it holds of what a turn leaves then
   pub of_event : (g : Grant) → P (acts_world None (turned_act (turn_act w g)) w) → (e : Event) → P (acts_world (session_number e) (act_of (decide (view_of z w) e) g) w)
   unfolding decide view_of called
-  of_event g h (Session n text) = in-act (After (Some n)) (typed (view_of z w) (w.sessions n) (line_of text)) g (of_typed (Some n) (w.sessions n) (line_of text))
+  of_event g h (Session n text) = in-act (After (Some n)) (typed (view_of z w) (w.sessions n) (line_of text)) g (of_typed (Some n) n (w.sessions n) refl (line_of text))
   of_event g h (Call_of y pid c) = in-act (After None) (called (view_of z w) pid c) g (of_called pid (with_pid pid w.processes) c refl)
   of_event g h (System what) = same
+  of_event g h Restart = same
   of_event g h (Turn y) = subst (λ (b : Act). P (acts_world None b w)) (sym (decide-turn z y w g)) h
 
 -- what holds of what a turn leaves stored, of the mounts and of the desk holds of these in the world that it leaves

@@ -36,7 +36,7 @@ use Rattle.zoneadmd_steps.specs.declared.requests.TurnReply.TheVariants.{Failed,
 use Rattle.zone_machine.specs.declared.events.Entry.{Entry}
 use Rattle.zone_machine.specs.declared.events.Event.{Event}
 use Rattle.zone_machine.specs.declared.events.Declaration.TheVariants.{Device, Item}
-use Rattle.zone_machine.specs.declared.events.Event.TheVariants.{Process as Call_of, Session, System, Turn}
+use Rattle.zone_machine.specs.declared.events.Event.TheVariants.{Process as Call_of, Restart, Session, System, Turn}
 use Rattle.zone_machine.specs.declared.events.Subject.TheVariants.{Global, Zone}
 use Rattle.zone_machine.specs.Calls.{called}
 use Rattle.process_calls.specs.declared.call.Call.TheVariants.{Drop, Fork}
@@ -220,3 +220,12 @@ states_on_the_way : goes_through both (asks_a (codes "detach") 5 ++ asks_a (code
     ≡ replicate 4 (Some Installed) ++ replicate 6 (Some Configured) ++ replicate 6 (Some Installed) ++ replicate 5 (Some Incomplete) ++ replicate 2 (Some Configured)
 unfolding line_of typed turn local_turn view decide subject one first_free record_text body_text padded by_index allowed edit comes with_property setting_named obeys setting export_text flaws limit_of judged set_of_words words_from rule_of named default_set all_of both_of has set_of union without is_of privileges
 states_on_the_way = refl
+
+-- a restart ends what runs: both zones are installed, no process is left, and numbers and tickets begin anew
+restarted_states : map (λ zone. zone_state zone (after booted (history booted (Restart ∷ [])))) (codes "a" ∷ codes "b" ∷ codes "c" ∷ []) ≡ Some Installed ∷ Some Installed ∷ None ∷ []
+unfolding line_of typed turn local_turn view decide subject one first_free record_text body_text padded by_index allowed edit comes with_property setting_named obeys setting export_text flaws limit_of judged set_of_words words_from rule_of named default_set all_of both_of has set_of union without is_of privileges
+restarted_states = refl
+
+booted_again : pids (after booted (history booted (Restart ∷ boot 2 (codes "b")))) ≡ 2 ∷ []
+unfolding line_of typed turn local_turn view decide subject one first_free record_text body_text padded by_index allowed edit comes with_property setting_named obeys setting export_text flaws limit_of judged set_of_words words_from rule_of named default_set all_of both_of has set_of union without is_of privileges
+booted_again = refl

@@ -5,20 +5,29 @@ use Rattle.zn_base.specs.Names.{Name}
 use Rattle.zone_pools.specs.declared.grant.Grant.{Grant}
 use Rattle.zone_machine.proofs.Own_worlds.{world-one}
 use Rattle.zone_machine.specs.Machine.Histories.{after, after_entry, world_by}
-use Rattle.zone_machine.specs.Machine.{decide, session_number, subject, whole_world}
+use Rattle.zone_machine.specs.Machine.{decide, restarted_world, session_number, subject, whole_world}
+use Rattle.zone_machine.specs.State.Declarations.{Declared, declaring}
 use Rattle.zone_machine.specs.State.Decisions.{act_of, acts_world}
 use Rattle.zone_machine.specs.State.Worlds.{World, view_of, world}
 use Rattle.zone_machine.specs.State.{State}
 use Rattle.zone_machine.specs.declared.events.Entry.{Entry}
 use Rattle.zone_machine.specs.declared.events.Event.{Event}
+use Rattle.zone_machine.specs.declared.events.Event.TheVariants.{Process as Call_of, Restart, Session, System, Turn}
 use Rattle.zone_machine.specs.declared.events.Subject.{Subject}
 use Rattle.zone_machine.specs.declared.events.Subject.TheVariants.{Zone, Global, Whole}
 
 module _ (P : World → Type 0) (keeps : (z : Name) (w : World) (e : Event) (g : Grant) → P w → P (acts_world (session_number e) (act_of (decide (view_of z w) e) g) w))
-    (common : (w : World) (e : Event) → P w → P (whole_world e w)) where
+    (declares : (w : World) (d : Declared) → P w → P (record w { declared = d })) (restarts : (w : World) → P w → P (restarted_world w)) where
+  of_whole : (w : World) (e : Event) → P w → P (whole_world e w)
+  of_whole w (Session n text) h = declares w w.declared h
+  of_whole w (Turn z) h = declares w w.declared h
+  of_whole w (Call_of z pid c) h = declares w w.declared h
+  of_whole w (System what) h = declares w (declaring what w.declared) h
+  of_whole w Restart h = restarts w h
+
   kept-by : (z : Name) (s : Subject) (w : World) (e : Event) (g : Grant) → P w → P (world_by s z w e g)
   kept-by z Global w e g h = h
-  kept-by z Whole w e g h = common w e h
+  kept-by z Whole w e g h = of_whole w e h
   kept-by z (Zone y) w e g h = at_test (bytes_eq z y)
     where
       at_test : (b : Bool) → P (if b then acts_world (session_number e) (act_of (decide (view_of z w) e) g) w else w)

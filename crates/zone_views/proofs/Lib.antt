@@ -12,3 +12,4 @@ pub mod Granting
 pub mod Numbered
 pub mod Whole
 pub mod Claiming
+mod Edits

@@ -324,8 +324,8 @@ module _ (w : World) (may : Bool) (none : may ≡ false → w.processes ≡ []) 
 limited-event : (z : Name) (w : World) (e : Event) (g : Grant) → Limited w → Limited (acts_world (session_number e) (act_of (decide (view_of z w) e) g) w)
 limited-event z w e g is =
     let turned = in-act (Leaves w is.may is.none is.within) (turn (seen_of w)) g (limited_turn w is.may is.none is.within is.desk) in
-    of_event Limited z w is (λ stored config k same. is) (λ row same configured idle. is) (λ r sessions. is) (λ ps called. limited_called w is.may is.none is.within ps called is.desk)
+    of_event Limited z w (λ sessions sit. is) (λ stored config k sessions sit same. is) (λ row sessions sit same configured idle. is) (λ r sessions sit. is) (λ ps called. limited_called w is.may is.none is.within ps called is.desk)
     (λ ms mounted. record { may = is.may; none = is.none; within = is.within; desk = is.desk }) g turned e
 
 pub within-history : (z : Name) (brands : List Tabled) (commits : List Commit) (h : List Entry) → within_limit (kernel_of (objects_of (world z (after (opening brands commits) h)))) ≡ true
-within-history z brands commits h = (kept-after Limited limited-event (λ w e h. h) (opening brands commits) h (λ z. record { may = false; none = λ e. refl; within = refl; desk = refl }) z).within
+within-history z brands commits h = (kept-after Limited limited-event (λ w d is. record { may = is.may; none = is.none; within = is.within; desk = is.desk }) (λ w is. record { may = false; none = λ e. refl; within = refl; desk = refl }) (opening brands commits) h (λ z. record { may = false; none = λ e. refl; within = refl; desk = refl }) z).within

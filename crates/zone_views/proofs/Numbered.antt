@@ -17,7 +17,7 @@ use Rattle.zone_pools.specs.Asked.{A_pid, A_zid, Asked}
 use Rattle.zone_pools.specs.Decisions.{Ask, Just, asked_of}
 use Rattle.zone_machine.specs.State.Edits.{Edit, Of_objects, comes, edit, edits}
 use Rattle.zone_machine.specs.Machine.Histories.{after, after_entry, is_allowed, is_history, is_legal, is_told}
-use Rattle.zone_machine.specs.Machine.{decide, one, one_of, opening, session_number, subject}
+use Rattle.zone_machine.specs.Machine.{decide, one, one_of, opening, session_number, subject, whole}
 use Rattle.kernel_objects.specs.Processes.{Process, adopted, below, has_pid, heir}
 use Rattle.zone_pools.specs.Owned_lists.{Go, edit_list, mine}
 use Rattle.kernel_objects.specs.declared.objects.Id.{Id}
@@ -29,6 +29,7 @@ use Rattle.zone_machine.specs.State.{State}
 use Rattle.zone_machine.specs.State.Worlds.{view}
 use Rattle.zone_machine.specs.declared.events.Entry.{Entry}
 use Rattle.zone_machine.specs.declared.events.Event.{Event}
+use Rattle.zone_machine.specs.declared.events.Event.TheVariants.{Process as Call_of, Restart, Session, System, Turn}
 use Rattle.zone_machine.specs.declared.events.Subject.{Subject}
 use Rattle.zone_machine.specs.declared.events.Subject.TheVariants.{Zone, Global, Whole}
 use Rattle.brand_hooks.specs.Brands.{Tabled}
@@ -103,6 +104,15 @@ numbered-came z (Ask c [] denied given) (Number n) S a f h = absurd (false≢tru
 numbered-came z (Ask c [] denied given) Yes S a f h = absurd (false≢true f)
 numbered-came z (Ask c (x ∷ asked) denied given) Yes S a f h = numbered-yes z c (x ∷ asked) S a f h
 
+-- after a restart no number is held
+numbered-whole : (S : State) (e : Event) → AreNumbered S → AreNumbered (whole e S)
+unfolding IsDistinct
+numbered-whole S (Session n text) h = record { pids = h.pids; zids = h.zids; last = h.last }
+numbered-whole S (Turn z) h = record { pids = h.pids; zids = h.zids; last = h.last }
+numbered-whole S (Call_of z pid c) h = record { pids = h.pids; zids = h.zids; last = h.last }
+numbered-whole S (System what) h = record { pids = h.pids; zids = h.zids; last = h.last }
+numbered-whole S Restart h = record { pids = tt; zids = tt; last = omega arith }
+
 numbered-of : (s : Subject) (S : State) (e : Event) (g : Grant) → fits_of s S e g ≡ true → AreNumbered S → AreNumbered (one_of s S e g).state
 numbered-of (Zone z) S e g f h =
     let d = decide (view z S) e in
@@ -110,7 +120,7 @@ numbered-of (Zone z) S e g f h =
     let k : AreNumbered T = numbered-edits z (session_number e) (act_of d g).effect.edits (after_came z (act_of d g).came S) (numbered-came z d g S (asks-decide (view z S) e) f h) in
     record { pids = k.pids; zids = k.zids; last = k.last }
 numbered-of Global S e g f h = record { pids = h.pids; zids = h.zids; last = h.last }
-numbered-of Whole S e g f h = record { pids = h.pids; zids = h.zids; last = h.last }
+numbered-of Whole S e g f h = numbered-whole S e h
 
 numbered-one : (S : State) (e : Event) (g : Grant) → fits S e g ≡ true → AreNumbered S → AreNumbered (one S e g).state
 unfolding one fits

@@ -18,14 +18,14 @@ use Rattle.zone_machine.proofs.Same_laws.{reply-Decides, subject-Decides}
 use Rattle.zoneadmd_steps.specs.Desks.{empty_desk}
 use Rattle.zone_machine.specs.Machine.Histories.{after, after_entry, any_grant, asked, concerns, entry_at, is_history, is_of, is_told, only, replay, replies, run, world_by, world_one}
 use Rattle.zone_machine.specs.Session.Lines.{Command, Kill, Line, line_of}
-use Rattle.zone_machine.specs.Machine.{holder, line_subject, one, opening, session_subject, subject}
+use Rattle.zone_machine.specs.Machine.{holder, line_subject, one, opening, session_subject, subject, whole_world}
 use Rattle.zone_machine.specs.Machine.Same.{same_reply, same_subject}
 use Rattle.zone_machine.specs.State.{At, Idle, Session as Session_mode, State, stored}
 use Rattle.zone_machine.specs.State.Declarations.{none_declared}
 use Rattle.zone_machine.specs.State.Worlds.{World, doing, world}
 use Rattle.zone_machine.specs.declared.events.Entry.{Entry}
 use Rattle.zone_machine.specs.declared.events.Event.{Event}
-use Rattle.zone_machine.specs.declared.events.Event.TheVariants.{Process as Call_of, Session, System, Turn}
+use Rattle.zone_machine.specs.declared.events.Event.TheVariants.{Process as Call_of, Restart, Session, System, Turn}
 use Rattle.zone_machine.specs.declared.events.Subject.{Subject}
 use Rattle.zone_machine.specs.declared.events.Subject.TheVariants.{Zone, Global, Whole}
 use Rattle.zone_machine.specs.declared.replies.Reply.{Reply}
@@ -45,13 +45,21 @@ IsPurged z S = (y : Name) → y ≢ z → IsBare (world y S)
 pub IsPurged-opening : (z : Name) (brands : List Tabled) (commits : List Commit) → IsPurged z (opening brands commits)
 IsPurged-opening z brands commits y other = record { sessions = λ n. refl; processes = refl }
 
+-- an event of the whole system adds none
+IsBare-whole : (w : World) (e : Event) → IsBare w → IsBare (whole_world e w)
+IsBare-whole w (Session n text) h = record { sessions = h.sessions; processes = h.processes }
+IsBare-whole w (Turn z) h = record { sessions = h.sessions; processes = h.processes }
+IsBare-whole w (Call_of z pid c) h = record { sessions = h.sessions; processes = h.processes }
+IsBare-whole w (System what) h = record { sessions = h.sessions; processes = h.processes }
+IsBare-whole w Restart h = record { sessions = λ n. refl; processes = refl }
+
 IsPurged-one : (z : Name) (S : State) (e : Event) (g : Grant) → concerns z (subject S e) ≡ true → IsPurged z S → IsPurged z (one S e g).state
 IsPurged-one z S e g h is y other = subst IsBare (sym (world-one y S e g)) (at_subject (subject S e) h)
   where
     at_subject : (s : Subject) → concerns z s ≡ true → IsBare (world_by s y (world y S) e g)
     at_subject (Zone x) h = rw (other_tag z y x (λ e. other (sym e)) h) (is y other)
     at_subject Global h = absurd (false≢true h)
-    at_subject Whole h = record { sessions = (is y other).sessions; processes = (is y other).processes }
+    at_subject Whole h = IsBare-whole (world y S) e (is y other)
 
 -- a zone that can't be another is z
 zone_is : (y z : Name) → (y ≢ z → ⊥) → y ≡ z
@@ -126,6 +134,7 @@ subjects z S T (Session n text) a h = at_sessions (S.sessions n) (T.sessions n) 
 subjects z S T (Call_of y pid c) a h = refl
 subjects z S T (Turn y) a h = refl
 subjects z S T (System what) a h = refl
+subjects z S T Restart a h = refl
 
 -- a step of both
 kept_step : (z : Name) (S T : State) (e : Event) (g : Grant) → Agree z S T → concerns z (subject S e) ≡ true

@@ -26,7 +26,7 @@ use Rattle.zone_machine.specs.State.Decisions.{act_of, acts_world}
 use Rattle.zoneadmd_steps.specs.Configs.{claims_of, fs_dirs, root_dir, with_zonepath}
 use Rattle.zoneadmd_steps.specs.Desks.{Desk, Fails, Goes as Goes_on, Job, Stage, empty_desk, has_request, state_now, state_of, with_request}
 use Rattle.zone_machine.specs.Machine.Histories.{after, world_by}
-use Rattle.zone_machine.specs.Machine.{decide, one, opening, session_number, subject}
+use Rattle.zone_machine.specs.Machine.{decide, one, opening, restarted_world, session_number, subject, whole_world}
 use Rattle.zoneadmd_steps.specs.Objects.{Objects, Of_mounts}
 use Rattle.zoneadmd_steps.specs.Plans.{boot_part, kind_of, may_begin, plan, ready_part, refusal}
 use Rattle.zone_machine.proofs.Acts_laws.{stored-append}
@@ -42,6 +42,7 @@ use Rattle.zoneadmd_steps.specs.declared.requests.Step.{Step}
 use Rattle.zoneadmd_steps.specs.declared.requests.Step.TheVariants.{Hook, Record as Record_step, Moved, Source, Zid, Root, Mounted, Claimed, State as State_step, Init}
 use Rattle.zone_machine.specs.declared.events.Entry.{Entry}
 use Rattle.zone_machine.specs.declared.events.Event.{Event}
+use Rattle.zone_machine.specs.declared.events.Event.TheVariants.{Process as Call_of, Restart, Session, System, Turn}
 use Rattle.zone_machine.specs.declared.events.Subject.{Subject}
 use Rattle.zone_machine.specs.declared.events.Subject.TheVariants.{Zone, Global, Whole}
 use Rattle.commit_journal.specs.declared.records.Commit.{Commit}
@@ -49,7 +50,7 @@ use Rattle.commit_journal.specs.declared.records.Record.{Record}
 use Rattle.zone_views.proofs.Deciding.{of_event, of_turned}
 use Rattle.zone_views.proofs.Keeping.{kept-after}
 use Rattle.zone_views.proofs.Nexts.{Holds_next, begins, holds-next}
-use Rattle.zone_views.specs.Storable.{are_storable, is_storable}
+use Rattle.zone_views.specs.Storable.{are_storable, ends_with_a_restart, is_storable}
 
 abbrev is_active_state : ZoneState → Bool
 is_active_state Ready = true
@@ -302,7 +303,7 @@ keeps-asked (Some row) d r h = record { steady = h; moves = inl refl }
 keeps-event : (z : Name) (w : World) (e : Event) (g : Grant) → steady w.stored w.desk ≡ true
     → let v = acts_world (session_number e) (act_of (decide (view_of z w) e) g) w in Keeps w.stored w.desk v.stored v.desk
 keeps-event z w e g h =
-    of_event (λ v. Keeps w.stored w.desk v.stored v.desk) z w stays (λ stored config k is. subst (λ o. Keeps w.stored w.desk (Some (committed_record z o config k)) w.desk) is (keeps-recorded w.stored w.desk z config k h)) (λ row is c r. subst (λ o. Keeps o w.desk None w.desk) (sym is) (keeps-removed row w.desk (subst (λ o. steady o w.desk ≡ true) is h) c r)) (λ r sessions. keeps-asked w.stored w.desk r h) (λ ps called. stays) (λ ms mounted. stays) g
+    of_event (λ v. Keeps w.stored w.desk v.stored v.desk) z w (λ sessions sit. stays) (λ stored config k sessions sit is. subst (λ o. Keeps w.stored w.desk (Some (committed_record z o config k)) w.desk) is (keeps-recorded w.stored w.desk z config k h)) (λ row sessions sit is c r. subst (λ o. Keeps o w.desk None w.desk) (sym is) (keeps-removed row w.desk (subst (λ o. steady o w.desk ≡ true) is h) c r)) (λ r sessions sit. keeps-asked w.stored w.desk r h) (λ ps called. stays) (λ ms mounted. stays) g
     (of_turned (λ row ms d. Keeps w.stored w.desk row d) w g turned) e
   where
     stays : Keeps w.stored w.desk w.stored w.desk
@@ -315,30 +316,73 @@ keeps-event z w e g h =
 abbrev pub IsSteady : State → Type 0
 IsSteady S = (z : Name) → steady (stored z S.commits) (S.desks z) ≡ true
 
--- what an event does to a world: it stays steady, and its state stays, or moves along the table as the event's subject
-pub record Goes (z : Name) (s : Subject) (w v : World) : Type 0 where
+-- what an event does to a world: it stays steady, and its state stays, or moves along the table as the event's subject, or ends
+-- with a restart
+pub record Goes (z : Name) (s : Subject) (e : Event) (w v : World) : Type 0 where
   pub steady : steady v.stored v.desk ≡ true
-  pub moves : (state_of v.stored v.desk ≡ state_of w.stored w.desk) ⊎ ((s ≡ Zone z) × (may_move (state_of w.stored w.desk) (state_of v.stored v.desk) ≡ true))
+  pub moves : (state_of v.stored v.desk ≡ state_of w.stored w.desk) ⊎ (((s ≡ Zone z) × (may_move (state_of w.stored w.desk) (state_of v.stored v.desk) ≡ true))
+      ⊎ ((e ≡ Restart) × (ends_with_a_restart (state_of w.stored w.desk) ≡ true) × (state_of v.stored v.desk ≡ Some Installed)))
 
-goes_by : (z : Name) (s : Subject) (w : World) (e : Event) (g : Grant) → steady w.stored w.desk ≡ true → Goes z s w (world_by s z w e g)
+-- a restart empties the desk: the zone is in its stored state, which of one that was active is installed
+abbrev EndsHere : Option Record → Desk → Type 0
+EndsHere row d = (ends_with_a_restart (state_of row d) ≡ true) × (state_of row empty_desk ≡ Some Installed)
+
+active_ends : (a : ZoneState) → is_active_state a ≡ true → ends_with_a_restart (Some a) ≡ true
+active_ends Ready f = refl
+active_ends Running f = refl
+active_ends ShuttingDown f = refl
+active_ends Down f = refl
+active_ends Configured f = absurd (false≢true f)
+active_ends Incomplete f = absurd (false≢true f)
+active_ends Installed f = absurd (false≢true f)
+
+ends_here : (row : Option Record) (d : Desk) → steady row d ≡ true → (steady row empty_desk ≡ true) × ((state_of row empty_desk ≡ state_of row d) ⊎ EndsHere row d)
+ends_here None d h = (refl, inl refl)
+ends_here (Some row) d h = at_active d.active (and_parts (fits_stored d.active row.state) (desk_leads d.job d.active row.state) h).0
+  where
+    at_active : (active : Option ZoneState) → fits_stored active row.state ≡ true
+        → let e = record d { active = active } in (steady (Some row) empty_desk ≡ true) × ((state_of (Some row) empty_desk ≡ state_of (Some row) e) ⊎ EndsHere (Some row) e)
+    at_active None f = (and_from _ _ f refl, inl refl)
+    at_active (Some a) f =
+        let parts = and_parts (is_active_state a) (same_state row.state Installed) f in
+        let is : row.state ≡ Installed = (state-Decides row.state Installed).0 parts.1 in
+        (and_from _ _ (subst (λ s. is_stored s ≡ true) (sym is) refl) refl, inr (active_ends a parts.0, ap Some is))
+
+goes_restarted : (z : Name) (s : Subject) (w : World) → steady w.stored w.desk ≡ true → Goes z s Restart w (restarted_world w)
+goes_restarted z s w h = let ends = ends_here w.stored w.desk h in record { steady = ends.0; moves = at_end ends.1 }
+  where
+    at_end : (state_of w.stored empty_desk ≡ state_of w.stored w.desk) ⊎ EndsHere w.stored w.desk
+        → (state_of w.stored empty_desk ≡ state_of w.stored w.desk) ⊎ (((s ≡ Zone z) × (may_move (state_of w.stored w.desk) (state_of w.stored empty_desk) ≡ true)) ⊎ ((Restart ≡ Restart) × (ends_with_a_restart (state_of w.stored w.desk) ≡ true) × (state_of w.stored empty_desk ≡ Some Installed)))
+    at_end (inl stays) = inl stays
+    at_end (inr ends) = inr (inr (refl, ends.0, ends.1))
+
+goes_whole : (z : Name) (s : Subject) (w : World) (e : Event) → steady w.stored w.desk ≡ true → Goes z s e w (whole_world e w)
+goes_whole z s w (Session n text) h = record { steady = h; moves = inl refl }
+goes_whole z s w (Turn y) h = record { steady = h; moves = inl refl }
+goes_whole z s w (Call_of y pid c) h = record { steady = h; moves = inl refl }
+goes_whole z s w (System what) h = record { steady = h; moves = inl refl }
+goes_whole z s w Restart h = goes_restarted z s w h
+
+goes_by : (z : Name) (s : Subject) (w : World) (e : Event) (g : Grant) → steady w.stored w.desk ≡ true → Goes z s e w (world_by s z w e g)
 goes_by z Global w e g h = record { steady = h; moves = inl refl }
-goes_by z Whole w e g h = record { steady = h; moves = inl refl }
+goes_by z Whole w e g h = goes_whole z Whole w e h
 goes_by z (Zone y) w e g h = at_test (bytes_eq z y) refl
   where
-    with_subject : Zone y ≡ Zone z → (v : World) → Keeps w.stored w.desk v.stored v.desk → Goes z (Zone y) w v
+    with_subject : Zone y ≡ Zone z → (v : World) → Keeps w.stored w.desk v.stored v.desk → Goes z (Zone y) e w v
     with_subject same v k = record { steady = k.steady; moves = at_move k.moves }
       where
         at_move : (state_of v.stored v.desk ≡ state_of w.stored w.desk) ⊎ (may_move (state_of w.stored w.desk) (state_of v.stored v.desk) ≡ true)
-            → (state_of v.stored v.desk ≡ state_of w.stored w.desk) ⊎ ((Zone y ≡ Zone z) × (may_move (state_of w.stored w.desk) (state_of v.stored v.desk) ≡ true))
-        at_move (inl e) = inl e
-        at_move (inr m) = inr (same, m)
+            → (state_of v.stored v.desk ≡ state_of w.stored w.desk) ⊎ (((Zone y ≡ Zone z) × (may_move (state_of w.stored w.desk) (state_of v.stored v.desk) ≡ true))
+            ⊎ ((e ≡ Restart) × (ends_with_a_restart (state_of w.stored w.desk) ≡ true) × (state_of v.stored v.desk ≡ Some Installed)))
+        at_move (inl stays) = inl stays
+        at_move (inr m) = inr (inl (same, m))
 
-    at_test : (b : Bool) → bytes_eq z y ≡ b → Goes z (Zone y) w (if b then acts_world (session_number e) (act_of (decide (view_of z w) e) g) w else w)
+    at_test : (b : Bool) → bytes_eq z y ≡ b → Goes z (Zone y) e w (if b then acts_world (session_number e) (act_of (decide (view_of z w) e) g) w else w)
     at_test true t = with_subject (ap Zone (sym (same_true z y t))) _ (keeps-event z w e g h)
     at_test false t = record { steady = h; moves = inl refl }
 
-pub goes-one : (z : Name) (S : State) (e : Event) (g : Grant) → IsSteady S → Goes z (subject S e) (world z S) (world z (one S e g).state)
-goes-one z S e g h = subst (λ v. Goes z (subject S e) (world z S) v) (sym (world-one z S e g)) (goes_by z (subject S e) (world z S) e g (h z))
+pub goes-one : (z : Name) (S : State) (e : Event) (g : Grant) → IsSteady S → Goes z (subject S e) e (world z S) (world z (one S e g).state)
+goes-one z S e g h = subst (λ v. Goes z (subject S e) e (world z S) v) (sym (world-one z S e g)) (goes_by z (subject S e) (world z S) e g (h z))
 
 -- what some commits leave of a zone is storable, where what each of them stores is
 storable-more : (z : Name) (before commits : List Commit) → is_storable (stored z before) ≡ true → are_storable commits ≡ true → is_storable (stored z (before ++ commits)) ≡ true
@@ -359,4 +403,4 @@ steady-opening brands commits all z = at_row (stored z commits) (storable-more z
     at_row (Some row) h = and_from _ _ h refl
 
 pub steady-history : (brands : List Tabled) (commits : List Commit) (h : List Entry) → are_storable commits ≡ true → IsSteady (after (opening brands commits) h)
-steady-history brands commits h all = kept-after (λ w. steady w.stored w.desk ≡ true) (λ z w e g h. (keeps-event z w e g h).steady) (λ w e h. h) (opening brands commits) h (steady-opening brands commits all)
+steady-history brands commits h all = kept-after (λ w. steady w.stored w.desk ≡ true) (λ z w e g h. (keeps-event z w e g h).steady) (λ w d h. h) (λ w h. (ends_here w.stored w.desk h).0) (opening brands commits) h (steady-opening brands commits all)

@@ -14,11 +14,12 @@ use Rattle.zoneadmd_steps.specs.Desks.{Desk, Job}
 use Rattle.zone_machine.specs.Machine.Common.{common}
 use Rattle.zone_machine.specs.Machine.Histories.{after, after_entry}
 use Rattle.zone_machine.specs.Machine.Local.{is_local, job_has_record}
-use Rattle.zone_machine.specs.Machine.{one, one_of, opening, subject}
+use Rattle.zone_machine.specs.Machine.{one, one_of, opening, subject, whole}
 use Rattle.zone_machine.specs.State.{State, stored}
 use Rattle.zone_machine.specs.State.Worlds.{objects_of, world}
 use Rattle.zone_machine.specs.declared.events.Entry.{Entry}
 use Rattle.zone_machine.specs.declared.events.Event.{Event}
+use Rattle.zone_machine.specs.declared.events.Event.TheVariants.{Process as Call_of, Restart, Session, System, Turn}
 use Rattle.zone_machine.specs.declared.events.Subject.{Subject}
 use Rattle.zone_machine.specs.declared.events.Subject.TheVariants.{Global, Whole, Zone}
 use Rattle.zone_views.proofs.Steady.{steady, steady-history}
@@ -47,10 +48,17 @@ begun-one : (z : Name) (S : State) (e : Event) (g : Grant) → has_begun z S ≡
 unfolding one
 begun-one z S e g h = at_subject (subject S e)
   where
+    at_event : (e : Event) → has_begun z (whole e S) ≡ true
+    at_event (Session n text) = h
+    at_event (Turn y) = h
+    at_event (Call_of y pid c) = h
+    at_event (System what) = h
+    at_event Restart = refl
+
     at_subject : (s : Subject) → has_begun z (one_of s S e g).state ≡ true
     at_subject (Zone y) = refl
     at_subject Global = refl
-    at_subject Whole = h
+    at_subject Whole = at_event e
 
 begun-after : (z : Name) (S : State) (h : List Entry) → has_begun z S ≡ true → has_begun z (after S h) ≡ true
 begun-after z S [] is = is

@@ -12,26 +12,28 @@ use Rattle.zoneadmd_steps.specs.Arrivals.{Arrival, New_claim, New_id, New_proces
 use Rattle.zone_machine.specs.Machine.Common.{Common, came_common}
 use Rattle.zone_machine.specs.Machine.Histories.{asked, concerns, entry_at, only, run}
 use Rattle.zone_machine.specs.Session.Lines.{Command, Kill, Line, line_of}
-use Rattle.zone_machine.specs.Machine.{declare_reply, declared_by, holder, line_subject, named_subject, one, session_subject, subject, subject_of_name}
+use Rattle.zone_machine.specs.Machine.{declare_reply, declared_by, holder, line_subject, named_subject, one, session_subject, subject, subject_of_name, whole}
 use Rattle.zone_machine.specs.State.{At, Idle, Session as Session_mode, State}
 use Rattle.zone_machine.specs.declared.events.Entry.{Entry}
 use Rattle.zone_machine.specs.declared.events.Event.{Event}
-use Rattle.zone_machine.specs.declared.events.Event.TheVariants.{Process as Call_of, Session, System, Turn}
+use Rattle.zone_machine.specs.declared.events.Event.TheVariants.{Process as Call_of, Restart, Session, System, Turn}
 use Rattle.zone_machine.specs.declared.events.Subject.{Subject}
 use Rattle.zone_machine.specs.declared.events.Subject.TheVariants.{Zone, Global, Whole}
 use Rattle.zone_views.proofs.Purge.{told-skip, told-step}
 use Rattle.zone_views.specs.Whole.{is_whole, whole_replies}
 
--- the events of the whole system are declarations, in every state
-abbrev is_declaration : Event → Bool
-is_declaration (System what) = true
-is_declaration (Session n text) = false
-is_declaration (Turn z) = false
-is_declaration (Call_of z pid c) = false
+-- the events of the whole system are declarations and restarts, in every state
+abbrev is_of_all : Event → Bool
+is_of_all (System what) = true
+is_of_all Restart = true
+is_of_all (Session n text) = false
+is_of_all (Turn z) = false
+is_of_all (Call_of z pid c) = false
 
-whole-is : (S : State) (e : Event) → is_whole (subject S e) ≡ is_declaration e
+whole-is : (S : State) (e : Event) → is_whole (subject S e) ≡ is_of_all e
 unfolding subject
 whole-is S (System what) = refl
+whole-is S Restart = refl
 whole-is S (Turn z) = refl
 whole-is S (Call_of z pid c) = refl
 whole-is S (Session n text) = at_session (S.sessions n)
@@ -59,11 +61,19 @@ whole-is S (Session n text) = at_session (S.sessions n)
     at_session Idle = at_command line.command
     at_session (At y d) = refl
 
+-- what an event of the whole system leaves declared
+declared-whole : (S : State) (e : Event) → (whole e S).declared ≡ declared_by e S.declared
+declared-whole S (Session n text) = refl
+declared-whole S (Turn z) = refl
+declared-whole S (Call_of z pid c) = refl
+declared-whole S (System what) = refl
+declared-whole S Restart = refl
+
 -- the reply to an event of the whole system and what it leaves declared are functions of what was declared
 pub declared-decides : (S T : State) (e : Event) (g : Grant) → subject S e ≡ Whole → subject T e ≡ Whole → S.declared ≡ T.declared
     → ((one S e g).reply ≡ (one T e g).reply) × ((one S e g).state.declared ≡ (one T e g).state.declared)
 unfolding one
-declared-decides S T e g is it d = rw (is, it) (ap (declare_reply e) d, ap (declared_by e) d)
+declared-decides S T e g is it d = rw (is, it) (ap (declare_reply e) d, declared-whole S e ∙ (ap (declared_by e) d ∙ sym (declared-whole T e)))
 
 -- other events leave it
 came-declared : (z : Name) (a : Option Arrival) (c : Common) → (came_common z a c).declared ≡ c.declared

@@ -1,3 +1,4 @@
 pub mod Storable
 pub mod Numbers
 pub mod Whole
+pub mod Edits

@@ -1,7 +1,8 @@
 -- What a store may hold.
-use Rattle.std.specs.Prelude.{List, Bool, true, Option, Some, None}
+use Rattle.std.specs.Prelude.{List, Bool, true, false, not, Option, Some, None}
 use Rattle.std.specs.List.{list_all}
 use Rattle.zn_base.specs.States.{is_stored}
+use Rattle.zn_base.specs.declared.state.ZoneState.{ZoneState}
 use Rattle.commit_journal.specs.declared.records.Commit.{Commit}
 use Rattle.commit_journal.specs.declared.records.Record.{Record}
 
@@ -11,3 +12,8 @@ is_storable (Some row) = is_stored row.state
 
 abbrev pub are_storable : List Commit → Bool
 are_storable commits = list_all (λ c. is_storable c.stored) commits
+
+-- a zone's state, where no store holds it: a restart ends it
+abbrev pub ends_with_a_restart : Option ZoneState → Bool
+ends_with_a_restart None = false
+ends_with_a_restart (Some s) = not (is_stored s)

@@ -1,8 +1,9 @@
 //! The laws, over every state or every history.
-ghost use Rattle.std.specs.Prelude.{◌≡◌, ◌⊎◌, Bool, List, None, false, true, ℕ};
+ghost use Rattle.std.specs.Prelude.{◌≡◌, ◌⊎◌, Bool, List, None, Some, false, true, ℕ};
 ghost use Rattle.std.specs.List.{list_all};
 ghost use Rattle.zn_base.specs.Moves.{may_move};
 ghost use Rattle.zn_base.specs.Names.{Name};
+ghost use Rattle.zn_base.specs.declared.state.ZoneState.TheVariants.{Installed};
 ghost use Rattle.zone_pools.specs.declared.grant.Grant.{Grant};
 ghost use Rattle.zone_machine.specs.Machine.Common.{HoldOnce, common};
 ghost use Rattle.zone_machine.specs.Machine.Local.{is_local, job_has_record};
@@ -15,13 +16,15 @@ ghost use Rattle.zoneadmd_steps.specs.Objects.{kernel_of};
 ghost use Rattle.kernel_objects.specs.Kernel.{within_limit};
 ghost use Rattle.zone_machine.specs.declared.events.Entry.{Entry};
 ghost use Rattle.zone_machine.specs.declared.events.Event.{Event};
+ghost use Rattle.zone_machine.specs.declared.events.Event.TheVariants.{Restart};
 ghost use Rattle.zone_machine.specs.declared.events.Subject.TheVariants.{Whole, Zone};
 ghost use Rattle.datalink_table.specs.Claims.{holds};
 ghost use Rattle.datalink_table.specs.declared.claims.Claim.{Claim};
 ghost use Rattle.brand_hooks.specs.Brands.{Tabled};
 ghost use Rattle.commit_journal.specs.declared.records.Commit.{Commit};
+ghost use Rattle.zone_views.specs.Edits.{EditsDenoted};
 ghost use Rattle.zone_views.specs.Numbers.{AllDiffer, pids, zids};
-ghost use Rattle.zone_views.specs.Storable.{are_storable};
+ghost use Rattle.zone_views.specs.Storable.{are_storable, ends_with_a_restart};
 ghost use Rattle.zone_views.specs.Whole.{is_whole, whole_replies};
 
 /// An event that belongs neither to the zone nor to the whole system leaves the zone's world as it was.
@@ -122,11 +125,13 @@ pub fn worlds_are_replayed()
 {}
 
 /// From records whose states are configured, incomplete or installed, after any history, an event leaves the
-/// state of each zone as it was, or the zone is its subject and moves along the transition table.
+/// state of each zone as it was, or the zone is its subject and moves along the transition table; or the system
+/// restarts, and a zone that was ready, running, shutting down or down is installed.
 pub fn states_move_along_the_table()
     ensures { (z : Name) (brands : List Tabled) (commits : List Commit) (h : List Entry) (e : Event) (g : Grant)
         → are_storable commits ≡ true → let S = after (opening brands commits) h in let T = (one S e g).state in
-        (zone_state z T ≡ zone_state z S) ⊎ ((subject S e ≡ Zone z) × (may_move (zone_state z S) (zone_state z T) ≡ true)) }
+        (zone_state z T ≡ zone_state z S) ⊎ (((subject S e ≡ Zone z) × (may_move (zone_state z S) (zone_state z T) ≡ true))
+        ⊎ ((e ≡ Restart) × (ends_with_a_restart (zone_state z S) ≡ true) × (zone_state z T ≡ Some Installed))) }
 {}
 
 /// After any history, whatever was granted, each process's privileges lie within its zone's limit set, as
@@ -134,6 +139,13 @@ pub fn states_move_along_the_table()
 pub fn sets_lie_within_limits()
     ensures { (z : Name) (brands : List Tabled) (commits : List Commit) (h : List Entry)
         → within_limit (kernel_of (objects_of (world z (after (opening brands commits) h)))) ≡ true }
+{}
+
+/// After any history, what a session edits is what subcommands denote over its base (zonecfg(8)). A line that is said to it
+/// adds to these, a `revert` begins anew, and a commit makes what is open the base.
+pub fn sessions_edit_what_was_said()
+    ensures { (z : Name) (brands : List Tabled) (commits : List Commit) (h : List Entry) (n : ℕ)
+        → EditsDenoted ((world z (after (opening brands commits) h)).sessions n) }
 {}
 
 /// After any history that begins with storable records, a request under way is of a stored zone.

@@ -12,6 +12,6 @@ pub use laws::{
     allowed_grants_fit, declarations_are_common, each_item_has_one_holder,
     local_turns_leave_what_is_common, numbers_are_held_once, others_change_nothing,
     own_world_decides, purging_keeps_replies, requests_are_of_stored_zones, runs_are_histories,
-    sets_lie_within_limits, states_move_along_the_table, subjects_agree, worlds_are_replayed,
-    zones_share_no_process_number,
+    sessions_edit_what_was_said, sets_lie_within_limits, states_move_along_the_table,
+    subjects_agree, worlds_are_replayed, zones_share_no_process_number,
 };

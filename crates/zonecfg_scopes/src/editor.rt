@@ -114,6 +114,13 @@ impl Editor {
         Ok(())
     }
 
+    /// Takes for its base what was stored, as a commit does, and leaves open what is open. It takes no memory.
+    pub fn set_base(&mut self, stored: Base)
+        ensures { self.new ≡ record self.old { base = Some stored } }
+    {
+        self.base = Some(stored);
+    }
+
     /// An equal editor, its base and its open scope included.
     pub fn copy(&self, alloc: Global) -> Result<Editor, EditFault>
         ensures same { IfOk result (λ e. e ≡ self.now) }

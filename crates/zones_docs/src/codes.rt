@@ -182,6 +182,13 @@ const DELETED_WHILE_ASKED: &str = "S 1 zonecfg -z a create -b; set zonepath=/a; 
 S 1 zoneadm -z a install
 S 2 zonecfg -z a delete -F\n";
 
+const CHANGED_MEANWHILE: &str = "S 1 zonecfg -z a create -b; set zonepath=/a; set brand=ipkg
+S 1 zonecfg -z a
+S 2 zonecfg -z a set autoboot=true
+S 1 commit
+S 1 set pool=x; commit
+";
+
 const ASKED_NINE_TIMES: &str = "S 1 zonecfg -z a create -b; set zonepath=/a; set brand=ipkg
 S 1 zoneadm -z a install\nS 2 zoneadm -z a install\nS 3 zoneadm -z a install
 S 4 zoneadm -z a install\nS 5 zoneadm -z a install\nS 6 zoneadm -z a install
@@ -203,6 +210,7 @@ fn reply_runs() -> &'static [Run] {
         ],
         Refusal::Denied(_) => [("trace", SAME_PATH, "82 Denied")],
         Refusal::NoZone => [("trace", "S 1 zoneadm -z a boot\n", "90 NoZone")],
+        Refusal::Changed(_, _) => [("trace", CHANGED_MEANWHILE, "94 Changed")],
         Refusal::Waiting(_) => [("trace", ASKED_TWICE, "91 Waiting")],
         Refusal::DeskFull => [("trace", ASKED_NINE_TIMES, "92 DeskFull")],
         Refusal::DeskInUse => [("trace", DELETED_WHILE_ASKED, "97 DeskInUse")],

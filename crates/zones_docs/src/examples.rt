@@ -112,6 +112,14 @@ const EXAMPLES: &[Example] = &[
         out: Some("examples/listed.replies"),
         err: Some("examples/listed.message"),
     },
+    Example {
+        command: "trace",
+        before: None,
+        input: "examples/edited.trace",
+        status: 1,
+        out: Some("examples/edited.replies"),
+        err: Some("examples/edited.message"),
+    },
 ];
 
 fn text_of(rt: &(impl Files + AllocGlobal), file: Option<&str>) -> io::Result<Vec<u8>> {

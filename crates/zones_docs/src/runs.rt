@@ -4,8 +4,8 @@ use std::alloc::{AllocError, Global};
 use zn_io::{MemDisk, MemSink, MemSource, Room};
 use zones_run::run_zones;
 
-// The size of a piece of the source.
-const PIECE: usize = 4096;
+// The size of a piece of the source: many a line comes in two.
+const PIECE: usize = 64;
 
 // The room of each sink.
 const ROOM: usize = 16384;

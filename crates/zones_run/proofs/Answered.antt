@@ -1,23 +1,29 @@
 -- What an event was answered, from a step of the machine and the text of its reply, and what an event leaves that was not
 -- answered.
-use Rattle.std.proofs.Common.{◌≡◌, ◌++◌, inl, ℕ, Bool, true, false, List, Option, Some, None, Result, Ok, Err, refl, ap, sym, subst, ◌∙◌, arith}
-use Rattle.std.specs.Prelude.{IfOk}
+use Rattle.std.proofs.Common.{◌≡◌, ◌++◌, inl, inr, ℕ, Bool, true, false, List, Option, Some, None, Result, Ok, Err, refl, ap, sym, subst, ◌∙◌, arith}
+use Rattle.std.proofs.lemmas.Bool.{false≢true}
+use Rattle.std.specs.Prelude.{◌⊎◌, IfErr, IfOk}
 use Rattle.zn_io.specs.Disk.{View}
 use Rattle.zn_io.specs.Streams.{Rose, after_known}
 use Rattle.commit_journal.specs.Journal.{Leave}
 use Rattle.commit_journal.specs.Zones.{rows_of}
+use Rattle.commit_journal.specs.declared.records.Commit.{Commit}
 use Rattle.trace_text.specs.Lines.{Said, event_of}
 use Rattle.trace_text.specs.Replies.{reply_text}
 use Rattle.zone_disk.specs.Bank.{Account}
 use Rattle.zone_disk.specs.Image.{Stands as Image_stands}
 use Rattle.zone_machine.specs.Code.Decided.{entry_by, subject_by}
-use Rattle.zone_machine.specs.Code.Records.{BankLeft, GoesUnder, IsReady, KeepsBodies, Passes}
-use Rattle.zone_machine.specs.Code.Steps.{AsItWas, IsAllowedStep, Leaves}
-use Rattle.zone_machine.specs.Machine.Images.{NowHolds}
+use Rattle.zone_machine.specs.Code.Records.{BankLeft, GoesUnder, IsReady, Passes}
+use Rattle.zone_machine.specs.Code.Restarts.{BankLeftAny, FindsAgain, LeavesAny, RestartLeft}
+use Rattle.zone_machine.specs.Code.Steps.{Answers, AsItWas, Leaves}
+use Rattle.zone_machine.specs.Machine.{is_restart, one, subject}
+use Rattle.zone_machine.specs.Machine.Images.{Goes, Holds, NowHolds}
+use Rattle.zone_machine.specs.Machine.Pools.{allowed}
 use Rattle.zone_machine.specs.State.{State, bodies_of}
 use Rattle.zone_machine.specs.declared.events.Answer.{Answer}
 use Rattle.zone_machine.specs.declared.events.Entry.{Entry}
 use Rattle.zone_machine.specs.declared.events.Event.{Event}
+use Rattle.zone_machine.specs.declared.events.Event.TheVariants.{Process as Call_of, Restart, Session, System, Turn}
 use Rattle.zone_machine.specs.declared.faults.StepFault.{StepFault}
 use Rattle.zone_machine.specs.declared.faults.StepFault.TheVariants.{DiskFault, Memory as No_memory, WouldRecord}
 use Rattle.zone_machine.specs.declared.machine.Machine.{Machine}
@@ -25,10 +31,63 @@ use Rattle.zone_machine.specs.declared.machine.parts.Parts.{Parts}
 use Rattle.zone_machine.specs.declared.machine.shared.Shared.{Shared}
 use Rattle.zone_machine.specs.Code.Openings.{StandsFor}
 use Rattle.zones_run.specs.Answering.{Fails, FailsLine, IsAnswered, Steps, state_after}
+use Rattle.zones_run.specs.Recording.{GoesSurely}
 use Rattle.zones_run.specs.Tracing.{entry_text, is_refusal}
 use Rattle.zones_run.specs.declared.fault.RunFault.{RunFault}
 use Rattle.zones_run.specs.declared.fault.RunFault.TheVariants.{Memory}
 use Rattle.zones_run.proofs.Fronts.{after_known-append}
+
+-- what holds of any event holds so of one that is no restart
+pub finds_other : (e : Event) (v : View) (bodies : List (List ℕ)) (S : State) → is_restart e ≡ false → FindsAgain e v bodies S
+finds_other (Session n text) v bodies S h = tt
+finds_other (Turn z) v bodies S h = tt
+finds_other (Call_of z pid c) v bodies S h = tt
+finds_other (System what) v bodies S h = tt
+finds_other Restart v bodies S h = absurd (false≢true (sym h))
+
+pub leaves_other : (fault : StepFault) (t u : Parts) (e : Event) → is_restart e ≡ false → LeavesAny fault None t e u → Leaves fault None t e u
+leaves_other fault t u (Session n text) h left = left
+leaves_other fault t u (Turn z) h left = left
+leaves_other fault t u (Call_of z pid c) h left = left
+leaves_other fault t u (System what) h left = left
+leaves_other fault t u Restart h left = absurd (false≢true (sym h))
+
+pub left_other : {D : Type 0} (may : Bool) (e : Event) (fault : StepFault) (a b : Account D) (v w : View) (s : Shared) → is_restart e ≡ false → BankLeftAny may e fault a b v w s → BankLeft may fault a b v w s
+left_other may (Session n text) fault a b v w s h left = left
+left_other may (Turn z) fault a b v w s h left = left
+left_other may (Call_of z pid c) fault a b v w s h left = left
+left_other may (System what) fault a b v w s h left = left
+left_other may Restart fault a b v w s h left = absurd (false≢true (sym h))
+
+-- and of a restart
+pub restart_is : (e : Event) → is_restart e ≡ true → e ≡ Restart
+restart_is (Session n text) h = absurd (false≢true h)
+restart_is (Turn z) h = absurd (false≢true h)
+restart_is (Call_of z pid c) h = absurd (false≢true h)
+restart_is (System what) h = absurd (false≢true h)
+restart_is Restart h = refl
+
+pub left_restart : {D : Type 0} (e : Event) (fault : StepFault) (a b : Account D) (v w : View) (s : Shared) → is_restart e ≡ true → BankLeftAny true e fault a b v w s → RestartLeft true fault a b v w s
+left_restart e fault a b v w s h left = subst (λ x. BankLeftAny true x fault a b v w s) (restart_is e h) left
+
+pub finds_restart : (e : Event) (v : View) (bodies : List (List ℕ)) (S : State) → is_restart e ≡ true → v.Keeps → bodies_of S.commits ≡ bodies → FindsAgain e v bodies S
+finds_restart e v bodies S h keeps same = subst (λ x. FindsAgain x v bodies S) (sym (restart_is e h)) (keeps, same)
+
+-- it leaves the commits as they were, whatever came of it
+goes_surely : (before after : List Commit) (v w : View) → after ≡ before → Goes before after v w → Passes v w → GoesSurely before after v w
+goes_surely before after v w same goes passes = record {
+  any_moment = goes.any_moment;
+  now = λ keeps image now. either image (goes.now keeps image now);
+  model = passes.model.0;
+}
+  where
+    either : (image : List ℕ) → Holds before image ⊎ Holds after image → Holds after image
+    either image (inl h) = subst (λ commits. Holds commits image) (sym same) h
+    either image (inr h) = h
+
+pub restart_goes : {D F : Type 0} (S : State) (e : Event) → is_restart e ≡ true → (old : Machine D F) (v w : View) → StandsFor S old → GoesUnder None old.parts e old.bank.records v w → Passes v w → GoesSurely S.commits (state_after S e).commits v w
+unfolding one subject
+restart_goes S e h old v w stands goes passes = goes_surely S.commits _ v w (ap (λ e. (state_after S e).commits) (restart_is e h)) (goes S stands.parts stands.bodies) passes
 
 -- whatever a crash leaves of a ready machine stands for the commits of its state
 pub ready_holds : {D F : Type 0} (S : State) (m : Machine D F) (v : View) → StandsFor S m → IsReady v m.bank m.parts.shared → v.Keeps → NowHolds v S.commits
@@ -38,12 +97,12 @@ ready_holds S m v stands ready keeps = λ image now. record {
 }
 
 -- the machine answered an event
-pub steps_by : {D F : Type 0} (S : State) (e : Event) (a : Answer) (old new : Machine D F) (v w : View) → StandsFor S old → IsAllowedStep old.parts e (entry_by e a) new.parts → GoesUnder None old.parts e old.bank.records v w → KeepsBodies None old.parts e old.bank.records new.bank.records
+pub steps_by : {D F : Type 0} (S : State) (e : Event) (a : Answer) (old new : Machine D F) (v w : View) → StandsFor S old → Answers S e (allowed S e) (entry_by e a) new.parts → GoesUnder None old.parts e old.bank.records v w → bodies_of (state_after S e).commits ≡ new.bank.records
     → IsReady w new.bank new.parts.shared → Passes v w → Steps S e a (λ T. StandsFor T new) v w
 steps_by S e a old new v w stands step goes bodies ready passes =
-    let after : StandsFor (state_after S e) new = record { parts = (step S stands.parts).stands; bodies = bodies S stands.parts stands.bodies } in
+    let after : StandsFor (state_after S e) new = record { parts = step.stands; bodies = bodies } in
     record {
-      told = (step S stands.parts).told;
+      told = step.told;
       stands = after;
       goes = record {
         any_moment = (goes S stands.parts stands.bodies).any_moment;
@@ -94,6 +153,10 @@ steps_later view S e a now_stands first mid w same steps = subst (λ b. Steps S 
 pub if_ok_steps : {A E : Type 0} (r : Result A E) (P Q : A → Type 0) → ((a : A) → P a → Q a) → IfOk r P → IfOk r Q
 if_ok_steps (Ok a) P Q lead holds = lead a holds
 if_ok_steps (Err e) P Q lead holds = tt
+
+pub if_err_fails : {A E : Type 0} (r : Result A E) (P Q : E → Type 0) → ((e : E) → P e → Q e) → IfErr r P → IfErr r Q
+if_err_fails (Ok a) P Q lead holds = tt
+if_err_fails (Err e) P Q lead holds = lead e holds
 
 pub fails_later : {D : Type 0} (view : D → View) (S : State) (e : Event) (fault : RunFault) (first mid last : Account D) → mid ≡ first → Fails fault (last ≡ mid) S e (view mid.disk) (view last.disk) → Fails fault (last ≡ first) S e (view first.disk) (view last.disk)
 fails_later view S e fault first mid last same fails = subst (λ b. Fails fault (last ≡ b) S e (view b.disk) (view last.disk)) same fails

@@ -11,7 +11,7 @@ use Rattle.zn_base.specs.Names.{Name, name_of}
 use Rattle.zn_base.specs.declared.name.NameFault.{NameFault}
 use Rattle.trace_text.specs.Declarations.{is_declaration}
 use Rattle.trace_text.specs.declared.fault.LineFault.TheVariants.{BadWord, GrantForm}
-use Rattle.trace_text.specs.Lines.{Said, begins_with, is_no_event, called, declaration_by, declared, event_by, event_of, first_word, after_word, item_at, item_by, pid_by, process_by, process_of, session_of, turn_by, turn_of, typed_by, types_unless, with_words}
+use Rattle.trace_text.specs.Lines.{Said, begins_with, is_no_event, called, declaration_by, declared, event_by, event_of, first_word, after_word, item_at, item_by, pid_by, process_by, process_of, restart_by, session_of, turn_by, turn_of, typed_by, types_unless, with_words}
 use Rattle.datalink_table.specs.declared.claims.ClaimKind.TheVariants.{Address, Dataset, Link}
 use Rattle.zone_machine.specs.declared.events.Declaration.{Declaration}
 use Rattle.zone_machine.specs.declared.events.Declaration.TheVariants.{Device, Item}
@@ -76,12 +76,17 @@ by_declaration word end more =
     by_test (bytes_eq word (codes "link")) _ _ (by_kind (Item Link) end more) (by_test (bytes_eq word (codes "address")) _ _ (by_kind (Item Address) end more)
     (by_test (bytes_eq word (codes "dataset")) _ _ (by_kind (Item Dataset) end more) (by_test (bytes_eq word (codes "device")) _ _ (by_kind Device end more) tt)))
 
+by_restart : (more : Option (List ℕ)) → Undeclared (restart_by more)
+by_restart None = refl
+by_restart (Some words) = tt
+
 by_tag : (tag : List ℕ) (more : Option (List ℕ)) → Undeclared (event_by true tag more)
 by_tag tag more =
     by_test (bytes_eq tag (codes "S")) _ _ (by_words 1 session_of more (λ words. by_session (decimal_of SESSION_MAX (first_word words)) _ _))
     (by_test (bytes_eq tag (codes "D")) _ _ (by_words 1 turn_of more (λ words. by_turn (name_of (first_word words)) _ (after_word words)))
     (by_test (bytes_eq tag (codes "P")) _ _ (by_words 1 process_of more (λ words. by_process (name_of (first_word words)) _ (after_word words)))
-    (by_test (bytes_eq tag (codes "Y")) _ _ (by_words 1 _ more (λ words. by_declaration (first_word words) _ (after_word words))) tt)))
+    (by_test (bytes_eq tag (codes "Y")) _ _ (by_words 1 _ more (λ words. by_declaration (first_word words) _ (after_word words)))
+    (by_test (bytes_eq tag (codes "R")) _ _ (by_restart more) tt))))
 
 undeclared : (line : List ℕ) → Undeclared (event_of true line)
 undeclared line = by_test (is_no_event line) (Ok None) _ tt (by_test (begins_with 64 line) (Err GrantForm) _ tt (by_tag (first_word line) (after_word line)))

@@ -12,12 +12,13 @@ use Rattle.zone_machine.specs.State.{State}
 use Rattle.zone_machine.specs.State.Decisions.{act_of, after_came}
 use Rattle.zone_machine.specs.State.Edits.{Edit, Of_objects, comes, edit, edits}
 use Rattle.zone_machine.specs.State.Worlds.{view}
-use Rattle.zone_machine.specs.Machine.{decide, one, one_of, session_number, subject}
+use Rattle.zone_machine.specs.Machine.{decide, one, one_of, session_number, subject, whole}
 use Rattle.zone_machine.specs.Machine.Changes.{change, change_of, changes, committed}
 use Rattle.zone_machine.specs.Machine.Histories.{after, after_entry, entry_at, is_legal, is_told}
 use Rattle.zone_machine.specs.Machine.Pools.{allowed}
 use Rattle.zone_machine.specs.declared.events.Entry.{Entry}
 use Rattle.zone_machine.specs.declared.events.Event.{Event}
+use Rattle.zone_machine.specs.declared.events.Event.TheVariants.{Process as Call_of, Restart, Session, System, Turn}
 use Rattle.zone_machine.specs.declared.events.Subject.{Subject}
 use Rattle.zone_machine.specs.declared.events.Subject.TheVariants.{Zone, Global, Whole}
 
@@ -49,6 +50,14 @@ commits-came z (Some (New_id i)) S = sym (append-nil S.commits)
 commits-came z (Some (New_claim c)) S = sym (append-nil S.commits)
 commits-came z (Some No_new_thing) S = sym (append-nil S.commits)
 
+-- an event of the whole system commits nothing
+commits-whole : (S : State) (e : Event) → (whole e S).commits ≡ S.commits
+commits-whole S (Session n text) = refl
+commits-whole S (Turn z) = refl
+commits-whole S (Call_of z pid c) = refl
+commits-whole S (System what) = refl
+commits-whole S Restart = refl
+
 commits-entry : (S : State) (e : Entry) → (after_entry S e).commits ≡ S.commits ++ change S e
 unfolding one
 commits-entry S e = by_subject (subject S e.event)
@@ -58,7 +67,7 @@ commits-entry S e = by_subject (subject S e.event)
         let a = act_of (decide (view z S) e.event) e.grant in
         commits-edits z (session_number e.event) a.effect.edits (after_came z a.came S) ∙ commits-came z a.came S
     by_subject Global = sym (append-nil S.commits)
-    by_subject Whole = sym (append-nil S.commits)
+    by_subject Whole = commits-whole S e.event ∙ sym (append-nil S.commits)
 
 pub commits-after : (S : State) (h : List Entry) → (after S h).commits ≡ S.commits ++ changes S h
 commits-after S [] = sym (append-nil S.commits)

@@ -40,11 +40,11 @@ pub holds_or_fault : OpensStoreOneWay → (R : List Commit) (image : List ℕ) (
 holds_or_fault one R image fault holds opens = let same = one image (Ok (bodies_of R, stored R)) (Err fault) holds opens in cc
 
 -- what holds of each list of commits that the machine was opened on holds of what was found
-pub opened : {D F : Type 0} (P : Found → Type 0) (brands : List Tabled) (v : View) (m : Machine D F) → P None → ((R : List Commit) → StandsFor (opening brands R) m → P (Some (Ok R)))
+pub opened : {D F : Type 0} (P : Found → Type 0) (brands : List Tabled) (v : View) (m : Machine D F) → P None → (v.Keeps → (R : List Commit) → StandsFor (opening brands R) m → P (Some (Ok R)))
     → (v.Keeps → (R : List Commit) → Holds R v.reads → StandsFor (opening brands R) m) → (v.Keeps → (R : List Commit) × Holds R v.reads) → OpensStoreOneWay
     → (found : Found) → Finds v found → P found
 opened P brands v m none some stands opens one None finds = none
-opened P brands v m none some stands opens one (Some (Ok R)) finds = some R (stands finds.0 R finds.1)
+opened P brands v m none some stands opens one (Some (Ok R)) finds = some finds.0 R (stands finds.0 R finds.1)
 opened P brands v m none some stands opens one (Some (Err fault)) finds = let o = opens finds.0 in absurd (holds_or_fault one o.0 v.reads fault o.1 finds.1)
 
 -- a store of R is one on which the machine stands for its opening

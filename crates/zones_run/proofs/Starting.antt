@@ -7,10 +7,10 @@ use Rattle.zone_pools.specs.declared.owned.Owned.{Owned}
 use Rattle.zn_base.specs.Names.{Name, name_of}
 use Rattle.zn_base.specs.declared.name.NameFault.{NameFault}
 use Rattle.zone_machine.specs.Machine.{holder, line_subject, named_subject, one, one_of, session_subject, subject, subject_of_name}
-use Rattle.zone_machine.specs.Session.Lines.{Ask, Blank, Clone, Command, Help, Hold, Kill, Line, List_one, List_zones, Release, Unforced, Unknown, Verify, Zonecfg, line_of}
+use Rattle.zone_machine.specs.Session.Lines.{Ask, Blank, Clone, Command, Edit, Help, Hold, Kill, Line, List_one, List_zones, Release, Unforced, Unknown, Verify, Zonecfg, line_of}
 use Rattle.zone_machine.specs.State.{At, Idle, Session as Session_mode, State}
 use Rattle.zone_machine.specs.declared.events.Event.{Event}
-use Rattle.zone_machine.specs.declared.events.Event.TheVariants.{Process as Call_of, Session, System, Turn}
+use Rattle.zone_machine.specs.declared.events.Event.TheVariants.{Process as Call_of, Restart, Session, System, Turn}
 use Rattle.zone_machine.specs.declared.events.Subject.{Subject}
 use Rattle.zone_machine.specs.declared.events.Subject.TheVariants.{Zone, Global, Whole}
 use Rattle.zones_run.specs.Tracing.{counts_event}
@@ -42,6 +42,7 @@ of_line word os (Clone source) = named word
 of_line word os Unforced = named word
 of_line word os (Hold dir) = named word
 of_line word os (Release dir) = named word
+of_line word os Edit = named word
 of_line word os Help = named word
 of_line word os Verify = named word
 of_line word os (List_one form) = named word
@@ -64,3 +65,4 @@ started_after S (Session n text) g = starts (session_subject (line_of text) S.pr
 started_after S (Turn z) g = sym (or-true S.started)
 started_after S (Call_of z pid c) g = sym (or-true S.started)
 started_after S (System what) g = sym (or-false S.started)
+started_after S Restart g = sym (or-true S.started)

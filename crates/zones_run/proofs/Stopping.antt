@@ -1,7 +1,8 @@
 -- Why a line ended a trace, by what its call answered.
 use Rattle.std.proofs.Common.{◌≡◌, ◌≤◌, ◌⊎◌, inl, inr, ℕ, List, [], ◌∷◌, length, Option, Some, Result, Ok, Err, refl, ap, subst}
 use Rattle.std.specs.Option.{option_map}
-use Rattle.std.specs.Prelude.{IsErrAnd, IsErrOf}
+use Rattle.std.specs.Prelude.{IfOk, IfSome, IsErrAnd, IsErrOf}
+use Rattle.zones_run.specs.Complaints.{IsOfInput}
 use Rattle.zn_io.specs.Disk.{View}
 use Rattle.zn_io.specs.Streams.{after_known}
 use Rattle.zn_base.specs.Lines.{lines_of}
@@ -10,7 +11,7 @@ use Rattle.commit_journal.specs.declared.records.Commit.{Commit}
 use Rattle.trace_text.specs.Lines.{event_of}
 use Rattle.zone_machine.specs.Machine.Images.{IsStoreOf}
 use Rattle.zone_machine.specs.State.{State}
-use Rattle.zones_run.specs.Answering.{LeavesText, Stops, StopsText, ended_by}
+use Rattle.zones_run.specs.Answering.{LeavesText, MayStop, RestartsWell, Stops, StopsText, ended_by}
 use Rattle.zones_run.specs.Reading.{TakesLine}
 use Rattle.zones_run.specs.Recording.{RanAs}
 use Rattle.zones_run.specs.Run.{run_fault_of}
@@ -23,7 +24,7 @@ use Rattle.zones_run.specs.declared.lines.ReadFault.TheVariants.{Failed, Memory 
 use Rattle.zones_run.specs.declared.outcome.Complaint.{Complaint}
 use Rattle.zones_run.specs.declared.outcome.Complaint.TheVariants.{Grammar as Bad_line}
 use Rattle.zones_run.specs.declared.trace.Stop.{Stop}
-use Rattle.zones_run.specs.declared.trace.Stop.TheVariants.{Fault, Grammar}
+use Rattle.zones_run.specs.declared.trace.Stop.TheVariants.{Fault, Grammar, NoStore}
 use Rattle.zones_run.proofs.Keeping.{Left}
 use Rattle.zones_run.proofs.TraceEnds.{answers_lines, at_fault, ends_failed, fails_with, tells_fault}
 use Rattle.zones_run.proofs.TraceRecords.{ran_failed, ran_left, ran_same, ran_whole, ran_written}
@@ -41,11 +42,14 @@ pub none_stopped : (stop : Stop) (number : ℕ) (holds now : Option (List ℕ)) 
 none_stopped (Fault fault) number holds now waiting left text failed = none_left fault holds now waiting left text failed
 none_stopped (Grammar fault) number holds now waiting left text (inl failed) = absurd (cc)
 none_stopped (Grammar fault) number holds now waiting left text (inr failed) = absurd (cc)
+none_stopped (NoStore fault) number holds now waiting left text (inl failed) = absurd (cc)
+none_stopped (NoStore fault) number holds now waiting left text (inr failed) = absurd (cc)
 
 -- a fault that ends the trace came in the line
 pub stopped_by : (stop : Stop) (number : ℕ) (fault : RunFault) → IsErrOf (ended_by stop number) fault → stop ≡ Fault fault
 stopped_by (Fault found) number fault is = let same : found ≡ fault = cc in ap Fault same
 stopped_by (Grammar found) number fault is = absurd (cc)
+stopped_by (NoStore found) number fault is = absurd (cc)
 
 pub never_reads : (stop : Stop) (number : ℕ) (holds now : Option (List ℕ)) (waiting left : List ℕ) → StopsText stop holds now waiting left → IsErrOf (ended_by stop number) Read → ⊥
 never_reads stop number holds now waiting left text is = subst (λ s. StopsText s holds now waiting left) (stopped_by stop number Read is) text
@@ -53,21 +57,23 @@ never_reads stop number holds now waiting left text is = subst (λ s. StopsText 
 -- how the trace ends
 pub ends_stopped : (brands : List Tabled) (R : List Commit) (stands : State → Type 0) (stop : Stop) (refused : Option ℕ) (n : ℕ) (held holds now old left input : Option (List ℕ)) (waiting now_waiting : List ℕ) (line : List ℕ) (new : Option (List (List ℕ))) (same : Type 0) (v w : View)
     → RunsOn brands R stands refused n held (after_known holds waiting) old input → HasWritten held holds → StopsText stop holds now waiting now_waiting → TakesPiece old left → option_map lines_of old ≡ option_map (λ ls. line ∷ ls) new → n ≤ 200000 → length line ≤ 4096
-    → ((S : State) → stands S → Stops stop same S (event_of S.started line) v w) → EndsAs brands R (ended_by stop n) input left held now (after_known now now_waiting)
-ends_stopped brands R stands (Fault fault) refused n held holds now old left input waiting now_waiting line new same v w run written text piece is h k stops =
+    → ((S : State) → stands S → Stops stop same S (event_of S.started line) v w) → MayStop stop v → ((run : RunsOn brands R stands refused n held (after_known holds waiting) old input) → RestartsWell (event_of run.state.started line) v) → EndsAs brands R (ended_by stop n) input left held now (after_known now now_waiting)
+ends_stopped brands R stands (Fault fault) refused n held holds now old left input waiting now_waiting line new same v w run written text piece is h k stops may well =
     ends_failed brands R stands fault refused n held holds now old left input waiting now_waiting run written text piece
-ends_stopped brands R stands (Grammar fault) refused n held holds now old left input waiting now_waiting line new same v w run written text piece is h k stops =
+ends_stopped brands R stands (NoStore fault) refused n held holds now old left input waiting now_waiting line new same v w run written text piece is h k stops may well = absurd (may (well run (stops run.state run.stood)))
+ends_stopped brands R stands (Grammar fault) refused n held holds now old left input waiting now_waiting line new same v w run written text piece is h k stops may well =
     let told = runs_told brands R stands refused n held (after_known holds waiting) (after_known now now_waiting) old input text run in
     (tells_fault brands R stands refused n held (after_known now now_waiting) line fault old new input told is h k (λ S stood. (stops S stood).0), answers_lines brands R stands refused n held (after_known now now_waiting) old left input told piece)
 
 -- and what it has recorded
 pub ran_stopped : (brands : List Tabled) (R : List Commit) (stands : State → Type 0) (v0 v w : View) (stop : Stop) (refused : Option ℕ) (n : ℕ) (held holds now old new input : Option (List ℕ)) (waiting left : List ℕ) (line : List ℕ) (lines : Option (List (List ℕ))) (same : Type 0)
     → Follows brands R stands (Left brands R v0 v) refused n held (after_known holds waiting) old input → IsStoreOf v0 R → StopsText stop holds now waiting left → TakesLine line old new → option_map lines_of old ≡ option_map (λ ls. line ∷ ls) lines → n ≤ 200000 → length line ≤ 4096
-    → ((S : State) → stands S → Stops stop same S (event_of S.started line) v w) → (same → (P : View → Type 0) → P v → P w) → RanAs brands R (ended_by stop n) input held (after_known now left) v0 w
-ran_stopped brands R stands v0 v w (Fault fault) refused n held holds now old new input waiting left line lines same f is text took eq h k stops stay =
+    → ((S : State) → stands S → Stops stop same S (event_of S.started line) v w) → MayStop stop v → (same → (P : View → Type 0) → P v → P w) → RanAs brands R (ended_by stop n) input held (after_known now left) v0 w
+ran_stopped brands R stands v0 v w (NoStore fault) refused n held holds now old new input waiting left line lines same f is text took eq h k stops may stay = absurd (may (f.kept is).keeps)
+ran_stopped brands R stands v0 v w (Fault fault) refused n held holds now old new input waiting left line lines same f is text took eq h k stops may stay =
     ran_left brands R fault input held holds now waiting left v0 w text
     (ran_failed brands R stands v0 v refused n held (after_known holds waiting) old input f is fault same w line new (event_of f.run.state.started line) took h k refl (stops f.run.state f.run.stood) stay)
-ran_stopped brands R stands v0 v w (Grammar fault) refused n held holds now old new input waiting left line lines same f is text took eq h k stops stay =
+ran_stopped brands R stands v0 v w (Grammar fault) refused n held holds now old new input waiting left line lines same f is text took eq h k stops may stay =
     let outside = stops f.run.state f.run.stood in
     ran_same brands R (Ok (Some (Bad_line n fault))) input held (after_known now left) v0 v w same outside.1 stay
     (ran_written brands R (Ok (Some (Bad_line n fault))) input held (after_known holds waiting) (after_known now left) v0 v text
@@ -85,3 +91,9 @@ pub source_failed : (r : Result (Option Complaint) RunFault) (fault : ReadFault)
 source_failed (Ok x) fault said is = absurd (cc)
 source_failed (Err e) Failed said is = refl
 source_failed (Err e) No_memory said is = let read : e ≡ Read = cc in absurd (cc)
+
+-- where the disk keeps to its model, a line ends a trace with a complaint of the input alone
+pub kind_stopped : (stop : Stop) (number : ℕ) (v : View) → MayStop stop v → v.Keeps → IfOk (ended_by stop number) (λ complaint. IfSome complaint IsOfInput)
+kind_stopped (Fault fault) number v may keeps = tt
+kind_stopped (Grammar fault) number v may keeps = tt
+kind_stopped (NoStore fault) number v may keeps = absurd (may keeps)

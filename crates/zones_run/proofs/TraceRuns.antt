@@ -1,5 +1,8 @@
 -- What a machine, standard output and the bytes to come amount to, in the midst of a trace.
-use Rattle.std.proofs.Common.{◌≡◌, ◌+◌, ◌≤◌, ◌<◌, ◌++◌, ◌⊎◌, ℕ, Bool, true, false, cond, List, [], ◌∷◌, length, map, Option, Some, None, IfSome, Ok, Err, refl, ap, sym, subst, inl, inr, ◌∙◌, arith, append_assoc}
+use Rattle.std.proofs.Common.{◌≡◌, ◌+◌, ◌≤◌, ◌<◌, ◌++◌, ◌⊎◌, ◌||◌, ℕ, Bool, true, false, cond, List, [], ◌∷◌, length, map, Option, Some, None, IfSome, Ok, Err, refl, ap, sym, subst, inl, inr, ◌∙◌, arith, append_assoc}
+use Rattle.std.proofs.Math.Bool.{or-true}
+use Rattle.std.proofs.lemmas.Bool.{false≢true}
+use Rattle.std.specs.List.{list_any}
 use Rattle.std.specs.Option.{option_map}
 use Rattle.std.specs.Io.KnownBytes.{IsAtEnd}
 use Rattle.std.proofs.lemmas.List.{append-nil}
@@ -9,17 +12,18 @@ use Rattle.commit_journal.specs.declared.records.Commit.{Commit}
 use Rattle.trace_text.specs.Lines.{Said, event_of}
 use Rattle.zn_io.specs.Disk.{View}
 use Rattle.zone_machine.specs.Machine.Histories.{after, after_entry, history, is_legal}
-use Rattle.zone_machine.specs.Machine.{opening}
+use Rattle.zone_machine.specs.Machine.{is_restart, opening}
 use Rattle.zone_pools.specs.Pools.{or_else}
 use Rattle.zone_machine.specs.State.{State}
 use Rattle.zone_machine.specs.declared.events.Entry.{Entry}
 use Rattle.zone_machine.specs.declared.events.Event.{Event}
+use Rattle.zone_machine.specs.declared.events.Event.TheVariants.{Restart}
 use Rattle.zn_base.specs.Lines.{is_newline, lines_of, with_first}
 use Rattle.zones_run.specs.Lines.{AreWhole, has_newline}
 use Rattle.zones_run.specs.Reading.{TakesLine}
-use Rattle.zones_run.specs.Answering.{IsAnswered, TakesEvent, entry_in, state_after}
+use Rattle.zones_run.specs.Answering.{FindsAlways, IsAnswered, RestartsWell, TakesEvent, entry_in, state_after}
 use Rattle.zones_run.specs.Recording.{GoesSurely, IsFront}
-use Rattle.zones_run.specs.Tracing.{Run, entry_text, is_refusal, replies_text, run_of, script_from}
+use Rattle.zones_run.specs.Tracing.{Run, entry_text, has_restart, is_refusal, replies_text, run_of, script_from, script_of}
 use Rattle.zones_run.proofs.Cuts.{cut_at, cut_whole}
 use Rattle.zones_run.proofs.Fronts.{after_known-append, after_known-nil}
 use Rattle.zones_run.proofs.Histories.{after-push, legal-entry}
@@ -197,9 +201,11 @@ runs_through brands R stands now_stands v w refused now n held holds now_holds e
 
 -- the event that a line was read as is answered
 pub takes_answered : (S : State) (now_stands : State → Type 0) (same : Type 0) (v w : View) (started : Bool) (line : List ℕ) (e : Event) (refusal : Bool) (n : ℕ) (refused now : Option ℕ) (holds now_holds : Option (List ℕ))
-    → started ≡ S.started → event_of started line ≡ Ok (Some e) → IsAnswered S e refusal now_stands v w holds now_holds → now ≡ cond refusal (or_else refused (Some n)) refused → TakesEvent S (event_of S.started line) now_stands same v w n refused now holds now_holds
-takes_answered S now_stands same v w started line e refusal n refused now holds now_holds is says answered so =
-    subst (λ said. TakesEvent S said now_stands same v w n refused now holds now_holds) (sym says ∙ ap (λ b. event_of b line) is) (refusal, answered, so)
+    → started ≡ S.started → event_of started line ≡ Ok (Some e) → (RestartsWell (Ok (Some e)) v → IsAnswered S e refusal now_stands v w holds now_holds) → now ≡ cond refusal (or_else refused (Some n)) refused
+    → RestartsWell (event_of S.started line) v → TakesEvent S (event_of S.started line) now_stands same v w n refused now holds now_holds
+takes_answered S now_stands same v w started line e refusal n refused now holds now_holds is says answered so well =
+    let said : Ok (Some e) ≡ event_of S.started line = sym says ∙ ap (λ b. event_of b line) is in
+    subst (λ said. TakesEvent S said now_stands same v w n refused now holds now_holds) said (refusal, answered (λ restarts. well (sym said ∙ restarts)), so)
 
 -- a line that was read as no event
 pub takes_nothing : (S : State) (now_stands : State → Type 0) (same : Type 0) (v w : View) (started : Bool) (line : List ℕ) (n : ℕ) (refused : Option ℕ) (holds : Option (List ℕ))
@@ -257,15 +263,6 @@ follows_said brands R same stands now_stands left_by now_left v w refused now n 
     }
 follows_said brands R same stands now_stands left_by now_left v w refused now n held holds now_holds line old new input f (Err fault) says took line_took h k stays steps = absurd took
 
--- what it says depends on whether an event has come, which the machine's state tells
-pub follows_line : (brands : List Tabled) (R : List Commit) (same : Type 0) (stands now_stands : State → Type 0) (left_by now_left : List Entry → Type 0) (v w : View) (refused now : Option ℕ) (n : ℕ) (held holds now_holds : Option (List ℕ)) (line : List ℕ) (old new input : Option (List ℕ))
-    → Follows brands R stands left_by refused n held holds old input → ((S : State) → stands S → TakesEvent S (event_of S.started line) now_stands same v w n refused now holds now_holds) → TakesLine line old new → n ≤ 200000 → length line ≤ 4096
-    → (same → (h : List Entry) → left_by h → now_left h)
-    → ((S : State) (e : Event) (h : List Entry) → S ≡ after (opening brands R) h → GoesSurely S.commits (state_after S e).commits v w → left_by h → now_left (h ++ entry_in S e ∷ []))
-    → Follows brands R now_stands now_left now (n + 1) held now_holds new input
-follows_line brands R same stands now_stands left_by now_left v w refused now n held holds now_holds line old new input f took line_took h k stays steps =
-    follows_said brands R same stands now_stands left_by now_left v w refused now n held holds now_holds line old new input f (event_of f.run.state.started line) refl (took f.run.state f.run.stood) line_took h k stays steps
-
 -- the entries of a run are the first ones of the whole input's
 pub begins_input : (brands : List Tabled) (R : List Commit) (refused : Option ℕ) (n : ℕ) (S : State) (done : List Entry) (bytes input : Option (List ℕ)) → IfSome input (Knows brands R refused n S done bytes) → IfSome (option_map (λ bs. (run_of brands R bs).entries) input) (IsFront done)
 begins_input brands R refused n S done bytes None known = tt
@@ -280,3 +277,45 @@ begins_entry brands R stands refused n held holds e line old new input run took 
     let entry : Entry = entry_in S e in
     begins_input brands R (or_else refused (refused_at_line n entry)) (n + 1) (after_entry S entry) (run.done ++ entry ∷ []) new input
     (for_input brands R run.done (run.done ++ entry ∷ []) refused (or_else refused (refused_at_line n entry)) n S (after_entry S entry) line old new input (λ lines. answers_line run.done refused n S e line lines h k says) took run.known)
+
+-- the entries of events are of those events
+told_events : (S : State) (es : List Event) → list_any (λ (x : Entry). is_restart x.event) (history S es) ≡ list_any is_restart es
+told_events S [] = refl
+told_events S (e ∷ es) = ap (λ b. is_restart e || b) (told_events (state_after S e) es)
+
+script_events : (es : List (ℕ × Event)) → list_any is_restart (map (λ (e : ℕ × Event). e.1) es) ≡ list_any (λ (e : ℕ × Event). is_restart e.1) es
+script_events [] = refl
+script_events (e ∷ es) = ap (λ b. is_restart e.1 || b) (script_events es)
+
+last_any : (done : List Entry) (entry : Entry) (rest : List Entry) → is_restart entry.event ≡ true → list_any (λ (x : Entry). is_restart x.event) ((done ++ entry ∷ []) ++ rest) ≡ true
+last_any [] entry rest h = rw h refl
+last_any (d ∷ done) entry rest h = rw (last_any done entry rest h) (or-true (is_restart d.event))
+
+-- a line that is read as a restart is one of the input's
+pub restart_told : (brands : List Tabled) (R : List Commit) (stands : State → Type 0) (refused : Option ℕ) (n : ℕ) (held holds : Option (List ℕ)) (line : List ℕ) (old new : Option (List ℕ)) (bytes : List ℕ) (run : RunsOn brands R stands refused n held holds old (Some bytes))
+    → TakesLine line old new → n ≤ 200000 → length line ≤ 4096 → event_of run.state.started line ≡ Ok (Some Restart) → has_restart bytes ≡ true
+restart_told brands R stands refused n held holds line old new bytes run took h k says =
+    let entry : Entry = entry_in run.state Restart in
+    let front : IsFront (run.done ++ entry ∷ []) (run_of brands R bytes).entries = begins_entry brands R stands refused n held holds Restart line old new (Some bytes) run took h k says in
+    let told = ap (list_any (λ (x : Entry). is_restart x.event)) front.whole ∙ last_any run.done entry front.rest refl in
+    sym (script_events (script_of bytes).events) ∙ (sym (told_events (opening brands R) (map (λ (e : ℕ × Event). e.1) (script_of bytes).events)) ∙ told)
+
+-- so it finds the store, where each restart of the input does
+pub restarts_well : (brands : List Tabled) (R : List Commit) (stands : State → Type 0) (refused : Option ℕ) (n : ℕ) (held holds : Option (List ℕ)) (line : List ℕ) (old new input : Option (List ℕ)) (v0 v : View) → FindsAlways v0 input → (v0.Keeps → v.Keeps)
+    → (run : RunsOn brands R stands refused n held holds old input) → TakesLine line old new → n ≤ 200000 → length line ≤ 4096 → RestartsWell (event_of run.state.started line) v
+restarts_well brands R stands refused n held holds line old new input v0 v (inl kept) keeps run took h k = λ says. keeps kept
+restarts_well brands R stands refused n held holds line old new None v0 v (inr known) keeps run took h k = absurd (cc)
+restarts_well brands R stands refused n held holds line old new (Some input) v0 v (inr known) keeps run took h k =
+    let same : input ≡ known.0 = cc in
+    λ says. absurd (false≢true (sym known.2 ∙ (ap has_restart (sym same) ∙ restart_told brands R stands refused n held holds line old new input run took h k says)))
+
+-- what it says depends on whether an event has come, which the machine's state tells; it may restart the system where each restart
+-- of the input finds the store
+pub follows_line : (brands : List Tabled) (R : List Commit) (same : Type 0) (stands now_stands : State → Type 0) (left_by now_left : List Entry → Type 0) (v w : View) (refused now : Option ℕ) (n : ℕ) (held holds now_holds : Option (List ℕ)) (line : List ℕ) (old new input : Option (List ℕ))
+    → (v0 : View) → FindsAlways v0 input → (v0.Keeps → v.Keeps) → Follows brands R stands left_by refused n held holds old input → ((S : State) → stands S → RestartsWell (event_of S.started line) v → TakesEvent S (event_of S.started line) now_stands same v w n refused now holds now_holds) → TakesLine line old new → n ≤ 200000 → length line ≤ 4096
+    → (same → (h : List Entry) → left_by h → now_left h)
+    → ((S : State) (e : Event) (h : List Entry) → S ≡ after (opening brands R) h → GoesSurely S.commits (state_after S e).commits v w → left_by h → now_left (h ++ entry_in S e ∷ []))
+    → Follows brands R now_stands now_left now (n + 1) held now_holds new input
+follows_line brands R same stands now_stands left_by now_left v w refused now n held holds now_holds line old new input v0 finds keeps f took line_took h k stays steps =
+    follows_said brands R same stands now_stands left_by now_left v w refused now n held holds now_holds line old new input f (event_of f.run.state.started line) refl
+    (took f.run.state f.run.stood (restarts_well brands R stands refused n held holds line old new input v0 v finds keeps f.run line_took h k)) line_took h k stays steps

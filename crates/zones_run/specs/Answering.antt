@@ -1,6 +1,6 @@
 -- How an event or a line is answered in the midst of a trace: what the machine stands for then, what was written or waits, and
 -- what the disk keeps.
-use Rattle.std.specs.Prelude.{◌≡◌, ◌⊎◌, ℕ, List, [], Bool, Option, Some, None, Result, Ok, Err, if◌then◌else◌}
+use Rattle.std.specs.Prelude.{◌≡◌, ◌⊎◌, ℕ, List, [], Bool, false, Option, Some, None, Result, Ok, Err, if◌then◌else◌}
 use Rattle.zn_io.specs.Disk.{View}
 use Rattle.zn_io.specs.Streams.{after_known}
 use Rattle.trace_text.specs.Lines.{Said}
@@ -12,16 +12,17 @@ use Rattle.zone_machine.specs.State.{State}
 use Rattle.zone_machine.specs.declared.events.Answer.{Answer}
 use Rattle.zone_machine.specs.declared.events.Entry.{Entry}
 use Rattle.zone_machine.specs.declared.events.Event.{Event}
+use Rattle.zone_machine.specs.declared.events.Event.TheVariants.{Restart}
 use Rattle.zone_pools.specs.Pools.{or_else}
 use Rattle.zones_run.specs.Recording.{GoesSurely}
 use Rattle.zones_run.specs.Run.{HasFront}
-use Rattle.zones_run.specs.Tracing.{entry_text, is_refusal}
+use Rattle.zones_run.specs.Tracing.{entry_text, has_restart, is_refusal}
 use Rattle.zones_run.specs.declared.fault.RunFault.{RunFault}
 use Rattle.zones_run.specs.declared.fault.RunFault.TheVariants.{Disk, Memory, Read, Write}
 use Rattle.zones_run.specs.declared.outcome.Complaint.{Complaint}
-use Rattle.zones_run.specs.declared.outcome.Complaint.TheVariants.{Grammar as Bad_line}
+use Rattle.zones_run.specs.declared.outcome.Complaint.TheVariants.{Grammar as Bad_line, NotAStore}
 use Rattle.zones_run.specs.declared.trace.Stop.{Stop}
-use Rattle.zones_run.specs.declared.trace.Stop.TheVariants.{Fault, Grammar}
+use Rattle.zones_run.specs.declared.trace.Stop.TheVariants.{Fault, Grammar, NoStore}
 
 -- the entry of an event in a state, under the grant that the pools give it
 abbrev pub entry_in : State → Event → Entry
@@ -69,17 +70,33 @@ abbrev pub FailsLine : RunFault → (same : Type 0) → State → Said → (v w 
 FailsLine fault same S (Ok (Some e)) v w = Fails fault same S e v w
 FailsLine fault same S said v w = same
 
--- why a line ends the trace: it is outside the grammar, or a fault came
+-- a line that restarts the system reads the store again, and finds it as it was left where the disk keeps to its model
+abbrev pub RestartsWell : Said → View → Type 0
+RestartsWell said v = said ≡ Ok (Some Restart) → v.Keeps
+
+-- so each restart of an input does: the disk keeps to its model, or no line of the input restarts the system
+abbrev pub FindsAlways : View → Option (List ℕ) → Type 0
+FindsAlways v input = v.Keeps ⊎ ((bytes : List ℕ) × (input ≡ Some bytes) × (has_restart bytes ≡ false))
+
+-- why a line ends the trace: it is outside the grammar, a fault came, or a restart found no store
 abbrev pub Stops : Stop → (same : Type 0) → State → Said → (v w : View) → Type 0
 Stops (Grammar fault) same S said v w = (said ≡ Err fault) × same
 Stops (Fault fault) same S said v w = FailsLine fault same S said v w
+Stops (NoStore fault) same S said v w = said ≡ Ok (Some Restart)
+
+-- on a disk that keeps to its model a restart finds the store
+abbrev pub MayStop : Stop → View → Type 0
+MayStop (NoStore fault) v = v.Keeps → ⊥
+MayStop stop v = Unit {0}
 
 -- what it ends the trace with
 abbrev pub ended_by : Stop → ℕ → Result (Option Complaint) RunFault
 ended_by (Fault fault) number = Err fault
 ended_by (Grammar fault) number = Ok (Some (Bad_line number fault))
+ended_by (NoStore fault) number = Ok (Some (NotAStore fault))
 
 -- and what was written and waits then
 abbrev pub StopsText : Stop → (holds new_holds : Option (List ℕ)) → (waiting left : List ℕ) → Type 0
 StopsText (Grammar fault) holds new_holds waiting left = after_known new_holds left ≡ after_known holds waiting
 StopsText (Fault fault) holds new_holds waiting left = LeavesText fault holds new_holds waiting left
+StopsText (NoStore fault) holds new_holds waiting left = after_known new_holds left ≡ after_known holds waiting

@@ -1,7 +1,7 @@
 -- What `trace` writes for the whole of its input: its lines are read, their events make a history of the zone machine
 -- from the commits of its store on, with the brands that there are, and the history's replies are printed.
 use Rattle.std.specs.Prelude.{ℕ, List, [], ◌∷◌, ◌+◌, ◌≡◌, map, take, Bool, true, false, ◌||◌, Option, Some, None, IfSome, Result, Ok, Err, if◌then◌else◌}
-use Rattle.std.specs.List.{flat_map}
+use Rattle.std.specs.List.{flat_map, list_any}
 use Rattle.zn_io.specs.Streams.{after_known}
 use Rattle.brand_hooks.specs.Brands.{Tabled}
 use Rattle.commit_journal.specs.declared.records.Commit.{Commit}
@@ -9,7 +9,7 @@ use Rattle.trace_text.specs.Lines.{Said, event_of}
 use Rattle.trace_text.specs.Replies.{reply_text}
 use Rattle.trace_text.specs.declared.fault.LineFault.{LineFault}
 use Rattle.zone_machine.specs.Machine.Histories.{history}
-use Rattle.zone_machine.specs.Machine.{opening}
+use Rattle.zone_machine.specs.Machine.{is_restart, opening}
 use Rattle.zoneadmd_steps.specs.declared.requests.Outcome.{Outcome}
 use Rattle.zoneadmd_steps.specs.declared.requests.Outcome.TheVariants.{Done}
 use Rattle.zoneadmd_steps.specs.declared.requests.TurnReply.{TurnReply}
@@ -66,6 +66,14 @@ script_from started number (line ∷ lines) =
     if is_past_limit number line then ends (Past_limit number)
     else let said = event_of started line in with_line number said (script_from (started || counts said) (number + 1) lines)
 
+-- the script of a whole input
+abbrev pub script_of : List ℕ → Script
+script_of bytes = script_from false 1 (lines_of bytes)
+
+-- whether a line of a whole input restarts the system
+abbrev pub has_restart : List ℕ → Bool
+has_restart bytes = list_any (λ e. is_restart e.1) (script_of bytes).events
+
 -- a refusal: `err`, `failed`, `finished` other than `ok`, or `stuck`
 abbrev pub is_refused_outcome : Outcome → Bool
 is_refused_outcome Done = false
@@ -101,10 +109,6 @@ run_by script entries = record { entries = entries; refused = first_refused scri
 -- the entries are the history of the events, from a machine of some brands whose store has some commits
 abbrev pub script_run : List Tabled → List Commit → Script → Run
 script_run brands R script = run_by script (history (opening brands R) (map (λ e. e.1) script.events))
-
--- the script of a whole input
-abbrev pub script_of : List ℕ → Script
-script_of bytes = script_from false 1 (lines_of bytes)
 
 -- the run of a whole input
 abbrev pub run_of : List Tabled → List Commit → List ℕ → Run

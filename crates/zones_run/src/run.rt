@@ -1,5 +1,5 @@
 //! The top call of `zones`.
-ghost use Rattle.std.specs.Prelude.{◌≡◌, ◌≢◌, ◌≤◌, ◌⊎◌, ◌↔◌, ◌++◌, ◌∷◌, [], map, string_bytes, IfSome, List, None, Some};
+ghost use Rattle.std.specs.Prelude.{◌≡◌, ◌≢◌, ◌≤◌, ◌⊎◌, ◌↔◌, ◌++◌, ◌∷◌, [], map, string_bytes, IfSome, List, None, Some, false, ℕ};
 ghost use Rattle.brand_hooks.specs.Brands.{Tabled, tables_of};
 ghost use Rattle.brand_hooks.specs.Hooks.{AllFollow};
 ghost use Rattle.commit_journal.specs.declared.records.Commit.{Commit};
@@ -15,7 +15,8 @@ ghost use Rattle.zones_run.specs.Program.{AnswersOn, AnswersTrace, HasAnswered, 
 ghost use Rattle.zones_run.specs.Recording.{RanBy};
 ghost use Rattle.zones_run.specs.Run.{HasFront, IsDecided, IsStatus, TakesFronts, TellsLine, TellsText, disk_fault_line, fault_status, memory_line, read_fault_line, write_fault_line};
 ghost use Rattle.zones_run.specs.Words.{command_of};
-ghost use Rattle.zones_run.specs.Tracing.{traced};
+ghost use Rattle.zones_run.specs.Answering.{FindsAlways};
+ghost use Rattle.zones_run.specs.Tracing.{has_restart, traced};
 
 use crate::export::export_all;
 use crate::fault::RunFault;
@@ -118,10 +119,10 @@ fn run_machine<S: Source, K: Sink, E: Sink, D: Disk, F: Fn(&Change) -> HookAnswe
     requires ready { MayGoOn D.view machine.old }
     ensures statuses { IsStatus result }
     ensures usage { result ≢ USAGE }
-    ensures store { result ≢ NOT_A_STORE }
-    ensures text { (brands : List Tabled) (R : List Commit) → StandsFor (opening brands R) machine.old → IfSome (S.left src.old) (λ bytes. TellsText (traced brands R bytes) result (K.holds out.old) (K.holds out.new)) }
-    ensures line { (brands : List Tabled) (R : List Commit) → StandsFor (opening brands R) machine.old → IfSome (S.left src.old) (λ bytes. TellsLine (traced brands R bytes).err result (E.holds err.old) (E.holds err.new) (E.faults err.old) (E.faults err.new)) }
-    ensures answered { (brands : List Tabled) (R : List Commit) → StandsFor (opening brands R) machine.old → AnswersTrace brands R result (S.left src.old) (S.left src.new) (K.holds out.old) (K.holds out.new) }
+    ensures store { (D.view machine.old.bank.disk).Keeps → result ≢ NOT_A_STORE }
+    ensures text { (brands : List Tabled) (R : List Commit) → StandsFor (opening brands R) machine.old → FindsAlways (D.view machine.old.bank.disk) (S.left src.old) → IfSome (S.left src.old) (λ bytes. TellsText (traced brands R bytes) result (K.holds out.old) (K.holds out.new)) }
+    ensures line { (brands : List Tabled) (R : List Commit) → StandsFor (opening brands R) machine.old → FindsAlways (D.view machine.old.bank.disk) (S.left src.old) → IfSome (S.left src.old) (λ bytes. TellsLine (traced brands R bytes).err result (E.holds err.old) (E.holds err.new) (E.faults err.old) (E.faults err.new)) }
+    ensures answered { (brands : List Tabled) (R : List Commit) → StandsFor (opening brands R) machine.old → FindsAlways (D.view machine.old.bank.disk) (S.left src.old) → AnswersTrace brands R result (S.left src.old) (S.left src.new) (K.holds out.old) (K.holds out.new) }
     ensures recorded { (brands : List Tabled) (R : List Commit) → StandsFor (opening brands R) machine.old → IsStoreOf (D.view machine.old.bank.disk) R → RanBy brands R result (S.left src.old) (K.holds out.old) (K.holds out.new) (D.view machine.old.bank.disk) (D.view machine.new.bank.disk) }
     ensures read_fault { result ≡ READ_FAULT → Rose (S.faults src.old) (S.faults src.new) }
     ensures read_line { result ≡ READ_FAULT → TakesFront (E.holds err.old) (E.holds err.new) (E.faults err.old) (E.faults err.new) read_fault_line }
@@ -153,7 +154,7 @@ fn run_trace<S: Source, K: Sink, E: Sink, D: Disk, F: Fn(&Change) -> HookAnswer>
     ensures text { (found : Found) → Finds (D.view disk) found → IfSome (traced_on (tables_of brands.now) found (S.left src.old)) (λ o. TellsText o result.0 (K.holds out.old) (K.holds out.new)) }
     ensures line { (found : Found) → Finds (D.view disk) found → IfSome (traced_on (tables_of brands.now) found (S.left src.old)) (λ o. TellsLine o.err result.0 (E.holds err.old) (E.holds err.new) (E.faults err.old) (E.faults err.new)) }
     ensures answered { (found : Found) → Finds (D.view disk) found → AnswersOn (tables_of brands.now) found result.0 (S.left src.old) (S.left src.new) (K.holds out.old) (K.holds out.new) }
-    ensures any_disk { TracedOverSome (tables_of brands.now) result.0 (S.left src.old) (S.left src.new) (K.holds out.old) (K.holds out.new) (E.holds err.old) (E.holds err.new) (E.faults err.old) (E.faults err.new) }
+    ensures any_disk { (bytes : List ℕ) → S.left src.old ≡ Some bytes → has_restart bytes ≡ false → TracedOverSome (tables_of brands.now) result.0 (S.left src.old) (S.left src.new) (K.holds out.old) (K.holds out.new) (E.holds err.old) (E.holds err.new) (E.faults err.old) (E.faults err.new) }
     ensures store { result.0 ≡ NOT_A_STORE → (D.view disk).Keeps → IsNoStore (D.view disk) }
     ensures recorded { (R : List Commit) → IsStoreOf (D.view disk) R → RanBy (tables_of brands.now) R result.0 (S.left src.old) (K.holds out.old) (K.holds out.new) (D.view disk) (D.view result.1) }
     ensures read_fault { result.0 ≡ READ_FAULT → Rose (S.faults src.old) (S.faults src.new) }
@@ -204,9 +205,9 @@ pub fn run_zones<S: Source, K: Sink, E: Sink, D: Disk, F: Fn(&Change) -> HookAns
     ensures answered { (found : Found) → Finds (D.view disk) found →
         HasAnswered (tables_of brands.now) (command_of (map string_bytes words.now)) found result.0 (S.left src.old) (S.left src.new) (K.holds out.old) (K.holds out.new) }
 
-    // Whatever the disk is, a trace is answered as one over the store of some commits, or cut before its first line: then nothing
-    // was taken and written, and the status is none of a whole run.
-    ensures any_disk { command_of (map string_bytes words.now) ≡ Some Command.Trace →
+    // Whatever the disk is, a trace that restarts nothing is answered as one over the store of some commits, or cut before its first
+    // line: then nothing was taken and written, and the status is none of a whole run.
+    ensures any_disk { command_of (map string_bytes words.now) ≡ Some Command.Trace → (bytes : List ℕ) → S.left src.old ≡ Some bytes → has_restart bytes ≡ false →
         TracedOverSome (tables_of brands.now) result.0 (S.left src.old) (S.left src.new) (K.holds out.old) (K.holds out.new) (E.holds err.old) (E.holds err.new) (E.faults err.old) (E.faults err.new) }
 
     // Where no command reads its input, none of it is taken.
@@ -226,7 +227,7 @@ pub fn run_zones<S: Source, K: Sink, E: Sink, D: Disk, F: Fn(&Change) -> HookAns
     ensures disk_fault { result.0 ≡ DISK_FAULT → Rose (D.view disk).faults (D.view result.1).faults }
     ensures disk_line { result.0 ≡ DISK_FAULT → TakesFront (E.holds err.old) (E.holds err.new) (E.faults err.old) (E.faults err.new) disk_fault_line }
 
-    // What is on the disk is no store.
+    // What is on the disk is no store, at the start or at a restart. At a restart that is so on no disk that keeps to its model.
     ensures store { result.0 ≡ NOT_A_STORE → (D.view disk).Keeps → IsNoStore (D.view disk) }
 
     // Memory ran out.

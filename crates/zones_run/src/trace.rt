@@ -1,11 +1,11 @@
 //! The command `trace`: the events of the input go through a zone machine over the store on a disk, one after the other.
-//! Their replies are written together, before an event stores a record and once it has, before more is read where no line is
-//! begun, and when many of them wait.
-ghost use Rattle.std.specs.Prelude.{◌≡◌, ◌≢◌, ◌<◌, ◌≤◌, ◌⊎◌, ◌++◌, ℕ, List, [], Err, IfErr, length, IfOk, IfSome, IsErrOf, OnErr, OnOk, false, true};
+//! Their replies are written together, before an event stores a record and once it has, before the system restarts, before more
+//! is read where no line is begun, and when many of them wait.
+ghost use Rattle.std.specs.Prelude.{◌≡◌, ◌≢◌, ◌<◌, ◌≤◌, ◌⊎◌, ◌++◌, ℕ, List, [], Err, IfErr, length, IfOk, IfSome, IsErrOf, Ok, OnErr, OnOk, Some, false, true};
 ghost use Rattle.zn_io.specs.Streams.{Rose, after_known};
 ghost use Rattle.brand_hooks.specs.Brands.{Tabled};
 ghost use Rattle.commit_journal.specs.declared.records.Commit.{Commit};
-ghost use Rattle.zone_machine.specs.Machine.{opening};
+ghost use Rattle.zone_machine.specs.Machine.{is_restart, opening};
 ghost use Rattle.zone_machine.specs.Machine.Images.{IsStoreOf};
 ghost use Rattle.zone_machine.specs.State.{State};
 ghost use Rattle.zone_machine.specs.Code.Decided.{AsksBrands, MayGoOn, subject_by};
@@ -13,7 +13,7 @@ ghost use Rattle.zone_machine.specs.Code.Openings.{StandsFor};
 ghost use Rattle.zone_machine.specs.Code.Records.{Passes};
 ghost use Rattle.trace_text.specs.Lines.{event_of};
 ghost use Rattle.trace_text.specs.Replies.{reply_text};
-ghost use Rattle.zones_run.specs.Answering.{Fails, IsAnswered, LeavesText, Steps, Stops, StopsText, TakesEvent, ended_by};
+ghost use Rattle.zones_run.specs.Answering.{Fails, FindsAlways, IsAnswered, LeavesText, MayStop, RestartsWell, Steps, Stops, StopsText, TakesEvent, ended_by};
 ghost use Rattle.zones_run.specs.Complaints.{IsOfInput};
 ghost use Rattle.zones_run.specs.Recording.{RanAs};
 ghost use Rattle.zones_run.specs.Run.{HasFront};
@@ -23,6 +23,7 @@ use crate::fault::RunFault;
 use crate::lines::{Ahead, Got, LINES_MAX, next_line};
 use crate::outcome::Complaint;
 use brand_hooks::{Change, HookAnswer};
+use commit_journal::StoreFault;
 use std::alloc::{AllocError, Global};
 use trace_text::{LineFault, push_answer, read_line};
 use zn_io::{Disk, Sink, Source, write_all};
@@ -80,12 +81,13 @@ fn write_waiting<K: Sink>(waiting: &mut Vec<u8>, out: &mut K) -> Result<(), RunF
     }
 }
 
-// An event that may store a record is answered.
+// An event that may store a record, and is no restart, is answered.
 fn answer_recording<D: Disk, F: Fn(&Change) -> HookAnswer>(
     alloc: Global,
     machine: &mut Machine<'_, D, F>,
     event: &Event,
 ) -> Result<Answer, RunFault>
+    requires stays { is_restart event.now ≡ false }
     requires asks { AsksBrands F.Fn machine.old }
     requires ready { MayGoOn D.view machine.old }
     ensures steps { IfOk result (λ answer. (S : State) → StandsFor S machine.old → Steps S event.now answer (λ T. StandsFor T machine.new) (D.view machine.old.bank.disk) (D.view machine.new.bank.disk)) }
@@ -100,11 +102,11 @@ fn answer_recording<D: Disk, F: Fn(&Change) -> HookAnswer>(
         Ok(answer) => Ok(answer),
         Err(StepFault::Memory) => Err(RunFault::Memory),
         Err(StepFault::DiskFault) => Err(RunFault::Disk),
-        Err(StepFault::BadGrant | StepFault::WouldRecord) => unreachable!(),
+        Err(StepFault::BadGrant | StepFault::WouldRecord | StepFault::NoStore(_)) => unreachable!(),
     }
 }
 
-// An event is answered. Where it stores a record, the replies that wait are written first.
+// An event that is no restart is answered. Where it stores a record, the replies that wait are written first.
 fn answer_after_waiting<D: Disk, F: Fn(&Change) -> HookAnswer, K: Sink>(
     alloc: Global,
     machine: &mut Machine<'_, D, F>,
@@ -112,6 +114,7 @@ fn answer_after_waiting<D: Disk, F: Fn(&Change) -> HookAnswer, K: Sink>(
     waiting: &mut Vec<u8>,
     out: &mut K,
 ) -> Result<Answer, RunFault>
+    requires stays { is_restart event.now ≡ false }
     requires asks { AsksBrands F.Fn machine.old }
     requires ready { MayGoOn D.view machine.old }
     ensures steps { IfOk result (λ answer. (S : State) → StandsFor S machine.old → Steps S event.now answer (λ T. StandsFor T machine.new) (D.view machine.old.bank.disk) (D.view machine.new.bank.disk)) }
@@ -134,7 +137,7 @@ fn answer_after_waiting<D: Disk, F: Fn(&Change) -> HookAnswer, K: Sink>(
         }
         Err(StepFault::Memory) => Err(RunFault::Memory),
         Err(StepFault::DiskFault) => Err(RunFault::Disk),
-        Err(StepFault::BadGrant) => unreachable!(),
+        Err(StepFault::BadGrant | StepFault::NoStore(_)) => unreachable!(),
     }
 }
 
@@ -153,7 +156,8 @@ fn put_reply(
     waiting.extend_from_slice(text)
 }
 
-// One event: its reply waits to be written, and the answer is whether it is a refusal. `text` is room for the reply.
+// One event that is no restart: its reply waits to be written, and the answer is whether it is a refusal. `text` is room for
+// the reply.
 fn answer<D: Disk, F: Fn(&Change) -> HookAnswer, K: Sink>(
     alloc: Global,
     machine: &mut Machine<'_, D, F>,
@@ -162,6 +166,7 @@ fn answer<D: Disk, F: Fn(&Change) -> HookAnswer, K: Sink>(
     waiting: &mut Vec<u8>,
     out: &mut K,
 ) -> Result<bool, RunFault>
+    requires stays { is_restart event.now ≡ false }
     requires asks { AsksBrands F.Fn machine.old }
     requires ready { MayGoOn D.view machine.old }
     ensures answered { IfOk result (λ refusal. (S : State) → StandsFor S machine.old → IsAnswered S event.now refusal (λ T. StandsFor T machine.new) (D.view machine.old.bank.disk) (D.view machine.new.bank.disk) (after_known (K.holds out.old) waiting.old.items) (after_known (K.holds out.new) waiting.new.items)) }
@@ -188,16 +193,89 @@ fn answer<D: Disk, F: Fn(&Change) -> HookAnswer, K: Sink>(
 enum Stop {
     Fault(RunFault),
     Grammar(LineFault),
+    // The system restarted, and what is on the disk is no store.
+    NoStore(StoreFault),
 }
 
 // What a line that ends a trace ends it with.
 fn ended_by(stop: Stop, number: u64) -> Result<Option<Complaint>, RunFault>
     ensures ended { result ≡ ended_by stop number }
-    ensures kind { IfOk result (λ complaint. IfSome complaint IsOfInput) }
 {
     match stop {
         Stop::Fault(fault) => Err(fault),
         Stop::Grammar(fault) => Ok(Some(Complaint::Grammar(number, fault))),
+        Stop::NoStore(fault) => Ok(Some(Complaint::NotAStore(fault))),
+    }
+}
+
+// The system restarts. The replies that wait are written before the disk is read, and its own waits.
+fn restart<D: Disk, F: Fn(&Change) -> HookAnswer, K: Sink>(
+    alloc: Global,
+    machine: &mut Machine<'_, D, F>,
+    event: &Event,
+    text: &mut Vec<u8>,
+    waiting: &mut Vec<u8>,
+    out: &mut K,
+) -> Result<bool, Stop>
+    requires is { is_restart event.now ≡ true }
+    requires asks { AsksBrands F.Fn machine.old }
+    requires ready { MayGoOn D.view machine.old }
+    ensures answered { IfOk result (λ refusal. (S : State) → StandsFor S machine.old → (D.view machine.old.bank.disk).Keeps → IsAnswered S event.now refusal (λ T. StandsFor T machine.new) (D.view machine.old.bank.disk) (D.view machine.new.bank.disk) (after_known (K.holds out.old) waiting.old.items) (after_known (K.holds out.new) waiting.new.items)) }
+    ensures stopped { IfErr result (λ stop. (S : State) → StandsFor S machine.old → Stops stop (machine.new.bank ≡ machine.old.bank) S (Ok (Some event.now)) (D.view machine.old.bank.disk) (D.view machine.new.bank.disk)) }
+    ensures may { IfErr result (λ stop. MayStop stop (D.view machine.old.bank.disk)) }
+    ensures text { IfErr result (λ stop. StopsText stop (K.holds out.old) (K.holds out.new) waiting.old.items waiting.new.items) }
+    ensures written { HasWritten (K.holds out.old) (K.holds out.new) }
+    ensures write { IsErrOf result (Stop.Fault RunFault.Write) → Rose (K.faults out.old) (K.faults out.new) }
+    ensures disk { IsErrOf result (Stop.Fault RunFault.Disk) → Rose (D.view machine.old.bank.disk).faults (D.view machine.new.bank.disk).faults }
+    ensures later { K.faults out.old ≤ K.faults out.new }
+    ensures ready { OnOk result (MayGoOn D.view machine.new) }
+    ensures passes { Passes (D.view machine.old.bank.disk) (D.view machine.new.bank.disk) }
+    ensures asks { AsksBrands F.Fn machine.new }
+{
+    if let Err(fault) = write_waiting(waiting, out) {
+        return Err(Stop::Fault(fault));
+    }
+    match machine.answer(alloc, event, true) {
+        Ok(answer) => match put_reply(event, &answer, text, waiting) {
+            Ok(()) => Ok(is_refusal(&answer.reply.head)),
+            Err(AllocError) => Err(Stop::Fault(RunFault::Memory)),
+        },
+        Err(StepFault::Memory) => Err(Stop::Fault(RunFault::Memory)),
+        Err(StepFault::DiskFault) => Err(Stop::Fault(RunFault::Disk)),
+        Err(StepFault::NoStore(fault)) => Err(Stop::NoStore(fault)),
+        Err(StepFault::BadGrant | StepFault::WouldRecord) => unreachable!(),
+    }
+}
+
+// One event: its reply waits to be written, and the answer is whether it is a refusal.
+fn take_event<D: Disk, F: Fn(&Change) -> HookAnswer, K: Sink>(
+    alloc: Global,
+    machine: &mut Machine<'_, D, F>,
+    event: &Event,
+    text: &mut Vec<u8>,
+    waiting: &mut Vec<u8>,
+    out: &mut K,
+) -> Result<bool, Stop>
+    requires asks { AsksBrands F.Fn machine.old }
+    requires ready { MayGoOn D.view machine.old }
+    ensures answered { IfOk result (λ refusal. (S : State) → StandsFor S machine.old → RestartsWell (Ok (Some event.now)) (D.view machine.old.bank.disk) → IsAnswered S event.now refusal (λ T. StandsFor T machine.new) (D.view machine.old.bank.disk) (D.view machine.new.bank.disk) (after_known (K.holds out.old) waiting.old.items) (after_known (K.holds out.new) waiting.new.items)) }
+    ensures stopped { IfErr result (λ stop. (S : State) → StandsFor S machine.old → Stops stop (machine.new.bank ≡ machine.old.bank) S (Ok (Some event.now)) (D.view machine.old.bank.disk) (D.view machine.new.bank.disk)) }
+    ensures may { IfErr result (λ stop. MayStop stop (D.view machine.old.bank.disk)) }
+    ensures text { IfErr result (λ stop. StopsText stop (K.holds out.old) (K.holds out.new) waiting.old.items waiting.new.items) }
+    ensures written { HasWritten (K.holds out.old) (K.holds out.new) }
+    ensures write { IsErrOf result (Stop.Fault RunFault.Write) → Rose (K.faults out.old) (K.faults out.new) }
+    ensures disk { IsErrOf result (Stop.Fault RunFault.Disk) → Rose (D.view machine.old.bank.disk).faults (D.view machine.new.bank.disk).faults }
+    ensures later { K.faults out.old ≤ K.faults out.new }
+    ensures ready { OnOk result (MayGoOn D.view machine.new) }
+    ensures passes { Passes (D.view machine.old.bank.disk) (D.view machine.new.bank.disk) }
+    ensures asks { AsksBrands F.Fn machine.new }
+{
+    if event.is_restart() {
+        return restart(alloc, machine, event, text, waiting, out);
+    }
+    match answer(alloc, machine, event, text, waiting, out) {
+        Ok(refusal) => Ok(refusal),
+        Err(fault) => Err(Stop::Fault(fault)),
     }
 }
 
@@ -215,8 +293,9 @@ fn take_line<D: Disk, F: Fn(&Change) -> HookAnswer, K: Sink>(
     requires short { length line.now ≤ 4096 }
     requires asks { AsksBrands F.Fn machine.old }
     requires ready { MayGoOn D.view machine.old }
-    ensures taken { IfOk result (λ now. (S : State) → StandsFor S machine.old → TakesEvent S (event_of S.started line.now) (λ T. StandsFor T machine.new) (machine.new.bank ≡ machine.old.bank) (D.view machine.old.bank.disk) (D.view machine.new.bank.disk) number refused now (after_known (K.holds out.old) waiting.old.items) (after_known (K.holds out.new) waiting.new.items)) }
+    ensures taken { IfOk result (λ now. (S : State) → StandsFor S machine.old → RestartsWell (event_of S.started line.now) (D.view machine.old.bank.disk) → TakesEvent S (event_of S.started line.now) (λ T. StandsFor T machine.new) (machine.new.bank ≡ machine.old.bank) (D.view machine.old.bank.disk) (D.view machine.new.bank.disk) number refused now (after_known (K.holds out.old) waiting.old.items) (after_known (K.holds out.new) waiting.new.items)) }
     ensures stopped { IfErr result (λ stop. (S : State) → StandsFor S machine.old → Stops stop (machine.new.bank ≡ machine.old.bank) S (event_of S.started line.now) (D.view machine.old.bank.disk) (D.view machine.new.bank.disk)) }
+    ensures may { IfErr result (λ stop. MayStop stop (D.view machine.old.bank.disk)) }
     ensures text { IfErr result (λ stop. StopsText stop (K.holds out.old) (K.holds out.new) waiting.old.items waiting.new.items) }
     ensures written { HasWritten (K.holds out.old) (K.holds out.new) }
     ensures write { IsErrOf result (Stop.Fault RunFault.Write) → Rose (K.faults out.old) (K.faults out.new) }
@@ -228,10 +307,10 @@ fn take_line<D: Disk, F: Fn(&Change) -> HookAnswer, K: Sink>(
 {
     match read_line(alloc, line, machine.started()) {
         Ok(None) => Ok(refused),
-        Ok(Some(event)) => match answer(alloc, machine, &event, text, waiting, out) {
+        Ok(Some(event)) => match take_event(alloc, machine, &event, text, waiting, out) {
             Ok(true) => Ok(refused.or(Some(number))),
             Ok(false) => Ok(refused),
-            Err(fault) => Err(Stop::Fault(fault)),
+            Err(stop) => Err(stop),
         },
         Err(LineFault::Memory) => Err(Stop::Fault(RunFault::Memory)),
         Err(fault) => Err(Stop::Grammar(fault)),
@@ -274,9 +353,9 @@ fn take_lines<D: Disk, F: Fn(&Change) -> HookAnswer, S: Source, K: Sink>(
     requires asks { AsksBrands F.Fn machine.old }
     requires ready { MayGoOn D.view machine.old }
     requires none { waiting.old.items ≡ [] }
-    ensures ran { (brands : List Tabled) (R : List Commit) → StandsFor (opening brands R) machine.old → EndsAs brands R result (S.left source.old) (S.left source.new) (K.holds out.old) (K.holds out.new) (after_known (K.holds out.new) waiting.new.items) }
+    ensures ran { (brands : List Tabled) (R : List Commit) → StandsFor (opening brands R) machine.old → FindsAlways (D.view machine.old.bank.disk) (S.left source.old) → EndsAs brands R result (S.left source.old) (S.left source.new) (K.holds out.old) (K.holds out.new) (after_known (K.holds out.new) waiting.new.items) }
     ensures recorded { (brands : List Tabled) (R : List Commit) → StandsFor (opening brands R) machine.old → IsStoreOf (D.view machine.old.bank.disk) R → RanAs brands R result (S.left source.old) (K.holds out.old) (after_known (K.holds out.new) waiting.new.items) (D.view machine.old.bank.disk) (D.view machine.new.bank.disk) }
-    ensures kind { IfOk result (λ complaint. IfSome complaint IsOfInput) }
+    ensures kind { (D.view machine.old.bank.disk).Keeps → IfOk result (λ complaint. IfSome complaint IsOfInput) }
     ensures read { IsErrOf result RunFault.Read → Rose (S.faults source.old) (S.faults source.new) }
     ensures write { IsErrOf result RunFault.Write → Rose (K.faults out.old) (K.faults out.new) }
     ensures disk { IsErrOf result RunFault.Disk → Rose (D.view machine.old.bank.disk).faults (D.view machine.new.bank.disk).faults }
@@ -330,9 +409,9 @@ pub fn trace_all<D: Disk, F: Fn(&Change) -> HookAnswer, S: Source, K: Sink>(
 ) -> Result<Option<Complaint>, RunFault>
     requires asks { AsksBrands F.Fn machine.old }
     requires ready { MayGoOn D.view machine.old }
-    ensures ran { (brands : List Tabled) (R : List Commit) → StandsFor (opening brands R) machine.old → EndsAs brands R result (S.left source.old) (S.left source.new) (K.holds out.old) (K.holds out.new) (K.holds out.new) }
+    ensures ran { (brands : List Tabled) (R : List Commit) → StandsFor (opening brands R) machine.old → FindsAlways (D.view machine.old.bank.disk) (S.left source.old) → EndsAs brands R result (S.left source.old) (S.left source.new) (K.holds out.old) (K.holds out.new) (K.holds out.new) }
     ensures recorded { (brands : List Tabled) (R : List Commit) → StandsFor (opening brands R) machine.old → IsStoreOf (D.view machine.old.bank.disk) R → RanAs brands R result (S.left source.old) (K.holds out.old) (K.holds out.new) (D.view machine.old.bank.disk) (D.view machine.new.bank.disk) }
-    ensures kind { IfOk result (λ complaint. IfSome complaint IsOfInput) }
+    ensures kind { (D.view machine.old.bank.disk).Keeps → IfOk result (λ complaint. IfSome complaint IsOfInput) }
     ensures read { IsErrOf result RunFault.Read → Rose (S.faults source.old) (S.faults source.new) }
     ensures write { IsErrOf result RunFault.Write → Rose (K.faults out.old) (K.faults out.new) }
     ensures disk { IsErrOf result RunFault.Disk → Rose (D.view machine.old.bank.disk).faults (D.view machine.new.bank.disk).faults }

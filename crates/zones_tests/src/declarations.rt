@@ -1,79 +1,9 @@
-//! Links, addresses, datasets and devices that are declared, in runs of `trace`.
-use crate::lives::{Row, check_once_up, check_rows};
-use crate::runs::Given;
+//! How many links, addresses, datasets and devices can be declared, in a run of `trace`.
+use crate::runs::{Given, compare, run};
 use crate::traces::TRACED;
 use std::alloc::{AllocError, Global};
 use std::test::Fail;
 use zn_base::push_numbered;
-
-const DECLARED: &[Row] = &[
-    // Each item of a kind once. What is refused begins nothing, and neither do comments and blank lines.
-    (
-        b"Y link net0
-Y link net0
-# links
-Y dataset net0
-
-Y device /
-Y device /
-Y address 255.0.10.1
-Y dataset rpool/a-b_c.d
-",
-        1,
-        b"* ok
-* err 24 Duplicate
-* ok
-* ok
-* err 24 Duplicate
-* ok
-* ok
-",
-        b"first refused line: 2\n",
-    ),
-    // Then other lines come, and no declaration any more.
-    (
-        b"Y link net0\nD a\nY link net1\n",
-        3,
-        b"* ok\na idle\n",
-        b"line 3: 104 SysAfterStart\n",
-    ),
-    (
-        b"P a 2 true\nY link net0\n",
-        3,
-        b"a err 98 NoProcess\n",
-        b"line 2: 104 SysAfterStart\n",
-    ),
-    (
-        b"S 1\nY device /dev/null\n",
-        3,
-        b"global ok\n",
-        b"line 2: 104 SysAfterStart\n",
-    ),
-    (
-        b"S 1 x\nY dataset a\n",
-        3,
-        b"global err 93 Usage\n",
-        b"line 2: 104 SysAfterStart\n",
-    ),
-    // A wrong word is told before that.
-    (
-        b"D a\nY link net 0\n",
-        3,
-        b"a idle\n",
-        b"line 2: 102 BadWord 11\n",
-    ),
-    (
-        b"D a\nY net net0\n",
-        3,
-        b"a idle\n",
-        b"line 2: 102 BadWord 2\n",
-    ),
-];
-
-#[test]
-fn what_zones_may_ask_for_is_declared_first(rt: HostRuntime) -> Result<(), Fail> {
-    check_rows(&rt, &[], DECLARED)
-}
 
 const KINDS: &[&[u8]] = &[
     b"Y link n",
@@ -120,13 +50,7 @@ fn of_a_kind_1024_are_declared_at_most(rt: HostRuntime) -> Result<(), Fail> {
         room: 32_768,
         ..TRACED
     };
-    check_once_up(
-        &rt,
-        given,
-        &[],
-        &lines,
-        1,
-        &replies,
-        b"first refused line: 1025\n",
-    )
+    let ended = run(rt.alloc(), &given, &lines, 64)?;
+    compare(&rt, &ended, 1, &replies, b"first refused line: 1025\n");
+    Ok(())
 }

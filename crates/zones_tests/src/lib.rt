@@ -8,35 +8,21 @@ mod brands;
 #[cfg(test)]
 mod cells;
 #[cfg(test)]
-mod commits;
-#[cfg(test)]
 mod crashes;
 #[cfg(test)]
 mod declarations;
 #[cfg(test)]
 mod exports;
 #[cfg(test)]
-mod holds;
-#[cfg(test)]
 mod limits;
 #[cfg(test)]
-mod listings;
-#[cfg(test)]
-mod lives;
-#[cfg(test)]
 mod machine;
-#[cfg(test)]
-mod mounts;
-#[cfg(test)]
-mod processes;
 #[cfg(test)]
 mod refusals;
 #[cfg(test)]
 mod replies;
 #[cfg(test)]
 mod reply_bodies;
-#[cfg(test)]
-mod requests;
 #[cfg(test)]
 mod restarts;
 #[cfg(test)]

@@ -14,17 +14,21 @@ use Rattle.zone_machine.specs.State.Edits.{Here, Of_objects, Set_desk}
 use Rattle.zone_machine.specs.State.{Awaiting}
 use Rattle.zoneadmd_steps.specs.Desks.{is_full, with_request}
 use Rattle.zone_machine.specs.declared.cases.Case.{Case}
-use Rattle.zone_machine.specs.declared.cases.Case.TheVariants.{Answers, Change, Commit, Fork, Says, Put, Remove, Tells, Turn}
+use Rattle.zone_config.specs.declared.terms.Contents.{Contents}
+use Rattle.zone_machine.specs.declared.cases.Committer.{Committer}
+use Rattle.zone_machine.specs.declared.cases.Committer.TheVariants.{Alone, GoesOn, Leaves}
+use Rattle.zone_machine.specs.declared.cases.Case.TheVariants.{Answers, Change, Commit, Fork, Says, Put, Remove, Sit, Tells, Turn}
 use Rattle.zone_machine.specs.declared.cases.Novelty.{Novelty}
 use Rattle.zone_machine.specs.declared.cases.Novelty.TheVariants as novelty
-use Rattle.zone_machine.specs.Session.Commits.{places_for, removes, telling}
+use Rattle.zone_machine.specs.Session.Commits.{Alone as Alone_line, Goes_on, Leaves as Leaves_then, Typist, goes_over, places_for, refuses, removes, telling}
+use Rattle.zone_machine.specs.Code.Doings.{sits}
 use Rattle.zn_base.specs.declared.state.ZoneState.{ZoneState}
 use Rattle.zoneadmd_steps.specs.Code.Cases.{turn_active}
 use Rattle.zoneadmd_steps.specs.declared.desks.Desk.{Desk}
 use Rattle.commit_journal.specs.Uuids.{uuid_of}
 use Rattle.commit_journal.specs.declared.records.Record as records
 use Rattle.config_terms.specs.Fields.{path_text}
-use Rattle.zone_machine.specs.declared.replies.Head.TheVariants.{Ok, Refused, Ticket}
+use Rattle.zone_machine.specs.declared.replies.Head.TheVariants.{Ok, Ticket}
 use Rattle.zone_machine.specs.declared.replies.Refusal.TheVariants.{Denied}
 
 -- the record of a commit under its number, by what is new: a new zone takes its UUID from it too
@@ -33,12 +37,29 @@ numbered_row novelty.Zone z row n = record row { uuid = uuid_of z n; revision = 
 numbered_row novelty.Path z row n = record row { revision = n }
 numbered_row novelty.Nothing z row n = record row { revision = n }
 
+-- who commits, or removes a zone
+abbrev pub as_typist : Committer → Typist
+as_typist Alone = Alone_line
+as_typist (GoesOn seat base) = Goes_on seat.editor
+as_typist (Leaves seat) = Leaves_then seat.editor
+
+-- the configuration that its session has for a base then, where it goes on
+abbrev pub base_by : Committer → Contents → Contents
+base_by (GoesOn seat base) config = base
+base_by _ config = config
+
+-- its session is one of z
+abbrev pub IsNamedCommitter : Name → Committer → Type 0
+IsNamedCommitter z Alone = Unit {0}
+IsNamedCommitter z (GoesOn seat base) = seat.owner ≡ z
+IsNamedCommitter z (Leaves seat) = seat.owner ≡ z
+
 -- a configuration is committed, and its record takes its number from the grant
-abbrev pub made : Novelty → Name → records.Record → List (List ℕ) → Decision
-made new z row told =
+abbrev pub made : Novelty → Name → records.Record → List (List ℕ) → Committer → Decision
+made new z row told c =
     decisions.Ask (A_record (λ n. Some (numbered_row new z row n)))
     (places_for new (path_text row.config.zonepath) ++ record_asked (λ n. Some (numbered_row new z row n)) ∷ [])
-    (λ pool. telling (Refused (Denied pool)) told) (λ n. telling Ok told)
+    (λ pool. refuses (as_typist c) (Denied pool) told) (λ n. telling (goes_over (base_by c row.config) n (as_typist c)) Ok told)
 
 -- what an event decides
 abbrev pub decision_of : Desk → Case → Decision
@@ -47,8 +68,9 @@ decision_of d (Tells body) = decisions.Just (tells body)
 decision_of d (Change edit) = decisions.Just (done_saying (map Of_objects (object_edits edit)) Ok)
 decision_of d (Fork p) = decisions.Ask (A_process (process_of (0, p.value))) (A_pid ∷ []) (λ pool. refused (Denied pool)) (λ n. tells (Child n))
 decision_of d (Answers reply) = decisions.Just (record { edits = []; reply = reply.value })
-decision_of d (Commit c) = made c.value.novelty c.value.owner c.value.row.value c.value.told
-decision_of d (Remove r) = removes r.value.told
+decision_of d (Sit s) = decisions.Just (record { edits = sits (Some s.value.sitting); reply = s.value.reply })
+decision_of d (Commit c) = made c.value.novelty c.value.owner c.value.row.value c.value.told c.value.committer
+decision_of d (Remove r) = removes r.value.told (as_typist r.value.committer)
 decision_of d (Put request owner) =
     decisions.Just (done_saying (Set_desk (with_request (as_desk d) request) ∷ Here (Some (Awaiting (d.last + 1))) ∷ []) (Ticket (d.last + 1)))
 decision_of d (Turn c) = effects turned (turn_decision_of d c)
@@ -65,8 +87,9 @@ IsNumbered (Turn c) g = IsNumberedTurn c g
 IsNumbered _ g = Unit {0}
 
 abbrev pub IsNamedCase : Name → Case → Type 0
-IsNamedCase z (Commit c) = c.value.owner ≡ z
-IsNamedCase z (Remove r) = r.value.owner ≡ z
+IsNamedCase z (Sit s) = s.value.sitting.owner ≡ z
+IsNamedCase z (Commit c) = (c.value.owner ≡ z) × IsNamedCommitter z c.value.committer
+IsNamedCase z (Remove r) = (r.value.owner ≡ z) × IsNamedCommitter z r.value.committer
 IsNamedCase z (Put request owner) = owner ≡ z
 IsNamedCase z (Turn c) = IsNamedTurn z c
 IsNamedCase z _ = Unit {0}

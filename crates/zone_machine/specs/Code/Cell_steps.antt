@@ -17,7 +17,7 @@ use Rattle.zone_machine.specs.declared.events.Entry.{Entry}
 use Rattle.zone_machine.specs.Code.Rooms.{Alike}
 use Rattle.zone_machine.specs.Code.Steps.{Takes}
 use Rattle.zone_machine.specs.declared.faults.StepFault.{StepFault}
-use Rattle.zone_machine.specs.declared.faults.StepFault.TheVariants.{BadGrant, DiskFault, Memory, WouldRecord}
+use Rattle.zone_machine.specs.declared.faults.StepFault.TheVariants.{BadGrant, DiskFault, Memory, NoStore, WouldRecord}
 
 -- the same of a zone's cell and the shared part: the entry is the definitions', and what is left has the world and what is common of
 -- the state after it
@@ -65,3 +65,4 @@ CellLeaves Memory z stated c s e d t = Alike c s d t
 CellLeaves WouldRecord z stated c s e d t = Alike c s d t
 CellLeaves BadGrant z stated c s e d t = IsCellMisfitUnder z stated c s e d t
 CellLeaves DiskFault z stated c s e d t = FitsInCell z stated c s e
+CellLeaves (NoStore fault) z stated c s e d t = ⊥

@@ -8,7 +8,8 @@ use Rattle.zone_pools.specs.Owners.{held_by, is_owner, owner}
 use Rattle.commit_journal.specs.Zones.{rows_of}
 use Rattle.zone_machine.specs.Machine.Common.{Common, common, holding, standing}
 use Rattle.zoneadmd_steps.specs.Code.Desks.{as_desk}
-use Rattle.zone_machine.specs.State.{Awaiting, State, stored}
+use Rattle.zone_machine.specs.Code.Doings.{as_doing}
+use Rattle.zone_machine.specs.State.{State, stored}
 use Rattle.zone_machine.specs.State.Worlds.{View, World, objects_of, world}
 use Rattle.zone_machine.specs.declared.machine.cell.Cell.{Cell}
 use Rattle.zone_machine.specs.declared.machine.parts.Parts.{Parts}
@@ -46,7 +47,7 @@ cell_world out c = record {
   ids = ids_of c.kernel.id;
   stored = out.stored;
   desk = as_desk c.desk;
-  sessions = λ n. option_map Awaiting (get nat_eq c.waits n);
+  sessions = λ n. option_map as_doing (get nat_eq c.doings n);
   declared = out.declared;
   brands = out.brands;
 }
@@ -141,7 +142,7 @@ pub record Agree (z : Name) (c : Cell) (s : Shared) : Type 0 where
   pub pids : (n : ℕ) → list_any (has_pid n) c.kernel.processes ≡ is_owner z (pid_owner s.kernel n)
   pub zids : (n : ℕ) → list_any (has_zid n) (ids_of c.kernel.id) ≡ is_owner z (zid_owner s.kernel n)
   pub claims : (k : Claim) → holds k c.claims.claims ≡ is_owner z (holder k s.claims)
-  pub sessions : (n : ℕ) → is_some (get nat_eq c.waits n) ≡ is_owner z (owner nat_eq s.sessions n)
+  pub sessions : (n : ℕ) → is_some (get nat_eq c.doings n) ≡ is_owner z (owner nat_eq s.sessions n)
 
 -- where the shared part names what the cell has, z's world was changed so and what is common so: z holds what it has then, and
 -- the other zones hold what they held

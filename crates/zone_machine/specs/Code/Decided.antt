@@ -14,7 +14,7 @@ use Rattle.zone_machine.specs.declared.machine.cell.Cell.{Cell}
 use Rattle.zone_machine.specs.declared.events.Answer.{Answer}
 use Rattle.zone_machine.specs.declared.events.Entry.{Entry}
 use Rattle.zone_machine.specs.declared.events.Event.{Event}
-use Rattle.zone_machine.specs.declared.events.Event.TheVariants.{Process, Session, System, Turn}
+use Rattle.zone_machine.specs.declared.events.Event.TheVariants.{Process, Restart, Session, System, Turn}
 use Rattle.zone_machine.specs.declared.events.Subject.{Subject}
 use Rattle.zone_machine.specs.declared.events.Subject.TheVariants.{Global, Whole, Zone}
 use Rattle.zone_machine.specs.declared.events.Whose.{Whose}
@@ -55,6 +55,7 @@ own_subject (Session n text) = Global
 own_subject (Turn z) = Zone z
 own_subject (Process z pid c) = Zone z
 own_subject (System what) = Whole
+own_subject Restart = Whole
 
 -- whose an event was that was answered
 abbrev pub subject_by : Event → Whose → Subject

@@ -8,7 +8,7 @@ use Rattle.zn_base.specs.Text.{is_text}
 use Rattle.zone_machine.specs.Session.Lines as lines
 use Rattle.zone_machine.specs.Session.Lines.{is_space, past_spaces, past_word, words}
 use Rattle.zone_machine.specs.declared.session.lines.Command.{Command}
-use Rattle.zone_machine.specs.declared.session.lines.Command.TheVariants.{Blank, Boot, Clone, Help, Hold, Kill, ListOne, ListZones, Move, Reboot, Release, Request, Unforced, Unknown, Verify, Zonecfg}
+use Rattle.zone_machine.specs.declared.session.lines.Command.TheVariants.{Blank, Boot, Clone, Edit, Help, Hold, Kill, ListOne, ListZones, Move, Reboot, Release, Request, Unforced, Unknown, Verify, Zonecfg}
 use Rattle.zoneadmd_steps.specs.declared.requests.Request.TheVariants as request
 use Rattle.zone_machine.specs.declared.session.lines.Line.{Line}
 
@@ -52,6 +52,7 @@ as_word o = option_map (λ word. word.now) o
 
 abbrev pub as_command : Command → lines.Command
 as_command Blank = lines.Blank
+as_command Edit = lines.Edit
 as_command (Zonecfg text) = lines.Zonecfg text.now
 as_command (Request kind) = lines.asks kind
 as_command (Boot args) = lines.Ask (request.Boot (lines.joined (words args.now)))
@@ -77,4 +78,8 @@ IsRight (lines.Zonecfg text) = length text ≤ 4200
 IsRight _ = Unit {0}
 
 abbrev pub as_line : Line → lines.Line
-as_line l = record { zone = as_word l.zone; command = as_command l.command }
+as_line l = record { text = l.text.now; zone = as_word l.zone; command = as_command l.command }
+
+-- what an idle session asks for is such, and a session that edits can say the line to its editor
+abbrev pub IsRightLine : Line → Type 0
+IsRightLine l = IsRight (as_command l.command) × (length l.text.now ≤ 4200)

@@ -21,7 +21,7 @@ use Rattle.zone_machine.specs.declared.replies.Reply.{Reply}
 use Rattle.zone_machine.specs.declared.machine.reads.Read.TheVariants as read
 use Rattle.zone_machine.specs.declared.machine.reads.Read.{Read}
 use Rattle.zone_machine.specs.Session.Typed.{global_line, typed}
-use Rattle.zone_machine.specs.Code.Lines.{IsRight, as_command, as_line}
+use Rattle.zone_machine.specs.Code.Lines.{IsRightLine, as_line}
 use Rattle.zone_machine.specs.Code.Cells.{Outside, cell_world}
 
 -- whose an event is, by the shared part
@@ -42,6 +42,7 @@ subject_in s (event.Session n text) = subject_at (line_of text) s.kernel (owner 
 subject_in s (event.Turn z) = Zone z
 subject_in s (event.Process z pid c) = Zone z
 subject_in s (event.System what) = Whole
+subject_in s event.Restart = Whole
 
 -- an event as it is read once: whose it is, its case in a view, the session that it is typed in, and what it is answered where
 -- it is no zone's
@@ -50,24 +51,28 @@ subject_read s (read.Line n line) = subject_at (as_line line) s.kernel (owner na
 subject_read s (read.Turn z) = Zone z.now
 subject_read s (read.Process z pid c) = Zone z.now
 subject_read s (read.System what) = Whole
+subject_read s read.Restart = Whole
 
 abbrev pub decide_read : View → Read → Decision
 decide_read v (read.Line n line) = typed v (v.world.sessions n) (as_line line)
 decide_read v (read.Turn z) = turn v
 decide_read v (read.Process z pid c) = called v pid c.now
 decide_read v (read.System what) = Just (done_saying [] Ok)
+decide_read v read.Restart = Just (done_saying [] Ok)
 
 abbrev pub number_read : Read → Option ℕ
 number_read (read.Line n line) = Some n
 number_read (read.Turn z) = None
 number_read (read.Process z pid c) = None
 number_read (read.System what) = None
+number_read read.Restart = None
 
 abbrev pub global_read : State → Read → Reply
 global_read S (read.Line n line) = global_line S (as_line line)
 global_read S (read.Turn z) = says Ok
 global_read S (read.Process z pid c) = says Ok
 global_read S (read.System what) = says Ok
+global_read S read.Restart = says Ok
 
 -- the case of an event of z, by its cell and what that hasn't
 abbrev pub decide_in : Name → Outside → Cell → Event → Decision
@@ -79,16 +84,19 @@ is_turn (event.Session n text) = false
 is_turn (event.Turn z) = true
 is_turn (event.Process z pid c) = false
 is_turn (event.System what) = false
+is_turn event.Restart = false
 
 abbrev pub is_turn_read : Read → Bool
 is_turn_read (read.Line n line) = false
 is_turn_read (read.Turn z) = true
 is_turn_read (read.Process z pid c) = false
 is_turn_read (read.System what) = false
+is_turn_read read.Restart = false
 
 -- what a line asks for is such
 abbrev pub IsRightRead : Read → Type 0
-IsRightRead (read.Line n line) = IsRight (as_command line.command)
+IsRightRead (read.Line n line) = IsRightLine line
 IsRightRead (read.Turn z) = Unit {0}
 IsRightRead (read.Process z pid c) = Unit {0}
 IsRightRead (read.System what) = Unit {0}
+IsRightRead read.Restart = Unit {0}

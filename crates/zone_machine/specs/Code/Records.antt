@@ -34,7 +34,7 @@ use Rattle.zone_machine.specs.Machine.Pools.{allowed}
 use Rattle.zone_machine.specs.State.{State, bodies_of}
 use Rattle.zone_machine.specs.declared.events.Event.{Event}
 use Rattle.zone_machine.specs.declared.faults.StepFault.{StepFault}
-use Rattle.zone_machine.specs.declared.faults.StepFault.TheVariants.{BadGrant, DiskFault, Memory, WouldRecord}
+use Rattle.zone_machine.specs.declared.faults.StepFault.TheVariants.{BadGrant, DiskFault, Memory, NoStore, WouldRecord}
 use Rattle.zone_machine.specs.declared.machine.parts.Parts.{Parts}
 use Rattle.zone_machine.specs.declared.machine.shared.Shared.{Shared}
 
@@ -147,7 +147,7 @@ NeedsNoDisk Memory = Unit {0}
 NeedsNoDisk BadGrant = Unit {0}
 NeedsNoDisk fault = ⊥
 
--- the bank after an event that was not answered: where the disk failed, its count of faults rose, and no event may be taken any
+-- the bank after an event that was not answered and is no restart: where the disk failed, its count of faults rose, and no event may be taken any
 -- more; else the bank is as it was. The disk fails only in an event that may record, and only one that may not would
 abbrev pub BankLeft : {D : Type 0} → (may_record : Bool) → StepFault → (old new : Account D) → (v w : View) → Shared → Type 0
 BankLeft may Memory a b v w s = (b ≡ a) × IsReady w b s
@@ -156,3 +156,4 @@ BankLeft false WouldRecord a b v w s = (b ≡ a) × IsReady w b s
 BankLeft true WouldRecord a b v w s = ⊥
 BankLeft false DiskFault a b v w s = ⊥
 BankLeft true DiskFault a b v w s = Rose v.faults w.faults × (b.sound ≡ false)
+BankLeft may (NoStore fault) a b v w s = ⊥

@@ -1,5 +1,5 @@
 -- Room that is taken before anything is changed, and that nothing is changed by taking it.
-use Rattle.std.specs.Prelude.{◌≡◌, ◌⊎◌, ◌<◌, List, [], ◌∷◌, length, Option, Some, None, bytes_eq, is_some, false, true}
+use Rattle.std.specs.Prelude.{◌≡◌, ◌⊎◌, ◌<◌, List, [], ◌∷◌, length, Bool, Option, Some, None, bytes_eq, is_some, false, true}
 use Rattle.datalink_table.specs.Claims.{pool_of}
 use Rattle.indexmap.specs.IndexMap.{get_by, spare}
 use Rattle.loopback_mounts.specs.Mounts.{Mounts}
@@ -13,11 +13,10 @@ use Rattle.zoneadmd_steps.specs.Arrivals.{Arrival, New_claim, New_id, New_proces
 use Rattle.zone_machine.specs.Code.Cases.{case_active, decision_of}
 use Rattle.zoneadmd_steps.specs.Code.Cases.{IsFreeFor, May_mount, Premise, premise_of}
 use Rattle.zoneadmd_steps.specs.Code.Rooms.{HasRequestRoom, HasTurnRoom}
-use Rattle.zone_machine.specs.Code.Works.{objects_of}
+use Rattle.zone_machine.specs.Code.Works.{objects_of, seats}
 use Rattle.zone_machine.specs.Code.Cells.{Outside, cell_world, common_in}
 use Rattle.zone_machine.specs.Code.Needs.{pools_in}
 use Rattle.zone_machine.specs.declared.cases.Case.{Case}
-use Rattle.zone_machine.specs.declared.cases.Case.TheVariants as cases
 use Rattle.zone_machine.specs.declared.machine.cell.Cell.{Cell}
 use Rattle.zone_machine.specs.declared.machine.shared.Shared.{Shared}
 use Rattle.zoneadmd_steps.specs.declared.objects.changes.ObjectEdit.{ObjectEdit}
@@ -72,13 +71,16 @@ HasRoomToChange e c = HasRoomBy (premise_of e) c.mounts × IsFreeFor e c.mounts.
 abbrev pub HasRoomToRise : Name → Case → Cell → Shared → Type 0
 HasRoomToRise z case c s = is_some c.desk.active ≡ false → is_some (case_active case c.desk.active) ≡ true → is_some (get_by (bytes_eq z) s.ups) ≡ true
 
--- room for a session that waits
+-- room for what a session does
 abbrev pub HasRoomToSit : Cell → Shared → Type 0
-HasRoomToSit c s = (0 < spare c.waits) × (0 < s.sessions.room)
+HasRoomToSit c s = (0 < spare c.doings) × (0 < s.sessions.room)
+
+abbrev pub HasRoomIf : Bool → Cell → Shared → Type 0
+HasRoomIf true c s = HasRoomToSit c s
+HasRoomIf false c s = Unit {0}
 
 abbrev pub HasRoomIfSits : Case → Cell → Shared → Type 0
-HasRoomIfSits (cases.Put request owner) c s = HasRoomToSit c s
-HasRoomIfSits _ c s = Unit {0}
+HasRoomIfSits case c s = HasRoomIf (seats case) c s
 
 -- room for all that a case does
 pub record HasRoom (z : Name) (case : Case) (c : Cell) (s : Shared) : Type 0 where

@@ -14,7 +14,7 @@ use Rattle.zone_machine.specs.declared.events.Entry.{Entry}
 use Rattle.zone_machine.specs.declared.events.Event.{Event}
 use Rattle.zone_machine.specs.declared.events.Subject.{Subject}
 use Rattle.zone_machine.specs.declared.faults.StepFault.{StepFault}
-use Rattle.zone_machine.specs.declared.faults.StepFault.TheVariants.{Memory, BadGrant, DiskFault, WouldRecord}
+use Rattle.zone_machine.specs.declared.faults.StepFault.TheVariants.{Memory, BadGrant, DiskFault, NoStore, WouldRecord}
 use Rattle.zone_machine.specs.declared.machine.parts.Parts.{Parts}
 use Rattle.zone_pools.specs.declared.grant.Grant.TheVariants.{Nothing}
 use Rattle.zone_pools.specs.Pools.{Pools, fits_asked, said_by_all}
@@ -27,14 +27,6 @@ pub record Answers (S : State) (e : Event) (g : Grant) (entry : Entry) (u : Part
 -- whatever state the parts stood for
 abbrev pub IsStep : Parts → Event → Grant → Entry → Parts → Type 0
 IsStep t e g entry u = (S : State) → Stands S t → Answers S e g entry u
-
--- under the grant that the pools give
-abbrev pub IsAllowedStep : Parts → Event → Entry → Parts → Type 0
-IsAllowedStep t e entry u = (S : State) → Stands S t → Answers S e (allowed S e) entry u
-
--- under a grant that fits
-abbrev pub IsFittingStep : Parts → Event → Grant → Entry → Parts → Type 0
-IsFittingStep t e g entry u = (S : State) → Stands S t → (fits S e g ≡ true) × Answers S e g entry u
 
 -- the grant doesn't fit, and nothing is changed
 abbrev pub IsMisfit : Parts → Event → Grant → Parts → Type 0
@@ -85,13 +77,14 @@ abbrev pub FitsIn : Option Grant → Parts → Event → Type 0
 FitsIn None t e = Unit {0}
 FitsIn (Some g) t e = (S : State) → Stands S t → fits S e g ≡ true
 
--- what an event leaves that is not answered: memory ran out, the stated grant doesn't fit, it stores a record and may not yet, or
--- the disk failed under a grant that fits, after which nothing is said of the parts
+-- what an event leaves that is not answered and is no restart: memory ran out, the stated grant doesn't fit, it stores a record
+-- and may not yet, or the disk failed under a grant that fits, after which nothing is said of the parts
 abbrev pub Leaves : StepFault → Option Grant → Parts → Event → Parts → Type 0
 Leaves Memory stated t e u = AsItWas t u
 Leaves BadGrant stated t e u = IsMisfitUnder stated t e u
 Leaves WouldRecord stated t e u = AsItWas t u × StoresUnder stated t e
 Leaves DiskFault stated t e u = FitsIn stated t e
+Leaves (NoStore fault) stated t e u = ⊥
 
 -- the same once its grant was found
 abbrev pub LeavesGranted : StepFault → Grant → Parts → Event → Parts → Type 0
@@ -99,6 +92,7 @@ LeavesGranted Memory g t e u = AsItWas t u
 LeavesGranted BadGrant g t e u = ⊥
 LeavesGranted WouldRecord g t e u = AsItWas t u × StoresUnder (Some g) t e
 LeavesGranted DiskFault g t e u = Unit {0}
+LeavesGranted (NoStore fault) g t e u = ⊥
 
 -- the grant that a case takes: what the pools say, or the stated one, which fits what it asks
 abbrev pub IsGrantFor : Name → Pools → List Asked → Option Grant → Grant → Type 0

@@ -1,20 +1,20 @@
 -- What the code's works do, beside the change of the desk, as the definitions have it.
-use Rattle.std.specs.Prelude.{◌≡◌, ℕ, ◌+◌, List, [], ◌∷◌, ◌++◌, map, Option, Some, None, IfSome}
+use Rattle.std.specs.Prelude.{◌≡◌, ℕ, List, ◌∷◌, ◌++◌, map, Bool, true, false, Option, Some, None, IfSome}
 use Rattle.zn_base.specs.Names.{Name}
 use Rattle.zoneadmd_steps.specs.Arrivals.{Arrival, New_record, in_store}
 use Rattle.zone_pools.specs.Decisions as decisions
 use Rattle.zone_machine.specs.State.Decisions.{Act, acts_world, sweeps, after_came_world, turned}
 use Rattle.zoneadmd_steps.specs.Turns.{Turned}
 use Rattle.zoneadmd_steps.specs.Desks as desks
-use Rattle.zone_machine.specs.State.Edits.{Edit, Here, Of_objects, Set_desk, edits_world}
-use Rattle.zone_machine.specs.State.{Awaiting}
+use Rattle.zone_machine.specs.State.Edits.{Of_objects, Set_desk, edits_world}
+use Rattle.zone_machine.specs.Code.Doings.{sits}
 use Rattle.zone_machine.specs.State.Worlds.{World}
 use Rattle.zone_machine.specs.declared.cases.Case.{Case}
-use Rattle.zone_machine.specs.declared.cases.Case.TheVariants.{Change, Put, Turn}
-use Rattle.zoneadmd_steps.specs.declared.desks.Desk.{Desk}
+use Rattle.zone_machine.specs.declared.cases.Case.TheVariants.{Change, Commit, Put, Remove, Sit, Turn}
+use Rattle.zone_machine.specs.declared.cases.Committer.{Committer}
+use Rattle.zone_machine.specs.declared.cases.Committer.TheVariants.{Alone, GoesOn, Leaves}
 use Rattle.zoneadmd_steps.specs.declared.objects.changes.ObjectEdit.{ObjectEdit}
 use Rattle.zoneadmd_steps.specs.declared.objects.changes.ObjectEdit.TheVariants.{Nothing}
-use Rattle.zone_machine.specs.declared.machine.work.Sitting.{Sitting}
 use Rattle.zone_machine.specs.declared.machine.work.Storing.{Storing}
 use Rattle.zone_machine.specs.declared.machine.work.Storing.TheVariants as storing
 use Rattle.zone_machine.specs.declared.machine.work.Work.{Work}
@@ -56,18 +56,22 @@ IsFreeCase c ms cs = IsFreeFor (objects_of c) ms cs
 abbrev pub MountsNothing : Case → Type 0
 MountsNothing c = (ms : List MountEntry) (cs : List Claim) → IsFreeCase c ms cs
 
--- who sits down
-abbrev pub sitting_of : Desk → Case → Option Sitting
-sitting_of d (Put request owner) = Some (record { ticket = d.last + 1; owner = owner })
-sitting_of d _ = None
+-- whether what its session does in the zone may change
+abbrev pub seats_committer : Committer → Bool
+seats_committer Alone = false
+seats_committer (GoesOn seat base) = true
+seats_committer (Leaves seat) = true
+
+abbrev pub seats : Case → Bool
+seats (Put request owner) = true
+seats (Sit s) = true
+seats (Commit c) = seats_committer c.value.committer
+seats (Remove r) = seats_committer r.value.committer
+seats _ = false
 
 -- an act without what comes to the kernel
 abbrev pub rest_of : Act → Act
 rest_of a = record a { came = in_store a.came }
-
-abbrev pub sits : Option Sitting → List Edit
-sits None = []
-sits (Some s) = Here (Some (Awaiting s.ticket)) ∷ []
 
 -- a reply, once the last mount or the latest claim went
 abbrev pub head_with : Gone → Head → Head

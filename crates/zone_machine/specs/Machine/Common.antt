@@ -1,6 +1,6 @@
 -- What more than one zone may ask of the state: who holds which number, what is stored, the last numbers given, and what is
 -- declared.
-use Rattle.std.specs.Prelude.{◌≡◌, ℕ, ◌+◌, List, Option, Some, None, Bool, true, bytes_eq, is_some, length, if◌then◌else◌}
+use Rattle.std.specs.Prelude.{◌≡◌, ℕ, ◌+◌, List, Option, Some, None, Bool, true, false, bytes_eq, is_some, length, if◌then◌else◌}
 use Rattle.std.specs.List.{list_any}
 use Rattle.zn_base.specs.Names.{Name}
 use Rattle.zone_pools.specs.Owners as owners
@@ -13,9 +13,12 @@ use Rattle.kernel_objects.specs.Processes.{has_pid}
 use Rattle.zoneadmd_steps.specs.Objects.{has_zid}
 use Rattle.commit_journal.specs.Store.{change_text}
 use Rattle.commit_journal.specs.Stored.{Rows, stored, with_stored}
+use Rattle.zone_machine.specs.Machine.{declared_by}
 use Rattle.zone_machine.specs.State.{State, bytes_used}
 use Rattle.zone_machine.specs.State.Declarations.{Declared}
 use Rattle.zone_machine.specs.State.Worlds.{World, world}
+use Rattle.zone_machine.specs.declared.events.Event.{Event}
+use Rattle.zone_machine.specs.declared.events.Event.TheVariants.{Restart}
 
 pub record Common : Type 0 where
   -- whether a zone holds a process number, an id, a claimed item, a session
@@ -97,3 +100,12 @@ came_common z (Some (New_record row)) c = record c { rows = with_stored z row c.
 -- an act of an event of z, from z's world and what was common
 abbrev pub acts_common : Name → Option ℕ → Act → World → Common → Common
 acts_common z n a w c = record (standing z (acts_world n a w) (holding z (acts_world n a w) (came_common z a.came c))) { started = true }
+
+-- after a restart nobody holds anything, and both numbers begin anew
+abbrev pub restarted_common : Common → Common
+restarted_common c = record { pids = λ z n. false; zids = λ z n. false; claims = λ z k. false; sessions = λ z n. false; up = λ z. false; rows = c.rows; serial = c.serial; used = c.used; last_pid = 1; last_zid = 0; declared = c.declared; brands = c.brands; started = true }
+
+-- an event of the whole system, from what was common
+abbrev pub whole_common : Event → Common → Common
+whole_common Restart c = restarted_common c
+whole_common e c = record c { declared = declared_by e c.declared }

@@ -11,7 +11,7 @@ use Rattle.zoneadmd_steps.specs.Turns.{local_turn}
 use Rattle.zone_machine.specs.State.Worlds.{World, objects_of}
 use Rattle.zone_machine.specs.declared.events.Entry.{Entry}
 use Rattle.zone_machine.specs.declared.events.Event.{Event}
-use Rattle.zone_machine.specs.declared.events.Event.TheVariants.{Process as Call_of, Session, System, Turn}
+use Rattle.zone_machine.specs.declared.events.Event.TheVariants.{Process as Call_of, Restart, Session, System, Turn}
 use Rattle.zone_machine.specs.declared.events.Subject.TheVariants.{Zone}
 use Rattle.zone_machine.specs.declared.replies.Head.TheVariants.{Turned}
 use Rattle.zone_machine.specs.declared.replies.Reply.{Reply}
@@ -34,6 +34,7 @@ is_turn_of z (Session n text) = false
 is_turn_of z (Turn y) = bytes_eq z y
 is_turn_of z (Call_of y pid c) = false
 is_turn_of z (System what) = false
+is_turn_of z Restart = false
 
 -- the entry of such a turn of z
 abbrev pub is_local : Name → World → Entry → Bool

@@ -1,7 +1,7 @@
 -- What a line does that a session types.
 use Rattle.std.specs.Prelude.{ℕ, List, [], ◌∷◌, ◌+◌, Bool, true, false, Option, Some, None, Result, Ok as Right, Err, if◌then◌else◌}
 use Rattle.zn_base.specs.Names.{Name, name_of}
-use Rattle.zone_machine.specs.Session.Commits.{zonecfg}
+use Rattle.zone_machine.specs.Session.Commits.{edits_line, opens, zonecfg}
 use Rattle.zone_machine.specs.State.Decisions.{Decision, Effect, answers, done_saying, refused, says, tells, told}
 use Rattle.zone_pools.specs.Decisions.{Just}
 use Rattle.zoneadmd_steps.specs.Desks.{Desk, is_full, with_request}
@@ -15,9 +15,9 @@ use Rattle.zoneadmd_steps.specs.Objects.{Object_edit, Of_mounts}
 use Rattle.zone_machine.specs.Calls.{changes, signals}
 use Rattle.kernel_objects.specs.declared.faults.Errno.TheVariants.{ESRCH}
 use Rattle.zn_base.specs.declared.name.NameFault.{NameFault}
-use Rattle.zone_machine.specs.Session.Lines.{Ask as Asks, Blank, Clone, Command, Help, Hold, Kill, Line, List_one, List_zones, Release, Unforced, Unknown, Verify, Zonecfg}
+use Rattle.zone_machine.specs.Session.Lines.{Ask as Asks, Blank, Clone, Command, Edit, Help, Hold, Kill, Line, List_one, List_zones, Release, Unforced, Unknown, Verify, Zonecfg}
 use Rattle.zone_machine.specs.Session.Listed.{help_line, list_one_reply, list_zones_reply, verify_reply}
-use Rattle.zone_machine.specs.State.{Awaiting, Doing, State}
+use Rattle.zone_machine.specs.State.{Awaiting, Doing, Editing, State}
 use Rattle.zone_machine.specs.State.Worlds.{View}
 use Rattle.zoneadmd_steps.specs.declared.requests.Request.{Request}
 use Rattle.zoneadmd_steps.specs.declared.requests.Request.TheVariants as request
@@ -64,6 +64,7 @@ holding_at held dir = Of_mounts (Change (at_dir dir (with_hold held)))
 
 abbrev pub idle_line : View → Command → Decision
 idle_line v Blank = Just (done_saying [] Ok)
+idle_line v Edit = opens v
 idle_line v (Zonecfg text) = zonecfg v text
 idle_line v (Asks request) = Just (put_request v.world.desk request v.world.stored)
 idle_line v (Clone word) = Just (put_clone v.world.desk (name_of word) v.world.stored)
@@ -78,10 +79,11 @@ idle_line v (List_one form) = Just (answers (list_one_reply v.zone form v.world.
 idle_line v (List_zones options) = Just (refused Usage)
 idle_line v Unknown = Just (refused Usage)
 
--- by what the session does in the zone
+-- by what the session does in the zone. One that edits says every line to its editor
 unfoldable pub typed : View → Option Doing → Line → Decision
 typed v None line = idle_line v line.command
 typed v (Some (Awaiting t)) line = Just (refused (Waiting t))
+typed v (Some (Editing e)) line = edits_line v e line.text
 
 -- a line that belongs to no zone: it names none, or none with a right name
 abbrev pub badly_named : Option (List ℕ) → Refusal

@@ -1,10 +1,10 @@
-//! An event is answered: it is found whose it is, and what is its subject's part of the machine answers.
-ghost use Rattle.std.specs.Prelude.{◌≡◌, ◌<◌, IfErr, IfOk, None, OnOk, true};
+//! An event is answered that isn't a restart: it is found whose it is, and what is its subject's part of the machine answers.
+ghost use Rattle.std.specs.Prelude.{◌≡◌, ◌<◌, IfErr, IfOk, None, OnOk, false, true};
 ghost use Rattle.zone_machine.specs.Code.Reads.{IsRightRead, decide_read, global_read, is_turn, is_turn_read, subject_in};
 ghost use Rattle.zone_machine.specs.Code.Decided.{IsHeard, entry_by, entry_of, own_subject};
 ghost use Rattle.zone_machine.specs.Code.Records.{BankLeft, GoesUnder, IsReady, KeepsBodies, NeedsNoDisk, Passes};
 ghost use Rattle.zone_machine.specs.Code.Steps.{IsStepUnder, Leaves};
-ghost use Rattle.zone_machine.specs.Machine.{decide, global_reply};
+ghost use Rattle.zone_machine.specs.Machine.{decide, global_reply, is_restart};
 ghost use Rattle.zone_machine.specs.State.{State};
 ghost use Rattle.zone_machine.specs.State.Worlds.{View};
 ghost use Rattle.zone_machine.specs.declared.events.Subject.TheVariants as subject_variants;
@@ -36,6 +36,7 @@ impl Parts {
         may_record: bool,
     ) -> Result<(Grant, Reply), StepFault>
         requires of { subject_in self.old.shared event.now ≡ subject.now }
+        requires stays { is_restart event.now ≡ false }
         requires decides { (v : View) → decide_read v read ≡ decide v event.now }
         requires turn { is_turn_read read ≡ is_turn event.now }
         requires right { IsRightRead read }
@@ -69,6 +70,7 @@ impl Parts {
         hook: HookAnswer,
         may_record: bool,
     ) -> Result<Answer, StepFault>
+        requires stays { is_restart event.now ≡ false }
         requires hook { IsHeard self.old event.now hook }
         requires ready { IsReady (D.view bank.old.disk) bank.old self.old.shared }
         ensures ok { IfOk result (λ answer. IsStepUnder None self.old event.now (entry_by event.now answer) self.new) }
@@ -92,9 +94,10 @@ impl Parts {
         })
     }
 
-    // An event of the whole system is answered, under the grant that it has.
+    // An event of the whole system is answered that isn't a restart, under the grant that it has.
     fn answer_system(&mut self, alloc: Global, event: &Event) -> Result<Answer, StepFault>
-        requires { own_subject event.now ≡ subject_variants.Whole }
+        requires of { own_subject event.now ≡ subject_variants.Whole }
+        requires stays { is_restart event.now ≡ false }
         ensures ok { IfOk result (λ answer. IsStepUnder None self.old event.now (entry_by event.now answer) self.new) }
         ensures fault { IfErr result (λ fault. Leaves fault None self.old event.now self.new) }
         ensures apart { IfErr result NeedsNoDisk }
@@ -146,7 +149,8 @@ impl Parts {
         })
     }
 
-    /// An event that is lent is answered, under the grant that the pools give it; of a turn the brand answered `hook`.
+    /// An event that is lent is answered, where it isn't a restart, under the grant that the pools give it; of a turn the brand
+    /// answered `hook`.
     #[tactic(auto, unfolding(crate::specs::Machine::decide))]
     pub(crate) fn answer<D: Disk>(
         &mut self,
@@ -156,6 +160,7 @@ impl Parts {
         hook: HookAnswer,
         may_record: bool,
     ) -> Result<Answer, StepFault>
+        requires stays { is_restart event.now ≡ false }
         requires hook { IsHeard self.old event.now hook }
         requires ready { IsReady (D.view bank.old.disk) bank.old self.old.shared }
         ensures ok { IfOk result (λ answer. IsStepUnder None self.old event.now (entry_by event.now answer) self.new) }
@@ -188,11 +193,12 @@ impl Parts {
                 may_record,
             ),
             Event::System(_) => self.answer_system(alloc, event),
+            Event::Restart => unreachable!(),
         }
     }
 
-    /// An event is answered, under the grant that the pools give it, or under one that is stated, where it fits; of a turn
-    /// the brand answered `hook`.
+    /// An event is answered that isn't a restart, under the grant that the pools give it, or under one that is stated, where it
+    /// fits; of a turn the brand answered `hook`.
     pub(crate) fn step<D: Disk>(
         &mut self,
         bank: &mut Bank<D>,
@@ -201,6 +207,7 @@ impl Parts {
         stated: Option<Grant>,
         hook: HookAnswer,
     ) -> Result<Entry, StepFault>
+        requires stays { is_restart event ≡ false }
         requires hook { IsHeard self.old event hook }
         requires ready { IsReady (D.view bank.old.disk) bank.old self.old.shared }
         ensures ok { IfOk result (λ entry. IsStepUnder stated self.old event entry self.new) }

@@ -4,7 +4,7 @@ ghost use Rattle.zone_machine.specs.Code.Cells.{Outside, cell_objects, cell_worl
 ghost use Rattle.zoneadmd_steps.specs.Code.Cases.{next_hook};
 ghost use Rattle.zoneadmd_steps.specs.Code.Desks.{as_desk};
 
-use crate::session::waits::Waits;
+use crate::session::doings::Doings;
 use brand_hooks::Change;
 use datalink_table::ClaimCell;
 use indexmap::IndexMap;
@@ -19,7 +19,8 @@ pub struct Cell {
     pub(crate) mounts: MountCell,
     pub(crate) claims: ClaimCell,
     pub(crate) desk: Desk,
-    pub(crate) waits: Waits,
+    /// What sessions do in the zone.
+    pub(crate) doings: Doings,
 }
 
 impl Drop for Cell {
@@ -29,7 +30,7 @@ impl Drop for Cell {
             mounts: _mounts,
             claims: _claims,
             desk: _desk,
-            waits: _waits,
+            doings: _doings,
         } = self;
     }
 }
@@ -44,7 +45,7 @@ impl Cell {
             mounts: MountCell::new(alloc),
             claims: ClaimCell::new(alloc),
             desk: Desk::new(alloc),
-            waits: IndexMap::new(alloc),
+            doings: IndexMap::new(alloc),
         }
     }
 
@@ -56,7 +57,7 @@ impl Cell {
             && self.mounts.entries().is_empty()
             && self.claims.is_empty()
             && self.desk.is_new()
-            && self.waits.is_empty()
+            && self.doings.is_empty()
     }
 
     /// The place of the brand and the change of which it is asked at the next step of the zone's daemon, if it is.

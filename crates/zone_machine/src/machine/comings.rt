@@ -91,6 +91,7 @@ fn case_newcomer(case: &Case) -> Newcomer<'_>
         Case::Says(_)
         | Case::Tells(_)
         | Case::Answers(_)
+        | Case::Sit(_)
         | Case::Change(_)
         | Case::Commit(_)
         | Case::Remove(_)

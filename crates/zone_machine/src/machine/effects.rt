@@ -1,12 +1,13 @@
 //! What an event does, on its zone's cell and on the shared part. All room for it has been taken, so nothing here takes
 //! memory or fails.
-ghost use Rattle.std.specs.Prelude.{◌≡◌, ◌<◌, ℕ, IfSome, None, Option, Some, false, true, map, nat_eq};
+ghost use Rattle.std.specs.Prelude.{◌∷◌, ◌≡◌, ◌<◌, [], ℕ, IfSome, None, Option, Some, false, true, map, nat_eq};
 ghost use Rattle.indexmap.specs.IndexMap.{spare};
 ghost use Rattle.zn_base.specs.Names.{Name};
 ghost use Rattle.zone_pools.specs.Owners.{owner};
 ghost use Rattle.zone_machine.specs.Code.Cases.{IsCaseOf, IsNamedCase, decision_of};
 ghost use Rattle.zoneadmd_steps.specs.Code.Cases.{object_edits};
-ghost use Rattle.zone_machine.specs.Code.Works.{IsNamedWork, IsStoredOf, arrival_by, rest_of, sits, told_by, work_world};
+ghost use Rattle.zone_machine.specs.Code.Works.{IsNamedWork, IsStoredOf, arrival_by, rest_of, told_by, work_world};
+ghost use Rattle.zone_machine.specs.Code.Doings.{as_doing, sits};
 ghost use Rattle.zoneadmd_steps.specs.Code.Works.{gone_by};
 ghost use Rattle.zoneadmd_steps.specs.Code.Cases.{is_last};
 ghost use Rattle.loopback_mounts.specs.Mounts.{last_of};
@@ -21,18 +22,18 @@ ghost use Rattle.zone_machine.specs.Code.Records.{HasNumber, rows_with, used_wit
 ghost use Rattle.commit_journal.specs.Zones.{rows_of};
 ghost use Rattle.zone_machine.specs.Machine.Common.{came_common};
 ghost use Rattle.zone_machine.specs.State.Decisions.{act_of, acts_world, after_came_world, sweeps};
-ghost use Rattle.zone_machine.specs.State.Edits.{Of_objects, comes_world, edits_world};
+ghost use Rattle.zone_machine.specs.State.Edits.{Here, Of_objects, comes_world, edits_world};
 ghost use Rattle.zone_machine.specs.Code.Rooms.{HasRoom, HasRoomOf, HasRoomToChange, HasRoomToSit, IsFreeOf, IsOpenTo};
 
-use crate::cases::Case;
+use crate::cases::{Case, Sitting};
 use crate::machine::cell::Cell;
 use crate::machine::settling::settle;
 use crate::machine::shared::Shared;
 use crate::machine::ups::mark;
-use crate::machine::work::{Sitting, Storing, Work};
+use crate::machine::work::{Storing, Work};
 use crate::maps::put;
 use crate::replies::Reply;
-use crate::session::waits::{end_waits, wait};
+use crate::session::doings::{Doing, begin_doing, end_waits, stop_doing};
 use commit_journal::body_length;
 use datalink_table::Claim;
 use loopback_mounts::Mount;
@@ -99,7 +100,7 @@ fn store_some(cell: &Cell, shared: &mut Shared, stored: Storing)
 #[inline(never)]
 fn end_processes(cell: &mut Cell, shared: &mut Shared)
     ensures does { (z : Name) (n : Option ℕ) → Does z (edits_world n (map Of_objects (object_edits ObjectEdit.EndProcesses))) kept cell.old shared.old cell.new shared.new }
-    ensures waits { cell.new.waits ≡ cell.old.waits }
+    ensures doings { cell.new.doings ≡ cell.old.doings }
     ensures sessions { shared.new.sessions ≡ shared.old.sessions }
     ensures ups { shared.new.ups ≡ shared.old.ups }
     ensures brands { shared.new.brands ≡ shared.old.brands }
@@ -114,7 +115,7 @@ fn end_processes(cell: &mut Cell, shared: &mut Shared)
 #[inline(never)]
 fn end_ids(cell: &mut Cell, shared: &mut Shared)
     ensures does { (z : Name) (n : Option ℕ) → Does z (edits_world n (map Of_objects (object_edits ObjectEdit.EndIds))) kept cell.old shared.old cell.new shared.new }
-    ensures waits { cell.new.waits ≡ cell.old.waits }
+    ensures doings { cell.new.doings ≡ cell.old.doings }
     ensures sessions { shared.new.sessions ≡ shared.old.sessions }
     ensures ups { shared.new.ups ≡ shared.old.ups }
     ensures brands { shared.new.brands ≡ shared.old.brands }
@@ -129,7 +130,7 @@ fn end_ids(cell: &mut Cell, shared: &mut Shared)
 #[inline(never)]
 fn end_process(cell: &mut Cell, shared: &mut Shared, pid: u32)
     ensures does { (z : Name) (n : Option ℕ) → Does z (edits_world n (map Of_objects (object_edits (ObjectEdit.EndProcess pid)))) kept cell.old shared.old cell.new shared.new }
-    ensures waits { cell.new.waits ≡ cell.old.waits }
+    ensures doings { cell.new.doings ≡ cell.old.doings }
     ensures sessions { shared.new.sessions ≡ shared.old.sessions }
     ensures ups { shared.new.ups ≡ shared.old.ups }
     ensures brands { shared.new.brands ≡ shared.old.brands }
@@ -144,7 +145,7 @@ fn end_process(cell: &mut Cell, shared: &mut Shared, pid: u32)
 #[inline(never)]
 fn rename(cell: &mut Cell, pid: u32, name: Text)
     ensures does { (z : Name) (n : Option ℕ) (s : shared_types.Shared) → Does z (edits_world n (map Of_objects (object_edits (ObjectEdit.Rename pid name)))) kept cell.old s cell.new s }
-    ensures waits { cell.new.waits ≡ cell.old.waits }
+    ensures doings { cell.new.doings ≡ cell.old.doings }
     ensures desk { cell.new.desk ≡ cell.old.desk }
 {
     cell.kernel.set_name(pid, name);
@@ -154,7 +155,7 @@ fn rename(cell: &mut Cell, pid: u32, name: Text)
 #[inline(never)]
 fn give_up(cell: &mut Cell, pid: u32, number: u8)
     ensures does { (z : Name) (n : Option ℕ) (s : shared_types.Shared) → Does z (edits_world n (map Of_objects (object_edits (ObjectEdit.GiveUp pid number)))) kept cell.old s cell.new s }
-    ensures waits { cell.new.waits ≡ cell.old.waits }
+    ensures doings { cell.new.doings ≡ cell.old.doings }
     ensures desk { cell.new.desk ≡ cell.old.desk }
 {
     cell.kernel.give_up(pid, number);
@@ -165,7 +166,7 @@ fn give_up(cell: &mut Cell, pid: u32, number: u8)
 fn mount_at(cell: &mut Cell, mount: Box<Mount>)
     requires { HasRoomToChange (ObjectEdit.Mount mount) cell.old }
     ensures does { (z : Name) (n : Option ℕ) (s : shared_types.Shared) → Does z (edits_world n (map Of_objects (object_edits (ObjectEdit.Mount mount)))) kept cell.old s cell.new s }
-    ensures waits { cell.new.waits ≡ cell.old.waits }
+    ensures doings { cell.new.doings ≡ cell.old.doings }
     ensures desk { cell.new.desk ≡ cell.old.desk }
 {
     cell.mounts.put_reserved(Box::into_inner(mount));
@@ -175,7 +176,7 @@ fn mount_at(cell: &mut Cell, mount: Box<Mount>)
 #[inline(never)]
 fn unmount(cell: &mut Cell, dir: &AbsPath)
     ensures does { (z : Name) (n : Option ℕ) (s : shared_types.Shared) → Does z (edits_world n (map Of_objects (object_edits (ObjectEdit.Unmount dir.now)))) kept cell.old s cell.new s }
-    ensures waits { cell.new.waits ≡ cell.old.waits }
+    ensures doings { cell.new.doings ≡ cell.old.doings }
     ensures desk { cell.new.desk ≡ cell.old.desk }
 {
     cell.mounts.take_out(dir);
@@ -186,7 +187,7 @@ fn unmount(cell: &mut Cell, dir: &AbsPath)
 fn unmount_last(cell: &mut Cell, dir: Snapshot<AbsPath>) -> Gone
     requires { option_map (λ m. m.mount.dir) (last_of cell.old.mounts.list) ≡ Some dir.value }
     ensures does { (z : Name) (n : Option ℕ) (s : shared_types.Shared) → Does z (edits_world n (map Of_objects (object_edits (ObjectEdit.UnmountLast dir)))) kept cell.old s cell.new s }
-    ensures waits { cell.new.waits ≡ cell.old.waits }
+    ensures doings { cell.new.doings ≡ cell.old.doings }
     ensures desk { cell.new.desk ≡ cell.old.desk }
     ensures gone { result ≡ Gone.Mount dir.value }
 {
@@ -200,7 +201,7 @@ fn unmount_last(cell: &mut Cell, dir: Snapshot<AbsPath>) -> Gone
 #[inline(never)]
 fn hold(cell: &mut Cell, dir: &AbsPath)
     ensures does { (z : Name) (n : Option ℕ) (s : shared_types.Shared) → Does z (edits_world n (map Of_objects (object_edits (ObjectEdit.Hold dir.now)))) kept cell.old s cell.new s }
-    ensures waits { cell.new.waits ≡ cell.old.waits }
+    ensures doings { cell.new.doings ≡ cell.old.doings }
     ensures desk { cell.new.desk ≡ cell.old.desk }
 {
     cell.mounts.put_hold(dir);
@@ -210,7 +211,7 @@ fn hold(cell: &mut Cell, dir: &AbsPath)
 #[inline(never)]
 fn release(cell: &mut Cell, dir: &AbsPath)
     ensures does { (z : Name) (n : Option ℕ) (s : shared_types.Shared) → Does z (edits_world n (map Of_objects (object_edits (ObjectEdit.Release dir.now)))) kept cell.old s cell.new s }
-    ensures waits { cell.new.waits ≡ cell.old.waits }
+    ensures doings { cell.new.doings ≡ cell.old.doings }
     ensures desk { cell.new.desk ≡ cell.old.desk }
 {
     cell.mounts.lift_hold(dir);
@@ -220,7 +221,7 @@ fn release(cell: &mut Cell, dir: &AbsPath)
 #[inline(never)]
 fn end_claim(cell: &mut Cell, shared: &mut Shared)
     ensures does { (z : Name) (n : Option ℕ) → Does z (edits_world n (map Of_objects (object_edits ObjectEdit.EndClaim))) kept cell.old shared.old cell.new shared.new }
-    ensures waits { cell.new.waits ≡ cell.old.waits }
+    ensures doings { cell.new.doings ≡ cell.old.doings }
     ensures sessions { shared.new.sessions ≡ shared.old.sessions }
     ensures ups { shared.new.ups ≡ shared.old.ups }
     ensures brands { shared.new.brands ≡ shared.old.brands }
@@ -236,7 +237,7 @@ fn end_claim(cell: &mut Cell, shared: &mut Shared)
 fn release_last(cell: &mut Cell, shared: &mut Shared, claim: Snapshot<Claim>) -> Gone
     requires { last_of cell.old.claims.claims ≡ Some claim.value }
     ensures does { (z : Name) (n : Option ℕ) → Does z (edits_world n (map Of_objects (object_edits (ObjectEdit.ReleaseLast claim)))) kept cell.old shared.old cell.new shared.new }
-    ensures waits { cell.new.waits ≡ cell.old.waits }
+    ensures doings { cell.new.doings ≡ cell.old.doings }
     ensures sessions { shared.new.sessions ≡ shared.old.sessions }
     ensures ups { shared.new.ups ≡ shared.old.ups }
     ensures brands { shared.new.brands ≡ shared.old.brands }
@@ -255,7 +256,7 @@ fn release_last(cell: &mut Cell, shared: &mut Shared, claim: Snapshot<Claim>) ->
 #[inline(never)]
 fn set_devices(cell: &mut Cell, devices: Listing<AbsPath>)
     ensures does { (z : Name) (n : Option ℕ) (s : shared_types.Shared) → Does z (edits_world n (map Of_objects (object_edits (ObjectEdit.SetDevices devices)))) kept cell.old s cell.new s }
-    ensures waits { cell.new.waits ≡ cell.old.waits }
+    ensures doings { cell.new.doings ≡ cell.old.doings }
     ensures desk { cell.new.desk ≡ cell.old.desk }
 {
     cell.kernel.set_devices(devices.into_vec());
@@ -265,7 +266,7 @@ fn set_devices(cell: &mut Cell, devices: Listing<AbsPath>)
 #[inline(never)]
 fn drop_devices(cell: &mut Cell)
     ensures does { (z : Name) (n : Option ℕ) (s : shared_types.Shared) → Does z (edits_world n (map Of_objects (object_edits ObjectEdit.DropDevices))) kept cell.old s cell.new s }
-    ensures waits { cell.new.waits ≡ cell.old.waits }
+    ensures doings { cell.new.doings ≡ cell.old.doings }
     ensures desk { cell.new.desk ≡ cell.old.desk }
 {
     cell.kernel.drop_devices();
@@ -275,7 +276,7 @@ fn drop_devices(cell: &mut Cell)
 #[inline(never)]
 fn set_limits(cell: &mut Cell, limits: Box<Limits>)
     ensures does { (z : Name) (n : Option ℕ) (s : shared_types.Shared) → Does z (edits_world n (map Of_objects (object_edits (ObjectEdit.SetLimits limits)))) kept cell.old s cell.new s }
-    ensures waits { cell.new.waits ≡ cell.old.waits }
+    ensures doings { cell.new.doings ≡ cell.old.doings }
     ensures desk { cell.new.desk ≡ cell.old.desk }
 {
     let limits = Box::into_inner(limits);
@@ -287,7 +288,7 @@ fn set_limits(cell: &mut Cell, limits: Box<Limits>)
 #[inline(never)]
 fn set_bootargs(cell: &mut Cell, args: Text)
     ensures does { (z : Name) (n : Option ℕ) (s : shared_types.Shared) → Does z (edits_world n (map Of_objects (object_edits (ObjectEdit.SetBootargs args)))) kept cell.old s cell.new s }
-    ensures waits { cell.new.waits ≡ cell.old.waits }
+    ensures doings { cell.new.doings ≡ cell.old.doings }
     ensures desk { cell.new.desk ≡ cell.old.desk }
 {
     cell.kernel.set_bootargs(args);
@@ -297,7 +298,7 @@ fn set_bootargs(cell: &mut Cell, args: Text)
 #[inline(never)]
 fn clear_limits(alloc: Global, cell: &mut Cell)
     ensures does { (z : Name) (n : Option ℕ) (s : shared_types.Shared) → Does z (edits_world n (map Of_objects (object_edits ObjectEdit.ClearLimits))) kept cell.old s cell.new s }
-    ensures waits { cell.new.waits ≡ cell.old.waits }
+    ensures doings { cell.new.doings ≡ cell.old.doings }
     ensures desk { cell.new.desk ≡ cell.old.desk }
 {
     cell.kernel.clear_limits(alloc);
@@ -307,7 +308,7 @@ fn clear_limits(alloc: Global, cell: &mut Cell)
 #[inline(never)]
 fn clear(alloc: Global, cell: &mut Cell)
     ensures does { (z : Name) (n : Option ℕ) (s : shared_types.Shared) → Does z (edits_world n (map Of_objects (object_edits ObjectEdit.Clear))) kept cell.old s cell.new s }
-    ensures waits { cell.new.waits ≡ cell.old.waits }
+    ensures doings { cell.new.doings ≡ cell.old.doings }
     ensures desk { cell.new.desk ≡ cell.old.desk }
 {
     cell.kernel.clear(alloc);
@@ -318,7 +319,7 @@ fn edit_objects(alloc: Global, cell: &mut Cell, shared: &mut Shared, edit: Objec
     requires room { HasRoomToChange edit cell.old }
     requires others { is_last edit ≡ false }
     ensures does { (z : Name) (n : Option ℕ) → Does z (edits_world n (map Of_objects (object_edits edit))) kept cell.old shared.old cell.new shared.new }
-    ensures waits { cell.new.waits ≡ cell.old.waits }
+    ensures doings { cell.new.doings ≡ cell.old.doings }
     ensures sessions { shared.new.sessions ≡ shared.old.sessions }
     ensures ups { shared.new.ups ≡ shared.old.ups }
     ensures brands { shared.new.brands ≡ shared.old.brands }
@@ -352,7 +353,7 @@ fn edit_objects(alloc: Global, cell: &mut Cell, shared: &mut Shared, edit: Objec
 fn change_objects(alloc: Global, cell: &mut Cell, shared: &mut Shared, edit: ObjectEdit) -> Gone
     requires { HasRoomToChange edit cell.old }
     ensures does { (z : Name) (n : Option ℕ) → Does z (edits_world n (map Of_objects (object_edits edit))) kept cell.old shared.old cell.new shared.new }
-    ensures waits { cell.new.waits ≡ cell.old.waits }
+    ensures doings { cell.new.doings ≡ cell.old.doings }
     ensures sessions { shared.new.sessions ≡ shared.old.sessions }
     ensures ups { shared.new.ups ≡ shared.old.ups }
     ensures brands { shared.new.brands ≡ shared.old.brands }
@@ -371,7 +372,35 @@ fn change_objects(alloc: Global, cell: &mut Cell, shared: &mut Shared, edit: Obj
     }
 }
 
-// A session waits for a ticket.
+// A session does something in the zone from now on.
+fn begin(cell: &mut Cell, shared: &mut Shared, number: u8, doing: Doing, zone: ZoneName)
+    requires room { HasRoomToSit cell.old shared.old }
+    ensures does { IsOpenTo zone (owner nat_eq shared.old.sessions number) → Does zone (edits_world (Some number) (Here (Some (as_doing doing)) ∷ [])) kept cell.old shared.old cell.new shared.new }
+    ensures ups { shared.new.ups ≡ shared.old.ups }
+    ensures brands { shared.new.brands ≡ shared.old.brands }
+    ensures rows { shared.new.rows ≡ shared.old.rows }
+    ensures used { shared.new.used ≡ shared.old.used }
+    ensures desk { cell.new.desk ≡ cell.old.desk }
+{
+    shared.sessions.give_back(&number);
+    shared.sessions.take_reserved(number, zone);
+    begin_doing(&mut cell.doings, number, doing);
+}
+
+// A session of the zone, or nobody's, does nothing from now on.
+fn stop(cell: &mut Cell, shared: &mut Shared, number: u8)
+    ensures does { (z : Name) → IsOpenTo z (owner nat_eq shared.old.sessions number) → Does z (edits_world (Some number) (Here None ∷ [])) kept cell.old shared.old cell.new shared.new }
+    ensures ups { shared.new.ups ≡ shared.old.ups }
+    ensures brands { shared.new.brands ≡ shared.old.brands }
+    ensures rows { shared.new.rows ≡ shared.old.rows }
+    ensures used { shared.new.used ≡ shared.old.used }
+    ensures desk { cell.new.desk ≡ cell.old.desk }
+{
+    shared.sessions.give_back(&number);
+    stop_doing(&mut cell.doings, number);
+}
+
+// What a session does in the zone from now on.
 #[inline(never)]
 fn sit(cell: &mut Cell, shared: &mut Shared, number: u8, sitting: Sitting)
     requires room { HasRoomToSit cell.old shared.old }
@@ -382,12 +411,14 @@ fn sit(cell: &mut Cell, shared: &mut Shared, number: u8, sitting: Sitting)
     ensures used { shared.new.used ≡ shared.old.used }
     ensures desk { cell.new.desk ≡ cell.old.desk }
 {
-    shared.sessions.give_back(&number);
-    shared.sessions.take_reserved(number, sitting.owner);
-    wait(&mut cell.waits, number, sitting.ticket);
+    let Sitting { doing, owner } = sitting;
+    match doing {
+        Some(doing) => begin(cell, shared, number, doing, owner),
+        None => stop(cell, shared, number),
+    }
 }
 
-// The event's session waits from now on, if it does.
+// What the event's session does from now on, if that may change.
 fn sit_down(cell: &mut Cell, shared: &mut Shared, number: Option<u8>, sitting: Option<Sitting>)
     requires room { IfSome sitting (λ s. HasRoomToSit cell.old shared.old) }
     ensures does { (z : Name) → IfSome sitting (λ s. s.owner ≡ z) → IfSome number (λ n. IsOpenTo z (owner nat_eq shared.old.sessions n)) → Does z (edits_world number (sits sitting)) kept cell.old shared.old cell.new shared.new }
@@ -413,7 +444,7 @@ fn end_ticket(cell: &mut Cell, shared: &mut Shared, ended: Option<u32>)
     ensures desk { cell.new.desk ≡ cell.old.desk }
 {
     if let Some(ticket) = ended {
-        end_waits(&mut cell.waits, &mut shared.sessions, ticket);
+        end_waits(&mut cell.doings, &mut shared.sessions, ticket);
     }
 }
 

@@ -57,7 +57,7 @@ fn moved_need(row: &Row) -> Need<'_>
 
 // The record of a commit, with what is new in it.
 fn commit_need(committed: &Committed) -> Need<'_>
-    ensures { asked_by result ≡ asked_of (made committed.now.novelty committed.now.owner committed.now.row.value committed.now.told) }
+    ensures { asked_by result ≡ asked_of (made committed.now.novelty committed.now.owner committed.now.row.value committed.now.told committed.now.committer) }
 {
     let stored = committed.row.record();
     let path = stored.config.shown(Property::Zonepath);
@@ -131,7 +131,8 @@ pub(crate) fn need_of(case: &Case) -> Need<'_>
     ensures { (d : desk_types.Desk) → IsCaseOf d case.now → asked_of (decision_of d case.now) ≡ asked_by result }
 {
     match case {
-        Case::Says(_) | Case::Tells(_) | Case::Answers(_) | Case::Change(_) => Need::Nothing,
+        Case::Says(_) | Case::Tells(_) | Case::Answers(_) | Case::Sit(_) | Case::Change(_) =>
+            Need::Nothing,
         Case::Fork(_) => Need::Pid,
         Case::Commit(committed) => commit_need(committed),
         Case::Remove(_) => removal_need(),

@@ -1,12 +1,12 @@
 //! Events of the global zone and of the whole system.
-ghost use Rattle.std.specs.Prelude.{◌≡◌, ◌<◌, [], IfErr, IfOk, Err, None, OnErr, Some, true};
+ghost use Rattle.std.specs.Prelude.{◌≡◌, ◌<◌, [], IfErr, IfOk, Err, None, OnErr, Some, false, true};
 ghost use Rattle.zn_base.specs.Names.{Name};
 ghost use Rattle.zone_pools.specs.Pools.{Pools};
 ghost use Rattle.zone_machine.specs.Code.Reads.{global_read, subject_in};
 ghost use Rattle.zone_machine.specs.Code.Decided.{entry_of};
 ghost use Rattle.zone_machine.specs.Code.Records.{NeedsNoDisk};
 ghost use Rattle.zone_machine.specs.Code.Steps.{IsGrantFor, IsStepUnder, IsUnfit, Leaves};
-ghost use Rattle.zone_machine.specs.Machine.{global_reply};
+ghost use Rattle.zone_machine.specs.Machine.{global_reply, is_restart};
 ghost use Rattle.zone_machine.specs.State.{State};
 ghost use Rattle.zone_machine.specs.State.Decisions.{head_of, says};
 ghost use Rattle.zone_machine.specs.declared.events.Event.TheVariants as events;
@@ -21,8 +21,8 @@ use crate::replies::{Head, Refusal, Reply};
 use std::alloc::Global;
 use zone_pools::Grant;
 
-// The grant of an event that asks nothing.
-fn nothing_of(stated: Option<Grant>) -> Result<Grant, StepFault>
+/// The grant of an event that asks nothing.
+pub(crate) fn nothing_of(stated: Option<Grant>) -> Result<Grant, StepFault>
     ensures takes { IfOk result (λ grant. (P : Pools) (z : Name) → IsGrantFor z P [] stated grant) }
     ensures misfit { OnErr result ((result ≡ Err StepFault.BadGrant) × ((P : Pools) (z : Name) → IsUnfit z P [] stated)) }
 {
@@ -86,7 +86,7 @@ impl Parts {
         Ok((grant, declared_reply(refusal)))
     }
 
-    /// An event of the whole system is answered.
+    /// An event of the whole system is answered that isn't a restart.
     #[inline(never)]
     pub(crate) fn answer_whole(
         &mut self,
@@ -94,7 +94,8 @@ impl Parts {
         event: &Event,
         stated: Option<Grant>,
     ) -> Result<(Grant, Reply), StepFault>
-        requires { subject_in self.old.shared event.now ≡ subject_variants.Whole }
+        requires of { subject_in self.old.shared event.now ≡ subject_variants.Whole }
+        requires stays { is_restart event.now ≡ false }
         ensures ok { IfOk result (λ r. IsStepUnder stated self.old event.now (entry_of subject_variants.Whole event.now r.0 r.1) self.new) }
         ensures fault { IfErr result (λ fault. Leaves fault stated self.old event.now self.new) }
         ensures apart { IfErr result NeedsNoDisk }

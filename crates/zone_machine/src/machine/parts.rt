@@ -77,7 +77,8 @@ impl Parts {
                 Some(cell) => cell.next_hook(),
                 None => None,
             },
-            Event::Session { .. } | Event::Process { .. } | Event::System(_) => None,
+            Event::Session { .. } | Event::Process { .. } | Event::System(_) | Event::Restart =>
+                None,
         }
     }
 

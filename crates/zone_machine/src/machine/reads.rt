@@ -24,14 +24,15 @@ use std::alloc::{AllocError, Global};
 use zn_base::{Bytes, Listing, NameFault, ZoneName};
 use zoneadmd_steps::RequestKind;
 
-/// An event as it is read, once: what a session types, a turn of a zone's daemon, a call of a zone's process, or what the whole
-/// system declares.
+/// An event as it is read, once: what a session types, a turn of a zone's daemon, a call of a zone's process, what the whole
+/// system declares, or that it restarts.
 #[derive(Clone, Copy)]
 pub(crate) enum Read<'e> {
     Line(u8, Line<'e>),
     Turn(&'e ZoneName),
     Process(&'e ZoneName, u32, &'e Call),
     System(&'e Declaration),
+    Restart,
 }
 
 /// An event is read.
@@ -49,6 +50,7 @@ pub(crate) fn read_event(event: &Event) -> Read<'_>
         Event::Turn { zone } => Read::Turn(zone),
         Event::Process { zone, pid, call } => Read::Process(zone, *pid, call),
         Event::System(what) => Read::System(what),
+        Event::Restart => Read::Restart,
     }
 }
 
@@ -87,6 +89,7 @@ fn idle_subject(kernel: &KernelShared, alloc: Global, line: Line<'_>) -> Result<
     match line.command {
         Command::Kill(_, pid) => holder(kernel, alloc, pid),
         Command::Blank
+        | Command::Edit
         | Command::Zonecfg(_)
         | Command::Request(_)
         | Command::Boot(_)
@@ -104,7 +107,7 @@ fn idle_subject(kernel: &KernelShared, alloc: Global, line: Line<'_>) -> Result<
     }
 }
 
-/// Whose an event is: the zone that its session waits in, else that of the process that its line sends a signal to, else
+/// Whose an event is: the zone that its session does something in, else that of the process that its line sends a signal to, else
 /// the zone that its line names.
 pub(crate) fn subject(shared: &Shared, alloc: Global, read: Read<'_>) -> Result<Subject, AllocError>
     ensures { IfOk result (λ subject. subject ≡ subject_read shared.now read.entry) }
@@ -115,7 +118,7 @@ pub(crate) fn subject(shared: &Shared, alloc: Global, read: Read<'_>) -> Result<
             Some(zone) => Ok(Subject::Zone(zone.copy(alloc)?)),
             None => idle_subject(&shared.kernel, alloc, line),
         },
-        Read::System(_) => Ok(Subject::Whole),
+        Read::System(_) | Read::Restart => Ok(Subject::Whole),
     }
 }
 
@@ -181,7 +184,8 @@ fn global_line(alloc: Global, parts: &Parts, line: Line<'_>) -> Result<Reply, Al
             RequestKind::Clone | RequestKind::Boot | RequestKind::Reboot | RequestKind::Move,
         ) => Ok(refused(Refusal::Usage)),
         Command::Kill(_, _) => Ok(refused(Refusal::Errno(Errno::ESRCH))),
-        Command::Zonecfg(_)
+        Command::Edit
+        | Command::Zonecfg(_)
         | Command::Request(_)
         | Command::Boot(_)
         | Command::Reboot(_)
@@ -205,6 +209,8 @@ pub(crate) fn global_reply(
 {
     match read {
         Read::Line(_, line) => global_line(alloc, parts, line),
-        Read::Turn(_) | Read::Process(_, _, _) | Read::System(_) => Ok(says(Head::Ok)),
+        Read::Turn(_) | Read::Process(_, _, _) | Read::System(_) | Read::Restart => Ok(says(
+            Head::Ok,
+        )),
     }
 }

@@ -29,7 +29,8 @@ use zoneadmd_steps::{Came, JobCase, TurnCase};
 // The record of a commit has a number as its revision, and a new zone its UUID by it.
 fn number_row(committed: &mut Committed, number: u32)
     requires { 1 ≤ number }
-    ensures decision { made committed.new.novelty committed.new.owner committed.new.row.value committed.new.told ≡ made committed.old.novelty committed.old.owner committed.old.row.value committed.old.told }
+    ensures decision { made committed.new.novelty committed.new.owner committed.new.row.value committed.new.told committed.new.committer ≡ made committed.old.novelty committed.old.owner committed.old.row.value committed.old.told committed.old.committer }
+    ensures committer { committed.new.committer ≡ committed.old.committer }
     ensures owner { committed.new.owner ≡ committed.old.owner }
     ensures number { numbered_row committed.new.novelty committed.new.owner committed.new.row.value number ≡ committed.new.row.value }
 {
@@ -91,6 +92,7 @@ fn stores_of(case: &Case) -> ToStore<'_>
         Case::Says(_)
         | Case::Tells(_)
         | Case::Answers(_)
+        | Case::Sit(_)
         | Case::Change(_)
         | Case::Fork(_)
         | Case::Put(_, _) => ToStore::Nothing,

@@ -3,7 +3,7 @@ ghost use Rattle.std.specs.Prelude.{◌≡◌, OnOk, Option, false};
 ghost use Rattle.zoneadmd_steps.specs.Code.Desks.{as_desk};
 ghost use Rattle.zone_machine.specs.Code.Cases.{IsCaseOf, decision_of};
 ghost use Rattle.zone_machine.specs.Code.Rooms.{HasRoomFor, Alike, HasRoom, HasRoomIfSits, HasRoomToChange, HasRoomToRise, HasRoomToStore};
-ghost use Rattle.zone_machine.specs.Code.Works.{objects_of};
+ghost use Rattle.zone_machine.specs.Code.Works.{objects_of, seats, seats_committer};
 ghost use Rattle.zoneadmd_steps.specs.Code.Cases.{IsFreeFor, active_with, job_active, turn_active, turn_objects};
 ghost use Rattle.zone_machine.specs.Code.Needs.{asked_by};
 ghost use Rattle.zone_machine.specs.Code.Cases.{case_active};
@@ -11,7 +11,7 @@ ghost use Rattle.zone_machine.specs.Code.Cells.{is_up_in};
 ghost use Rattle.zn_base.specs.Names.{Name};
 ghost use Rattle.zn_base.specs.declared.state.ZoneState as state_types;
 
-use crate::cases::Case;
+use crate::cases::{Case, Committer};
 use crate::machine::cell::Cell;
 use crate::machine::needs::{Need, need_of};
 use crate::machine::shared::Shared;
@@ -33,6 +33,7 @@ pub(crate) fn room_on_desk(desk: &mut Desk, case: &Case) -> Result<(), AllocErro
         Case::Says(_)
         | Case::Tells(_)
         | Case::Answers(_)
+        | Case::Sit(_)
         | Case::Change(_)
         | Case::Fork(_)
         | Case::Commit(_)
@@ -93,7 +94,46 @@ pub(crate) fn room_for_objects(cell: &mut Cell, case: &Case) -> Result<(), Alloc
     }
 }
 
-// Room for what a case does to the zone's objects, and for the session that waits from now on.
+fn seats_committer(committer: &Committer) -> bool
+    ensures { result ≡ seats_committer committer.now }
+{
+    match committer {
+        Committer::Alone => false,
+        Committer::GoesOn(_, _) | Committer::Leaves(_) => true,
+    }
+}
+
+// Whether what its session does in the zone may change.
+fn seats(case: &Case) -> bool
+    ensures { result ≡ seats case.now }
+{
+    match case {
+        Case::Put(_, _) | Case::Sit(_) => true,
+        Case::Commit(committed) => seats_committer(&committed.committer),
+        Case::Remove(removed) => seats_committer(&removed.committer),
+        Case::Says(_)
+        | Case::Tells(_)
+        | Case::Answers(_)
+        | Case::Change(_)
+        | Case::Fork(_)
+        | Case::Turn(_) => false,
+    }
+}
+
+// Room for what the event's session does from now on.
+fn room_to_sit(cell: &mut Cell, shared: &mut Shared, case: &Case) -> Result<(), AllocError>
+    ensures alike { Alike cell.old shared.old cell.new shared.new }
+    ensures same { cell.new ≡ record cell.old { doings = cell.new.doings } }
+    ensures sits { OnOk result (HasRoomIfSits case.now cell.new shared.new) }
+{
+    if !seats(case) {
+        return Ok(());
+    }
+    cell.doings.reserve(1)?;
+    shared.sessions.reserve()
+}
+
+// Room for what a case does to the zone's objects, and for what its session does from now on.
 fn room_to_do(cell: &mut Cell, shared: &mut Shared, case: &Case) -> Result<(), AllocError>
     requires { IsFreeFor (objects_of case.now) cell.old.mounts.list cell.old.claims.claims }
     ensures alike { Alike cell.old shared.old cell.new shared.new }
@@ -101,13 +141,8 @@ fn room_to_do(cell: &mut Cell, shared: &mut Shared, case: &Case) -> Result<(), A
     ensures objects { OnOk result (HasRoomToChange (objects_of case.now) cell.new) }
     ensures sits { OnOk result (HasRoomIfSits case.now cell.new shared.new) }
 {
-    match case {
-        Case::Put(_, _) => {
-            cell.waits.reserve(1)?;
-            shared.sessions.reserve()
-        }
-        _ => room_for_objects(cell, case),
-    }
+    room_for_objects(cell, case)?;
+    room_to_sit(cell, shared, case)
 }
 
 // Whether a step may make the zone's state one of those that aren't stored.

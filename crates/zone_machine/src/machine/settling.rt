@@ -1,15 +1,17 @@
 //! How a case is settled: the desk changes, and what else is to be done is told. No memory is taken, and nothing fails.
 ghost use Rattle.std.specs.Prelude.{◌+◌, ◌<◌, ◌≤◌, ◌≡◌, IfOk, IfSome, None, Option, Some, false, true, ℕ};
 ghost use Rattle.zn_base.specs.Names.{Name};
-ghost use Rattle.zone_machine.specs.Code.Cases.{IsCaseOf, IsNamedCase, case_active, decision_of, made, numbered_row};
+ghost use Rattle.zone_machine.specs.Code.Cases.{IsCaseOf, IsNamedCase, IsNamedCommitter, as_typist, base_by, case_active, decision_of, made, numbered_row};
+ghost use Rattle.zone_machine.specs.Code.Doings.{sits};
+ghost use Rattle.zone_config.specs.declared.terms.Contents.{Contents};
 ghost use Rattle.std.specs.List.{list_all};
 ghost use Rattle.zoneadmd_steps.specs.Code.Cases.{object_edits, premise_of};
 ghost use Rattle.zoneadmd_steps.specs.Local.{is_of_own};
 ghost use Rattle.zone_machine.specs.Code.Records.{HasNumber};
 ghost use Rattle.zone_machine.specs.Code.Rooms.{HasRoomFor};
 ghost use Rattle.zoneadmd_steps.specs.Code.Rooms.{HasRequestRoom};
-ghost use Rattle.zone_machine.specs.Code.Works.{IsNamedWork, IsStoredOf, Works, objects_of, rest_of, sitting_of};
-ghost use Rattle.zone_machine.specs.Session.Commits.{removes};
+ghost use Rattle.zone_machine.specs.Code.Works.{IsNamedWork, IsStoredOf, Works, objects_of, rest_of, seats, seats_committer};
+ghost use Rattle.zone_machine.specs.Session.Commits.{based, goes, goes_over, removes, stays};
 ghost use Rattle.zone_machine.specs.State.Decisions.{act_of, says};
 ghost use Rattle.zone_pools.specs.Decisions.{number_in};
 ghost use Rattle.zoneadmd_steps.specs.Desks as desks;
@@ -18,31 +20,122 @@ ghost use Rattle.zoneadmd_steps.specs.Desks.{is_full, with_request};
 ghost use Rattle.zone_machine.specs.State.Worlds.{World};
 ghost use Rattle.zoneadmd_steps.specs.declared.desks.Desk as desk_types;
 
-use crate::cases::{Case, Committed, Removed};
-use crate::machine::work::{Sitting, Storing, Work};
+use crate::cases::{Case, Committed, Committer, Removed, Seat, Seated, Sitting};
+use crate::machine::work::{Storing, Work};
 use crate::replies::{Body, Head, Refusal, Reply};
+use crate::session::doings::Doing;
+use crate::session::held::HeldConfig;
 use kernel_objects::Running;
 use std::alloc::Global;
 use zn_base::{Bytes, Listing, ZoneName};
 use zone_pools::{Grant, Pool, number_in};
 use zoneadmd_steps::{Desk, ObjectEdit, QueuedRequest, Stored, settle_turn};
 
+impl Seat {
+    // The session stays in the editor.
+    fn stay(self) -> Sitting
+        ensures { result ≡ record { doing = Some (Doing.Edits self.editor); owner = self.owner } }
+    {
+        let Seat { editor, owner } = self;
+        Sitting {
+            doing: Some(Doing::Edits(editor)),
+            owner,
+        }
+    }
+
+    // It leaves the editor.
+    fn leave(self) -> Sitting
+        ensures { result ≡ record { doing = None; owner = self.owner } }
+    {
+        let Seat { editor: _, owner } = self;
+        Sitting { doing: None, owner }
+    }
+
+    // It stays, with what was stored for the base of its editor.
+    fn go_over(self, base: HeldConfig, revision: u32) -> Sitting
+        ensures { result ≡ record { doing = Some (Doing.Edits (based base revision self.editor)); owner = self.owner } }
+    {
+        let Seat { mut editor, owner } = self;
+        editor.set_base(base, revision);
+        Sitting {
+            doing: Some(Doing::Edits(editor)),
+            owner,
+        }
+    }
+}
+
+impl Committer {
+    // What becomes of the session where its commit is denied.
+    fn denied(self) -> Option<Sitting>
+        ensures sits { sits result ≡ stays (as_typist self) }
+        ensures seats { seats_committer self ≡ false → result ≡ None }
+        ensures named { (z : Name) → IsNamedCommitter z self → IfSome result (λ s. s.owner ≡ z) }
+    {
+        match self {
+            Committer::Alone => None,
+            Committer::GoesOn(seat, _) => Some(seat.stay()),
+            Committer::Leaves(seat) => Some(seat.stay()),
+        }
+    }
+
+    // Where a configuration was stored under this number.
+    fn stored(self, number: u32) -> Option<Sitting>
+        ensures sits { (config : Contents) → sits result ≡ goes_over (base_by self config) number (as_typist self) }
+        ensures seats { seats_committer self ≡ false → result ≡ None }
+        ensures named { (z : Name) → IsNamedCommitter z self → IfSome result (λ s. s.owner ≡ z) }
+    {
+        match self {
+            Committer::Alone => None,
+            Committer::GoesOn(seat, base) => Some(seat.go_over(base, number)),
+            Committer::Leaves(seat) => Some(seat.leave()),
+        }
+    }
+
+    // Where the zone was removed.
+    fn removed(self) -> Option<Sitting>
+        ensures sits { sits result ≡ goes (as_typist self) }
+        ensures seats { seats_committer self ≡ false → result ≡ None }
+        ensures named { (z : Name) → IsNamedCommitter z self → IfSome result (λ s. s.owner ≡ z) }
+    {
+        match self {
+            Committer::Alone => None,
+            Committer::GoesOn(seat, _) => Some(seat.stay()),
+            Committer::Leaves(seat) => Some(seat.leave()),
+        }
+    }
+}
+
 // A pool denies what would be stored; what was told before is told.
-fn denied(pool: Pool, told: Listing<Bytes>) -> Work
-    ensures { result ≡ record { stored = Storing.Nothing; objects = ObjectEdit.Nothing; sits = None; ended = None; reply = record { head = Head.Refused (Refusal.Denied pool); body = Body.Lines told } } }
+fn denied(pool: Pool, told: Listing<Bytes>, sits: Option<Sitting>) -> Work
+    ensures { result ≡ record { stored = Storing.Nothing; objects = ObjectEdit.Nothing; sits = sits; ended = None; reply = record { head = Head.Refused (Refusal.Denied pool); body = Body.Lines told } } }
 {
-    Work::replying(Reply {
-        head: Head::Refused(Refusal::Denied(pool)),
-        body: Body::Lines(told),
-    })
+    Work {
+        sits,
+        ..Work::replying(Reply {
+            head: Head::Refused(Refusal::Denied(pool)),
+            body: Body::Lines(told),
+        })
+    }
+}
+
+// What becomes of the event's session alone.
+fn seat(seated: Box<Seated>) -> Work
+    ensures { result ≡ record { stored = Storing.Nothing; objects = ObjectEdit.Nothing; sits = Some seated.value.sitting; ended = None; reply = seated.value.reply } }
+{
+    let Seated { sitting, reply } = Box::into_inner(seated);
+    Work {
+        sits: Some(sitting),
+        ..Work::replying(reply)
+    }
 }
 
 // A configuration is committed, where the grant gives its record a number.
 fn commit(committed: Box<Committed>, grant: Grant) -> Work
     requires { IfOk (number_in grant) (λ n. numbered_row committed.value.novelty committed.value.owner committed.value.row.value n ≡ committed.value.row.value) }
-    ensures works { (n : Option ℕ) (v : World) (d : desks.Desk) → v.desk ≡ d → Works n (rest_of (act_of (made committed.value.novelty committed.value.owner committed.value.row.value committed.value.told) grant)) v d result }
+    ensures works { (n : Option ℕ) (v : World) (d : desks.Desk) → v.desk ≡ d → Works n (rest_of (act_of (made committed.value.novelty committed.value.owner committed.value.row.value committed.value.told committed.value.committer) grant)) v d result }
     ensures objects { result.objects ≡ ObjectEdit.Nothing }
-    ensures sits { result.sits ≡ None }
+    ensures sits { seats_committer committed.value.committer ≡ false → result.sits ≡ None }
+    ensures named { (z : Name) → IsNamedCommitter z committed.value.committer → IfSome result.sits (λ s. s.owner ≡ z) }
     ensures owner { IsStoredOf committed.value.owner result.stored }
 {
     let Committed {
@@ -50,30 +143,38 @@ fn commit(committed: Box<Committed>, grant: Grant) -> Work
         owner,
         novelty: _,
         told,
+        committer,
     } = Box::into_inner(committed);
     match number_in(grant) {
-        Ok(_) => Work {
+        Ok(number) => Work {
             stored: Storing::Row(Stored { row, owner }),
+            sits: committer.stored(number),
             ..Work::telling(Body::Lines(told))
         },
-        Err(pool) => denied(pool, told),
+        Err(pool) => denied(pool, told, committer.denied()),
     }
 }
 
 // A zone is removed, where the grant gives its record a number.
 fn remove(removed: Box<Removed>, grant: Grant) -> Work
-    ensures works { (n : Option ℕ) (v : World) (d : desks.Desk) → v.desk ≡ d → Works n (rest_of (act_of (removes removed.value.told) grant)) v d result }
+    ensures works { (n : Option ℕ) (v : World) (d : desks.Desk) → v.desk ≡ d → Works n (rest_of (act_of (removes removed.value.told (as_typist removed.value.committer)) grant)) v d result }
     ensures objects { result.objects ≡ ObjectEdit.Nothing }
-    ensures sits { result.sits ≡ None }
+    ensures sits { seats_committer removed.value.committer ≡ false → result.sits ≡ None }
+    ensures named { (z : Name) → IsNamedCommitter z removed.value.committer → IfSome result.sits (λ s. s.owner ≡ z) }
     ensures owner { IsStoredOf removed.value.owner result.stored }
 {
-    let Removed { owner, told } = Box::into_inner(removed);
+    let Removed {
+        owner,
+        told,
+        committer,
+    } = Box::into_inner(removed);
     match number_in(grant) {
         Ok(_) => Work {
             stored: Storing::Removal(owner),
+            sits: committer.removed(),
             ..Work::telling(Body::Lines(told))
         },
-        Err(pool) => denied(pool, told),
+        Err(pool) => denied(pool, told, committer.denied()),
     }
 }
 
@@ -96,11 +197,12 @@ fn put(desk: &mut Desk, request: QueuedRequest, owner: ZoneName) -> Work
     requires room { HasRequestRoom desk.old }
     ensures desk { as_desk desk.new ≡ with_request (as_desk desk.old) request }
     ensures active { desk.new.active ≡ desk.old.active }
-    ensures work { result ≡ record { stored = Storing.Nothing; objects = ObjectEdit.Nothing; sits = Some (record { ticket = desk.old.last + 1; owner = owner }); ended = None; reply = says (Head.Ticket (desk.old.last + 1)) } }
+    ensures work { result ≡ record { stored = Storing.Nothing; objects = ObjectEdit.Nothing; sits = Some (record { doing = Some (Doing.Awaits (desk.old.last + 1)); owner = owner }); ended = None; reply = says (Head.Ticket (desk.old.last + 1)) } }
 {
     let ticket = desk.put(request);
+    let doing = Some(Doing::Awaits(ticket));
     Work {
-        sits: Some(Sitting { ticket, owner }),
+        sits: Some(Sitting { doing, owner }),
         ..Work::saying(Head::Ticket(ticket))
     }
 }
@@ -115,7 +217,7 @@ pub(crate) fn settle(alloc: Global, desk: &mut Desk, case: Case, grant: Grant) -
     ensures objects { premise_of result.objects ≡ premise_of (objects_of case) }
     ensures own { list_all is_of_own (object_edits (objects_of case)) ≡ true → list_all is_of_own (object_edits result.objects) ≡ true }
     ensures active { desk.new.active ≡ case_active case desk.old.active }
-    ensures sits { result.sits ≡ sitting_of desk.old case }
+    ensures sits { seats case ≡ false → result.sits ≡ None }
     ensures named { (z : Name) → IsNamedCase z case → IsNamedWork z result }
 {
     match case {
@@ -127,6 +229,7 @@ pub(crate) fn settle(alloc: Global, desk: &mut Desk, case: Case, grant: Grant) -
         },
         Case::Fork(running) => fork(running, grant),
         Case::Answers(reply) => Work::replying(Box::into_inner(reply)),
+        Case::Sit(seated) => seat(seated),
         Case::Commit(committed) => commit(committed, grant),
         Case::Remove(removed) => remove(removed, grant),
         Case::Put(request, owner) => put(desk, request, owner),

@@ -22,7 +22,7 @@ use zone_pools::Owners;
 pub struct Shared {
     pub(crate) kernel: KernelShared,
     pub(crate) claims: ClaimShared,
-    /// The zone that each session waits in. Those that aren't there are idle.
+    /// The zone that each session does something in. Those that aren't there are idle.
     pub(crate) sessions: Owners<u8>,
     /// The stored zones, in the order of their creation.
     pub(crate) rows: IndexMap<ZoneName, Row>,

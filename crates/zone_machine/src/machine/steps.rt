@@ -8,7 +8,7 @@ ghost use Rattle.zone_machine.specs.Code.Reads.{IsRightRead, decide_read, is_tur
 ghost use Rattle.zone_machine.specs.Code.Decided.{IsCaseIn, entry_of};
 ghost use Rattle.zone_machine.specs.State.Decisions.{act_of, after_came_world};
 ghost use Rattle.zone_machine.specs.Machine.{decide, session_number, turn};
-ghost use Rattle.zone_machine.specs.Code.Lines.{IsRight, as_command, as_line};
+ghost use Rattle.zone_machine.specs.Code.Lines.{IsRightLine, as_line};
 ghost use Rattle.zone_machine.specs.Session.Typed.{typed};
 ghost use Rattle.zone_disk.specs.Image.{Stands};
 ghost use Rattle.commit_journal.specs.Store.{HasZones};
@@ -42,9 +42,9 @@ use crate::machine::records::{number, stores, write};
 use crate::machine::rooms::make_room;
 use crate::machine::shared::Shared;
 use crate::replies::{Head, Reply};
+use crate::session::doings::doing_of;
 use crate::session::line_cases::decide_line;
 use crate::session::lines::Line;
-use crate::session::waits::awaited;
 use brand_hooks::HookAnswer;
 use std::alloc::{AllocError, Global};
 use zn_base::ZoneName;
@@ -62,12 +62,12 @@ fn line_case(
     number: u8,
     line: Line<'_>,
 ) -> Result<Case, AllocError>
-    requires { IsRight (as_command line.command) }
+    requires { IsRightLine line }
     ensures { IfOk result (IsCaseIn zone.now (outside_in zone.now shared.now) cell.now (λ v. typed v (v.world.sessions number) (as_line line.entry))) }
 {
     let row = shared.rows.get(zone);
-    let ticket = awaited(&cell.waits, number);
-    decide_line(alloc, zone, cell, &shared.brands, row, ticket, line.command)
+    let doing = doing_of(&cell.doings, number);
+    decide_line(alloc, zone, cell, &shared.brands, row, doing, line)
 }
 
 // What a turn of a zone's daemon comes to. The brand answers `hook` where it is asked.
@@ -114,7 +114,7 @@ fn case_of(
         Read::Line(number, line) => line_case(alloc, zone, cell, shared, number, line),
         Read::Turn(_) => turn_case(alloc, zone, cell, shared, hook),
         Read::Process(_, pid, call) => decide_call(alloc, zone, cell, pid, call),
-        Read::System(_) => Ok(Case::Says(Head::Ok)),
+        Read::System(_) | Read::Restart => Ok(Case::Says(Head::Ok)),
     }
 }
 
@@ -123,7 +123,7 @@ fn session_number(event: &Event) -> Option<u8>
 {
     match event {
         Event::Session { number, .. } => Some(*number),
-        Event::Turn { .. } | Event::Process { .. } | Event::System(_) => None,
+        Event::Turn { .. } | Event::Process { .. } | Event::System(_) | Event::Restart => None,
     }
 }
 

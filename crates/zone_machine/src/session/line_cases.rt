@@ -1,16 +1,16 @@
 //! What the lines come to that sessions type.
-ghost use Rattle.std.specs.Prelude.{◌∷◌, ◌≡◌, [], IfOk, IfSome, IsTrue, List, None, Option, false, true, ℕ};
+ghost use Rattle.std.specs.Prelude.{◌∷◌, ◌≡◌, [], IfOk, IfSome, IsTrue, List, None, Some, false, option_copied, true};
 ghost use Rattle.std.specs.Option.{option_map, unwrap_or};
 ghost use Rattle.zn_base.specs.Text.{is_text};
 ghost use Rattle.zone_pools.specs.Decisions.{Just};
 ghost use Rattle.zone_machine.specs.Code.Cases.{IsCaseOf, IsNamedCase, decision_of};
 ghost use Rattle.zoneadmd_steps.specs.Code.Desks.{as_desk};
 ghost use Rattle.zone_machine.specs.Code.Decided.{IsCaseIn};
-ghost use Rattle.zone_machine.specs.Code.Lines.{IsRight, as_command};
+ghost use Rattle.zone_machine.specs.Code.Lines.{IsRight, IsRightLine, as_command, as_line};
 ghost use Rattle.zone_machine.specs.Session.Lines as lines;
 ghost use Rattle.zone_machine.specs.Session.Lines.{asks, joined, words};
 ghost use Rattle.zone_machine.specs.State.Declarations.{Declared};
-ghost use Rattle.zone_machine.specs.State.{Awaiting};
+ghost use Rattle.zone_machine.specs.Code.Doings.{as_doing};
 ghost use Rattle.datalink_table.specs.declared.claims.Claim as claim_types;
 ghost use Rattle.loopback_mounts.specs.Mounts.{mount_at};
 ghost use Rattle.loopback_mounts.specs.declared.mount.MountEntry as entry_types;
@@ -27,8 +27,9 @@ use crate::calls::signal_case;
 use crate::cases::Case;
 use crate::machine::cell::Cell;
 use crate::replies::{Head, Refusal};
-use crate::session::commits::zonecfg_case;
-use crate::session::lines::{Command, split_word};
+use crate::session::commits::{edit_case, open_case, zonecfg_case};
+use crate::session::doings::Doing;
+use crate::session::lines::{Command, Line, split_word};
 use crate::session::telling_cases::{help_case, list_case, verify_case};
 use brand_hooks::BrandTables;
 use commit_journal::Row;
@@ -239,6 +240,7 @@ fn idle_case(
     let desk = &cell.desk;
     match command {
         Command::Blank => Ok(Case::Says(Head::Ok)),
+        Command::Edit => open_case(alloc, zone, row),
         Command::Zonecfg(text) => zonecfg_case(alloc, zone, desk, brands, row, text),
         Command::Request(kind) => plain_case(alloc, zone, desk, row, kind),
         Command::Boot(text) => put_case(
@@ -274,7 +276,28 @@ fn idle_case(
     }
 }
 
-/// What a line comes to that a session types, which is idle or waits in the zone for a ticket.
+// A line of a session that does something in the zone.
+#[tactic(auto, unfolding(crate::specs::Session::Typed::typed, crate::specs::State::Worlds::view_of))]
+fn busy_case(
+    alloc: Global,
+    zone: &ZoneName,
+    cell: &Cell,
+    brands: &BrandTables,
+    row: Option<&Row>,
+    doing: &Doing,
+    line: Line<'_>,
+) -> Result<Case, AllocError>
+    requires { IsRightLine line }
+    ensures { IfOk result (λ c. (declared : Declared) → IsCaseIn zone.now (record { stored = option_map (λ r. r.now) row.entry; declared = declared; brands = brands.now }) cell.now
+        (λ v. typed v (Some (as_doing doing.now)) (as_line line.entry)) c) }
+{
+    match doing {
+        Doing::Awaits(ticket) => Ok(refused(Refusal::Waiting(*ticket))),
+        Doing::Edits(editor) => edit_case(alloc, zone, &cell.desk, brands, row, editor, line.text),
+    }
+}
+
+/// What a line comes to that a session types, which is idle, or waits in the zone for a ticket, or edits it.
 #[inline(never)]
 #[tactic(auto, unfolding(crate::specs::Session::Typed::typed, crate::specs::State::Worlds::view_of))]
 pub(crate) fn decide_line(
@@ -283,15 +306,15 @@ pub(crate) fn decide_line(
     cell: &Cell,
     brands: &BrandTables,
     row: Option<&Row>,
-    awaited: Option<u32>,
-    command: Command<'_>,
+    doing: Option<&Doing>,
+    line: Line<'_>,
 ) -> Result<Case, AllocError>
-    requires { IsRight (as_command command) }
-    ensures { IfOk result (λ c. (declared : Declared) (named : Option (List ℕ)) → IsCaseIn zone.now (record { stored = option_map (λ r. r.now) row.entry; declared = declared; brands = brands.now }) cell.now
-        (λ v. typed v (option_map Awaiting awaited) (record { zone = named; command = as_command command.entry })) c) }
+    requires { IsRightLine line }
+    ensures { IfOk result (λ c. (declared : Declared) → IsCaseIn zone.now (record { stored = option_map (λ r. r.now) row.entry; declared = declared; brands = brands.now }) cell.now
+        (λ v. typed v (option_map as_doing (option_copied doing.entry)) (as_line line.entry)) c) }
 {
-    match awaited {
-        Some(ticket) => Ok(refused(Refusal::Waiting(ticket))),
-        None => idle_case(alloc, zone, cell, brands, row, command),
+    match doing {
+        Some(doing) => busy_case(alloc, zone, cell, brands, row, doing, line),
+        None => idle_case(alloc, zone, cell, brands, row, line.command),
     }
 }

@@ -1,4 +1,4 @@
-//! How a line of an idle session is read, by the words of zonecfg(8) and zoneadm(8).
+//! How a line of a session is read, by the words of zonecfg(8) and zoneadm(8).
 ghost use Rattle.std.specs.Prelude.{◌∷◌, ◌≡◌, IfSome, IsTrue, None, Some, length, nat_eq, not, position, unwrap_or};
 ghost use Rattle.std.specs.List.{list_all};
 ghost use Rattle.std.specs.Option.{option_map, option_or};
@@ -6,7 +6,7 @@ ghost use Rattle.zoneadmd_steps.specs.declared.requests.Request.TheVariants.{Boo
 ghost use Rattle.zn_base.specs.Text.{is_text};
 ghost use Rattle.zone_pools.specs.Firsts.{first_of, is_nil};
 ghost use Rattle.zone_machine.specs.Session.Lines.{Ask, after_word, are_args, are_options, args_text, asks, at_end, clone_command, command_by, command_of, dir_words, form_by, form_word, general_command, general_subcommand, has_option, is_option, is_space, joined, kill_command, line_of, list_one_command, list_zones_command, mark_command, move_command, move_path, options_of, options_word, past_spaces, past_word, request_command, request_word, subcommand, tool_command, uninstall_command, word_after_flag, words, zone_command, zoneadm_command, zonecfg_command};
-ghost use Rattle.zone_machine.specs.Code.Lines.{BeginsWord, EndsWord, GivesPast, GivesRest, GivesSpaceless, GivesWord, IsRight, IsWordFirst, as_command, as_line, as_word};
+ghost use Rattle.zone_machine.specs.Code.Lines.{BeginsWord, EndsWord, GivesPast, GivesRest, GivesSpaceless, GivesWord, IsRightLine, IsWordFirst, as_command, as_line, as_word};
 
 use crate::session::listing::{Form, Options};
 use kernel_objects::Signal;
@@ -18,6 +18,8 @@ use zoneadmd_steps::RequestKind;
 #[derive(Clone, Copy)]
 pub(crate) enum Command<'t> {
     Blank,
+    /// The session edits the zone from now on, by zonecfg(8).
+    Edit,
     /// These subcommands of zonecfg(8) are said to an editor of their own.
     Zonecfg(&'t [u8]),
     /// The zone's daemon is asked for something that has no contents.
@@ -48,9 +50,10 @@ pub(crate) enum Command<'t> {
     Unknown,
 }
 
-/// A line, and the word that it gives as the name of its zone.
+/// A line, the word that it gives as the name of its zone, and what it asks for where its session is idle.
 #[derive(Clone, Copy)]
 pub(crate) struct Line<'t> {
+    pub(crate) text: &'t [u8],
     pub(crate) zone: Option<&'t [u8]>,
     pub(crate) command: Command<'t>,
 }
@@ -141,10 +144,13 @@ fn at_end<'t>(text: &[u8], command: Command<'t>) -> Option<Command<'t>>
 }
 
 // Subcommands, where some word is left.
-fn zonecfg_command(text: &[u8]) -> Option<Command<'_>>
-    ensures { option_map as_command result ≡ zonecfg_command (past_spaces text.now) (words text.now) }
+fn zonecfg_command(text: &[u8]) -> Command<'_>
+    ensures { as_command result ≡ zonecfg_command (past_spaces text.now) (words text.now) }
 {
-    Some(Command::Zonecfg(after_spaces(text)?))
+    match after_spaces(text) {
+        Some(text) => Command::Zonecfg(text),
+        None => Command::Edit,
+    }
 }
 
 // A request that is one word.
@@ -348,7 +354,7 @@ fn tool_command<'t>(tool: &[u8], text: &'t [u8]) -> Option<Command<'t>>
     ensures { option_map as_command result ≡ tool_command (past_spaces text.now) tool.now (words text.now) }
 {
     if tool == b"zonecfg".as_slice() {
-        zonecfg_command(text)
+        Some(zonecfg_command(text))
     } else if tool == b"zoneadm".as_slice() {
         zoneadm_command(text)
     } else if tool == b"fhold".as_slice() {
@@ -505,14 +511,15 @@ fn command_of(text: &[u8]) -> Command<'_>
 }
 
 /// What a line says.
-#[tactic(auto, unfolding(crate::specs::Session::Lines::line_of), using(crate::proofs::Right_lines::right_line))]
+#[tactic(auto, unfolding(crate::specs::Session::Lines::line_of), using(crate::proofs::Right_lines::right_line, crate::proofs::Right_lines::short_line))]
 #[inline(never)]
 pub(crate) fn line_of(text: &[u8]) -> Line<'_>
     requires { IsTrue (is_text text.now) }
     ensures says { as_line result ≡ line_of text.now }
-    ensures right { IsRight (as_command result.command) }
+    ensures right { IsRightLine result }
 {
     Line {
+        text,
         zone: word_after_flag(text),
         command: command_of(text),
     }

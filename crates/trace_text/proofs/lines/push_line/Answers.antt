@@ -1,4 +1,4 @@
-use Rattle.trace_text.proofs.Printed.{process_again, session_again, system_again, turn_again}
+use Rattle.trace_text.proofs.Printed.{process_again, restart_again, session_again, system_again, turn_again}
 use Rattle.trace_text.proofs.lines.push_line.Goals as goal
 
 pub returns-in_err-push_numbered-in-Session-clause-again : goal.returns-in_err-push_numbered-in-Session-clause-again
@@ -15,3 +15,6 @@ returns-in-Process-clause-again c = rw c.in-Process.is (λ may. process_again _ 
 
 pub returns-in-System-clause-again : goal.returns-in-System-clause-again
 returns-in-System-clause-again c = rw c.in-System.is (system_again _)
+
+pub returns-in-Restart-clause-again : goal.returns-in-Restart-clause-again
+returns-in-Restart-clause-again c = λ _. rw c.in-Restart.is restart_again

@@ -16,7 +16,7 @@ pub returns-in-Ok-clause-text : goal.returns-in-Ok-clause-text
 returns-in-Ok-clause-text g c =
     let held = g.K.Sink.holds c.args.out.now in
     let holds = g.K.Sink.holds c.run_machine-status.new.out in
-    opened (λ (f : Found). IfSome (traced_on (tables_of c.args.brands.now) f (g.S.Source.left c.args.src.now)) (λ o. TellsText o c.run_machine-status.result held holds)) (tables_of c.args.brands.now) (g.D.Disk.view c.args.disk) c.in-Ok.opened tt (λ R s. if_mapped (traced (tables_of c.args.brands.now) R) (λ (o : Output). TellsText o c.run_machine-status.result held holds) (g.S.Source.left c.args.src.now) (c.run_machine-status.ensures.text (tables_of c.args.brands.now) R s)) c.in-Ok.ensures.stands c.in-Ok.ensures.opens c.opens_store_one_way.ensures
+    opened (λ (f : Found). IfSome (traced_on (tables_of c.args.brands.now) f (g.S.Source.left c.args.src.now)) (λ o. TellsText o c.run_machine-status.result held holds)) (tables_of c.args.brands.now) (g.D.Disk.view c.args.disk) c.in-Ok.opened tt (λ keeps R s. if_mapped (traced (tables_of c.args.brands.now) R) (λ (o : Output). TellsText o c.run_machine-status.result held holds) (g.S.Source.left c.args.src.now) (c.run_machine-status.ensures.text (tables_of c.args.brands.now) R s (inl (c.in-Ok.ensures.passes.model.0 keeps)))) c.in-Ok.ensures.stands c.in-Ok.ensures.opens c.opens_store_one_way.ensures
 
 pub returns-in-Ok-clause-line : goal.returns-in-Ok-clause-line
 returns-in-Ok-clause-line g c =
@@ -24,25 +24,25 @@ returns-in-Ok-clause-line g c =
     let holds = g.E.Sink.holds c.run_machine-status.new.err in
     let before = g.E.Sink.faults c.args.err.now in
     let now = g.E.Sink.faults c.run_machine-status.new.err in
-    opened (λ (f : Found). IfSome (traced_on (tables_of c.args.brands.now) f (g.S.Source.left c.args.src.now)) (λ o. TellsLine o.err c.run_machine-status.result held holds before now)) (tables_of c.args.brands.now) (g.D.Disk.view c.args.disk) c.in-Ok.opened tt (λ R s. if_mapped (traced (tables_of c.args.brands.now) R) (λ (o : Output). TellsLine o.err c.run_machine-status.result held holds before now) (g.S.Source.left c.args.src.now) (c.run_machine-status.ensures.line (tables_of c.args.brands.now) R s)) c.in-Ok.ensures.stands c.in-Ok.ensures.opens c.opens_store_one_way.ensures
+    opened (λ (f : Found). IfSome (traced_on (tables_of c.args.brands.now) f (g.S.Source.left c.args.src.now)) (λ o. TellsLine o.err c.run_machine-status.result held holds before now)) (tables_of c.args.brands.now) (g.D.Disk.view c.args.disk) c.in-Ok.opened tt (λ keeps R s. if_mapped (traced (tables_of c.args.brands.now) R) (λ (o : Output). TellsLine o.err c.run_machine-status.result held holds before now) (g.S.Source.left c.args.src.now) (c.run_machine-status.ensures.line (tables_of c.args.brands.now) R s (inl (c.in-Ok.ensures.passes.model.0 keeps)))) c.in-Ok.ensures.stands c.in-Ok.ensures.opens c.opens_store_one_way.ensures
 
 pub returns-in-Ok-clause-answered : goal.returns-in-Ok-clause-answered
 returns-in-Ok-clause-answered g c =
-    opened (λ (f : Found). AnswersOn (tables_of c.args.brands.now) f c.run_machine-status.result (g.S.Source.left c.args.src.now) (g.S.Source.left c.run_machine-status.new.src) (g.K.Sink.holds c.args.out.now) (g.K.Sink.holds c.run_machine-status.new.out)) (tables_of c.args.brands.now) (g.D.Disk.view c.args.disk) c.in-Ok.opened tt (c.run_machine-status.ensures.answered (tables_of c.args.brands.now)) c.in-Ok.ensures.stands c.in-Ok.ensures.opens c.opens_store_one_way.ensures
+    opened (λ (f : Found). AnswersOn (tables_of c.args.brands.now) f c.run_machine-status.result (g.S.Source.left c.args.src.now) (g.S.Source.left c.run_machine-status.new.src) (g.K.Sink.holds c.args.out.now) (g.K.Sink.holds c.run_machine-status.new.out)) (tables_of c.args.brands.now) (g.D.Disk.view c.args.disk) c.in-Ok.opened tt (λ keeps R s. c.run_machine-status.ensures.answered (tables_of c.args.brands.now) R s (inl (c.in-Ok.ensures.passes.model.0 keeps))) c.in-Ok.ensures.stands c.in-Ok.ensures.opens c.opens_store_one_way.ensures
 
 pub returns-in-Ok-clause-any_disk : goal.returns-in-Ok-clause-any_disk
-returns-in-Ok-clause-any_disk g c =
+returns-in-Ok-clause-any_disk g c = λ bytes is none.
     let brands = tables_of c.args.brands.now in let ran = c.run_machine-status.ensures in let begins = c.in-Ok.ensures.begins in
-    inl (begins.0, record { text = ran.text brands begins.0 begins.1; line = ran.line brands begins.0 begins.1; answered = ran.answered brands begins.0 begins.1 })
+    inl (begins.0, record { text = ran.text brands begins.0 begins.1 (inr (bytes, is, none)); line = ran.line brands begins.0 begins.1 (inr (bytes, is, none)); answered = ran.answered brands begins.0 begins.1 (inr (bytes, is, none)) })
 
 pub returns-in-Err-Memory-default-clause-any_disk : goal.returns-in-Err-Memory-default-clause-any_disk
-returns-in-Err-Memory-default-clause-any_disk g c = inr (record { answers = record { taken = refl; nothing = refl }; cut = λ w. grind (arith, w, c.fail.ensures.status) })
+returns-in-Err-Memory-default-clause-any_disk g c = λ bytes is none. inr (record { answers = record { taken = refl; nothing = refl }; cut = λ w. grind (arith, w, c.fail.ensures.status) })
 
 pub returns-in-Err-DiskFault-default-clause-any_disk : goal.returns-in-Err-DiskFault-default-clause-any_disk
-returns-in-Err-DiskFault-default-clause-any_disk g c = inr (record { answers = record { taken = refl; nothing = refl }; cut = λ w. grind (arith, w, c.fail-in-Err-DiskFault-default.ensures.status) })
+returns-in-Err-DiskFault-default-clause-any_disk g c = λ bytes is none. inr (record { answers = record { taken = refl; nothing = refl }; cut = λ w. grind (arith, w, c.fail-in-Err-DiskFault-default.ensures.status) })
 
 pub returns-in-Err-clause-any_disk : goal.returns-in-Err-clause-any_disk
-returns-in-Err-clause-any_disk g c = inr (record { answers = record { taken = refl; nothing = refl }; cut = never_whole c.complain.result c.in-Err.fault c.complain.ensures.statuses })
+returns-in-Err-clause-any_disk g c = λ bytes is none. inr (record { answers = record { taken = refl; nothing = refl }; cut = never_whole c.complain.result c.in-Err.fault c.complain.ensures.statuses })
 
 pub returns-in-Ok-clause-recorded : goal.returns-in-Ok-clause-recorded
 returns-in-Ok-clause-recorded g c = λ R is.
@@ -91,3 +91,6 @@ returns-in-Err-clause-store g c = λ is keeps. (c.in-Err.fault, (opens_refused c
 
 pub returns-in-Err-clause-recorded : goal.returns-in-Err-clause-recorded
 returns-in-Err-clause-recorded g c = λ R is. ran_nothing (tables_of c.args.brands.now) R c.complain.result _ _ (g.D.Disk.view c.args.disk) (g.D.Disk.view c.in-Err.disk) (g.met.D.Disk.sound c.in-Err.disk) (c.in-Err.ensures.any_moment_err R is) (never_whole c.complain.result c.in-Err.fault c.complain.ensures.statuses)
+
+pub returns-in-Ok-clause-store : goal.returns-in-Ok-clause-store
+returns-in-Ok-clause-store g c = λ is keeps. absurd (c.run_machine-status.ensures.store (c.in-Ok.ensures.passes.model.0 keeps) is)

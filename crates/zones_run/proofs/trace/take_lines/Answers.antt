@@ -1,4 +1,4 @@
-use Rattle.std.proofs.Common.{◌≡◌, ◌+◌, ap, refl, rules, arith, sym, subst}
+use Rattle.std.proofs.Common.{◌≡◌, ◌+◌, ap, inl, refl, rules, arith, sym, subst}
 use Rattle.std.specs.Prelude.{Err}
 use Rattle.zone_disk.specs.Bank.{Account}
 use Rattle.zone_machine.specs.Code.Openings.{StandsFor}
@@ -8,17 +8,17 @@ use Rattle.zones_run.proofs.Answered.{passes_on}
 use Rattle.zones_run.proofs.Begins.{takes_just, takes_none}
 use Rattle.zones_run.proofs.Keeping.{HasKept, Left, keeps_start, keeps_step}
 use Rattle.zones_run.specs.declared.fault.RunFault.TheVariants.{Disk, Write}
-use Rattle.zones_run.proofs.Stopping.{ends_stopped, never_reads, none_stopped, only_reading, ran_stopped, stopped_by}
+use Rattle.zones_run.proofs.Stopping.{ends_stopped, kind_stopped, never_reads, none_stopped, only_reading, ran_stopped, stopped_by}
 use Rattle.zones_run.proofs.TraceEnds.{answers_lines, answers_read, at_end, at_long, ends_reading, ends_writing, flushed_front, has_replies, last_end, last_long, nothing_waits, nothing_written, runs_lines, tells_end, tells_last, tells_last_end, tells_long, written_front, written_on}
 use Rattle.zones_run.proofs.TraceRecords.{err_not_ok, ran_cut, ran_part, ran_whole}
-use Rattle.zones_run.proofs.TraceRuns.{follows_from_start, follows_line, follows_told, runs_told}
+use Rattle.zones_run.proofs.TraceRuns.{follows_from_start, follows_line, follows_told, restarts_well, runs_told}
 use Rattle.zones_run.proofs.trace.take_lines.Goals as goal
 
 pub loop-before-init : goal.loop-before-init
 loop-before-init g c =
     let v = g.D.Disk.view c.args.machine.now.bank.disk in
     record {
-      run = λ brands R s. follows_told brands R (λ S. StandsFor S c.args.machine.now) (Left brands R v v) _ _ _ _ _ _ _ (nothing_waits (g.K.Sink.holds c.args.out.now) c.args.waiting.now.items c.requires.none)
+      run = λ brands R s a. follows_told brands R (λ S. StandsFor S c.args.machine.now) (Left brands R v v) _ _ _ _ _ _ _ (nothing_waits (g.K.Sink.holds c.args.out.now) c.args.waiting.now.items c.requires.none)
           (rw c.new-ahead.ensures (follows_from_start brands R (λ S. StandsFor S c.args.machine.now) (Left brands R v v) (g.K.Sink.holds c.args.out.now) _ s (λ is. keeps_start brands R v (g.met.D.Disk.sound c.args.machine.now.bank.disk) is)));
       asks = c.requires.asks;
       ready = c.requires.ready;
@@ -30,36 +30,36 @@ loop-before-init g c =
     }
 
 pub returns-in_err-write_some-clause-ran : goal.returns-in_err-write_some-clause-ran
-returns-in_err-write_some-clause-ran g c = λ brands R s.
-    ends_writing brands R _ _ _ _ _ _ (search rules) (flushed_front brands R _ _ _ _ _ c.loop-before.invariant.written (has_replies brands R _ _ _ _ _ _ _ (c.loop-before.invariant.run brands R s).run) c.in_err-write_some.ensures.front)
-    (runs_lines brands R _ _ _ _ _ _ _ _ (c.loop-before.invariant.run brands R s).run (takes_just _ _ _ refl c.loop-before.invariant.few))
+returns-in_err-write_some-clause-ran g c = λ brands R s a.
+    ends_writing brands R _ _ _ _ _ _ (search rules) (flushed_front brands R _ _ _ _ _ c.loop-before.invariant.written (has_replies brands R _ _ _ _ _ _ _ (c.loop-before.invariant.run brands R s a).run) c.in_err-write_some.ensures.front)
+    (runs_lines brands R _ _ _ _ _ _ _ _ (c.loop-before.invariant.run brands R s a).run (takes_just _ _ _ refl c.loop-before.invariant.few))
 
 pub returns-in_err-write_some-clause-recorded : goal.returns-in_err-write_some-clause-recorded
 returns-in_err-write_some-clause-recorded g c = λ brands R s is.
     let v0 = g.D.Disk.view c.args.machine.now.bank.disk in
     let v = g.D.Disk.view c.loop-before.machine.bank.disk in
-    ran_cut brands R _ v0 v _ _ _ _ _ _ (c.loop-before.invariant.run brands R s) is _ _ (search rules)
+    ran_cut brands R _ v0 v _ _ _ _ _ _ (c.loop-before.invariant.run brands R s (inl is.keeps)) is _ _ (search rules)
 
 pub returns-in_err-write_some-clause-written : goal.returns-in_err-write_some-clause-written
 returns-in_err-write_some-clause-written g c = written_on _ _ _ c.loop-before.invariant.written (written_front _ _ _ c.in_err-write_some.ensures.front)
 
 pub returns-in_err-write_some-2-clause-ran : goal.returns-in_err-write_some-2-clause-ran
-returns-in_err-write_some-2-clause-ran g c = λ brands R s.
-    ends_writing brands R _ _ _ _ _ _ (search rules) (flushed_front brands R _ _ _ _ _ c.loop-before.invariant.written (has_replies brands R _ _ _ _ _ _ _ (c.loop-before.invariant.run brands R s).run) c.in_err-write_some-2.ensures.front)
-    (runs_lines brands R _ _ _ _ _ _ _ _ (c.loop-before.invariant.run brands R s).run (takes_just _ _ _ refl c.loop-before.invariant.few))
+returns-in_err-write_some-2-clause-ran g c = λ brands R s a.
+    ends_writing brands R _ _ _ _ _ _ (search rules) (flushed_front brands R _ _ _ _ _ c.loop-before.invariant.written (has_replies brands R _ _ _ _ _ _ _ (c.loop-before.invariant.run brands R s a).run) c.in_err-write_some-2.ensures.front)
+    (runs_lines brands R _ _ _ _ _ _ _ _ (c.loop-before.invariant.run brands R s a).run (takes_just _ _ _ refl c.loop-before.invariant.few))
 
 pub returns-in_err-write_some-2-clause-recorded : goal.returns-in_err-write_some-2-clause-recorded
 returns-in_err-write_some-2-clause-recorded g c = λ brands R s is.
     let v0 = g.D.Disk.view c.args.machine.now.bank.disk in
     let v = g.D.Disk.view c.loop-before.machine.bank.disk in
-    ran_cut brands R _ v0 v _ _ _ _ _ _ (c.loop-before.invariant.run brands R s) is _ _ (search rules)
+    ran_cut brands R _ v0 v _ _ _ _ _ _ (c.loop-before.invariant.run brands R s (inl is.keeps)) is _ _ (search rules)
 
 pub returns-in_err-write_some-2-clause-written : goal.returns-in_err-write_some-2-clause-written
 returns-in_err-write_some-2-clause-written g c = written_on _ _ _ c.loop-before.invariant.written (written_front _ _ _ c.in_err-write_some-2.ensures.front)
 
 pub returns-in_err-next_line-clause-ran : goal.returns-in_err-next_line-clause-ran
-returns-in_err-next_line-clause-ran g c = λ brands R s.
-    let run = (runs_told brands R _ _ _ _ _ _ _ _ c.in_ok-write_some.ensures.same (c.loop-before.invariant.run brands R s).run) in
+returns-in_err-next_line-clause-ran g c = λ brands R s a.
+    let run = (runs_told brands R _ _ _ _ _ _ _ _ c.in_ok-write_some.ensures.same (c.loop-before.invariant.run brands R s a).run) in
     ends_reading brands R _ c.in_err-next_line.field-0.0 _ _ _ _ _ c.from_residual-in_err-next_line.ensures.1 (has_replies brands R _ _ _ _ _ _ _ run) (answers_lines brands R _ _ _ _ _ _ _ _ run c.in_err-next_line.ensures.taken)
     (λ failed. answers_read brands R _ _ _ _ _ _ _ _ run (c.in_err-next_line.ensures.begun (ap Err failed)))
 
@@ -67,7 +67,7 @@ pub returns-in_err-next_line-clause-recorded : goal.returns-in_err-next_line-cla
 returns-in_err-next_line-clause-recorded g c = λ brands R s is.
     let v0 = g.D.Disk.view c.args.machine.now.bank.disk in
     let v = g.D.Disk.view c.loop-before.machine.bank.disk in
-    ran_part brands R _ v0 v _ _ _ _ _ _ (follows_told brands R _ (Left brands R v0 v) _ _ _ _ _ _ _ c.in_ok-write_some.ensures.same (c.loop-before.invariant.run brands R s)) is _ _ _ _ (err_not_ok c.from_residual-in_err-next_line.result c.from_residual-in_err-next_line.ensures.0)
+    ran_part brands R _ v0 v _ _ _ _ _ _ (follows_told brands R _ (Left brands R v0 v) _ _ _ _ _ _ _ c.in_ok-write_some.ensures.same (c.loop-before.invariant.run brands R s (inl is.keeps))) is _ _ _ _ (err_not_ok c.from_residual-in_err-next_line.result c.from_residual-in_err-next_line.ensures.0)
 
 pub returns-in_err-next_line-clause-written : goal.returns-in_err-next_line-clause-written
 returns-in_err-next_line-clause-written g c = written_on _ _ _ c.loop-before.invariant.written c.in_ok-write_some.ensures.written
@@ -76,41 +76,44 @@ pub returns-in_err-next_line-clause-none : goal.returns-in_err-next_line-clause-
 returns-in_err-next_line-clause-none g c = λ failed. absurd (only_reading _ c.in_err-next_line.field-0.0 c.from_residual-in_err-next_line.ensures.1 failed)
 
 pub returns-in-End-clause-ran : goal.returns-in-End-clause-ran
-returns-in-End-clause-ran g c = λ brands R s.
-    let run = (runs_told brands R _ _ _ _ _ _ _ _ c.in_ok-write_some.ensures.same (c.loop-before.invariant.run brands R s).run) in
+returns-in-End-clause-ran g c = λ brands R s a.
+    let run = (runs_told brands R _ _ _ _ _ _ _ _ c.in_ok-write_some.ensures.same (c.loop-before.invariant.run brands R s a).run) in
     (tells_end brands R _ _ _ _ _ _ _ _ run (rw c.in-End.is at c.in_ok-next_line.ensures.got) c.ended.ensures.told, answers_lines brands R _ _ _ _ _ _ _ _ run c.in_ok-next_line.ensures.taken)
 
 pub returns-in-End-clause-recorded : goal.returns-in-End-clause-recorded
 returns-in-End-clause-recorded g c = λ brands R s is.
     let v0 = g.D.Disk.view c.args.machine.now.bank.disk in
     let v = g.D.Disk.view c.loop-before.machine.bank.disk in
-    ran_whole brands R _ v0 v _ _ _ _ _ _ (follows_told brands R _ (Left brands R v0 v) _ _ _ _ _ _ _ c.in_ok-write_some.ensures.same (c.loop-before.invariant.run brands R s)) is _ _ _ _ At_end (at_end _ _ _ (rw c.in-End.is at c.in_ok-next_line.ensures.got))
+    ran_whole brands R _ v0 v _ _ _ _ _ _ (follows_told brands R _ (Left brands R v0 v) _ _ _ _ _ _ _ c.in_ok-write_some.ensures.same (c.loop-before.invariant.run brands R s (inl is.keeps))) is _ _ _ _ At_end (at_end _ _ _ (rw c.in-End.is at c.in_ok-next_line.ensures.got))
 
 pub returns-in-End-clause-written : goal.returns-in-End-clause-written
 returns-in-End-clause-written g c = written_on _ _ _ c.loop-before.invariant.written c.in_ok-write_some.ensures.written
 
 pub returns-in-TooLong-clause-ran : goal.returns-in-TooLong-clause-ran
-returns-in-TooLong-clause-ran g c = λ brands R s.
-    let run = (runs_told brands R _ _ _ _ _ _ _ _ c.in_ok-write_some.ensures.same (c.loop-before.invariant.run brands R s).run) in
+returns-in-TooLong-clause-ran g c = λ brands R s a.
+    let run = (runs_told brands R _ _ _ _ _ _ _ _ c.in_ok-write_some.ensures.same (c.loop-before.invariant.run brands R s a).run) in
     (tells_long brands R _ _ _ _ _ _ _ run (rw c.in-TooLong.is at c.in_ok-next_line.ensures.got), answers_lines brands R _ _ _ _ _ _ _ _ run c.in_ok-next_line.ensures.taken)
 
 pub returns-in-TooLong-clause-recorded : goal.returns-in-TooLong-clause-recorded
 returns-in-TooLong-clause-recorded g c = λ brands R s is.
     let v0 = g.D.Disk.view c.args.machine.now.bank.disk in
     let v = g.D.Disk.view c.loop-before.machine.bank.disk in
-    ran_whole brands R _ v0 v _ _ _ _ _ _ (follows_told brands R _ (Left brands R v0 v) _ _ _ _ _ _ _ c.in_ok-write_some.ensures.same (c.loop-before.invariant.run brands R s)) is _ _ _ _ (Past_limit _) (at_long _ _ _ (rw c.in-TooLong.is at c.in_ok-next_line.ensures.got))
+    ran_whole brands R _ v0 v _ _ _ _ _ _ (follows_told brands R _ (Left brands R v0 v) _ _ _ _ _ _ _ c.in_ok-write_some.ensures.same (c.loop-before.invariant.run brands R s (inl is.keeps))) is _ _ _ _ (Past_limit _) (at_long _ _ _ (rw c.in-TooLong.is at c.in_ok-next_line.ensures.got))
 
 pub returns-in-TooLong-clause-written : goal.returns-in-TooLong-clause-written
 returns-in-TooLong-clause-written g c = written_on _ _ _ c.loop-before.invariant.written c.in_ok-write_some.ensures.written
 
 pub returns-in-Err-clause-ran : goal.returns-in-Err-clause-ran
-returns-in-Err-clause-ran g c = λ brands R s.
+returns-in-Err-clause-ran g c = λ brands R s a.
+    let v0 = g.D.Disk.view c.args.machine.now.bank.disk in
+    let took = rw c.in-Line.is at c.in_ok-next_line.ensures.took in
     let v = g.D.Disk.view c.loop-before.machine.bank.disk in
     let w = g.D.Disk.view c.take_line.new.machine.bank.disk in
     let line = rw c.in-Line.is at c.in_ok-next_line.ensures.got in
     let stopped = rw c.deref.ensures.value at c.in-Err.ensures.stopped in
     rw c.ended_by.ensures.ended (ends_stopped brands R _ c.in-Err.stop _ _ _ _ _ _ _ _ _ _ c.next_line.new.line.items _ (c.take_line.new.machine.bank ≡ c.loop-before.machine.bank) v w
-    (runs_told brands R _ _ _ _ _ _ _ _ c.in_ok-write_some.ensures.same (c.loop-before.invariant.run brands R s).run) (written_on _ _ _ c.loop-before.invariant.written c.in_ok-write_some.ensures.written) c.in-Err.ensures.text c.in_ok-next_line.ensures.taken line.0 (omega arith) line.1 stopped)
+    (runs_told brands R _ _ _ _ _ _ _ _ c.in_ok-write_some.ensures.same (c.loop-before.invariant.run brands R s a).run) (written_on _ _ _ c.loop-before.invariant.written c.in_ok-write_some.ensures.written) c.in-Err.ensures.text c.in_ok-next_line.ensures.taken line.0 (omega arith) line.1 stopped c.in-Err.ensures.may
+    (λ run. restarts_well brands R (λ S. StandsFor S c.loop-before.machine) _ _ _ _ c.next_line.new.line.items _ _ _ v0 v a c.loop-before.invariant.passes.model.0 run took (omega arith) line.1))
 
 pub returns-in-Err-clause-recorded : goal.returns-in-Err-clause-recorded
 returns-in-Err-clause-recorded g c = λ brands R s is.
@@ -121,7 +124,7 @@ returns-in-Err-clause-recorded g c = λ brands R s is.
     let took = rw c.in-Line.is at c.in_ok-next_line.ensures.took in
     let stopped = rw c.deref.ensures.value at c.in-Err.ensures.stopped in
     rw c.ended_by.ensures.ended (ran_stopped brands R (λ S. StandsFor S c.loop-before.machine) v0 v w c.in-Err.stop _ _ _ _ _ _ _ _ _ _ c.next_line.new.line.items _ (c.take_line.new.machine.bank ≡ c.loop-before.machine.bank)
-    (follows_told brands R _ (Left brands R v0 v) _ _ _ _ _ _ _ c.in_ok-write_some.ensures.same (c.loop-before.invariant.run brands R s)) is c.in-Err.ensures.text took line.0 (omega arith) line.1 stopped
+    (follows_told brands R _ (Left brands R v0 v) _ _ _ _ _ _ _ c.in_ok-write_some.ensures.same (c.loop-before.invariant.run brands R s (inl is.keeps))) is c.in-Err.ensures.text took line.0 (omega arith) line.1 stopped c.in-Err.ensures.may
     (λ e P x. subst (λ (b : Account g.row.D.Denot). P (g.D.Disk.view b.disk)) (sym e) x))
 
 pub returns-in-Err-clause-written : goal.returns-in-Err-clause-written
@@ -152,8 +155,8 @@ loop-before-preserved g c =
     let took = rw c.in-Line.is at c.in_ok-next_line.ensures.took in
     let taken = rw c.deref.ensures.value at c.in-Ok.ensures.taken in
     record {
-      run = λ brands R s. follows_line brands R (c.take_line.new.machine.bank ≡ c.loop-before.machine.bank) (λ S. StandsFor S c.loop-before.machine) (λ S. StandsFor S c.take_line.new.machine) (Left brands R v0 v) (Left brands R v0 w) v w _ _ _ _ _ _ _ _ _ _
-          (follows_told brands R _ (Left brands R v0 v) _ _ _ _ _ _ _ c.in_ok-write_some.ensures.same (c.loop-before.invariant.run brands R s)) taken took (omega arith) line.1
+      run = λ brands R s a. follows_line brands R (c.take_line.new.machine.bank ≡ c.loop-before.machine.bank) (λ S. StandsFor S c.loop-before.machine) (λ S. StandsFor S c.take_line.new.machine) (Left brands R v0 v) (Left brands R v0 w) v w _ _ _ _ _ _ _ _ _ _ v0 a c.loop-before.invariant.passes.model.0
+          (follows_told brands R _ (Left brands R v0 v) _ _ _ _ _ _ _ c.in_ok-write_some.ensures.same (c.loop-before.invariant.run brands R s a)) taken took (omega arith) line.1
           (λ e h k is. subst (λ (b : Account g.row.D.Denot). HasKept brands R h v0 (g.D.Disk.view b.disk)) (sym e) (k is))
           (λ S e h reached goes k is. keeps_step brands R h S (entry_in S e) reached v0 v w goes (k is));
       asks = c.in-Ok.ensures.asks;
@@ -166,8 +169,8 @@ loop-before-preserved g c =
     }
 
 pub returns-in_err-refill-clause-ran : goal.returns-in_err-refill-clause-ran
-returns-in_err-refill-clause-ran g c = λ brands R s.
-    let run = (runs_told brands R _ _ _ _ _ _ _ _ c.in_ok-write_some-2.ensures.same (c.loop-before.invariant.run brands R s).run) in
+returns-in_err-refill-clause-ran g c = λ brands R s a.
+    let run = (runs_told brands R _ _ _ _ _ _ _ _ c.in_ok-write_some-2.ensures.same (c.loop-before.invariant.run brands R s a).run) in
     let begins = takes_none _ _ c.in_err-refill.ensures.kept in
     ends_reading brands R _ c.in_err-refill.field-0.0 _ _ _ _ _ c.from_residual-in_err-refill.ensures.1 (has_replies brands R _ _ _ _ _ _ _ run) (answers_lines brands R _ _ _ _ _ _ _ _ run begins.0) (λ _. answers_read brands R _ _ _ _ _ _ _ _ run begins)
 
@@ -175,7 +178,7 @@ pub returns-in_err-refill-clause-recorded : goal.returns-in_err-refill-clause-re
 returns-in_err-refill-clause-recorded g c = λ brands R s is.
     let v0 = g.D.Disk.view c.args.machine.now.bank.disk in
     let v = g.D.Disk.view c.loop-before.machine.bank.disk in
-    ran_part brands R _ v0 v _ _ _ _ _ _ (follows_told brands R _ (Left brands R v0 v) _ _ _ _ _ _ _ c.in_ok-write_some-2.ensures.same (c.loop-before.invariant.run brands R s)) is _ _ _ _ (err_not_ok c.from_residual-in_err-refill.result c.from_residual-in_err-refill.ensures.0)
+    ran_part brands R _ v0 v _ _ _ _ _ _ (follows_told brands R _ (Left brands R v0 v) _ _ _ _ _ _ _ c.in_ok-write_some-2.ensures.same (c.loop-before.invariant.run brands R s (inl is.keeps))) is _ _ _ _ (err_not_ok c.from_residual-in_err-refill.result c.from_residual-in_err-refill.ensures.0)
 
 pub returns-in_err-refill-clause-written : goal.returns-in_err-refill-clause-written
 returns-in_err-refill-clause-written g c = written_on _ _ _ c.loop-before.invariant.written c.in_ok-write_some-2.ensures.written
@@ -184,8 +187,8 @@ pub returns-in_err-refill-clause-none : goal.returns-in_err-refill-clause-none
 returns-in_err-refill-clause-none g c = λ failed. absurd (only_reading _ c.in_err-refill.field-0.0 c.from_residual-in_err-refill.ensures.1 failed)
 
 pub returns-then-branch-clause-ran : goal.returns-then-branch-clause-ran
-returns-then-branch-clause-ran g c = λ brands R s.
-    let run = (runs_told brands R _ _ _ _ _ _ _ _ c.in_ok-write_some-2.ensures.same (c.loop-before.invariant.run brands R s).run) in (
+returns-then-branch-clause-ran g c = λ brands R s a.
+    let run = (runs_told brands R _ _ _ _ _ _ _ _ c.in_ok-write_some-2.ensures.same (c.loop-before.invariant.run brands R s a).run) in (
       tells_last brands R _ _ _ _ _ _ _ _ _ run (omega (arith, c.loop-before-test.false, c.loop-before.auto.before-end)) c.in_ok-refill.ensures.bytes (c.in_ok-refill.ensures.more c.if-branch.true),
       answers_lines brands R _ _ _ _ _ _ _ _ run (takes_just _ _ _ c.in_ok-refill.ensures.bytes c.in_ok-refill.ensures.few),
     )
@@ -194,15 +197,15 @@ pub returns-then-branch-clause-recorded : goal.returns-then-branch-clause-record
 returns-then-branch-clause-recorded g c = λ brands R s is.
     let v0 = g.D.Disk.view c.args.machine.now.bank.disk in
     let v = g.D.Disk.view c.loop-before.machine.bank.disk in
-    ran_whole brands R _ v0 v _ _ _ _ _ _ (follows_told brands R _ (Left brands R v0 v) _ _ _ _ _ _ _ c.in_ok-write_some-2.ensures.same (c.loop-before.invariant.run brands R s)) is _ _ _ _ (Past_limit 200001)
+    ran_whole brands R _ v0 v _ _ _ _ _ _ (follows_told brands R _ (Left brands R v0 v) _ _ _ _ _ _ _ c.in_ok-write_some-2.ensures.same (c.loop-before.invariant.run brands R s (inl is.keeps))) is _ _ _ _ (Past_limit 200001)
     (last_long _ _ _ _ _ (omega (arith, c.loop-before-test.false, c.loop-before.auto.before-end)) c.in_ok-refill.ensures.bytes (c.in_ok-refill.ensures.more c.if-branch.true))
 
 pub returns-then-branch-clause-written : goal.returns-then-branch-clause-written
 returns-then-branch-clause-written g c = written_on _ _ _ c.loop-before.invariant.written c.in_ok-write_some-2.ensures.written
 
 pub returns-clause-ran : goal.returns-clause-ran
-returns-clause-ran g c = λ brands R s.
-    let run = (runs_told brands R _ _ _ _ _ _ _ _ c.in_ok-write_some-2.ensures.same (c.loop-before.invariant.run brands R s).run) in
+returns-clause-ran g c = λ brands R s a.
+    let run = (runs_told brands R _ _ _ _ _ _ _ _ c.in_ok-write_some-2.ensures.same (c.loop-before.invariant.run brands R s a).run) in
     let end = c.in_ok-refill.ensures.end c.if-branch.false in
     (tells_last_end brands R _ _ _ _ _ _ _ _ _ _ run c.in_ok-refill.ensures.bytes end.0 end.1 c.ended-2.ensures.told, answers_lines brands R _ _ _ _ _ _ _ _ run (takes_just _ _ _ c.in_ok-refill.ensures.bytes c.in_ok-refill.ensures.few))
 
@@ -211,7 +214,10 @@ returns-clause-recorded g c = λ brands R s is.
     let v0 = g.D.Disk.view c.args.machine.now.bank.disk in
     let v = g.D.Disk.view c.loop-before.machine.bank.disk in
     let end = c.in_ok-refill.ensures.end c.if-branch.false in
-    ran_whole brands R _ v0 v _ _ _ _ _ _ (follows_told brands R _ (Left brands R v0 v) _ _ _ _ _ _ _ c.in_ok-write_some-2.ensures.same (c.loop-before.invariant.run brands R s)) is _ _ _ _ At_end (last_end _ _ _ _ _ c.in_ok-refill.ensures.bytes end.0 end.1)
+    ran_whole brands R _ v0 v _ _ _ _ _ _ (follows_told brands R _ (Left brands R v0 v) _ _ _ _ _ _ _ c.in_ok-write_some-2.ensures.same (c.loop-before.invariant.run brands R s (inl is.keeps))) is _ _ _ _ At_end (last_end _ _ _ _ _ c.in_ok-refill.ensures.bytes end.0 end.1)
 
 pub returns-clause-written : goal.returns-clause-written
 returns-clause-written g c = written_on _ _ _ c.loop-before.invariant.written c.in_ok-write_some-2.ensures.written
+
+pub returns-in-Err-clause-kind : goal.returns-in-Err-clause-kind
+returns-in-Err-clause-kind g c = λ keeps. rw c.ended_by.ensures.ended (kind_stopped c.in-Err.stop (c.loop-before.before + 1) (g.D.Disk.view c.loop-before.machine.bank.disk) c.in-Err.ensures.may (c.loop-before.invariant.passes.model.0 keeps))

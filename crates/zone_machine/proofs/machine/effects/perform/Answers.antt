@@ -1,10 +1,10 @@
 use Rattle.std.proofs.Common.{◌≡◌, None, ap, is_some, refl, subst, sym, ◌∙◌}
 use Rattle.std.specs.Prelude.{bytes_eq, if◌then◌else◌}
 use Rattle.zoneadmd_steps.specs.declared.desks.Desk.{Desk}
-use Rattle.zone_machine.specs.Code.Works.{objects_of, rest_of}
+use Rattle.zone_machine.specs.Code.Works.{objects_of, rest_of, seats}
 use Rattle.zone_machine.proofs.Doing_laws.{acts_up, does_work}
 use Rattle.zone_machine.proofs.Case_asks.{asks-rightly, asks_case}
-use Rattle.zone_machine.proofs.Roomy.{free_owner, room_change, roomy}
+use Rattle.zone_machine.proofs.Roomy.{free_owner, room_change, room_to_sit, roomy}
 use Rattle.zone_machine.specs.Code.Cases.{decision_of}
 use Rattle.zone_machine.specs.Code.Cells.{cell_world, is_up_in, outside_in}
 use Rattle.zone_machine.specs.Code.Needs.{pools_in}
@@ -24,6 +24,9 @@ carry_out-reply-requires-clause-stored c =
     let cell = c.args.cell.now in
     let works = c.settle-work.ensures.works None (cell_world (outside_in c.args.zone.now c.args.shared.now) cell) refl in
     subst (λ o. HasRoomOf o c.args.shared.now) (sym works.came) (roomy (decision_of cell.desk c.args.case) c.args.grant c.args.shared.now (asks-rightly (decision_of cell.desk c.args.case) (asks_case cell.desk c.args.case)) c.requires.room.stored)
+
+pub carry_out-reply-requires-clause-sits : goal.carry_out-reply-requires-clause-sits
+carry_out-reply-requires-clause-sits c = room_to_sit (seats c.args.case) c.args.cell.now c.args.shared.now c.settle-work.result.sits c.settle-work.ensures.sits c.requires.room.sits
 
 pub carry_out-reply-requires-clause-objects : goal.carry_out-reply-requires-clause-objects
 carry_out-reply-requires-clause-objects c =

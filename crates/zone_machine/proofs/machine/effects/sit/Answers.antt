@@ -1,10 +1,7 @@
-use Rattle.std.proofs.Common.{◌∙◌, nat_eq, ap, if◌then◌else◌, Some}
-use Rattle.zone_pools.specs.Owners.{owner}
-use Rattle.zone_machine.proofs.Doing_laws.{does_sits, retaken}
 use Rattle.zone_machine.proofs.machine.effects.sit.Goals as goal
 
-pub returns-clause-does : goal.returns-clause-does
-returns-clause-does c = λ is_open.
-    let k = c.args.number in let x = c.args.sitting in let s = c.args.shared.now in
-    does_sits x.owner c.args.cell.now (record c.args.cell.now { waits = c.wait.new.waits }) s (record s { sessions = c.take_reserved.new.self }) k x is_open
-    (λ n. c.take_reserved.ensures n ∙ (ap (λ o. if nat_eq k n then Some x.owner else o) (c.give_back.ensures.given n) ∙ retaken (nat_eq k n) x.owner (owner nat_eq s.sessions n))) c.wait.ensures
+pub returns-in-Some-clause-does : goal.returns-in-Some-clause-does
+returns-in-Some-clause-does c = λ is_open. rw c.in-Some.is (c.begin.ensures.does is_open)
+
+pub returns-in-None-clause-does : goal.returns-in-None-clause-does
+returns-in-None-clause-does c = λ is_open. rw c.in-None.is (c.stop.ensures.does c.args.sitting.owner is_open)

@@ -1,8 +1,10 @@
 use Rattle.zoneadmd_steps.specs.Code.Desks.{as_desk}
-use Rattle.std.proofs.Common.{ap, refl, sym, ◌∙◌}
+use Rattle.std.proofs.Common.{Some, ap, refl, sym, ◌∙◌}
 use Rattle.zoneadmd_steps.specs.Desks.{Desk}
 use Rattle.zone_machine.proofs.Turned_laws.{nothing_told, settled_turn, works_same}
 use Rattle.zoneadmd_steps.specs.Code.Cases.{turn_decision_of}
+use Rattle.zone_machine.specs.Code.Doings.{sits}
+use Rattle.zone_machine.specs.State.Edits.{edits_world}
 use Rattle.zone_machine.proofs.machine.settling.settle.Goals as goal
 
 pub returns-in-Says-clause-works : goal.returns-in-Says-clause-works
@@ -10,6 +12,9 @@ returns-in-Says-clause-works c = λ n v desk. rw (c.in-Says.is, c.saying.ensures
 
 pub returns-in-Answers-clause-works : goal.returns-in-Answers-clause-works
 returns-in-Answers-clause-works c = λ n v desk. rw (c.in-Answers.is, c.replying.ensures) (record { came = refl; reply = nothing_told _ ∙ c.into_inner.ensures; world = ap (λ (d : Desk). record v { desk = d }) (sym desk) })
+
+pub returns-in-Sit-clause-works : goal.returns-in-Sit-clause-works
+returns-in-Sit-clause-works c = λ n v desk. rw (c.in-Sit.is, c.seat.ensures) (record { came = refl; reply = nothing_told _; world = ap (λ (d : Desk). edits_world n (sits (Some c.in-Sit.seated.value.sitting)) (record v { desk = d })) (sym desk) })
 
 pub returns-in-Commit-clause-works : goal.returns-in-Commit-clause-works
 returns-in-Commit-clause-works c = λ n v desk. rw c.in-Commit.is (c.commit.ensures.works n v (as_desk c.args.desk.now) desk)

@@ -8,8 +8,8 @@ use Rattle.zone_machine.proofs.Made.{changed_made}
 use Rattle.zone_machine.proofs.session.commits.changed_row.Goals as goal
 
 pub returns : goal.returns
-returns c = λ z told.
+returns c = λ z told committer base.
     let kept = keeps_path c.args.row.now c.args.config in
-    changed_made kept z (record c.args.row.now { config = c.args.config }) told
-    ∙ ap (λ (r : Record). made (if kept then novelty.Nothing else novelty.Path) z r told)
+    changed_made told committer kept z (record c.args.row.now { config = c.args.config }) base
+    ∙ ap (λ (r : Record). made (if kept then novelty.Nothing else novelty.Path) z r told committer)
     (sym (c.new.ensures ∙ ap (λ (r : Record). record r { config = c.args.config }) c.record-stored.ensures.same))

@@ -11,6 +11,6 @@ returns-in_err-grant-clause-fault c =
 pub returns-clause-ok : goal.returns-clause-ok
 returns-clause-ok c = λ S h. record {
   takes = IsTaken-whole c.args.self.now (System c.args.what.now) refl c.args.stated c.in_ok-grant.grant c.in_ok-grant.ensures.takes S h;
-  answers = IsStep-whole c.args.self.now (System c.args.what.now) refl c.in_ok-grant.grant c.declared_reply.result c.declare.new.shared
+  answers = IsStep-whole c.args.self.now (System c.args.what.now) refl c.in_ok-grant.grant c.declared_reply.result c.declare.new.shared (λ S. refl)
       (c.declared_reply.ensures ∙ ap (λ r. says (head_of r)) c.in_ok-refusal.ensures.refusal) c.in_ok-refusal.ensures.declared S h;
 }

@@ -1,0 +1,14 @@
+use Rattle.std.proofs.Common.{Some, ap}
+use Rattle.zone_machine.proofs.Stepping.{edits-case}
+use Rattle.zone_machine.specs.Code.Doings.{as_doing}
+use Rattle.zone_machine.specs.Code.Lines.{as_line}
+use Rattle.zone_machine.specs.Session.Typed.{typed}
+use Rattle.zone_machine.proofs.session.line_cases.busy_case.Goals as goal
+
+pub returns-in-Edits : goal.returns-in-Edits
+unfolding typed
+returns-in-Edits c =
+    let line = as_line c.args.line in
+    edits-case c.edit_case.result c.args.zone.now c.args.cell.now _ c.args.brands.now c.in-Edits.editor line.text _
+    (λ v. ap (λ d. typed v (Some (as_doing d)) line) c.in-Edits.is)
+    c.edit_case.ensures.decides c.edit_case.ensures.of c.edit_case.ensures.named c.edit_case.ensures.free
