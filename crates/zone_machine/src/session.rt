@@ -1,6 +1,7 @@
 //! Sessions: how a line is read, what it comes to, and what sessions do in a zone.
 pub(crate) mod commits;
 pub(crate) mod doings;
+pub(crate) mod editing;
 pub(crate) mod held;
 pub(crate) mod line_cases;
 pub(crate) mod lines;

@@ -1,13 +1,13 @@
 //! What a line of zonecfg(8) comes to that is said to an editor: it commits what was edited, removes the zone, goes on, or leaves.
-ghost use Rattle.std.specs.Prelude.{◌∷◌, ◌≡◌, ◌≤◌, [], IfOk, IsSome, IsSomeAnd, List, None, Ok, Some, bytes_eq, if◌then◌else◌, is_some, true, length, ℕ};
+ghost use Rattle.std.specs.Prelude.{◌∷◌, ◌≡◌, [], IfOk, IsSome, IsSomeAnd, List, None, Ok, Some, bytes_eq, if◌then◌else◌, is_some, true, ℕ};
 ghost use Rattle.brand_hooks.specs.Brands.{tabled_names};
 ghost use Rattle.config_verify.specs.Flaws.{first, flaws};
 ghost use Rattle.zone_pools.specs.Decisions.{Just};
 ghost use Rattle.std.specs.Option.{option_map};
 ghost use Rattle.zn_base.specs.Names.{Name};
-ghost use Rattle.zonecfg_scopes.specs.Edited.{Edited, opened_on, revision_of};
+ghost use Rattle.zonecfg_scopes.specs.Edited.{Edited, revision_of};
 ghost use Rattle.zonecfg_scopes.specs.OpenOf.{config_of};
-ghost use Rattle.zonecfg_lines.specs.Runs.{base_of as taken_base, run};
+ghost use Rattle.zonecfg_lines.specs.Runs.{run};
 ghost use Rattle.zonecfg_lines.specs.declared.reply.Ending.TheVariants as ending;
 ghost use Rattle.zoneadmd_steps.specs.Code.Desks.{as_desk};
 ghost use Rattle.zoneadmd_steps.specs.Desks.{state_now};
@@ -15,7 +15,7 @@ ghost use Rattle.zoneadmd_steps.specs.declared.desks.Desk as desk_types;
 ghost use Rattle.zone_machine.specs.Code.Cases.{IsCaseOf, IsNamedCase, IsNamedCommitter, as_typist, base_by, decision_of, made};
 ghost use Rattle.zone_machine.specs.Code.Commits.{IsOfNovelty, IsRecord, IsRecordOf, IsStorableIf, as_hearer, judged_decision, removes_unless, typist_by};
 ghost use Rattle.zone_machine.specs.Code.Works.{MountsNothing};
-ghost use Rattle.zone_machine.specs.Session.Commits.{Typist, base_of, commit, commit_over, commit_seen, commit_unless, commits, delete, edits_line, ended, ends, goes, keeps_path, leaves, line_refusal, novelty_of, opens, records, refuses, removes, revision_now, telling, typist, zonecfg};
+ghost use Rattle.zone_machine.specs.Session.Commits.{Typist, commit, commit_over, commit_seen, commit_unless, commits, delete, ended, ends, goes, keeps_path, leaves, line_refusal, novelty_of, records, refuses, removes, revision_now, telling, typist, zonecfg};
 ghost use Rattle.zone_machine.specs.Code.Doings.{as_doing};
 ghost use Rattle.zone_machine.specs.State.Edits.{Here};
 ghost use Rattle.zone_machine.specs.State.Worlds.{View};
@@ -33,8 +33,8 @@ use uuid::Uuid;
 use zn_base::{Bytes, Listing, ZoneName, ZoneState};
 use zone_config::{Property, ZoneConfig, same_contents};
 use zoneadmd_steps::Desk;
-use zonecfg_lines::{Ending, LineRefusal, LineReply, Stored, type_alone, type_line};
-use zonecfg_scopes::{Base, Editor};
+use zonecfg_lines::{Ending, LineRefusal, LineReply};
+use zonecfg_scopes::Editor;
 
 /// Whose line of zonecfg(8) it is: one that is a session of its own, or that of a session which edits.
 #[derive(Clone, Copy)]
@@ -99,8 +99,8 @@ fn telling_case(alloc: Global, head: Head, told: Listing<Bytes>) -> Result<Case,
     Ok(Case::Answers(Box::new(alloc, reply)?))
 }
 
-// Lines are told, and the session does this from now on.
-fn seated_case(
+/// Lines are told, and the session does this from now on.
+pub(crate) fn seated_case(
     alloc: Global,
     zone: &ZoneName,
     doing: Option<Doing>,
@@ -628,8 +628,8 @@ fn ended_case(
     }
 }
 
-// What a line comes to, by the editor after it, and its reply.
-fn line_case(
+/// What a line comes to, by the editor after it, and its reply.
+pub(crate) fn line_case(
     alloc: Global,
     zone: &ZoneName,
     desk: &Desk,
@@ -654,124 +654,4 @@ fn line_case(
             refused_case(alloc, zone, editor, going, line_refusal(refusal), told)
         }
     }
-}
-
-// What is stored, as an editor takes it.
-fn base_in(alloc: Global, row: Option<&Row>) -> Result<Option<Base>, AllocError>
-    ensures { IfOk result (λ base. base ≡ option_map base_of (option_map (λ r. r.now) row.entry)) }
-{
-    let Some(row) = row else {
-        return Ok(None);
-    };
-    let stored = row.record();
-    match stored.config.copy(alloc) {
-        Ok(config) => Ok(Some(Base {
-            config,
-            revision: stored.revision,
-        })),
-        Err(_) => Err(AllocError),
-    }
-}
-
-// An editor of a zone, with what is stored of it as its base.
-fn open_editor(alloc: Global, zone: &ZoneName, row: Option<&Row>) -> Result<Editor, AllocError>
-    ensures { IfOk result (λ editor. editor ≡ opened_on zone.now (option_map base_of (option_map (λ r. r.now) row.entry))) }
-{
-    let base = base_in(alloc, row)?;
-    match Editor::open(alloc, zone.copy(alloc)?, base) {
-        Ok(editor) => Ok(editor),
-        Err(_) => Err(AllocError),
-    }
-}
-
-// The stored configuration, as a line finds it.
-fn stored_in(row: Option<&Row>) -> Option<Stored<'_>>
-    ensures { taken_base result ≡ option_map base_of (option_map (λ r. r.now) row.entry) }
-{
-    let stored = row?.record();
-    Some(Stored {
-        config: &stored.config,
-        revision: stored.revision,
-    })
-}
-
-/// What subcommands come to that follow the name of a zone.
-#[inline(never)]
-pub(crate) fn zonecfg_case(
-    alloc: Global,
-    zone: &ZoneName,
-    desk: &Desk,
-    brands: &BrandTables,
-    row: Option<&Row>,
-    text: &[u8],
-) -> Result<Case, AllocError>
-    requires { length text.now ≤ 4200 }
-    ensures decides { IfOk result (λ c. (d : desk_types.Desk) (v : View) → v.zone ≡ zone.now → v.world.stored ≡ option_map (λ r. r.now) row.entry → v.world.brands ≡ brands.now → v.world.desk ≡ as_desk desk.now
-        → zonecfg v text.now ≡ decision_of d c) }
-    ensures of { IfOk result (λ c. (d : desk_types.Desk) → IsCaseOf d c) }
-    ensures named { IfOk result (IsNamedCase zone.now) }
-    ensures free { IfOk result MountsNothing }
-{
-    let mut editor = open_editor(alloc, zone, row)?;
-    let reply = type_alone(alloc, &mut editor, text, stored_in(row), brands.names())?;
-    line_case(
-        alloc,
-        zone,
-        desk,
-        brands,
-        row,
-        editor,
-        Hearer::OfItsOwn,
-        reply,
-    )
-}
-
-/// What a line comes to of a session that edits: it is said to a copy of the session's editor, which takes the other's place
-/// once the line is done.
-#[inline(never)]
-pub(crate) fn edit_case(
-    alloc: Global,
-    zone: &ZoneName,
-    desk: &Desk,
-    brands: &BrandTables,
-    row: Option<&Row>,
-    editor: &HeldEditor,
-    text: &[u8],
-) -> Result<Case, AllocError>
-    requires { length text.now ≤ 4200 }
-    ensures decides { IfOk result (λ c. (d : desk_types.Desk) (v : View) → v.zone ≡ zone.now → v.world.stored ≡ option_map (λ r. r.now) row.entry → v.world.brands ≡ brands.now → v.world.desk ≡ as_desk desk.now
-        → edits_line v editor.now text.now ≡ decision_of d c) }
-    ensures of { IfOk result (λ c. (d : desk_types.Desk) → IsCaseOf d c) }
-    ensures named { IfOk result (IsNamedCase zone.now) }
-    ensures free { IfOk result MountsNothing }
-{
-    let mut editor = editor.copy(alloc)?;
-    let reply = type_line(alloc, &mut editor, text, stored_in(row), brands.names())?;
-    line_case(
-        alloc,
-        zone,
-        desk,
-        brands,
-        row,
-        editor,
-        Hearer::ASession,
-        reply,
-    )
-}
-
-/// A session edits the zone from now on, over what is stored.
-#[inline(never)]
-pub(crate) fn open_case(
-    alloc: Global,
-    zone: &ZoneName,
-    row: Option<&Row>,
-) -> Result<Case, AllocError>
-    ensures decides { IfOk result (λ c. (d : desk_types.Desk) (v : View) → v.zone ≡ zone.now → v.world.stored ≡ option_map (λ r. r.now) row.entry → opens v ≡ decision_of d c) }
-    ensures of { IfOk result (λ c. (d : desk_types.Desk) → IsCaseOf d c) }
-    ensures named { IfOk result (IsNamedCase zone.now) }
-    ensures free { IfOk result MountsNothing }
-{
-    let editor = open_editor(alloc, zone, row)?;
-    let doing = Some(Doing::Edits(HeldEditor::new(alloc, editor)?));
-    seated_case(alloc, zone, doing, Head::Ok, Body::Nothing)
 }
