@@ -10,6 +10,7 @@ use Rattle.std.proofs.lemmas.List.{append-nil}
 use Rattle.zn_base.specs.Cuts.{lacks}
 use Rattle.zn_base.specs.Names.{is_letter_or_digit, is_name_byte}
 use Rattle.zn_base.specs.Path.{is_path}
+use Rattle.zn_base.specs.Text.{is_text}
 use Rattle.zn_base.proofs.First_byte.{lacks_by}
 use Rattle.kernel_objects.specs.declared.objects.Signal.{Signal}
 use Rattle.kernel_objects.specs.declared.objects.Signal.TheVariants.{Kill as KillSignal, Term, Zero}
@@ -17,13 +18,14 @@ use Rattle.priv_sets.specs.Table.{name_of, privileges}
 use Rattle.priv_sets.proofs.Names.{name_bytes, number_of_name}
 use Rattle.priv_sets.proofs.Rows.{length_of_privileges}
 use Rattle.process_calls.specs.declared.call.Call.{Call}
-use Rattle.process_calls.specs.declared.call.Call.TheVariants.{Datasets, Devices, Drop, Exec, Exit, False, Fork, Kill, Links, Mount, Mounts, Privs, Ps, Read, True, Umount, Write, Zonename}
+use Rattle.process_calls.specs.declared.call.Call.TheVariants.{Bootargs, Cons, Datasets, Devices, Drop, Exec, Exit, False, Fork, Kill, Links, Mount, Mounts, Privs, Ps, Read, True, Umount, Write, Zonename}
 use Rattle.process_calls.specs.declared.call.MountCall.{MountCall}
-use Rattle.process_calls.specs.Calls.{call_of, call_of_words, call_text, greatest_pid, is_call, is_fstype, is_mount, is_process_name, is_special, read_only_by, read_only_text}
+use Rattle.process_calls.specs.Calls.{call_of, call_of_words, call_text, cons_read, greatest_pid, is_call, is_fstype, is_mount, is_process_name, is_special, read_only_by, read_only_text}
 use Rattle.process_calls.specs.Words.{is_space, placed, words_from}
 use Rattle.process_calls.proofs.Named.{run_lacks, special_run}
 use Rattle.process_calls.proofs.Numbers.{pid_again, pid_lacks}
 use Rattle.process_calls.proofs.Paths.{path_lacks}
+use Rattle.process_calls.proofs.Rests.{cons_of, text_again}
 
 -- bytes without a space are one word
 one_word : (bytes : List ℕ) → lacks 32 bytes ≡ true → slice_split is_space bytes ≡ bytes ∷ []
@@ -74,6 +76,10 @@ write_again : (path : List ℕ) → is_path path ≡ true → call_of (call_text
 unfolding call_of words_from
 write_again path right = rw (one_word path (path_lacks path right), right) refl
 
+cons_again : (text : List ℕ) → is_text text ≡ true → call_of (call_text (Cons text)) ≡ Ok (Cons text)
+unfolding call_of words_from
+cons_again text right = cons_of (length (call_text (Cons text))) 5 text ∙ ap (cons_read 5) (text_again text right)
+
 -- the words of a mount
 option_words : Bool → List (List ℕ)
 option_words true = codes "ro" ∷ []
@@ -122,5 +128,7 @@ call_again Links right = refl
 call_again Datasets right = refl
 call_again Devices right = refl
 call_again Zonename right = refl
+call_again Bootargs right = refl
+call_again (Cons text) right = cons_again text right
 call_again True right = refl
 call_again False right = refl

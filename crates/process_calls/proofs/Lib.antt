@@ -2,6 +2,7 @@ pub mod Numbers
 pub mod Splitting
 pub mod Named
 pub mod Paths
+pub mod Rests
 pub mod Again
 pub mod Spelled
 pub mod Places

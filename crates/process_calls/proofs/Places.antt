@@ -1,5 +1,5 @@
 -- The place of a fault lies in the text, or at its end.
-use Rattle.std.proofs.Common.{◌≡◌, ◌+◌, ◌≤◌, ℕ, Bool, true, false, List, [], ◌∷◌, length, Option, Some, None, Result, Ok, Err, codes, ap, arith, length-append}
+use Rattle.std.proofs.Common.{◌≡◌, ◌+◌, ◌≤◌, ℕ, Bool, true, false, List, [], ◌∷◌, length, Option, Some, None, Result, Ok, Err, codes, ap, refl, arith, length-append}
 use Rattle.std.specs.Prelude.{bytes_eq, if◌then◌else◌}
 use Rattle.std.specs.List.{join_with_byte, slice_split}
 use Rattle.std.proofs.lemmas.List.Splits.{join_with_byte-slice_split}
@@ -7,7 +7,8 @@ use Rattle.priv_sets.specs.Table.{number_of}
 use Rattle.process_calls.specs.declared.call.Call.{Call}
 use Rattle.process_calls.specs.declared.call.Call.TheVariants.{Drop, Exec, Fork, Kill, Read, Umount, Write}
 use Rattle.process_calls.specs.declared.call.CallFault.{CallFault}
-use Rattle.process_calls.specs.Calls.{bare_call, call_of, call_of_words, is_fstype, is_special, kill_by, made, mount_by, name_in, path_in, pid_in, read_only_by, ro_in, signal_in, taken}
+use Rattle.process_calls.specs.Calls.{Said, bare_call, call_of, call_of_words, cons_by, is_fstype, is_special, kill_by, made, mount_by, name_in, path_in, pid_in, read_only_by, ro_in, signal_in, spaced, taken}
+use Rattle.process_calls.proofs.Rests.{bytes_of_placed, text_within}
 use Rattle.process_calls.specs.Words.{IsWithin, Word, ◌>>=◌, is_space, last, next, no_more, placed, said_at, words_from}
 
 -- words that begin in a text or at its end
@@ -82,14 +83,41 @@ mount_within end words h =
     then_within end (AfterWithin end) Any (next path_in end special.1) _ (next_within path_in end special.1 g) (λ dir g.
     then_within end Any Any (read_only_by end dir.1) _ (read_only_within end dir.1 g) (λ read_only g. tt))))
 
+-- some words, with a space between two, fit behind the place of the first
+Fits : ℕ → List Word → Type 0
+Fits end [] = Unit {0}
+Fits end (word ∷ words) = word.place + length (spaced (word ∷ words)) ≤ end
+
+placed_fits : (place end : ℕ) (parts : List (List ℕ)) → place + length (join_with_byte 32 parts) ≤ end → Fits end (placed place parts)
+unfolding Fits
+placed_fits place end [] h = tt
+placed_fits place end (word ∷ more) h = rw (bytes_of_placed (place + length word + 1) more) h
+
+rest_fits : (place end : ℕ) (word : List ℕ) (more : List (List ℕ)) → place + length (join_with_byte 32 (word ∷ more)) ≤ end → Fits end (placed (place + length word + 1) more)
+unfolding Fits
+rest_fits place end word [] h = tt
+rest_fits place end word (next ∷ more) h =
+    placed_fits (place + length word + 1) end (next ∷ more) (omega (arith, h, length-append word (32 ∷ join_with_byte 32 (next ∷ more))))
+
+cons_within : (end : ℕ) (words : List Word) → Fits end words → IsRight end Any (cons_by end words)
+unfolding IsRight Fits Any
+cons_within end [] h = omega arith
+cons_within end (word ∷ words) h = at_said (cons_by end (word ∷ words)) refl
+  where
+    at_said : (said : Said) → cons_by end (word ∷ words) ≡ said → IsRight end Any said
+    at_said (Ok call) e = tt
+    at_said (Err fault) e = text_within word.place end (spaced (word ∷ words)) h fault e
+
 if_within : {A : Type 0} (end : ℕ) (P : A → Type 0) (b : Bool) (r s : Result A CallFault) → IsRight end P r → IsRight end P s → IsRight end P (if b then r else s)
 if_within end P true r s h g = h
 if_within end P false r s h g = g
 
-words_within : (end : ℕ) (words : List Word) → AreWithin end words → IsRight end Any (call_of_words end words)
+words_within : (end : ℕ) (parts : List (List ℕ)) → length (join_with_byte 32 parts) ≤ end → AreWithin end (placed 0 parts) → IsRight end Any (call_of_words end (placed 0 parts))
 unfolding IsRight AreWithin
-words_within end [] h = omega arith
-words_within end (first ∷ words) h =
+words_within end [] fits h = omega arith
+words_within end (word ∷ more) fits h =
+    let first : Word = record { place = 0; bytes = word } in
+    let words : List Word = placed (0 + length word + 1) more in
     if_within end Any (bytes_eq first.bytes (codes "fork")) _ _ (made_within name_in Fork end words h.1)
     (if_within end Any (bytes_eq first.bytes (codes "exec")) _ _ (made_within name_in Exec end words h.1)
     (if_within end Any (bytes_eq first.bytes (codes "kill")) _ _ (kill_within end words h.1)
@@ -98,12 +126,14 @@ words_within end (first ∷ words) h =
     (if_within end Any (bytes_eq first.bytes (codes "umount")) _ _ (made_within path_in Umount end words h.1)
     (if_within end Any (bytes_eq first.bytes (codes "read")) _ _ (made_within path_in Read end words h.1)
     (if_within end Any (bytes_eq first.bytes (codes "write")) _ _ (made_within path_in Write end words h.1)
-    (last_within bare_call end (first ∷ words) h))))))))
+    (if_within end Any (bytes_eq first.bytes (codes "cons")) _ _ (cons_within end words (rest_fits 0 end word more (omega (arith, fits))))
+    (last_within bare_call end (first ∷ words) h)))))))))
 
 call_within : (text : List ℕ) → IsRight (length text) Any (call_of text)
 unfolding call_of words_from
 call_within text =
-    words_within (length text) (placed 0 (slice_split is_space text)) (placed_within 0 (length text) (slice_split is_space text) (omega (arith, ap length (join_with_byte-slice_split 32 text))))
+    let whole = ap length (join_with_byte-slice_split 32 text) in
+    words_within (length text) (slice_split is_space text) (omega (arith, whole)) (placed_within 0 (length text) (slice_split is_space text) (omega (arith, whole)))
 
 pub place_within : (text : List ℕ) (fault : CallFault) → call_of text ≡ Err fault → IsWithin (length text) fault
 unfolding IsRight

@@ -12,12 +12,13 @@ use Rattle.kernel_objects.specs.declared.objects.Signal.TheVariants.{Kill as Kil
 use Rattle.priv_sets.specs.Table.{number_of, privileges}
 use Rattle.priv_sets.proofs.Names.{name_of_number, number_inside}
 use Rattle.process_calls.specs.declared.call.Call.{Call}
-use Rattle.process_calls.specs.declared.call.Call.TheVariants.{Datasets, Devices, Drop, Exec, Exit, False, Fork, Kill, Links, Mount, Mounts, Privs, Ps, Read, True, Umount, Write, Zonename}
+use Rattle.process_calls.specs.declared.call.Call.TheVariants.{Bootargs, Cons, Datasets, Devices, Drop, Exec, Exit, False, Fork, Kill, Links, Mount, Mounts, Privs, Ps, Read, True, Umount, Write, Zonename}
 use Rattle.process_calls.specs.declared.call.CallFault.{CallFault}
 use Rattle.process_calls.specs.declared.call.MountCall.{MountCall}
-use Rattle.process_calls.specs.Calls.{Said, bare_call, call_of, call_of_words, call_text, greatest_pid, is_call, is_fstype, is_process_name, is_special, kill_by, made, mount_by, name_in, path_in, pid_in, read_only_by, read_only_text, ro_in, signal_in, signal_text, taken}
+use Rattle.process_calls.specs.Calls.{Said, bare_call, call_of, call_of_words, call_text, cons_by, greatest_pid, is_call, is_fstype, is_process_name, is_special, kill_by, made, mount_by, name_in, path_in, pid_in, read_only_by, read_only_text, ro_in, signal_in, signal_text, taken}
 use Rattle.process_calls.specs.Words.{Word, ◌>>=◌, is_space, last, next, no_more, placed, said_at, words_from}
 use Rattle.process_calls.proofs.Numbers.{pid_written}
+use Rattle.process_calls.proofs.Rests.{bytes_of_placed, text_read}
 
 -- which way a test went
 pick : {A : Type 0} (b : Bool) (x y z : A) → (if b then x else y) ≡ z → ((b ≡ true) × (x ≡ z)) ⊎ ((b ≡ false) × (y ≡ z))
@@ -169,6 +170,14 @@ mount_is end place parts call =
     let is : Mount mount ≡ call = cc in
     subst (Spells (join_with_byte 32 (codes "mount" ∷ first ∷ second ∷ third ∷ more))) is (spells_mount mount first second third more is_type is_what is_dir option))))
 
+-- a line for the console is what stands behind the first word
+cons_is : (end place : ℕ) (parts : List (List ℕ)) (call : Call) → cons_by end (placed place parts) ≡ Ok call → Spells (join_with_byte 32 (codes "cons" ∷ parts)) call
+cons_is end place [] call h = absurd (cc)
+cons_is end place (word ∷ more) call h =
+    let text : List ℕ = join_with_byte 32 (word ∷ more) in
+    let read = text_read place text call (rw (bytes_of_placed (place + length word + 1) more) at h) in
+    subst (Spells (join_with_byte 32 (codes "cons" ∷ word ∷ more))) read.1 (record { right = read.0; text_is = refl })
+
 bare_word : (word : List ℕ) (call c : Call) (rest : Option Call) → is_call c ≡ true → (rest ≡ Some call → Spells word call)
     → (if bytes_eq word (call_text c) then Some c else rest) ≡ Some call → Spells word call
 bare_word word call c rest right other h =
@@ -186,7 +195,7 @@ bare_is : (word : List ℕ) (call : Call) → bare_call word ≡ Some call → S
 bare_is word call =
     bare_word word call Exit _ refl (bare_word word call Ps _ refl (bare_word word call Privs _ refl
     (bare_word word call Mounts _ refl (bare_word word call Links _ refl (bare_word word call Datasets _ refl (bare_word word call Devices _ refl
-    (bare_word word call Zonename _ refl (bare_word word call True _ refl (bare_word word call False None refl (no_call word call))))))))))
+    (bare_word word call Zonename _ refl (bare_word word call Bootargs _ refl (bare_word word call True _ refl (bare_word word call False None refl (no_call word call)))))))))))
 
 bare_alone : (end : ℕ) (parts : List (List ℕ)) (call : Call) → last bare_call end (placed 0 parts) ≡ Ok call → Spells (join_with_byte 32 parts) call
 bare_alone end parts call h =
@@ -218,7 +227,8 @@ first_is end word more call =
     (by_first word (codes "umount") more call _ _ (with_last path_in Umount (codes "umount") end at more call spells_umount)
     (by_first word (codes "read") more call _ _ (with_last path_in Read (codes "read") end at more call spells_read)
     (by_first word (codes "write") more call _ _ (with_last path_in Write (codes "write") end at more call spells_write)
-    (bare_alone end (word ∷ more) call))))))))
+    (by_first word (codes "cons") more call _ _ (cons_is end at more call)
+    (bare_alone end (word ∷ more) call)))))))))
 
 pub call_is_written : (text : List ℕ) (call : Call) → call_of text ≡ Ok call → Spells text call
 unfolding call_of words_from

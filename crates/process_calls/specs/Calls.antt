@@ -1,16 +1,19 @@
 -- The calls that a process makes, as text: which one a text spells, and how each is written.
-use Rattle.std.specs.Prelude.{ℕ, List, [], ◌∷◌, ◌++◌, Bool, true, false, not, ◌&&◌, ◌||◌, Option, Some, None, Result, Ok, Err, bytes_eq, codes, length, nat_le, nat_lt, if◌then◌else◌}
+use Rattle.std.specs.Prelude.{ℕ, List, [], ◌∷◌, ◌++◌, ◌+◌, map, Bool, true, false, not, ◌&&◌, ◌||◌, Option, Some, None, Result, Ok, Err, bytes_eq, codes, length, nat_le, nat_lt, if◌then◌else◌}
 use Rattle.std.specs.Char.{is_ascii_graphic}
 use Rattle.std.specs.Fmt.{decimal}
-use Rattle.std.specs.List.{list_all}
+use Rattle.std.specs.List.{join_with_byte, list_all}
 use Rattle.zn_base.specs.Decimals.{decimal_of}
 use Rattle.zn_base.specs.Names.{is_letter_or_digit, is_name_byte}
 use Rattle.zn_base.specs.Path.{is_path}
+use Rattle.zn_base.specs.Text.{is_text, text_of}
+use Rattle.zn_base.specs.declared.text.TextFault.{TextFault}
+use Rattle.zn_base.specs.declared.text.TextFault.TheVariants.{BadText}
 use Rattle.priv_sets.specs.Table.{name_of, number_of, privileges}
 use Rattle.kernel_objects.specs.declared.objects.Signal.{Signal}
 use Rattle.kernel_objects.specs.declared.objects.Signal.TheVariants.{Kill as KillSignal, Term, Zero}
 use Rattle.process_calls.specs.declared.call.Call.{Call}
-use Rattle.process_calls.specs.declared.call.Call.TheVariants.{Datasets, Devices, Drop, Exec, Exit, False, Fork, Kill, Links, Mount, Mounts, Privs, Ps, Read, True, Umount, Write, Zonename}
+use Rattle.process_calls.specs.declared.call.Call.TheVariants.{Bootargs, Cons, Datasets, Devices, Drop, Exec, Exit, False, Fork, Kill, Links, Mount, Mounts, Privs, Ps, Read, True, Umount, Write, Zonename}
 use Rattle.process_calls.specs.declared.call.CallFault.{CallFault}
 use Rattle.process_calls.specs.declared.call.CallFault.TheVariants.{BadWord}
 use Rattle.process_calls.specs.declared.call.MountCall.{MountCall}
@@ -97,6 +100,20 @@ mount_by end ws = do
   read_only ← read_only_by end dir.1
   Ok (Mount (record { fstype = fstype.0; special = special.0; dir = dir.0; read_only = read_only }))
 
+-- TEXT: the rest of the line behind one space, whatever spaces it has, or nothing
+abbrev pub spaced : List Word → List ℕ
+spaced ws = join_with_byte 32 (map (λ w. w.bytes) ws)
+
+-- a byte that isn't printable is wrong where it stands
+abbrev pub cons_read : ℕ → Result (List ℕ) TextFault → Said
+cons_read place (Ok text) = Ok (Cons text)
+cons_read place (Err (BadText at)) = Err (BadWord (place + at))
+cons_read place (Err fault) = Err (BadWord place)
+
+abbrev pub cons_by : ℕ → List Word → Said
+cons_by end [] = Err (BadWord end)
+cons_by end (word ∷ ws) = cons_read word.place (text_of (spaced (word ∷ ws)))
+
 -- the calls of one word
 abbrev pub bare_call : List ℕ → Option Call
 bare_call word =
@@ -108,6 +125,7 @@ bare_call word =
     else if bytes_eq word (codes "datasets") then Some Datasets
     else if bytes_eq word (codes "devices") then Some Devices
     else if bytes_eq word (codes "zonename") then Some Zonename
+    else if bytes_eq word (codes "bootargs") then Some Bootargs
     else if bytes_eq word (codes "true") then Some True
     else if bytes_eq word (codes "false") then Some False
     else None
@@ -123,6 +141,7 @@ call_by end first ws =
     else if bytes_eq first.bytes (codes "umount") then made path_in Umount end ws
     else if bytes_eq first.bytes (codes "read") then made path_in Read end ws
     else if bytes_eq first.bytes (codes "write") then made path_in Write end ws
+    else if bytes_eq first.bytes (codes "cons") then cons_by end ws
     else last bare_call end (first ∷ ws)
 
 abbrev pub call_of_words : ℕ → List Word → Said
@@ -157,6 +176,8 @@ call_text Links = codes "links"
 call_text Datasets = codes "datasets"
 call_text Devices = codes "devices"
 call_text Zonename = codes "zonename"
+call_text Bootargs = codes "bootargs"
+call_text (Cons text) = codes "cons " ++ text
 call_text True = codes "true"
 call_text False = codes "false"
 
@@ -172,6 +193,7 @@ is_call (Drop number) = nat_lt number (length privileges)
 is_call (Mount mount) = is_mount mount
 is_call (Umount dir) = is_path dir
 is_call (Read path) = is_path path
+is_call (Cons text) = is_text text
 is_call (Write path) = is_path path
 is_call Exit = true
 is_call Ps = true
@@ -181,5 +203,6 @@ is_call Links = true
 is_call Datasets = true
 is_call Devices = true
 is_call Zonename = true
+is_call Bootargs = true
 is_call True = true
 is_call False = true

@@ -88,6 +88,10 @@ pub enum Call {
     Devices,
     /// The name of the zone, by zonename(1).
     Zonename,
+    /// The arguments with which the zone was booted.
+    Bootargs,
+    /// A line is written to the zone's console, by zcons(4D).
+    Cons(Text),
     /// What does nothing and succeeds, by true(1).
     True,
     /// What does nothing and fails, by false(1).

@@ -1,11 +1,12 @@
 //! Calls, read.
-ghost use Rattle.std.specs.Prelude.{◌≡◌, ◌≤◌, ◌∷◌, IfErr, IfOk, IsTrue, length};
+ghost use Rattle.std.specs.Prelude.{◌≡◌, ◌≤◌, ◌<◌, ◌+◌, ◌^◌, ◌∷◌, IfErr, IfOk, IsTrue, length};
 ghost use Rattle.std.specs.Char.{is_ascii_graphic};
 ghost use Rattle.std.specs.List.{list_all};
 ghost use Rattle.zn_base.specs.Answers.{AnswersUnless};
 ghost use Rattle.zn_base.specs.Names.{is_letter_or_digit, is_name_byte};
+ghost use Rattle.zn_base.specs.Text.{text_of};
 ghost use Rattle.priv_sets.specs.Table.{number_of};
-ghost use Rattle.process_calls.specs.Calls.{bare_call, call_by, call_of, is_call, is_fstype, is_process_name, is_special, kill_by, made, mount_by, name_in, path_in, pid_in, read_only_by, signal_in};
+ghost use Rattle.process_calls.specs.Calls.{bare_call, call_by, call_of, cons_by, cons_read, is_call, is_fstype, is_process_name, is_special, kill_by, made, mount_by, name_in, path_in, pid_in, read_only_by, signal_in};
 ghost use Rattle.process_calls.specs.Reading.{as_word, end_of};
 ghost use Rattle.process_calls.specs.Words.{IsWithin, last, words_behind};
 
@@ -14,7 +15,7 @@ use crate::{BoxedMount, Call, CallFault, MountCall};
 use kernel_objects::Signal;
 use priv_sets::number_of;
 use std::alloc::Global;
-use zn_base::{AbsPath, Text, is_name_byte, is_path, read_decimal};
+use zn_base::{AbsPath, Text, TextFault, is_name_byte, is_path, read_decimal};
 
 // The greatest length of a process's name.
 const NAME_MAX: usize = 16;
@@ -106,6 +107,8 @@ fn bare_call(word: &[u8]) -> Option<Call>
         Some(Call::Devices)
     } else if word == b"zonename".as_slice() {
         Some(Call::Zonename)
+    } else if word == b"bootargs".as_slice() {
+        Some(Call::Bootargs)
     } else if word == b"true".as_slice() {
         Some(Call::True)
     } else if word == b"false".as_slice() {
@@ -226,6 +229,31 @@ fn read_path(alloc: Global, text: &[u8], behind: usize) -> Result<AbsPath, CallF
     Ok(AbsPath::of(alloc, word.bytes)?)
 }
 
+// A line for the console, which stands at a place.
+fn read_line(alloc: Global, line: &[u8], place: usize) -> Result<Call, CallFault>
+    requires { place + length line.now < 2 ^ 64 }
+    ensures { AnswersUnless CallFault.Memory (cons_read place (text_of line.now)) result }
+{
+    match Text::read(alloc, line) {
+        Ok(line) => Ok(Call::Cons(line)),
+        Err(TextFault::Memory) => Err(CallFault::Memory),
+        Err(TextFault::BadText(at)) => Err(CallFault::BadWord(place + at)),
+        Err(TextFault::TextLong) => Err(CallFault::BadWord(place)),
+    }
+}
+
+// A line for the console: the rest of the text behind one space.
+fn read_cons(alloc: Global, text: &[u8], behind: usize) -> Result<Call, CallFault>
+    requires { behind ≤ length text.now }
+    ensures { AnswersUnless CallFault.Memory (cons_by (length text.now) (words_behind text.now behind)) result }
+{
+    if behind == text.len() {
+        return Err(CallFault::BadWord(behind));
+    }
+    let place = behind + 1;
+    read_line(alloc, &text[place..], place)
+}
+
 // A call of one word, and no more.
 fn read_bare(text: &[u8], word: Word<'_>) -> Result<Call, CallFault>
     requires { end_of word ≤ length text.now }
@@ -259,6 +287,8 @@ fn read_by(alloc: Global, text: &[u8], word: Word<'_>) -> Result<Call, CallFault
         Ok(Call::Read(read_path(alloc, text, word.end())?))
     } else if word.bytes == b"write".as_slice() {
         Ok(Call::Write(read_path(alloc, text, word.end())?))
+    } else if word.bytes == b"cons".as_slice() {
+        read_cons(alloc, text, word.end())
     } else {
         read_bare(text, word)
     }
@@ -266,12 +296,12 @@ fn read_by(alloc: Global, text: &[u8], word: Word<'_>) -> Result<Call, CallFault
 
 /// The call that a text spells: `fork NAME`, `exec NAME`, `exit`, `kill SIG PID`, `ps`, `privs`, `drop PRIV`,
 /// `mount TYPE SPECIAL DIR`, `mount TYPE SPECIAL DIR ro`, `umount DIR`, `read PATH`, `write PATH`, `mounts`, `links`,
-/// `datasets`, `devices`, `zonename`, `true` or `false`, with one space between two words. NAME is 1 to 16 letters,
-/// digits, `_`, `-` and `.`, SIG is 0, 9 or 15, PID a decimal number without leading zeros of at most 4,294,967,295, and
-/// PRIV a name of privileges(7). TYPE is 1 to 15 letters and digits, DIR and PATH are absolute paths as `AbsPath` has
-/// them, and SPECIAL is such a path where TYPE is `lofs`, else 1 to 4,200 printable bytes other than space. Where the
-/// text spells no call, the place of its first wrong or missing word is answered; a word too many is a wrong one, and so
-/// is an empty one.
+/// `datasets`, `devices`, `zonename`, `bootargs`, `cons TEXT`, `true` or `false`, with one space between two words. NAME
+/// is 1 to 16 letters, digits, `_`, `-` and `.`, SIG is 0, 9 or 15, PID a decimal number without leading zeros of at most
+/// 4,294,967,295, and PRIV a name of privileges(7). TYPE is 1 to 15 letters and digits, DIR and PATH are absolute paths as
+/// `AbsPath` has them, and SPECIAL is such a path where TYPE is `lofs`, else 1 to 4,200 printable bytes other than space.
+/// TEXT is the rest, of printable bytes, which may be none. Where the text spells no call, the place of its first wrong or
+/// missing word is answered; a word too many is a wrong one, and so is an empty one.
 pub fn read_call(alloc: Global, text: &[u8]) -> Result<Call, CallFault>
     ensures call { AnswersUnless CallFault.Memory (call_of text.now) result }
     ensures right { IfOk result (λ call. IsTrue (is_call call)) }

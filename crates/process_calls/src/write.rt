@@ -62,6 +62,8 @@ pub fn push_call(text: &mut Vec<u8>, call: &Call) -> Result<(), AllocError>
         Call::Datasets => text.extend_from_slice(b"datasets"),
         Call::Devices => text.extend_from_slice(b"devices"),
         Call::Zonename => text.extend_from_slice(b"zonename"),
+        Call::Bootargs => text.extend_from_slice(b"bootargs"),
+        Call::Cons(line) => push_both(text, b"cons ", line.bytes()),
         Call::True => text.extend_from_slice(b"true"),
         Call::False => text.extend_from_slice(b"false"),
     }

@@ -126,8 +126,11 @@ asks_made novelty.Nothing z row told c = (refl, λ n. refl)
 pub asks_case : (d : Desk) (c : Case) → AsksWell (decision_of d c)
 asks_case d (cases.Says head) = tt
 asks_case d (cases.Tells body) = tt
-asks_case d (cases.Change edit) = tt
-asks_case d (cases.Fork p) = (refl, tt)
+asks_case d (cases.Change edit m) = tt
+asks_case d (cases.Fork p m) = (refl, tt)
+asks_case d (cases.Write line m) = tt
+asks_case d (cases.Login l) = (refl, tt)
+asks_case d (cases.AtConsole c) = tt
 asks_case d (cases.Answers reply) = tt
 asks_case d (cases.Sit s) = tt
 asks_case d (cases.Commit c) = asks_made c.value.novelty c.value.owner c.value.row.value c.value.told c.value.committer

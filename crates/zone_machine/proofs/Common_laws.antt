@@ -24,7 +24,7 @@ use Rattle.zone_machine.proofs.Own_worlds.{decide-world, need-world, own_session
 use Rattle.zoneadmd_steps.specs.Arrivals.{Arrival, New_claim, New_id, New_process, New_record, No_new_thing}
 use Rattle.zone_machine.specs.Machine.Common.{Common, HoldOnce, acts_common, came_common, common, holds_claim, holds_pid, holds_session, holds_zid, is_up, whole_common}
 use Rattle.zone_machine.specs.State.Decisions.{Act, act_of, acts, acts_world, after_came}
-use Rattle.zone_machine.specs.State.Edits.{Edit, Of_objects, comes, edit, edits}
+use Rattle.zone_machine.specs.State.Edits.{Edit, Of_objects, comes, console_gone, edit, edits, keeps_console}
 use Rattle.zone_machine.specs.Session.Lines.{Command, Kill, Line, line_of}
 use Rattle.zone_machine.specs.Machine.{decide, holder, line_subject, need, one, one_of, session_number, session_subject, started, subject, whole}
 use Rattle.kernel_objects.specs.Processes.{Process, has_pid}
@@ -78,6 +78,10 @@ used-push bodies b = let more = blocks-push bodies b in omega (arith, more)
 used-more : (commits : List Commit) (c : Commit) → bytes_used (commits ++ c ∷ []) ≡ bytes_used commits + 5 + length (body_text c)
 used-more commits c = ap used_by (map-append body_text commits (c ∷ [])) ∙ used-push (bodies_of commits) (body_text c)
 
+rest-gone : (z : Name) (keeps : Bool) (S : State) → rest (console_gone z keeps S) ≡ rest S
+rest-gone z true S = refl
+rest-gone z false S = refl
+
 rest-came : (z : Name) (a : Option Arrival) (S : State) → rest (after_came z a S) ≡ rest_in (came_common z a (common S))
 unfolding comes
 rest-came z None S = refl
@@ -90,7 +94,8 @@ rest-came z (Some (New_record row)) S =
     let rows = stored-push S.commits c in
     let count : length (S.commits ++ c ∷ []) ≡ length S.commits + 1 = length-append S.commits (c ∷ []) in
     let bytes = used-more S.commits c in
-    λ i. record { rows = rows i; serial = count i; used = bytes i; last_pid = S.last_pid; last_zid = S.last_zid; declared = S.declared; brands = S.brands }
+    rest-gone z (keeps_console row) (record S { commits = S.commits ++ c ∷ [] })
+    ∙ (λ i. record { rows = rows i; serial = count i; used = bytes i; last_pid = S.last_pid; last_zid = S.last_zid; declared = S.declared; brands = S.brands })
 
 -- what comes is held only once its world shows it
 held-came : (z : Name) (a : Option Arrival) (S : State) → record (came_common z a (common S)) { rows = rows.stored S.commits; serial = length S.commits; used = bytes_used S.commits; last_pid = S.last_pid; last_zid = S.last_zid } ≡ common S

@@ -17,17 +17,18 @@ use Rattle.zone_pools.specs.Owners.{held_by, is_owner, owner}
 use Rattle.commit_journal.proofs.Zones.{placed_is}
 use Rattle.commit_journal.specs.Zones.{rows_of}
 use Rattle.zone_machine.proofs.Acts_laws.{same_other}
-use Rattle.zone_machine.proofs.Doings_laws.{some_wait}
+use Rattle.zone_machine.proofs.Doings_laws.{some_ended}
 use Rattle.zone_machine.specs.Code.Cells.{Acts, Agree, Does, cell_world, common_in, declared_in, is_up_in, kept, outside_in, row_in}
 use Rattle.zoneadmd_steps.specs.Objects.{ids_of, has_zid}
-use Rattle.zone_machine.specs.Code.Doings.{as_doing, is_wait_for, sits, unless_ended, waits_for}
-use Rattle.zone_machine.specs.Code.Works.{arrival_by, work_world, Works, rest_of, work_act}
+use Rattle.zone_machine.specs.Code.Consoles.{console_edits, console_in}
+use Rattle.zone_machine.specs.Code.Doings.{as_doing, ends_with, is_ended, sits, sweep_of, swept_by, unless_ended}
+use Rattle.zone_machine.specs.Code.Works.{arrival_by, with_row, work_world, Works, rest_of, work_act}
 use Rattle.datalink_table.specs.Claims.{holds}
 use Rattle.datalink_table.specs.Shared.{holder}
 use Rattle.datalink_table.specs.declared.claims.Claim.{Claim}
 use Rattle.zone_machine.specs.Machine.Common.{Common, came_common, holding, holds_claim, holds_pid, holds_zid, standing}
-use Rattle.zone_machine.specs.State.Edits.{Edit, Here, Of_objects, Set_desk, at_session, comes_world, edit_world, edits_world, swept_doing}
-use Rattle.zone_machine.specs.State as state
+use Rattle.zone_machine.specs.State.Edits.{Edit, Here, Of_objects, Set_desk, at_session, console_gone_world, edit_world, edits_world, keeps_console, swept_doing}
+use Rattle.console_link.specs.Consoles.{Console, new_console}
 use Rattle.zone_machine.specs.State.Worlds.{World}
 use Rattle.zone_machine.specs.declared.machine.cell.Cell.{Cell}
 use Rattle.kernel_objects.specs.Processes.{has_pid}
@@ -37,11 +38,13 @@ use Rattle.zone_machine.specs.declared.machine.shared.Shared.{Shared}
 use Rattle.zoneadmd_steps.specs.declared.objects.changes.ObjectEdit.TheVariants.{EndIds, EndProcesses}
 use Rattle.zoneadmd_steps.specs.declared.objects.changes.ObjectEdit.TheVariants as object
 use Rattle.zoneadmd_steps.specs.Arrivals.{Arrival, New_claim, New_id, New_process, New_record, No_new_thing, in_kernel, in_store}
-use Rattle.zone_machine.specs.State.Decisions.{Act, acts_world, after_came_world, sweeps, ticket_ended}
+use Rattle.zone_machine.specs.State.Decisions.{Act, acts_world, after_came_world, sweeps}
 use Rattle.zone_machine.specs.Code.Rooms.{IsOpenTo}
 use Rattle.zone_machine.specs.declared.cases.Sitting.{Sitting}
 use Rattle.zone_machine.specs.declared.session.doings.Doing.{Doing}
-use Rattle.zone_machine.specs.declared.session.doings.Doing.TheVariants.{Awaits, Edits}
+use Rattle.zone_machine.specs.declared.session.doings.Doing.TheVariants.{AtConsole, Awaits, Edits, LoggedIn}
+use Rattle.zone_machine.specs.declared.session.doings.Ended.{Ended}
+use Rattle.zone_machine.specs.declared.session.doings.Ended.TheVariants.{Console as Console_ends, Process, Processes, Ticket}
 use Rattle.zone_machine.specs.declared.machine.work.Work.{Work}
 use Rattle.zoneadmd_steps.specs.declared.objects.changes.ObjectEdit.{ObjectEdit}
 use Rattle.zoneadmd_steps.specs.declared.desks.Desk.{Desk}
@@ -92,7 +95,7 @@ common_by z w g t doings pids zids claims sessions seen up rows serial used last
   started = started i;
 }
 
--- a session does something or nothing from now on, or those of a ticket wait no more; d is the cell with what sessions do then
+-- a session does something or nothing from now on, or what some did ends; d is the cell with what sessions do then
 pub does_sits : (z : Name) (c d : Cell) (s t : Shared) (k : ℕ) (x : Option Doing) → IsOpenTo z (owner nat_eq s.sessions k)
     → ((n : ℕ) → owner nat_eq t.sessions n ≡ (if nat_eq k n then option_map (λ _. z) x else owner nat_eq s.sessions n))
     → ((n : ℕ) → get nat_eq d.doings n ≡ at_session (Some k) n x (get nat_eq c.doings n))
@@ -131,41 +134,80 @@ does_sits z c d s t k x is_open taken h = record {
     there y ne n x true e = not_then y ne x ∙ sym (subst (λ m. is_owner y (owner nat_eq s.sessions m) ≡ false) (eqb-true k n e) (not_mine y ne (owner nat_eq s.sessions k) is_open))
     there y ne n x false e = refl
 
-pub does_ends : (z : Name) (c d : Cell) (s t : Shared) (ticket : ℕ) → ((n : ℕ) → get nat_eq d.doings n ≡ unless_ended ticket (get nat_eq c.doings n))
-    → ((n : ℕ) → owner nat_eq t.sessions n ≡ (if is_wait_for ticket (get nat_eq c.doings n) then None else owner nat_eq s.sessions n))
-    → (n : Option ℕ) → Does z (edits_world n (sweeps (Some ticket))) kept c s (record c { doings = d.doings }) (record s { sessions = t.sessions })
-does_ends z c d s t ticket h given n = record {
+-- one test, of what a session does
+swept_if : (b : Bool) (d : Doing) → option_map as_doing (if b then None else Some d) ≡ (if b then None else Some (as_doing d))
+swept_if true d = refl
+swept_if false d = refl
+
+swept_as : (e : Ended) (o : Option Doing) → option_map as_doing (unless_ended e o) ≡ swept_doing (sweep_of e) (option_map as_doing o)
+swept_as (Ticket t) None = refl
+swept_as (Process pid) None = refl
+swept_as Processes None = refl
+swept_as Console_ends None = refl
+swept_as (Ticket t) (Some (Awaits u)) = swept_if (nat_eq t u) (Awaits u)
+swept_as (Ticket t) (Some (Edits e)) = refl
+swept_as (Ticket t) (Some (LoggedIn p escape)) = refl
+swept_as (Ticket t) (Some (AtConsole escape)) = refl
+swept_as (Process pid) (Some (Awaits u)) = refl
+swept_as (Process pid) (Some (Edits e)) = refl
+swept_as (Process pid) (Some (LoggedIn p escape)) = swept_if (nat_eq pid p) (LoggedIn p escape)
+swept_as (Process pid) (Some (AtConsole escape)) = refl
+swept_as Processes (Some (Awaits u)) = refl
+swept_as Processes (Some (Edits e)) = refl
+swept_as Processes (Some (LoggedIn p escape)) = refl
+swept_as Processes (Some (AtConsole escape)) = refl
+swept_as Console_ends (Some (Awaits u)) = refl
+swept_as Console_ends (Some (Edits e)) = refl
+swept_as Console_ends (Some (LoggedIn p escape)) = refl
+swept_as Console_ends (Some (AtConsole escape)) = refl
+
+pub does_ends : (z : Name) (c d : Cell) (s t : Shared) (e : Ended) → ((n : ℕ) → get nat_eq d.doings n ≡ unless_ended e (get nat_eq c.doings n))
+    → ((n : ℕ) → owner nat_eq t.sessions n ≡ (if is_ended e (get nat_eq c.doings n) then None else owner nat_eq s.sessions n))
+    → Does z (swept_by e) kept c s (record c { doings = d.doings }) (record s { sessions = t.sessions })
+does_ends z c d s t e h given = record {
   world = λ a i. record (cell_world (outside_in z s) c) { sessions = λ n. doings n i };
-  common = λ a. common_by z (record (cell_world (outside_in z s) c) { sessions = λ n. swept_doing (ticket_ended ticket) (option_map as_doing (get nat_eq c.doings n)) }) (common_in s)
+  common = λ a. common_by z (swept_by e (cell_world (outside_in z s) c)) (common_in s)
       (record s { sessions = t.sessions }) (get nat_eq d.doings) (same_pids z c s a) (same_zids z c s a) (same_claims z c s a)
-      (gone_column z (λ n. is_some (get nat_eq c.doings n)) (λ n. is_some (get nat_eq d.doings n)) (λ n. is_wait_for ticket (get nat_eq c.doings n)) (owner nat_eq s.sessions) (owner nat_eq t.sessions)
-      a.sessions (λ n. some_wait ticket (get nat_eq c.doings n)) given (λ n. ap is_some (h n) ∙ less (get nat_eq c.doings n)))
+      (gone_column z (λ n. is_some (get nat_eq c.doings n)) (λ n. is_some (get nat_eq d.doings n)) (λ n. is_ended e (get nat_eq c.doings n)) (owner nat_eq s.sessions) (owner nat_eq t.sessions)
+      a.sessions (λ n. some_ended e (get nat_eq c.doings n)) given (λ n. ap is_some (h n) ∙ less (get nat_eq c.doings n)))
       (λ n. ap is_some (sym (doings n)) ∙ holds_doing (get nat_eq d.doings n)) refl refl refl refl refl refl refl refl refl;
 }
   where
-    mapped : (o : Option Doing) → option_map as_doing (unless_ended ticket o) ≡ swept_doing (ticket_ended ticket) (option_map as_doing o)
-    mapped None = refl
-    mapped (Some (Edits e)) = refl
-    mapped (Some (Awaits u)) = rw (nat_eq_equiv.symm u ticket) (at_test (nat_eq ticket u))
-      where
-        at_test : (b : Bool) → option_map as_doing (if b then None else Some (Awaits u)) ≡ (if b then None else Some (state.Awaiting u))
-        at_test true = refl
-        at_test false = refl
+    doings : (n : ℕ) → option_map as_doing (get nat_eq d.doings n) ≡ swept_doing (sweep_of e) (option_map as_doing (get nat_eq c.doings n))
+    doings n = ap (option_map as_doing) (h n) ∙ swept_as e (get nat_eq c.doings n)
 
-    doings : (n : ℕ) → option_map as_doing (get nat_eq d.doings n) ≡ swept_doing (ticket_ended ticket) (option_map as_doing (get nat_eq c.doings n))
-    doings n = ap (option_map as_doing) (h n) ∙ mapped (get nat_eq c.doings n)
-
-    less : (o : Option Doing) → is_some (unless_ended ticket o) ≡ (is_some o && not (is_wait_for ticket o))
+    less : (o : Option Doing) → is_some (unless_ended e o) ≡ (is_some o && not (is_ended e o))
     less None = refl
-    less (Some u) = at_test (waits_for ticket u)
+    less (Some u) = at_test (ends_with e u)
       where
         at_test : (b : Bool) → is_some (if b then None else Some u) ≡ not b
         at_test true = refl
         at_test false = refl
 
+-- a session that is nobody's or the zone's stays so
+pub open_ended : (z : Name) (b : Bool) (o : Option Name) → IsOpenTo z o → IsOpenTo z (if b then None else o)
+open_ended z true o h = inl refl
+open_ended z false o h = h
+
+-- a console is gone, which the cell has as new then, if at all, once those at it do something else
+pub does_renew : (z : Name) (c d : Cell) (s : Shared) → console_in d.console ≡ new_console → Does z (λ w. record w { console = new_console }) kept c s (record c { console = d.console }) s
+does_renew z c d s new = record {
+  world = λ a i. record (cell_world (outside_in z s) c) { console = new i };
+  common = λ a. common_by z (record (cell_world (outside_in z s) c) { console = new_console }) (common_in s) s (get nat_eq c.doings) (same_pids z c s a) (same_zids z c s a) (same_claims z c s a) (same_sessions z c s a)
+      (λ n. holds_doing (get nat_eq c.doings n)) refl refl refl refl refl refl refl refl refl;
+}
+
+-- what becomes of a console
+pub does_console : (z : Name) (f : Console → Console) (c d : Cell) (s : Shared) → console_in d.console ≡ f (console_in c.console) → Does z (λ w. record w { console = f w.console }) kept c s (record c { console = d.console }) s
+does_console z f c d s is = record {
+  world = λ a i. record (cell_world (outside_in z s) c) { console = is i };
+  common = λ a. common_by z (record (cell_world (outside_in z s) c) { console = f (console_in c.console) }) (common_in s) s (get nat_eq c.doings) (same_pids z c s a) (same_zids z c s a) (same_claims z c s a) (same_sessions z c s a)
+      (λ n. holds_doing (get nat_eq c.doings n)) refl refl refl refl refl refl refl refl refl;
+}
+
 -- a record is stored
 pub does_record : (z : Name) (c : Cell) (s t : Shared) (r : Record) → t.rows.entries ≡ insert_entry bytes_eq s.rows.entries z r → row_in z t ≡ Some r
-    → Does z (comes_world (New_record (Some r))) (came_common z (Some (New_record (Some r)))) c s c (record s { rows = t.rows; serial = s.serial + 1; used = s.used + (5 + length (change_text z (Some r))) })
+    → Does z (with_row (Some r)) (came_common z (Some (New_record (Some r)))) c s c (record s { rows = t.rows; serial = s.serial + 1; used = s.used + (5 + length (change_text z (Some r))) })
 does_record z c s t r h found = record {
   world = λ a i. record (cell_world (outside_in z s) c) { stored = found i };
   common = λ a. common_by z (record (cell_world (outside_in z s) c) { stored = Some r }) (record (common_in s) { rows = placed z r (rows_of s.rows.entries); serial = s.serial + 1; used = s.used + 5 + length (change_text z (Some r)) })
@@ -174,7 +216,7 @@ does_record z c s t r h found = record {
 }
 
 pub does_removal : (z : Name) (c : Cell) (s t : Shared) → rows_of t.rows.entries ≡ without z (rows_of s.rows.entries) → row_in z t ≡ None
-    → Does z (comes_world (New_record None)) (came_common z (Some (New_record None))) c s c (record s { rows = t.rows; serial = s.serial + 1; used = s.used + (5 + length (change_text z None)) })
+    → Does z (with_row None) (came_common z (Some (New_record None))) c s c (record s { rows = t.rows; serial = s.serial + 1; used = s.used + (5 + length (change_text z None)) })
 does_removal z c s t h gone = record {
   world = λ a i. record (cell_world (outside_in z s) c) { stored = gone i };
   common = λ a. common_by z (record (cell_world (outside_in z s) c) { stored = None }) (record (common_in s) { rows = without z (rows_of s.rows.entries); serial = s.serial + 1; used = s.used + 5 + length (change_text z None) })
@@ -240,12 +282,12 @@ retaken true z o = refl
 retaken false z o = refl
 
 -- what becomes of the event's session, on a world whose desk is changed to what it was
-pub sits_alone : (n : Option ℕ) (v : World) (d : desks.Desk) (es : List Edit) (x : Option Sitting) → sits x ≡ es → v.desk ≡ d → edits_world n (Set_desk d ∷ (sits x ++ [])) v ≡ edits_world n es v
+pub sits_alone : (n : Option ℕ) (v : World) (d : desks.Desk) (es : List Edit) (x : Option Sitting) → sits x ≡ es → v.desk ≡ d → edits_world n (sits x ++ (Set_desk d ∷ [])) v ≡ edits_world n es v
 sits_alone n v d es x is desk = at_sitting x ∙ ap (λ es. edits_world n es v) is
   where
-    at_sitting : (x : Option Sitting) → edits_world n (Set_desk d ∷ (sits x ++ [])) v ≡ edits_world n (sits x) v
+    at_sitting : (x : Option Sitting) → edits_world n (sits x ++ (Set_desk d ∷ [])) v ≡ edits_world n (sits x) v
     at_sitting None = ap (λ (d : desks.Desk). record v { desk = d }) (sym desk)
-    at_sitting (Some s) = ap (λ (d : desks.Desk). edits_world n (sits (Some s)) (record v { desk = d })) (sym desk)
+    at_sitting (Some s) = ap (λ (d : desks.Desk). record (edits_world n (sits (Some s)) v) { desk = d }) (sym desk)
 
 -- the act of some work on a world whose desk is changed already
 edits-then : (n : Option ℕ) (xs ys : List Edit) (w : World) → edits_world n (xs ++ ys) w ≡ edits_world n ys (edits_world n xs w)
@@ -257,7 +299,11 @@ desk-came None w d = refl
 desk-came (Some (New_process p)) w d = refl
 desk-came (Some (New_id i)) w d = refl
 desk-came (Some (New_claim c)) w d = refl
-desk-came (Some (New_record r)) w d = refl
+desk-came (Some (New_record r)) w d = at_keeps (keeps_console r)
+  where
+    at_keeps : (b : Bool) → console_gone_world b (record w { desk = d; stored = r }) ≡ record (console_gone_world b (record w { stored = r })) { desk = d }
+    at_keeps true = refl
+    at_keeps false = refl
 desk-came (Some No_new_thing) w d = refl
 
 desk-objects : (n : Option ℕ) (o : ObjectEdit) (w : World) (d : desks.Desk) → edits_world n (map Of_objects (object_edits o)) (record w { desk = d }) ≡ record (edits_world n (map Of_objects (object_edits o)) w) { desk = d }
@@ -281,14 +327,22 @@ desk-objects n (object.GiveUp pid number) w d = refl
 desk-objects n (object.SetLimits l) w d = refl
 desk-objects n object.ClearLimits w d = refl
 
+desk-sits : (n : Option ℕ) (x : Option Sitting) (w : World) (d : desks.Desk) → edits_world n (sits x) (record w { desk = d }) ≡ record (edits_world n (sits x) w) { desk = d }
+desk-sits n None w d = refl
+desk-sits n (Some s) w d = refl
+
 work-desk : (n : Option ℕ) (w : World) (d : desks.Desk) (work : Work) → work_world n work (record w { desk = d }) ≡ acts_world n (work_act work d) w
 work-desk n w d work =
     let came = arrival_by work.stored in
     let objects = map Of_objects (object_edits work.objects) in
     let after = after_came_world came w in
-    ap (λ (v : World). edits_world n (sweeps work.ended) (edits_world n (sits work.sits) v)) (ap (edits_world n objects) (desk-came came w d) ∙ desk-objects n work.objects after d)
-    ∙ sym (edits-then n objects (Set_desk d ∷ (sits work.sits ++ sweeps work.ended)) after
-    ∙ edits-then n (sits work.sits) (sweeps work.ended) (record (edits_world n objects after) { desk = d }))
+    let sat = edits_world n (sits work.sits) after in
+    let ends = console_edits work.console ++ sweeps work.ended in
+    ap (λ (v : World). edits_world n (sweeps work.ended) (edits_world n (console_edits work.console) v))
+    (ap (λ v. edits_world n objects (edits_world n (sits work.sits) v)) (desk-came came w d) ∙ (ap (edits_world n objects) (desk-sits n work.sits after d) ∙ desk-objects n work.objects sat d))
+    ∙ sym (edits-then n (sits work.sits) (objects ++ (Set_desk d ∷ ends)) after
+    ∙ (edits-then n objects (Set_desk d ∷ ends) sat
+    ∙ edits-then n (console_edits work.console) (sweeps work.ended) (record (edits_world n objects sat) { desk = d })))
 
 -- so work that does what an act says does it, where the desk is changed before
 pub does_work : (z : Name) (n : Option ℕ) (a : Act) (work : Work) (c d : Cell) (desk : Desk) (s t : Shared) → Works n a (cell_world (outside_in z s) c) (as_desk desk) work

@@ -10,13 +10,14 @@ use Rattle.zone_machine.specs.Calls.{forks}
 use Rattle.zone_machine.specs.Code.Cases.{decision_of}
 use Rattle.zone_machine.specs.State.Decisions.{refused, tells}
 use Rattle.zone_machine.specs.declared.cases.Case.TheVariants.{Fork}
+use Rattle.zone_machine.specs.declared.cases.Manner.TheVariants.{Plain}
 use Rattle.zoneadmd_steps.specs.declared.desks.Desk.{Desk}
 use Rattle.zone_machine.specs.declared.replies.Body.TheVariants.{Child}
 use Rattle.zone_machine.specs.declared.replies.Refusal.TheVariants.{Denied}
 
 -- a process that may fork
 pub may_fork_case : (d : Desk) (p : Process) (name : List ℕ) (o : Option Process) (full : Bool) (r : Running) (b : Box Running Global) → o ≡ Some p → fork_set o full ≡ Ok r.privileges
-    → ((n : ℕ) → IfSome o (λ p. process_of (n, r) ≡ forked p name n)) → b.value ≡ r → forks p name (fork_set (Some p) full) ≡ decision_of d (Fork b)
+    → ((n : ℕ) → IfSome o (λ p. process_of (n, r) ≡ forked p name n)) → b.value ≡ r → forks p name (fork_set (Some p) full) ≡ decision_of d (Fork b Plain)
 may_fork_case d p name o full r b there said made value =
     let set : fork_set (Some p) full ≡ Ok r.privileges = subst (λ o. fork_set o full ≡ Ok r.privileges) there said in
     let child : process_of (0, r) ≡ forked p name 0 = subst (λ o. IfSome o (λ p. process_of (0, r) ≡ forked p name 0)) there (made 0) in

@@ -16,6 +16,7 @@ use Rattle.zone_machine.proofs.Lists_laws.{any-put, none_left}
 use Rattle.zone_machine.specs.Code.Cells.{Agree, Does, cell_world, common_in, kept, outside_in}
 use Rattle.zoneadmd_steps.specs.Objects.{ids_of, has_zid, keeping_pid, keeping_zid}
 use Rattle.zone_machine.specs.Machine.Common.{Common, came_common, holding}
+use Rattle.zone_machine.specs.Code.Works.{without_process}
 use Rattle.zone_machine.specs.State.Edits.{Of_objects, comes_world, edits_world}
 use Rattle.zone_machine.specs.State.Worlds.{World}
 use Rattle.zone_machine.specs.declared.machine.cell.Cell.{Cell}
@@ -211,8 +212,8 @@ module _ (pid : ℕ) (ps : List Process) where
 
 module _ (z : Name) (c : Cell) (s : Shared) (k : Kernel) where
   pub does_end : (t : Kernel_shared) (pid : ℕ) → FreesPids (λ n. nat_eq pid n && is_some (with_pid pid c.kernel.processes)) s.kernel t → k ≡ with_processes (without_pid pid c.kernel.processes) c.kernel
-      → (m : Option ℕ) → Does z (edits_world m (map Of_objects (object_edits (EndProcess pid)))) kept c s (record c { kernel = k }) (record s { kernel = t })
-  does_end t pid frees is m = does_go z c s k t (edits_world m (map Of_objects (object_edits (EndProcess pid)))) (λ n. nat_eq pid n && is_some (with_pid pid c.kernel.processes)) (without_pid pid c.kernel.processes)
+      → Does z (without_process pid) kept c s (record c { kernel = k }) (record s { kernel = t })
+  does_end t pid frees is = does_go z c s k t (without_process pid) (λ n. nat_eq pid n && is_some (with_pid pid c.kernel.processes)) (without_pid pid c.kernel.processes)
       frees is refl (ended_held pid c.kernel.processes) (ended_less pid c.kernel.processes)
 
   -- each process becomes another of its number

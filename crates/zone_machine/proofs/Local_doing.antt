@@ -1,5 +1,5 @@
 -- A local turn on its zone's cell: what is done to the cell is what the turn does to the zone's world.
-use Rattle.std.proofs.Common.{◌≡◌, ◌∷◌, ◌++◌, [], ℕ, List, Option, Some, None, map, refl, ap, subst, sym, ◌∙◌}
+use Rattle.std.proofs.Common.{◌≡◌, ◌∷◌, ◌++◌, [], ℕ, Bool, true, false, List, Option, Some, None, map, refl, ap, subst, sym, ◌∙◌}
 use Rattle.std.specs.Prelude.{IsSomeAnd}
 use Rattle.zn_base.specs.Names.{Name}
 use Rattle.zone_pools.specs.Decisions as decisions
@@ -7,6 +7,8 @@ use Rattle.zone_pools.specs.Decisions.{Ask, Just}
 use Rattle.zone_pools.specs.declared.grant.Grant.TheVariants.{Nothing}
 use Rattle.zone_machine.proofs.Local_laws.{Local, is-local, local-one, not-local, stays, subject-turn, world-after}
 use Rattle.zone_machine.specs.Code.Works.{arrival_by, turned_act, Works, rest_of, told_by}
+use Rattle.zone_machine.specs.Code.Consoles.{console_edits}
+use Rattle.zone_machine.specs.declared.cases.ConsoleEdit.TheVariants as console
 use Rattle.zone_machine.specs.Code.Doings.{sits}
 use Rattle.zone_machine.proofs.Turned_laws.{has-turned}
 use Rattle.zoneadmd_steps.specs.Arrivals.{Arrival}
@@ -17,7 +19,7 @@ use Rattle.zoneadmd_steps.specs.Objects.{ids_of, Object_edit, Processes_go, devi
 use Rattle.zone_machine.specs.State.Decisions.{Decision, act_of, acts_world, after_came_world, effects, says, sweeps, turned}
 use Rattle.zoneadmd_steps.specs.Desks as desks
 use Rattle.zoneadmd_steps.specs.Code.Desks.{as_desk}
-use Rattle.zone_machine.specs.State.Edits.{Of_objects, Set_desk, edit_world, edits_world}
+use Rattle.zone_machine.specs.State.Edits.{Of_objects, Set_desk, console_gone_world, edit_world, edits_world, keeps_console}
 use Rattle.zone_machine.specs.Code.Local_turns.{After, HasNoNext, IsDone, IsLocalTurn, IsNotLocal}
 use Rattle.zone_machine.specs.Machine.{Answered, one, subject}
 use Rattle.zoneadmd_steps.specs.Turns.{Turn_decision, Turned, local_turn}
@@ -50,7 +52,11 @@ has-ids n a w apart = ids-edits n a.effect.objects a.effect.desk a.effect.ended 
 
 stored_apart : (s : Storing) (v : World) → (after_came_world (arrival_by s) v).ids ≡ v.ids
 stored_apart storing.Nothing v = refl
-stored_apart (storing.Row s) v = refl
+stored_apart (storing.Row s) v = at_keeps (keeps_console (Some s.row.value))
+  where
+    at_keeps : (b : Bool) → (console_gone_world b (record v { stored = Some s.row.value })).ids ≡ v.ids
+    at_keeps true = refl
+    at_keeps false = refl
 stored_apart (storing.Removal z) v = refl
 
 devices-edits : (n : Option ℕ) (es : List Object_edit) (d : desks.Desk) (ended : Option ℕ) (w : World) → (edits_world n (map Of_objects es ++ Set_desk d ∷ sweeps ended) w).devices ≡ devices_after es w.devices
@@ -64,7 +70,11 @@ has-devices n a w apart = devices-edits n a.effect.objects a.effect.desk a.effec
 
 stored_beside : (s : Storing) (v : World) → (after_came_world (arrival_by s) v).devices ≡ v.devices
 stored_beside storing.Nothing v = refl
-stored_beside (storing.Row s) v = refl
+stored_beside (storing.Row s) v = at_keeps (keeps_console (Some s.row.value))
+  where
+    at_keeps : (b : Bool) → (console_gone_world b (record v { stored = Some s.row.value })).devices ≡ v.devices
+    at_keeps true = refl
+    at_keeps false = refl
 stored_beside (storing.Removal z) v = refl
 
 -- what becomes of a cell's world
@@ -75,15 +85,15 @@ pub record Lasts (o : ObjectEdit) (t : Turned) (d : desks.Desk) (v : World) : Ty
   pub desk : d ≡ t.desk
 
 -- what settling a turn tells to do leaves the mounts, the ids and the desk that the turn leaves
-pub settled : (decided : Decision) (t : Turned) (d : desks.Desk) (w : Work) (v : World) → decided ≡ effects turned (Just t) → w.sits ≡ None → Works None (rest_of (act_of decided Nothing)) v d w
+pub settled : (decided : Decision) (t : Turned) (d : desks.Desk) (w : Work) (v : World) → decided ≡ effects turned (Just t) → w.sits ≡ None → w.console ≡ console.Nothing → Works None (rest_of (act_of decided Nothing)) v d w
     → Lasts w.objects t d v
-settled decided t d w v is sat works =
+settled decided t d w v is sat still works =
     let told : decisions.Act Arrival Turned = record { came = arrival_by w.stored; effect = record { objects = object_edits w.objects; desk = d; ended = w.ended; reply = Idle } } in
     let done : decisions.Act Arrival Turned = record { came = None; effect = t } in
     let left = has-turned None told v in let right = has-turned None done v in
     let left_ids = has-ids None told v (stored_apart w.stored) in let right_ids = has-ids None done v (λ w. refl) in
     let same : acts_world None (turned_act told) v ≡ acts_world None (turned_act done) v =
-    sym (ap (λ s. acts_world None (record { came = arrival_by w.stored; effect = record { edits = map Of_objects (object_edits w.objects) ++ (Set_desk d ∷ (sits s ++ sweeps w.ended)); reply = told_by w } }) v) sat)
+    sym (λ i. acts_world None (record { came = arrival_by w.stored; effect = record { edits = sits (sat i) ++ (map Of_objects (object_edits w.objects) ++ (Set_desk d ∷ (console_edits (still i) ++ sweeps w.ended))); reply = told_by w } }) v)
     ∙ (works.world ∙ ap (λ x. acts_world None (rest_of (act_of x Nothing)) v) is) in
     record {
       mounts = sym left.mounts ∙ (ap (λ (u : World). u.mounts) same ∙ right.mounts);

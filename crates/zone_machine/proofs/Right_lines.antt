@@ -12,7 +12,7 @@ use Rattle.zn_base.specs.Path.{is_path}
 use Rattle.zn_base.specs.Text.{is_text, is_text_byte}
 use Rattle.zone_pools.specs.Firsts.{is_nil}
 use Rattle.zone_machine.specs.Code.Lines.{IsRight}
-use Rattle.zone_machine.specs.Session.Lines.{Ask, Command, Clone, Help, Hold, Kill, List_one, List_zones, Release, Unknown, Verify, ◌>>=◌, after_word, are_args, args_text, at_end, command_by, command_of, dir_words, form_word, from_word, general_command, general_subcommand, is_space, joined, kill_command, line_of, list_one_command, list_zones_command, move_path, next_word, options_word, past_spaces, past_word, request_command, request_word, subcommand, tool_command, uninstall_command, words, zone_command, zonecfg_command}
+use Rattle.zone_machine.specs.Session.Lines.{Ask, Clone, Command, Console, Help, Hold, Kill, List_one, List_zones, Login, Release, Unknown, Verify, after_word, are_args, args_text, at_end, attended_by, command_by, command_of, dir_words, entered_command, escape_words, form_word, from_word, general_command, general_subcommand, is_escape_option, is_space, joined, kill_command, line_of, list_one_command, list_zones_command, move_path, named, next_word, options_word, past_spaces, past_word, request_command, request_word, subcommand, tool_command, uninstall_command, words, zlogin_command, zone_command, zonecfg_command, ◌>>=◌}
 use Rattle.zoneadmd_steps.specs.declared.requests.Request.{Request}
 use Rattle.zoneadmd_steps.specs.declared.requests.Request.TheVariants as request
 
@@ -261,11 +261,29 @@ kill_right : (ws : List (List ℕ)) → Right (kill_command ws)
 kill_right ws =
     then_right (next_word ws) _ (λ r e. then_right (signal_in r.0) _ (λ signal e. then_right (next_word r.1) _ (λ r e. then_right (pid_in r.0) _ (λ pid e. end_right (Kill signal pid) r.1 tt))))
 
+named_right : (c : Command) (ws : List (List ℕ)) → IsRight c → Right (named c ws)
+named_right c ws h = then_right (next_word ws) _ (λ name e. end_right c name.1 h)
+
+attended_right : (escape : Option ℕ) (word : List ℕ) (more : List (List ℕ)) → Right (attended_by escape word more)
+attended_right escape word more = either_right (bytes_eq word (codes "-C")) _ _ (named_right (Console escape) more tt) (end_right (Login escape) more tt)
+
+entered_right : (text : List ℕ) (ws : List (List ℕ)) → Right (Some (entered_command text ws))
+entered_right text [] = tt
+entered_right text (word ∷ more) = tt
+
+zlogin_right : (text : List ℕ) (ws : List (List ℕ)) → Right (zlogin_command text ws)
+zlogin_right text ws =
+    then_right (next_word ws) _ (λ word e.
+    either_right (bytes_eq word.0 (codes "-C")) _ _ (then_right (escape_words word.1) _ (λ escape e. named_right (Console escape.0) escape.1 tt))
+    (either_right (is_escape_option word.0) _ _ (then_right (escape_words (word.0 ∷ word.1)) _ (λ escape e. then_right (next_word escape.1) _ (λ r e. attended_right escape.0 r.0 r.1)))
+    (entered_right (from_word 2 text) word.1)))
+
 command_right : (text : List ℕ) (ws : List (List ℕ)) → length text ≤ 4200 → Kept ws → IsRight (command_of text ws)
 command_right text [] short h = tt
 command_right text (word ∷ more) short h =
     at_answer (command_by text word more)
-    (either_right (bytes_eq word (codes "kill")) _ _ (kill_right more) (or_right (general_command (word ∷ more)) _ (general_right (word ∷ more)) (zone_right text (word ∷ more) short h)))
+    (either_right (bytes_eq word (codes "kill")) _ _ (kill_right more)
+    (either_right (bytes_eq word (codes "zlogin")) _ _ (zlogin_right text more) (or_right (general_command (word ∷ more)) _ (general_right (word ∷ more)) (zone_right text (word ∷ more) short h))))
   where
     at_answer : (o : Option Command) → Right o → IsRight (unwrap_or o Unknown)
     at_answer None h = tt

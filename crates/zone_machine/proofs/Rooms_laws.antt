@@ -1,12 +1,13 @@
 -- Room is taken, and a cell and the shared part are as they were.
 use Rattle.std.proofs.Common.{◌≡◌, ◌∷◌, [], Bool, List, false, true, refl, ◌∙◌, ap, subst, sym}
-use Rattle.zone_machine.specs.Code.Cells.{cell_world, common_in, is_up_in, row_in}
+use Rattle.zone_machine.specs.Code.Cells.{Outside, cell_world, common_in, is_up_in, row_in}
 use Rattle.zoneadmd_steps.specs.Code.Desks.{as_desk}
 use Rattle.zone_machine.specs.Code.Cases.{case_active, decision_of}
 use Rattle.zone_machine.specs.Code.Rooms.{Alike, HasRoom, HasRoomFor, HasRoomIf, HasRoomIfSits, HasRoomToChange, HasRoomToRise, HasRoomToStore}
 use Rattle.loopback_mounts.specs.Mounts.{Mounts}
 use Rattle.zoneadmd_steps.specs.Code.Cases.{Holds, IsFreeFor, No_premise, Premise}
-use Rattle.zone_machine.specs.Code.Works.{objects_of, seats}
+use Rattle.zone_machine.specs.Code.Consoles.{HasConsole}
+use Rattle.zone_machine.specs.Code.Works.{console_of_case, objects_of, seats}
 use Rattle.zone_machine.specs.declared.cases.Case.{Case}
 use Rattle.zone_pools.specs.Asked.{A_pid, A_source, A_zid, An_item, Asked}
 use Rattle.datalink_table.specs.Claims as claims
@@ -42,6 +43,10 @@ alike_desk c s d h = record { world = λ row i. record (cell_world row c) { desk
 -- room for a mount
 pub alike_mounts : (c d : Cell) (s : Shared) → d.mounts.list ≡ c.mounts.list → d ≡ record c { mounts = d.mounts } → Alike c s d s
 alike_mounts c d s mounts same = record { world = λ out. ap (cell_world out) same ∙ (λ i. record (cell_world out c) { mounts = mounts i }); rows = refl; common = refl; pools = refl }
+
+-- a console that is as a new one, where there was none
+pub alike_console : (c d : Cell) (s : Shared) → ((out : Outside) → cell_world out d ≡ cell_world out c) → Alike c s d s
+alike_console c d s world = record { world = world; rows = refl; common = refl; pools = refl }
 
 -- the kernel's shared part is as it was, but for room
 pub alike_kernel : (c : Cell) (s : Shared) (t : Kernel) → Kernel_alike s.kernel t → Alike c s c (record s { kernel = t })
@@ -125,6 +130,7 @@ room_came z case c d s t cell shared free room =
       stored = store_came (asked_of (decision_of c.desk case)) s t.kernel t.claims room.stored;
       objects = (room.objects.0, left);
       sits = sits_came (seats case) c s d.kernel d.claims t.kernel t.claims room.sits;
+      console = room.console;
       rises = room.rises;
       desk = room.desk;
     }))
@@ -144,13 +150,14 @@ sits_kept true c d s u same h = (h.0, rw same h.1)
 sits_kept false c d s u same h = tt
 
 pub made_room : (z : Name) (case : Case) (c : Cell) (s t u : Shared) (d : Desk) (asked : List Asked) → t ≡ record s { rows = t.rows } → u ≡ record t { ups = u.ups } → as_desk d ≡ as_desk c.desk → asked_of (decision_of d case) ≡ asked
-    → HasRoomToChange (objects_of case) c → HasRoomIfSits case c s → HasRoomToStore asked t → HasRoomToRise z case c u → HasRoomFor d case → HasRoom z case (record c { desk = d }) u
-made_room z case c s t u d asked stored rises desk asks objects sits store rise room =
+    → HasRoomToChange (objects_of case) c → HasRoomIfSits case c s → HasConsole (console_of_case case) c.console → HasRoomToStore asked t → HasRoomToRise z case c u → HasRoomFor d case → HasRoom z case (record c { desk = d }) u
+made_room z case c s t u d asked stored rises desk asks objects sits console store rise room =
     let active : d.active ≡ c.desk.active = ap (λ (d : desks.Desk). d.active) desk in
     record {
       stored = rw asks (store_kept asked t u (ap (λ (t : Shared). t.rows) rises) store);
       objects = objects;
       sits = sits_kept (seats case) c d s u (ap (λ (t : Shared). t.sessions) rises ∙ ap (λ (t : Shared). t.sessions) stored) sits;
+      console = console;
       rises = λ down up. rise (ap is_some (sym active) ∙ down) (ap (λ a. is_some (case_active case a)) (sym active) ∙ up);
       desk = room;
     }

@@ -134,7 +134,7 @@ first_id (Some i) = refl
 
 pub shows : (z : Name) (out : Outside) (c : Cell) → Shows (view_of z (cell_world out c)) z c
 unfolding view_of
-shows z out c = record { zone = refl; kernel = λ i. record c.kernel { id = first_id c.kernel.id i }; process = λ n. refl; mounts = refl; claims = refl; devices = refl }
+shows z out c = record { zone = refl; kernel = λ i. record c.kernel { id = first_id c.kernel.id i }; process = λ n. refl; mounts = refl; claims = refl; devices = refl; console = refl }
 
 -- the case of an event
 pub decide-stands : (S : State) (z : Name) (w : World) (e : Event) → world z S ≡ w → decide (view z S) e ≡ decide (view_of z w) e

@@ -557,3 +557,8 @@ edits-case (Right case) z c stored brands e text decides same decided of named f
   free = free c.mounts.list c.claims.claims;
 }
 edits-case (Err fault) z c stored brands e text decides same decided of named free = tt
+
+-- what is known of a case, where there is one
+pub on_case : {E : Type 0} {P Q : Case → Type 0} (r : Result Case E) → ((case : Case) → P case → Q case) → IfOk r P → IfOk r Q
+on_case (Right case) f h = f case h
+on_case (Err fault) f h = tt

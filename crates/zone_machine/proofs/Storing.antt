@@ -101,8 +101,12 @@ turned-store (Ask c asked denied given) g = asked-store c asked _ _ g ∙ sym (a
 pub case-stored : (d : Desk) (case : Case) (g : Grant) → IsCaseOf d case → HasNumber case g → in_store (act_of (decision_of d case) g).came ≡ stored_by case g
 case-stored d (cases.Says head) g of h = refl
 case-stored d (cases.Tells body) g of h = refl
-case-stored d (cases.Change edit) g of h = refl
-case-stored d (cases.Fork p) g of h = asked-store (A_process (process_of (0, p.value))) (A_pid ∷ []) _ _ g ∙ no-record (A_process (process_of (0, p.value))) (λ n. refl) (number_in g)
+case-stored d (cases.Change edit m) g of h = refl
+case-stored d (cases.Fork p m) g of h = asked-store (A_process (process_of (0, p.value))) (A_pid ∷ []) _ _ g ∙ no-record (A_process (process_of (0, p.value))) (λ n. refl) (number_in g)
+case-stored d (cases.Write line m) g of h = refl
+case-stored d (cases.Login l) g of h =
+    asked-store (A_process (process_of (0, l.value.running))) (A_pid ∷ []) _ _ g ∙ no-record (A_process (process_of (0, l.value.running))) (λ n. refl) (number_in g)
+case-stored d (cases.AtConsole c) g of h = refl
 case-stored d (cases.Answers reply) g of h = refl
 case-stored d (cases.Sit s) g of h = refl
 case-stored d (cases.Commit c) g of h =

@@ -1,5 +1,5 @@
 -- What a turn of a zone's daemon replies and leaves of the zone's world, whatever is granted.
-use Rattle.std.proofs.Common.{◌≡◌, ◌∷◌, ◌++◌, [], ℕ, List, Option, Some, None, ap, map, refl, sym, ◌∙◌}
+use Rattle.std.proofs.Common.{◌≡◌, ◌∷◌, ◌++◌, [], ℕ, Bool, true, false, List, Option, Some, None, ap, map, refl, sym, ◌∙◌}
 use Rattle.zn_base.specs.Names.{Name}
 use Rattle.zone_pools.specs.Decisions as decisions
 use Rattle.zone_pools.specs.Decisions.{Ask, Just}
@@ -16,7 +16,7 @@ use Rattle.zoneadmd_steps.specs.Code.Works.{rest_of_turn, turn_work}
 use Rattle.zoneadmd_steps.specs.declared.settling.TurnWork.{TurnWork}
 use Rattle.zone_machine.specs.State.Decisions.{Act, act_of, acts_world, after_came_world, effects, says, sweeps, turned}
 use Rattle.zoneadmd_steps.specs.Desks.{Desk}
-use Rattle.zone_machine.specs.State.Edits.{Of_objects, Set_desk, comes_world, edit_world, edits_world}
+use Rattle.zone_machine.specs.State.Edits.{Of_objects, Set_desk, comes_world, console_gone_world, edit_world, edits_world, keeps_console}
 use Rattle.zone_machine.specs.Machine.{Answered, decide, done_by, one, subject}
 use Rattle.zoneadmd_steps.specs.Objects.{Object_edit, Processes_go, devices_after, mounts_after}
 use Rattle.zone_machine.specs.State.{State}
@@ -91,6 +91,12 @@ has-turned n a w = at_came a.came
   where
     at_came : (c : Option Arrival) → Has (stored_after c w.stored) (mounts_after a.effect.objects w.mounts) (devices_after a.effect.objects w.devices) a.effect.desk (acts_world n (turned_act (record a { came = c })) w)
     at_came (Some (New_process p)) = has-edits n a.effect.objects a.effect.desk a.effect.ended (comes_world (New_process p) w)
+    at_came (Some (New_record row)) = at_keeps (keeps_console row)
+      where
+        at_keeps : (b : Bool) → Has row (mounts_after a.effect.objects w.mounts) (devices_after a.effect.objects w.devices) a.effect.desk
+            (edits_world n (map Of_objects a.effect.objects ++ Set_desk a.effect.desk ∷ sweeps a.effect.ended) (console_gone_world b (record w { stored = row })))
+        at_keeps true = has-edits n a.effect.objects a.effect.desk a.effect.ended (record w { stored = row })
+        at_keeps false = has-edits n a.effect.objects a.effect.desk a.effect.ended (console_gone_world false (record w { stored = row }))
     at_came c = has-edits n a.effect.objects a.effect.desk a.effect.ended (after_came_world c w)
 
 -- where nothing goes as the last, a reply is as it is

@@ -29,7 +29,7 @@ use Rattle.zone_machine.specs.Machine.Changes.{committed}
 use Rattle.zone_machine.specs.Machine.Images.{Goes, HoldsEither}
 use Rattle.zone_machine.specs.State.{State, bodies_of}
 use Rattle.zone_machine.specs.State.Decisions.{Act, act_of, acts, after_came}
-use Rattle.zone_machine.specs.State.Edits.{Edit, Of_objects, comes, edit, edits}
+use Rattle.zone_machine.specs.State.Edits.{Edit, Of_objects, comes, console_gone, edit, edits, keeps_console}
 use Rattle.zone_machine.specs.State.Worlds.{view}
 use Rattle.zone_machine.specs.declared.events.Event.{Event}
 use Rattle.zone_machine.specs.declared.events.Event.TheVariants.{Process as Call_of, Restart, Session, System, Turn}
@@ -153,6 +153,10 @@ commits-edits : (z : Name) (n : Option ℕ) (es : List Edit) (S : State) → (ed
 commits-edits z n [] S = refl
 commits-edits z n (e ∷ es) S = commits-edits z n es (edit z n e S) ∙ commits-edit z n e S
 
+commits-gone : (z : Name) (keeps : Bool) (S : State) → (console_gone z keeps S).commits ≡ S.commits
+commits-gone z true S = refl
+commits-gone z false S = refl
+
 commits-came : (z : Name) (came : Option Arrival) (S : State) → (after_came z came S).commits ≡ S.commits ++ committed z came
 unfolding comes
 commits-came z None S = sym (append-nil S.commits)
@@ -160,7 +164,7 @@ commits-came z (Some (New_process p)) S = sym (append-nil S.commits)
 commits-came z (Some (New_id i)) S = sym (append-nil S.commits)
 commits-came z (Some (New_claim c)) S = sym (append-nil S.commits)
 commits-came z (Some No_new_thing) S = sym (append-nil S.commits)
-commits-came z (Some (New_record row)) S = refl
+commits-came z (Some (New_record row)) S = commits-gone z (keeps_console row) (record S { commits = S.commits ++ record { zone = z; stored = row } ∷ [] })
 
 commits-acts : (z : Name) (n : Option ℕ) (a : Act) (S : State) → (acts z n a S).commits ≡ S.commits ++ committed z a.came
 commits-acts z n a S = commits-edits z n a.effect.edits (after_came z a.came S) ∙ commits-came z a.came S

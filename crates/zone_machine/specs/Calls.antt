@@ -1,8 +1,8 @@
 -- What the calls of a zone's processes do (section 2 of the manual), and a signal from the global zone.
-use Rattle.std.specs.Prelude.{ℕ, List, [], ◌∷◌, Bool, true, false, ◌&&◌, map, Option, Some, None, Result, Ok as Right, Err, if◌then◌else◌}
+use Rattle.std.specs.Prelude.{ℕ, List, [], ◌∷◌, Bool, true, false, ◌&&◌, map, Option, Some, None, Result, Ok as Right, Err, if◌then◌else◌, unwrap_or}
 use Rattle.datalink_table.specs.Claims.{items_of}
 use Rattle.datalink_table.specs.declared.claims.ClaimKind.TheVariants.{Address, Dataset, Link}
-use Rattle.kernel_objects.specs.Kernel.{at_limit, fork_set, forked, fs_allowed_of}
+use Rattle.kernel_objects.specs.Kernel.{at_limit, bootargs_of, fork_set, forked, fs_allowed_of}
 use Rattle.kernel_objects.specs.Processes.{Process, at_pid, dropping, ends, may_exec, may_mount, renamed, row_of}
 use Rattle.kernel_objects.specs.declared.faults.Errno.{Errno}
 use Rattle.kernel_objects.specs.declared.faults.Errno.TheVariants.{EPERM, ESRCH}
@@ -24,7 +24,7 @@ use Rattle.zoneadmd_steps.specs.Arrivals.{A_process}
 use Rattle.zone_pools.specs.Owned_lists.{Go, Put}
 use Rattle.zoneadmd_steps.specs.Objects.{Object_edit, Of_mounts, Process_goes, Processes_change, kernel_of}
 use Rattle.zone_machine.specs.State.Decisions.{Decision, done_saying, refused, tells}
-use Rattle.zone_machine.specs.State.Edits.{Edit, Of_objects}
+use Rattle.zone_machine.specs.State.Edits.{Edit, Line, Of_console, Of_objects}
 use Rattle.zone_machine.specs.State.Worlds.{View, objects_of}
 use Rattle.zone_machine.specs.declared.replies.Body.TheVariants.{Child, Datasets, Devices, Lines, Mounts, Net, Processes}
 use Rattle.zone_machine.specs.declared.replies.Head.TheVariants.{Ok}
@@ -116,6 +116,8 @@ calls v pid p call.Links = Just (tells (Net (items_of Link v.world.claims) (item
 calls v pid p call.Datasets = Just (tells (Datasets (items_of Dataset v.world.claims)))
 calls v pid p call.Devices = Just (tells (Devices v.world.devices))
 calls v pid p call.Zonename = Just (tells (Lines (v.zone ∷ [])))
+calls v pid p call.Bootargs = Just (tells (Lines (unwrap_or (bootargs_of (kernel_of (objects_of v.world)).id) [] ∷ [])))
+calls v pid p (call.Cons text) = Just (done_saying (Of_console (Line text) ∷ []) Ok)
 calls v pid p call.True = Just (done_saying [] Ok)
 calls v pid p call.False = Just (done_saying [] Ok)
 

@@ -2,6 +2,7 @@
 pub mod Lines
 pub mod Listed
 pub mod Doings
+pub mod Consoles
 pub mod Cells
 pub mod Reads
 pub mod Needs

@@ -2,4 +2,5 @@
 pub mod Lines
 pub mod Commits
 pub mod Listed
+pub mod Logins
 pub mod Typed

@@ -1,11 +1,11 @@
 //! What the calls of a zone's processes come to, and a signal from the global zone.
-ghost use Rattle.std.specs.Prelude.{◌∷◌, ◌≡◌, [], Err, IfOk, Ok, Some, map};
-ghost use Rattle.kernel_objects.specs.Kernel.{at_limit, fork_set};
+ghost use Rattle.std.specs.Prelude.{◌∷◌, ◌≡◌, [], Err, IfOk, Ok, Some, map, unwrap_or};
+ghost use Rattle.kernel_objects.specs.Kernel.{at_limit, bootargs_of, fork_set};
 ghost use Rattle.kernel_objects.specs.Processes.{Process, row_of, with_pid};
 ghost use Rattle.priv_sets.specs.Sets.{print_of};
 ghost use Rattle.zn_base.specs.Names.{Name};
 ghost use Rattle.zone_machine.specs.Calls.{called, calls, execs, forks, signals};
-ghost use Rattle.zone_machine.specs.Code.Cases.{IsCaseOf, IsNamedCase, decision_of};
+ghost use Rattle.zone_machine.specs.Code.Cases.{IsCallCase, IsCaseOf, IsNamedCase, decision_of};
 ghost use Rattle.zone_machine.specs.State.Decisions.{tells};
 ghost use Rattle.zone_machine.specs.Code.Cells.{Outside, Shows};
 ghost use Rattle.zone_machine.specs.Code.Decided.{IsCaseIn};
@@ -18,7 +18,7 @@ pub(crate) mod mounts;
 use crate::calls::mounts::{
     datasets_case, devices_case, mount_case, mounts_case, net_case, place_case, umount_case,
 };
-use crate::cases::Case;
+use crate::cases::{Case, Manner};
 use crate::machine::cell::Cell;
 use crate::replies::{Body, Head, Refusal};
 use kernel_objects::{Errno, KernelCell, Signal};
@@ -39,9 +39,10 @@ pub(crate) fn signal_case(kernel: &KernelCell, inside: bool, signal: Signal, pid
     ensures of { (d : desk_types.Desk) → IsCaseOf d result }
     ensures named { (z : Name) → IsNamedCase z result }
     ensures free { MountsNothing result }
+    ensures call { IsCallCase result }
 {
     match kernel.check_signal(inside, signal, pid) {
-        Ok(true) => Case::Change(ObjectEdit::EndProcess(pid)),
+        Ok(true) => Case::Change(ObjectEdit::EndProcess(pid), Manner::Plain),
         Ok(false) => Case::Says(Head::Ok),
         Err(errno) => refused_by(errno),
     }
@@ -55,9 +56,10 @@ fn fork_case(alloc: Global, kernel: &KernelCell, pid: u32, name: &Text) -> Resul
     ensures of { IfOk result (λ c. (d : desk_types.Desk) → IsCaseOf d c) }
     ensures named { IfOk result (λ c. (z : Name) → IsNamedCase z c) }
     ensures free { IfOk result MountsNothing }
+    ensures call { IfOk result IsCallCase }
 {
     match kernel.forking(pid, name.copy(alloc)?) {
-        Ok(running) => Ok(Case::Fork(Box::new(alloc, running)?)),
+        Ok(running) => Ok(Case::Fork(Box::new(alloc, running)?, Manner::Plain)),
         Err(errno) => Ok(refused_by(errno)),
     }
 }
@@ -69,9 +71,10 @@ fn exec_case(alloc: Global, kernel: &KernelCell, pid: u32, name: &Text) -> Resul
     ensures of { IfOk result (λ c. (d : desk_types.Desk) → IsCaseOf d c) }
     ensures named { IfOk result (λ c. (z : Name) → IsNamedCase z c) }
     ensures free { IfOk result MountsNothing }
+    ensures call { IfOk result IsCallCase }
 {
     match kernel.check_exec(pid) {
-        Ok(()) => Ok(Case::Change(ObjectEdit::Rename(pid, name.copy(alloc)?))),
+        Ok(()) => Ok(Case::Change(ObjectEdit::Rename(pid, name.copy(alloc)?), Manner::Plain)),
         Err(errno) => Ok(refused_by(errno)),
     }
 }
@@ -104,11 +107,24 @@ fn privs_case(alloc: Global, kernel: &KernelCell, pid: u32) -> Result<Case, Allo
     ensures of { IfOk result (λ c. (d : desk_types.Desk) → IsCaseOf d c) }
     ensures named { IfOk result (λ c. (z : Name) → IsNamedCase z c) }
     ensures free { IfOk result MountsNothing }
+    ensures call { IfOk result IsCallCase }
 {
     match kernel.privs(pid) {
         Some(set) => line_case(alloc, Bytes::from_vec(set.print(alloc)?)),
         None => Ok(Case::Says(Head::Ok)),
     }
+}
+
+// The arguments are told with which the zone was booted.
+#[inline(never)]
+fn bootargs_case(alloc: Global, kernel: &KernelCell) -> Result<Case, AllocError>
+    ensures { IfOk result (λ c. c ≡ Case.Tells (Body.Lines (unwrap_or (bootargs_of kernel.now.id) [] ∷ []))) }
+{
+    let args = match kernel.bootargs_of() {
+        Some(args) => Bytes::from_slice(alloc, args.bytes())?,
+        None => Bytes::from_vec(Vec::new(alloc)),
+    };
+    line_case(alloc, args)
 }
 
 // A call of a process that the zone has.
@@ -123,16 +139,17 @@ fn call_case(
     ensures of { IfOk result (λ c. (d : desk_types.Desk) → IsCaseOf d c) }
     ensures named { IfOk result (λ c. (z : Name) → IsNamedCase z c) }
     ensures free { IfOk result (λ c. IsFreeCase c cell.now.mounts.list cell.now.claims.claims) }
+    ensures call { IfOk result IsCallCase }
 {
     let kernel = &cell.kernel;
     match call {
         Call::Fork(name) => fork_case(alloc, kernel, pid, name),
         Call::Exec(name) => exec_case(alloc, kernel, pid, name),
-        Call::Exit => Ok(Case::Change(ObjectEdit::EndProcess(pid))),
+        Call::Exit => Ok(Case::Change(ObjectEdit::EndProcess(pid), Manner::Plain)),
         Call::Kill(signal, target) => Ok(signal_case(kernel, true, *signal, *target)),
         Call::Ps => ps_case(alloc, kernel),
         Call::Privs => privs_case(alloc, kernel, pid),
-        Call::Drop(number) => Ok(Case::Change(ObjectEdit::GiveUp(pid, *number))),
+        Call::Drop(number) => Ok(Case::Change(ObjectEdit::GiveUp(pid, *number), Manner::Plain)),
         Call::Mount(boxed) => mount_case(alloc, kernel, &cell.mounts, pid, boxed.mount()),
         Call::Umount(dir) => umount_case(alloc, kernel, &cell.mounts, pid, dir),
         Call::Read(path) => place_case(alloc, &cell.mounts, path, false),
@@ -142,6 +159,8 @@ fn call_case(
         Call::Datasets => datasets_case(alloc, &cell.claims),
         Call::Devices => devices_case(alloc, kernel),
         Call::Zonename => line_case(alloc, Bytes::from_slice(alloc, zone.bytes())?),
+        Call::Bootargs => bootargs_case(alloc, kernel),
+        Call::Cons(line) => Ok(Case::Write(line.copy(alloc)?, Manner::Plain)),
         Call::True | Call::False => Ok(Case::Says(Head::Ok)),
     }
 }
@@ -156,7 +175,8 @@ pub(crate) fn decide_call(
     pid: u32,
     call: &Call,
 ) -> Result<Case, AllocError>
-    ensures { IfOk result (λ c. (out : Outside) → IsCaseIn zone.now out cell.now (λ v. called v pid call.now) c) }
+    ensures case { IfOk result (λ c. (out : Outside) → IsCaseIn zone.now out cell.now (λ v. called v pid call.now) c) }
+    ensures call { IfOk result IsCallCase }
 {
     match cell.kernel.check_there(pid) {
         Ok(()) => call_case(alloc, zone, cell, pid, call),

@@ -4,7 +4,7 @@ use crate::session::doings::Doing;
 use crate::session::held::{HeldConfig, HeldEditor};
 use commit_journal::Row;
 use kernel_objects::Running;
-use zn_base::{Bytes, Listing, ZoneName};
+use zn_base::{Bytes, Listing, Text, ZoneName};
 use zoneadmd_steps::{ObjectEdit, QueuedRequest, TurnCase};
 
 /// What is new to the system in a configuration that is committed.
@@ -22,6 +22,43 @@ pub(crate) enum Novelty {
 pub(crate) struct Sitting {
     pub(crate) doing: Option<Doing>,
     pub(crate) owner: ZoneName,
+}
+
+/// How what a call comes to is answered: as it is, or by a status, to a session that is logged in.
+#[derive(Clone, Copy)]
+pub(crate) enum Manner {
+    Plain,
+    Status(u8),
+}
+
+/// What becomes of a zone's console.
+#[derive(Drop)]
+pub(crate) enum ConsoleEdit {
+    Nothing,
+    /// The event's session has it from now on, and takes what is kept.
+    Hold,
+    /// What is kept is taken.
+    Take,
+    /// No session has it any more.
+    Leave,
+    /// A line is written.
+    Line(Text),
+}
+
+/// A process that enters the zone, with which the event's session is logged in then, and the name of the zone.
+#[derive(Drop)]
+pub(crate) struct Login {
+    pub(crate) running: Running,
+    pub(crate) escape: Option<u8>,
+    pub(crate) owner: ZoneName,
+}
+
+/// What becomes of the zone's console, and perhaps of the event's session, and the reply.
+#[derive(Drop)]
+pub(crate) struct AtConsole {
+    pub(crate) edit: ConsoleEdit,
+    pub(crate) sitting: Option<Sitting>,
+    pub(crate) reply: Reply,
 }
 
 /// What becomes of the event's session alone, and the reply.
@@ -80,9 +117,15 @@ pub(crate) enum Case {
     /// What its session does in the zone changes.
     Sit(Box<Seated>),
     /// The zone's objects change.
-    Change(ObjectEdit),
+    Change(ObjectEdit, Manner),
     /// A process makes another.
-    Fork(Box<Running>),
+    Fork(Box<Running>, Manner),
+    /// A line is written to the zone's console.
+    Write(Text, Manner),
+    /// A session is logged in.
+    Login(Box<Login>),
+    /// A session begins at the console, is there, or leaves it.
+    AtConsole(Box<AtConsole>),
     /// A configuration is committed.
     Commit(Box<Committed>),
     /// A zone is removed.

@@ -6,4 +6,5 @@ pub(crate) mod held;
 pub(crate) mod line_cases;
 pub(crate) mod lines;
 pub(crate) mod listing;
+pub(crate) mod logins;
 pub(crate) mod telling_cases;

@@ -17,7 +17,7 @@ use Rattle.zone_machine.specs.Machine.Histories.{after, after_entry, is_history,
 use Rattle.zone_machine.specs.Machine.Pools.{fits, fits_of, held_elsewhere, may_hold, pools_of}
 use Rattle.zone_machine.specs.Machine.{decide, one, opening, session_number, subject, whole_world}
 use Rattle.zone_machine.specs.State.Decisions.{Act, Decision, act_of, acts_world, after_came_world}
-use Rattle.zone_machine.specs.State.Edits.{Edit, Of_objects, edit_world, edits_world}
+use Rattle.zone_machine.specs.State.Edits.{Edit, Of_objects, console_gone_world, edit_world, edits_world, keeps_console}
 use Rattle.zone_machine.specs.State.Worlds.{World, view, view_of, world}
 use Rattle.zone_machine.specs.State.{State}
 use Rattle.zone_machine.specs.declared.events.Entry.{Entry}
@@ -83,7 +83,11 @@ module _ (k : Claim) where
   holds-came None w h = inl h
   holds-came (Some (New_process p)) w h = inl h
   holds-came (Some (New_id i)) w h = inl h
-  holds-came (Some (New_record row)) w h = inl h
+  holds-came (Some (New_record row)) w h = inl (at_keeps (keeps_console row) h)
+    where
+      at_keeps : (b : Bool) → holds k (console_gone_world b (record w { stored = row })).claims ≡ true → holds k w.claims ≡ true
+      at_keeps true h = h
+      at_keeps false h = h
   holds-came (Some No_new_thing) w h = inl h
   holds-came (Some (New_claim c)) w h = at_claim (holds-claiming (holds c w.claims) c w.claims h)
     where

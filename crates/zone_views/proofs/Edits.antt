@@ -28,22 +28,22 @@ use Rattle.zonecfg_lines.specs.declared.refusal.LineRefusal.{LineRefusal}
 use Rattle.zonecfg_lines.specs.declared.refusal.LineRefusal.TheVariants.{Usage}
 use Rattle.zonecfg_lines.specs.declared.reply.Ending.{Ending}
 use Rattle.zonecfg_lines.specs.declared.reply.Ending.TheVariants as ending
-use Rattle.zoneadmd_steps.specs.Arrivals.{Arrival, New_process}
+use Rattle.zoneadmd_steps.specs.Arrivals.{Arrival, New_claim, New_id, New_process, New_record, No_new_thing}
 use Rattle.zoneadmd_steps.specs.Desks.{Desk}
-use Rattle.zoneadmd_steps.specs.Objects.{Object_edit, Processes_go}
+use Rattle.zoneadmd_steps.specs.Objects.{Object_edit, Process_goes, Processes_go}
 use Rattle.zoneadmd_steps.specs.Turns.{Turned}
 use Rattle.zone_machine.proofs.Turned_laws.{turn_act}
 use Rattle.zone_machine.specs.Code.Works.{turned_act}
 use Rattle.zone_machine.specs.Machine.{decide, opening, session_number}
 use Rattle.zone_machine.specs.Machine.Histories.{after}
 use Rattle.zone_machine.specs.Session.Commits.{base_now, based, said_to}
-use Rattle.zone_machine.specs.State.{Awaiting, Doing, Editing}
-use Rattle.zone_machine.specs.State.Decisions.{act_of, acts_world, after_came_world, sweeps, ticket_ended}
-use Rattle.zone_machine.specs.State.Edits.{Of_objects, Set_desk, at_session, comes_world, edit_world, edits_world, swept_doing}
+use Rattle.zone_machine.specs.State.{At_console, Awaiting, Doing, Editing, Logged_in}
+use Rattle.zone_machine.specs.State.Decisions.{act_of, acts_world, sweeps, ticket_ended}
+use Rattle.zone_machine.specs.State.Edits.{Of_objects, Set_desk, comes_world, console_gone_world, console_left, edit_world, edits_world, keeps_console, login_ended, logins_ended, swept_doing}
 use Rattle.zone_machine.specs.State.Worlds.{World, view_of, world}
 use Rattle.zone_machine.specs.declared.events.Entry.{Entry}
 use Rattle.zone_machine.specs.declared.events.Event.{Event}
-use Rattle.zone_views.proofs.Deciding.{All_stay, Idles, One_sits, Opens, Says, Seats, Sit, Stores, of_event}
+use Rattle.zone_views.proofs.Deciding.{Idles, Is_seated, Opens, Says, Seats, Sit, Sits_at, Stays, Stores, of_event}
 use Rattle.zone_views.proofs.Keeping.{kept-after}
 use Rattle.zone_views.specs.Edits.{EditsDenoted, IsDenoted}
 
@@ -153,53 +153,85 @@ module _ (z : Name) (w : World) (h : (n : ℕ) → EditsDenoted (w.sessions n)) 
   seats_denoted : (d : Option Doing) → Seats z w d → EditsDenoted d
   seats_denoted None Idles = tt
   seats_denoted (Some (Awaiting t)) s = tt
+  seats_denoted (Some (Logged_in pid escape)) s = tt
+  seats_denoted (Some (At_console escape)) s = tt
   seats_denoted (Some (Editing e)) (Opens base) = begun z base
   seats_denoted (Some (Editing e)) (Says n old text there) = line_denoted (base_now (view_of z w)) (tabled_names (view_of z w).world.brands) text old (subst EditsDenoted there (h n))
   seats_denoted (Some (Editing e)) (Stores n old text config k there ends shown) =
       stored_denoted config k (said_to (view_of z w) old text).edited _ refl (line_whole (base_now (view_of z w)) (tabled_names (view_of z w).world.brands) text old ends) shown
 
   sit_denoted : (sessions : ℕ → Option Doing) → Sit z w sessions → (k : ℕ) → EditsDenoted (sessions k)
-  sit_denoted sessions All_stay k = h k
-  sit_denoted sessions (One_sits n d s) k = at_number n
+  sit_denoted sessions sit k = at_session_of (sessions k) (sit k)
     where
-      at_test : (b : Bool) → EditsDenoted (if b then d else w.sessions k)
-      at_test true = seats_denoted d s
-      at_test false = h k
-
-      at_number : (n : Option ℕ) → EditsDenoted (at_session n k d (w.sessions k))
-      at_number None = h k
-      at_number (Some m) = at_test (nat_eq m k)
+      at_session_of : (d : Option Doing) → Sits_at z w k d → EditsDenoted d
+      at_session_of d Stays = h k
+      at_session_of _ (Is_seated d s) = seats_denoted d s
 
 -- a turn leaves who edits
-swept_denoted : (t : ℕ) (d : Option Doing) → EditsDenoted d → EditsDenoted (swept_doing (ticket_ended t) d)
-swept_denoted t None h = tt
-swept_denoted t (Some (Editing e)) h = h
-swept_denoted t (Some (Awaiting u)) h = at_test (nat_eq t u)
-  where
-    at_test : (b : Bool) → EditsDenoted (if b then None else Some (Awaiting u))
-    at_test true = tt
-    at_test false = tt
+at_test : (b : Bool) (d : Doing) → EditsDenoted (Some d) → EditsDenoted (if b then None else Some d)
+at_test true d h = tt
+at_test false d h = h
+
+ticket_denoted : (t : ℕ) (d : Doing) → EditsDenoted (Some d) → EditsDenoted (ticket_ended t d)
+ticket_denoted t (Editing e) h = h
+ticket_denoted t (Awaiting u) h = at_test (nat_eq t u) (Awaiting u) h
+ticket_denoted t (Logged_in pid escape) h = h
+ticket_denoted t (At_console escape) h = h
+
+logins_denoted : (d : Doing) → EditsDenoted (Some d) → EditsDenoted (logins_ended d)
+logins_denoted (Editing e) h = h
+logins_denoted (Awaiting u) h = h
+logins_denoted (Logged_in pid escape) h = tt
+logins_denoted (At_console escape) h = h
+
+login_denoted : (pid : ℕ) (d : Doing) → EditsDenoted (Some d) → EditsDenoted (login_ended pid d)
+login_denoted pid (Editing e) h = h
+login_denoted pid (Awaiting u) h = h
+login_denoted pid (Logged_in p escape) h = at_test (nat_eq pid p) (Logged_in p escape) h
+login_denoted pid (At_console escape) h = h
+
+console_denoted : (d : Doing) → EditsDenoted (Some d) → EditsDenoted (console_left d)
+console_denoted (Editing e) h = h
+console_denoted (Awaiting u) h = h
+console_denoted (Logged_in pid escape) h = h
+console_denoted (At_console escape) h = tt
+
+all_denoted : (f : Doing → Option Doing) → ((d : Doing) → EditsDenoted (Some d) → EditsDenoted (f d)) → (o : Option Doing) → EditsDenoted o → EditsDenoted (swept_doing f o)
+all_denoted f one None h = tt
+all_denoted f one (Some d) h = one d h
 
 edits_denoted : (es : List Object_edit) (d : Desk) (ended : Option ℕ) (w : World) → ((k : ℕ) → EditsDenoted (w.sessions k)) → (k : ℕ) → EditsDenoted ((edits_world None (map Of_objects es ++ Set_desk d ∷ sweeps ended) w).sessions k)
 edits_denoted [] d None w h k = h k
-edits_denoted [] d (Some t) w h k = swept_denoted t (w.sessions k) (h k)
-edits_denoted (Processes_go p ∷ es) d ended w h k = edits_denoted es d ended (edit_world None (Of_objects (Processes_go p)) w) h k
+edits_denoted [] d (Some t) w h k = all_denoted (ticket_ended t) (ticket_denoted t) (w.sessions k) (h k)
+edits_denoted (Processes_go p ∷ es) d ended w h k =
+    edits_denoted es d ended (edit_world None (Of_objects (Processes_go p)) w) (λ j. all_denoted logins_ended logins_denoted (w.sessions j) (h j)) k
+edits_denoted (Process_goes pid ∷ es) d ended w h k =
+    edits_denoted es d ended (edit_world None (Of_objects (Process_goes pid)) w) (λ j. all_denoted (login_ended pid) (login_denoted pid) (w.sessions j) (h j)) k
 edits_denoted (e ∷ es) d ended w h k = edits_denoted es d ended (edit_world None (Of_objects e) w) h k
 
 turn_denoted : (a : decisions.Act Arrival Turned) (w : World) → ((k : ℕ) → EditsDenoted (w.sessions k)) → (k : ℕ) → EditsDenoted ((acts_world None (turned_act a) w).sessions k)
 turn_denoted a w h k = at_came a.came
   where
+    at_keeps : (b : Bool) (v : World) → ((k : ℕ) → EditsDenoted (v.sessions k)) → (j : ℕ) → EditsDenoted ((console_gone_world b v).sessions j)
+    at_keeps true v h j = h j
+    at_keeps false v h j = all_denoted console_left console_denoted (v.sessions j) (h j)
+
     at_came : (c : Option Arrival) → EditsDenoted ((acts_world None (turned_act (record a { came = c })) w).sessions k)
+    at_came None = edits_denoted a.effect.objects a.effect.desk a.effect.ended w h k
     at_came (Some (New_process p)) = edits_denoted a.effect.objects a.effect.desk a.effect.ended (comes_world (New_process p) w) h k
-    at_came c = edits_denoted a.effect.objects a.effect.desk a.effect.ended (after_came_world c w) h k
+    at_came (Some (New_id i)) = edits_denoted a.effect.objects a.effect.desk a.effect.ended (comes_world (New_id i) w) h k
+    at_came (Some (New_claim c)) = edits_denoted a.effect.objects a.effect.desk a.effect.ended (comes_world (New_claim c) w) h k
+    at_came (Some No_new_thing) = edits_denoted a.effect.objects a.effect.desk a.effect.ended w h k
+    at_came (Some (New_record row)) =
+        edits_denoted a.effect.objects a.effect.desk a.effect.ended (comes_world (New_record row) w) (at_keeps (keeps_console row) (record w { stored = row }) h) k
 
 abbrev AllDenoted : World → Type 0
 AllDenoted w = (n : ℕ) → EditsDenoted (w.sessions n)
 
 denoted-event : (z : Name) (w : World) (e : Event) (g : Grant) → AllDenoted w → AllDenoted (acts_world (session_number e) (act_of (decide (view_of z w) e) g) w)
 denoted-event z w e g h =
-    of_event AllDenoted z w (λ sessions sit. sit_denoted z w h sessions sit) (λ stored config k sessions sit is. sit_denoted z w h sessions sit) (λ row sessions sit is c r. sit_denoted z w h sessions sit)
-    (λ r sessions sit. sit_denoted z w h sessions sit) (λ ps called. h) (λ ms mounted. h) g (turn_denoted (turn_act w g) w h) e
+    of_event AllDenoted z w (λ sessions console sit. sit_denoted z w h sessions sit) (λ stored config k sessions console sit is. sit_denoted z w h sessions sit) (λ row sessions console sit is c r. sit_denoted z w h sessions sit)
+    (λ r sessions sit. sit_denoted z w h sessions sit) (λ ps sessions called sit. sit_denoted z w h sessions sit) (λ ms mounted. h) g (turn_denoted (turn_act w g) w h) e
 
 pub denoted-history : (z : Name) (brands : List Tabled) (commits : List Commit_of) (h : List Entry) (n : ℕ) → EditsDenoted ((world z (after (opening brands commits) h)).sessions n)
 denoted-history z brands commits h = kept-after AllDenoted denoted-event (λ w d h. h) (λ w h n. tt) (opening brands commits) h (λ z n. tt) z

@@ -1,5 +1,5 @@
 -- Each process's set lies within its zone's limit set. What each zone keeps for that: one that may have processes is active
--- wherever a request ends or fails, and neither a step nor an undo changes its limits.
+-- wherever a request ends or fails, and neither a step nor an undo changes its limits; and one that is running may have them.
 use Rattle.std.proofs.Common.{◌≡◌, ◌∷◌, ◌++◌, [], ◌&&◌, ◌||◌, ◌∙◌, append-nil, ℕ, List, Bool, true, false, not, filter, Option, Some, None, Result, Ok as Right, Err, ap, map, refl, sym, subst}
 use Rattle.std.specs.Prelude.{codes, is_ok, unwrap_or, if◌then◌else◌}
 use Rattle.std.proofs.lemmas.Bool.{and_parts, false≢true, not-true, true≢false}
@@ -33,6 +33,7 @@ use Rattle.zone_machine.specs.Machine.Histories.{after}
 use Rattle.zone_machine.specs.Machine.{decide, opening, session_number}
 use Rattle.zoneadmd_steps.specs.Objects.{Of_mounts, all_of, keeping_pid, keeping_zid, kernel_of}
 use Rattle.zone_machine.specs.State.Decisions.{act_of, acts_world}
+use Rattle.zone_machine.specs.State.Edits.{console_gone_world, keeps_by}
 use Rattle.zone_machine.specs.State.Worlds.{World, objects_of, seen_of, view_of, world}
 use Rattle.zoneadmd_steps.specs.declared.requests.Outcome.{Outcome}
 use Rattle.zoneadmd_steps.specs.declared.requests.Request.{Request}
@@ -43,7 +44,7 @@ use Rattle.zone_machine.specs.declared.events.Entry.{Entry}
 use Rattle.zone_machine.specs.declared.events.Event.{Event}
 use Rattle.commit_journal.specs.declared.records.Commit.{Commit}
 use Rattle.commit_journal.specs.declared.records.Record.{Record}
-use Rattle.zone_views.proofs.Deciding.{Called, Drops, Forks, Goes, Renames, of_event}
+use Rattle.zone_views.proofs.Deciding.{Called, Drops, Enters, Forks, Goes, Renames, of_event}
 use Rattle.zone_views.proofs.Keeping.{kept-after}
 use Rattle.zone_views.proofs.Nexts.{Holds_next, begins, holds-next}
 
@@ -52,38 +53,45 @@ is_up None = false
 is_up (Some Installed) = false
 is_up (Some _) = true
 
+-- a zone whose state is running may have processes
+abbrev runs_only : (may : Bool) → (active : Option ZoneState) → Bool
+runs_only true active = true
+runs_only false (Some Running) = false
+runs_only false active = true
+
 -- a zone that may have processes is active, and a failure undoes nothing
-abbrev stands : (may up clean : Bool) → Bool
-stands may up clean = not may || (up && clean)
+abbrev stands : (may : Bool) → (active : Option ZoneState) → (clean : Bool) → Bool
+stands may active clean = not may || (is_up active && clean)
 
--- so it is where a step may fail and at the end of a plan, which changes the limits only where there are no processes
-abbrev plan_stands : (may up clean : Bool) → List Step → Bool
-plan_stands may up clean [] = stands may up true
-plan_stands may up clean (Hook change ∷ rest) = stands may up clean && plan_stands may up clean rest
-plan_stands may up clean (Record_step s ∷ rest) = stands may up clean && plan_stands may up clean rest
-plan_stands may up clean (Moved ∷ rest) = stands may up clean && plan_stands may up clean rest
-plan_stands may up clean (Source z ∷ rest) = stands may up clean && plan_stands may up clean rest
-plan_stands may up clean (Zid id ∷ rest) = not may && plan_stands may up false rest
-plan_stands may up clean (Limits ∷ rest) = not may && plan_stands may up false rest
-plan_stands may up clean (Devices count ∷ rest) = plan_stands may up false rest
-plan_stands may up clean (Root ∷ rest) = plan_stands may up false rest
-plan_stands may up clean (Mounted dir ∷ rest) = plan_stands may up false rest
-plan_stands may up clean (Claimed c ∷ rest) = not may && plan_stands may up false rest
-plan_stands may up clean (State_step Ready ∷ rest) = plan_stands may true true rest
-plan_stands may up clean (State_step s ∷ rest) = plan_stands may (is_up (active_after s)) clean rest
-plan_stands may up clean (Init pid ∷ rest) = stands may up clean && plan_stands true up clean rest
-plan_stands may up clean (Kill count ∷ rest) = plan_stands false up clean rest
-plan_stands may up clean (Clear ∷ rest) = not may && plan_stands may up clean rest
-plan_stands may up clean (ZidBack id ∷ rest) = not may && plan_stands may up clean rest
-plan_stands may up clean (_ ∷ rest) = plan_stands may up clean rest
+-- so it is where a step may fail and at the end of a plan, which changes the limits only where there are no processes, and
+-- keeps that a running zone may have them
+abbrev plan_stands : (may : Bool) → (active : Option ZoneState) → (clean : Bool) → List Step → Bool
+plan_stands may active clean [] = stands may active true
+plan_stands may active clean (Hook change ∷ rest) = stands may active clean && plan_stands may active clean rest
+plan_stands may active clean (Record_step s ∷ rest) = stands may active clean && plan_stands may active clean rest
+plan_stands may active clean (Moved ∷ rest) = stands may active clean && plan_stands may active clean rest
+plan_stands may active clean (Source z ∷ rest) = stands may active clean && plan_stands may active clean rest
+plan_stands may active clean (Zid id ∷ rest) = not may && plan_stands may active false rest
+plan_stands may active clean (Limits ∷ rest) = not may && plan_stands may active false rest
+plan_stands may active clean (Devices count ∷ rest) = plan_stands may active false rest
+plan_stands may active clean (Root ∷ rest) = plan_stands may active false rest
+plan_stands may active clean (Mounted dir ∷ rest) = plan_stands may active false rest
+plan_stands may active clean (Claimed c ∷ rest) = not may && plan_stands may active false rest
+plan_stands may active clean (State_step Ready ∷ rest) = runs_only may (Some Ready) && plan_stands may (Some Ready) true rest
+plan_stands may active clean (State_step s ∷ rest) = runs_only may (active_after s) && plan_stands may (active_after s) clean rest
+plan_stands may active clean (Init pid ∷ rest) = stands may active clean && plan_stands true active clean rest
+plan_stands may active clean (Kill count ∷ rest) = runs_only false active && plan_stands false active clean rest
+plan_stands may active clean (Clear ∷ rest) = not may && plan_stands may active clean rest
+plan_stands may active clean (ZidBack id ∷ rest) = not may && plan_stands may active clean rest
+plan_stands may active clean (_ ∷ rest) = plan_stands may active clean rest
 
-abbrev stage_stands : (may up : Bool) → (made : List Step) → Stage → Bool
-stage_stands may up made (Goes_on left) = plan_stands may up (is_nil made) left
-stage_stands may up made (Fails outcome undo) = stands may up (is_nil undo)
+abbrev stage_stands : (may : Bool) → (active : Option ZoneState) → (made : List Step) → Stage → Bool
+stage_stands may active made (Goes_on left) = plan_stands may active (is_nil made) left
+stage_stands may active made (Fails outcome undo) = stands may active (is_nil undo)
 
-abbrev desk_stands : Bool → Bool → Option Job → Bool
-desk_stands may up None = stands may up true
-desk_stands may up (Some j) = stage_stands may up j.done.made j.stage
+abbrev desk_stands : Bool → Option ZoneState → Option Job → Bool
+desk_stands may active None = stands may active true
+desk_stands may active (Some j) = stage_stands may active j.done.made j.stage
 
 -- what a zone keeps that has these processes and ids and whose desk says this
 record IsLimited (ps : List Process) (is : List Id) (active : Option ZoneState) (job : Option Job) : Type 0 where
@@ -91,44 +99,45 @@ record IsLimited (ps : List Process) (is : List Id) (active : Option ZoneState) 
   may : Bool
   none : may ≡ false → ps ≡ []
   within : within_limit (kernel_of (record { processes = ps; mounts = []; claims = []; devices = []; ids = is })) ≡ true
-  desk : desk_stands may (is_up active) job ≡ true
+  runs : runs_only may active ≡ true
+  desk : desk_stands may active job ≡ true
 
 abbrev Limited : World → Type 0
 Limited w = IsLimited w.processes w.ids w.desk.active w.desk.job
 
 -- the ready part of a zone without processes, before what comes after it
-module _ (up : Bool) where
-  dirs_stand : (dirs : List (List ℕ)) (rest more : List Step) → plan_stands false up false (rest ++ more) ≡ true → plan_stands false up false ((map Mounted dirs ++ rest) ++ more) ≡ true
+module _ (active : Option ZoneState) where
+  dirs_stand : (dirs : List (List ℕ)) (rest more : List Step) → plan_stands false active false (rest ++ more) ≡ true → plan_stands false active false ((map Mounted dirs ++ rest) ++ more) ≡ true
   dirs_stand [] rest more h = h
   dirs_stand (dir ∷ dirs) rest more h = dirs_stand dirs rest more h
 
-  claims_stand : (cs : List Claim) (rest more : List Step) → plan_stands false up false (rest ++ more) ≡ true → plan_stands false up false ((map Claimed cs ++ rest) ++ more) ≡ true
+  claims_stand : (cs : List Claim) (rest more : List Step) → plan_stands false active false (rest ++ more) ≡ true → plan_stands false active false ((map Claimed cs ++ rest) ++ more) ≡ true
   claims_stand [] rest more h = h
   claims_stand (c ∷ cs) rest more h = claims_stand cs rest more h
 
-  ready_stands : (c : Contents) (more : List Step) → plan_stands false true true more ≡ true → plan_stands false up true (ready_part c ++ more) ≡ true
+  ready_stands : (c : Contents) (more : List Step) → plan_stands false (Some Ready) true more ≡ true → plan_stands false active true (ready_part c ++ more) ≡ true
   ready_stands c more h = dirs_stand (fs_dirs c) _ more (claims_stand (claims_of c) _ more h)
 
 -- a request that may begin
-fresh_stands : (r : Request) (s : ZoneState) (up : Bool) (c : Contents) → may_begin (kind_of r) s ≡ true → plan_stands false up true (plan r s c) ≡ true
-fresh_stands request.Install Configured up c m = refl
-fresh_stands (request.Clone source) Configured up c m = refl
-fresh_stands request.Attach Configured up c m = refl
-fresh_stands request.Detach Installed up c m = refl
-fresh_stands request.Uninstall Installed up c m = refl
-fresh_stands request.Uninstall Incomplete up c m = refl
-fresh_stands request.Mark Installed up c m = refl
-fresh_stands (request.Move path) Installed up c m = refl
-fresh_stands request.Ready Installed up c m = subst (λ p. plan_stands false up true p ≡ true) (append-nil (ready_part c)) (ready_stands up c [] refl)
-fresh_stands (request.Boot args) Installed up c m = ready_stands up c boot_part refl
-fresh_stands (request.Boot args) Ready up c m = refl
-fresh_stands request.Halt Ready up c m = refl
-fresh_stands request.Halt Running up c m = refl
-fresh_stands (request.Reboot args) Ready up c m = refl
-fresh_stands (request.Reboot args) Running up c m = refl
-fresh_stands r s up c m = absurd (false≢true m)
+fresh_stands : (r : Request) (s : ZoneState) (active : Option ZoneState) (c : Contents) → may_begin (kind_of r) s ≡ true → plan_stands false active true (plan r s c) ≡ true
+fresh_stands request.Install Configured active c m = refl
+fresh_stands (request.Clone source) Configured active c m = refl
+fresh_stands request.Attach Configured active c m = refl
+fresh_stands request.Detach Installed active c m = refl
+fresh_stands request.Uninstall Installed active c m = refl
+fresh_stands request.Uninstall Incomplete active c m = refl
+fresh_stands request.Mark Installed active c m = refl
+fresh_stands (request.Move path) Installed active c m = refl
+fresh_stands request.Ready Installed active c m = subst (λ p. plan_stands false active true p ≡ true) (append-nil (ready_part c)) (ready_stands active c [] refl)
+fresh_stands (request.Boot args) Installed active c m = ready_stands active c boot_part refl
+fresh_stands (request.Boot args) Ready active c m = refl
+fresh_stands request.Halt Ready active c m = refl
+fresh_stands request.Halt Running active c m = refl
+fresh_stands (request.Reboot args) Ready active c m = refl
+fresh_stands (request.Reboot args) Running active c m = refl
+fresh_stands r s active c m = absurd (false≢true m)
 
-active_stands : (r : Request) (a : ZoneState) (c : Contents) → may_begin (kind_of r) a ≡ true → stands true (is_up (Some a)) true ≡ true → plan_stands true (is_up (Some a)) true (plan r a c) ≡ true
+active_stands : (r : Request) (a : ZoneState) (c : Contents) → may_begin (kind_of r) a ≡ true → stands true (Some a) true ≡ true → plan_stands true (Some a) true (plan r a c) ≡ true
 active_stands request.Install Configured c m s = refl
 active_stands (request.Clone source) Configured c m s = refl
 active_stands request.Attach Configured c m s = refl
@@ -146,9 +155,9 @@ active_stands request.Ready Installed c m s = absurd (false≢true s)
 active_stands (request.Boot args) Installed c m s = absurd (false≢true s)
 active_stands r a c m s = absurd (false≢true m)
 
-begin_stands : (r : Request) (active : Option ZoneState) (s : ZoneState) (c : Contents) (may : Bool) → may_begin (kind_of r) (unwrap_or active s) ≡ true → stands may (is_up active) true ≡ true
-    → plan_stands may (is_up active) true (plan r (unwrap_or active s) c) ≡ true
-begin_stands r active s c false m h = fresh_stands r (unwrap_or active s) (is_up active) c m
+begin_stands : (r : Request) (active : Option ZoneState) (s : ZoneState) (c : Contents) (may : Bool) → may_begin (kind_of r) (unwrap_or active s) ≡ true → stands may active true ≡ true
+    → plan_stands may active true (plan r (unwrap_or active s) c) ≡ true
+begin_stands r active s c false m h = fresh_stands r (unwrap_or active s) active c m
 begin_stands r None s c true m h = absurd (false≢true h)
 begin_stands r (Some a) s c true m h = active_stands r a c m h
 
@@ -162,16 +171,27 @@ booted : (args : List ℕ) (ps : List Process) (is : List Id) → within_limit (
 booted args ps [] h = h
 booted args ps (i ∷ is) h = h
 
--- an event of a zone with this world
-module _ (w : World) (may : Bool) (none : may ≡ false → w.processes ≡ []) (within : within_limit (kernel_of (objects_of w)) ≡ true) where
-  -- the processes and the id stay, or the id changes of a zone without processes
-  stay : {active : Option ZoneState} {job : Option Job} → desk_stands may (is_up active) job ≡ true → IsLimited w.processes w.ids active job
-  stay h = record { may = may; none = none; within = within; desk = h }
+-- nor does what becomes of its console change what a zone keeps
+gone_limited : (keeps : Bool) (v : World) (active : Option ZoneState) (job : Option Job) → IsLimited v.processes v.ids active job → IsLimited (console_gone_world keeps v).processes (console_gone_world keeps v).ids active job
+gone_limited true v active job h = h
+gone_limited false v active job h = h
 
-  change : {is : List Id} {active : Option ZoneState} {job : Option Job} → (not may && desk_stands may (is_up active) job) ≡ true → IsLimited w.processes is active job
-  change {active = active} {job = job} h =
-      let parts = and_parts (not may) (desk_stands may (is_up active) job) h in
-      record { may = may; none = none; within = rw (none (not-true may parts.0)) refl; desk = parts.1 }
+-- an event of a zone with this world
+module _ (w : World) (may : Bool) (none : may ≡ false → w.processes ≡ []) (within : within_limit (kernel_of (objects_of w)) ≡ true)
+    (runs : runs_only may w.desk.active ≡ true) where
+  -- the processes, the id and the state stay, or the state changes, or the id of a zone without processes
+  stay : {job : Option Job} → desk_stands may w.desk.active job ≡ true → IsLimited w.processes w.ids w.desk.active job
+  stay h = record { may = may; none = none; within = within; runs = runs; desk = h }
+
+  move : {active : Option ZoneState} {job : Option Job} → (runs_only may active && desk_stands may active job) ≡ true → IsLimited w.processes w.ids active job
+  move {active = active} {job = job} h =
+      let parts = and_parts (runs_only may active) (desk_stands may active job) h in
+      record { may = may; none = none; within = within; runs = parts.0; desk = parts.1 }
+
+  change : {is : List Id} {job : Option Job} → (not may && desk_stands may w.desk.active job) ≡ true → IsLimited w.processes is w.desk.active job
+  change {job = job} h =
+      let parts = and_parts (not may) (desk_stands may w.desk.active job) h in
+      record { may = may; none = none; within = rw (none (not-true may parts.0)) refl; runs = runs; desk = parts.1 }
 
   abbrev Leaves : Option Arrival → Turned → Type 0
   Leaves c t = Limited (acts_world None (turned_act (record { came = c; effect = t })) w)
@@ -181,23 +201,23 @@ module _ (w : World) (may : Bool) (none : may ≡ false → w.processes ≡ []) 
   leaves_if false t u h k = k
 
   -- a turn of the zone
-  module _ (row : Option Record) (still : desk_stands may (is_up w.desk.active) w.desk.job ≡ true) where
+  module _ (row : Option Record) (still : desk_stands may w.desk.active w.desk.job ≡ true) where
     abbrev d : Desk
     d = w.desk
 
     abbrev v : Seen
     v = record (seen_of w) { stored = row }
 
-    abbrev up : Bool
-    up = is_up d.active
+    abbrev active : Option ZoneState
+    active = d.active
 
     abbrev LeavesBoth : Turn_decision → Option Turned → Type 0
     LeavesBoth shared local = In Leaves (or_shared shared local)
 
     abbrev Stands : Job → List Step → Type 0
-    Stands j left = plan_stands may up (is_nil j.done.made) left ≡ true
+    Stands j left = plan_stands may active (is_nil j.done.made) left ≡ true
 
-    leaves_mounting : (j : Job) (rest : List Step) (m : Mount) (shown : Step) → desk_stands may up (advance d j rest [] shown).desk.job ≡ true → Leaves None (advance d j rest (mounting m w.mounts) shown)
+    leaves_mounting : (j : Job) (rest : List Step) (m : Mount) (shown : Step) → desk_stands may active (advance d j rest [] shown).desk.job ≡ true → Leaves None (advance d j rest (mounting m w.mounts) shown)
     leaves_mounting j rest m shown h = at_test (is_ok (mount_answer m.dir w.mounts)) refl
       where
         at_test : (b : Bool) → is_ok (mount_answer m.dir w.mounts) ≡ b → Leaves None (advance d j rest (mounting m w.mounts) shown)
@@ -206,49 +226,53 @@ module _ (w : World) (may : Bool) (none : may ≡ false → w.processes ≡ []) 
 
     limited_state : (j : Job) (rest : List Step) (s : ZoneState) (row : Option Record) → Stands j (Record_step s ∷ rest) → In Leaves (record_state d j rest s row)
     limited_state j rest s None h = stay still
-    limited_state j rest s (Some row) h = let parts = and_parts (stands may up (is_nil j.done.made)) _ h in (λ pool. stay parts.0, λ n. stay parts.1)
+    limited_state j rest s (Some row) h = let parts = and_parts (stands may active (is_nil j.done.made)) _ h in (λ pool. stay parts.0, λ n. gone_limited (keeps_by s) _ _ _ (stay parts.1))
 
     limited_config : (j : Job) (rest : List Step) (path : List ℕ) (row : Record) (r : Result Contents ConfigFault) → Stands j (Moved ∷ rest) → In Leaves (record_config d j rest path row r)
-    limited_config j rest path row (Err fault) h = let parts = and_parts (stands may up (is_nil j.done.made)) _ h in stay parts.0
-    limited_config j rest path row (Right config) h = let parts = and_parts (stands may up (is_nil j.done.made)) _ h in (λ pool. stay parts.0, λ n. stay parts.1)
+    limited_config j rest path row (Err fault) h = let parts = and_parts (stands may active (is_nil j.done.made)) _ h in stay parts.0
+    limited_config j rest path row (Right config) h = let parts = and_parts (stands may active (is_nil j.done.made)) _ h in (λ pool. stay parts.0, λ n. gone_limited (keeps_by row.state) _ _ _ (stay parts.1))
 
     limited_moved : (j : Job) (rest : List Step) (path : List ℕ) (row : Option Record) → Stands j (Moved ∷ rest) → In Leaves (record_moved d j rest path row)
     limited_moved j rest path None h = stay still
     limited_moved j rest path (Some row) h = limited_config j rest path row (with_zonepath path row.config) h
 
     limited_step : (j : Job) (rest : List Step) (s : Step) → Stands j (s ∷ rest) → LeavesBoth (shared_step v j rest s) (local_step w.brands (objects_of w) d j rest s)
-    limited_step j rest (Hook change) h = at_answer (answer_of w.brands j.brand change) (and_parts (stands may up (is_nil j.done.made)) _ h)
+    limited_step j rest (Hook change) h = at_answer (answer_of w.brands j.brand change) (and_parts (stands may active (is_nil j.done.made)) _ h)
       where
-        at_answer : (answer : HookAnswer) → (stands may up (is_nil j.done.made) ≡ true) × (plan_stands may up (is_nil j.done.made) rest ≡ true) → Leaves None (hooked d j rest change answer)
+        at_answer : (answer : HookAnswer) → (stands may active (is_nil j.done.made) ≡ true) × (plan_stands may active (is_nil j.done.made) rest ≡ true) → Leaves None (hooked d j rest change answer)
         at_answer Proceed parts = stay parts.1
         at_answer (Refuse code) parts = stay parts.0
     limited_step j rest (Record_step s) h = limited_state j rest s row h
     limited_step j rest Moved h = limited_moved j rest (new_path j.request) row h
-    limited_step j rest (Source z) h = let parts = and_parts (stands may up (is_nil j.done.made)) _ h in (λ pool. stay parts.0, λ n. stay parts.1)
+    limited_step j rest (Source z) h = let parts = and_parts (stands may active (is_nil j.done.made)) _ h in (λ pool. stay parts.0, λ n. stay parts.1)
     limited_step j rest (Zid id) h = let parts = and_parts (not may) _ h in (λ pool. stay (rw (not-true may parts.0) refl), λ n. change h)
     limited_step j rest Limits h = change h
     limited_step j rest Root h = leaves_mounting j rest (root_mount j.config) Root h
     limited_step j rest (Mounted dir) h = leaves_mounting j rest (fs_mount j.config dir) (Mounted dir) h
     limited_step j rest (Claimed c) h = let parts = and_parts (not may) _ h in (λ pool. stay (rw (not-true may parts.0) refl), λ n. stay parts.1)
-    limited_step j rest (State_step Ready) h = stay h
-    limited_step j rest (State_step s) h = stay h
+    limited_step j rest (State_step Ready) h = move h
+    limited_step j rest (State_step s) h = move h
     limited_step j rest (Init pid) h =
-        let parts = and_parts (stands may up (is_nil j.done.made)) _ h in (
+        let parts = and_parts (stands may active (is_nil j.done.made)) _ h in (
           λ pool. stay parts.0,
           λ n. record {
             may = true;
             none = λ e. absurd (true≢false e);
             within = booted (bootargs_of j.request j.config) _ w.ids (within-entered (kernel_of (objects_of w)) (codes "init") true n within);
+            runs = refl;
             desk = parts.1;
           },
         )
-    limited_step j rest (Kill count) h = let gone = none_left w.processes in record { may = false; none = λ e. gone; within = rw gone refl; desk = h }
+    limited_step j rest (Kill count) h =
+        let gone = none_left w.processes in
+        let parts = and_parts (runs_only false active) _ h in
+        record { may = false; none = λ e. gone; within = rw gone refl; runs = parts.0; desk = parts.1 }
     limited_step j rest Clear h = change h
     limited_step j rest (ZidBack id) h = change h
     limited_step j rest _ h = stay h
 
     -- a request begins, or ends at once
-    limited_begin : (waiting : List (ℕ × Request)) (t : ℕ) (r : Request) (row : Record) → stands may up true ≡ true → Leaves None (begin w.brands (record d { waiting = waiting }) t r row)
+    limited_begin : (waiting : List (ℕ × Request)) (t : ℕ) (r : Request) (row : Record) → stands may active true ≡ true → Leaves None (begin w.brands (record d { waiting = waiting }) t r row)
     limited_begin waiting t r row h = at_outcome (refusal w.brands (kind_of r) (unwrap_or d.active row.state) row.config) refl
       where
         at_outcome : (outcome : Option Outcome) → refusal w.brands (kind_of r) (unwrap_or d.active row.state) row.config ≡ outcome
@@ -256,7 +280,7 @@ module _ (w : World) (may : Bool) (none : may ≡ false → w.processes ≡ []) 
         at_outcome None e = stay (begin_stands r d.active row.state row.config may (begins w.brands (kind_of r) (unwrap_or d.active row.state) row.config e) h)
         at_outcome (Some outcome) e = stay h
 
-    limited_over : (j : Job) (row : Option Record) (r : Request) → stands may up true ≡ true → In Leaves (over w.brands d j row r)
+    limited_over : (j : Job) (row : Option Record) (r : Request) → stands may active true ≡ true → In Leaves (over w.brands d j row r)
     limited_over j (Some row) (request.Reboot args) h = limited_begin d.waiting j.ticket (request.Boot args) row h
     limited_over j None (request.Reboot args) h = stay h
     limited_over j row _ h = stay h
@@ -268,7 +292,7 @@ module _ (w : World) (may : Bool) (none : may ≡ false → w.processes ≡ []) 
     limited_next j (A_claim_left c left) h = stay h
 
     -- a step back, of a zone without processes
-    shut : (may is_up : Bool) → stands may is_up false ≡ true → may ≡ false
+    shut : (may up : Bool) → (not may || (up && false)) ≡ true → may ≡ false
     shut false _ h = refl
     shut true true h = absurd (false≢true h)
     shut true false h = absurd (false≢true h)
@@ -280,52 +304,55 @@ module _ (w : World) (may : Bool) (none : may ≡ false → w.processes ≡ []) 
         leaves_if (is_held (mount_at dir w.mounts)) (stuck d) (undone d j outcome rest (Of_mounts (Go (is_at dir)) ∷ []) (Mounted dir)) (stay still) (change (rw e refl))
     limited_undo j outcome rest _ e = change (rw e refl)
 
-    limited_stage : (j : Job) (stage : Stage) → stage_stands may up j.done.made stage ≡ true → LeavesBoth (shared_stage v j stage) (local_stage w.brands (objects_of w) d j stage)
+    limited_stage : (j : Job) (stage : Stage) → stage_stands may active j.done.made stage ≡ true → LeavesBoth (shared_stage v j stage) (local_stage w.brands (objects_of w) d j stage)
     limited_stage j (Goes_on left) h = limited_next j (next (objects_of w) left) (holds-next (Stands j) (λ dir rest l. l) (λ c rest l. l) (objects_of w) left h)
     limited_stage j (Fails outcome []) h = stay h
-    limited_stage j (Fails outcome (s ∷ rest)) h = limited_undo j outcome rest s (shut may up h)
+    limited_stage j (Fails outcome (s ∷ rest)) h = limited_undo j outcome rest s (shut may (is_up active) h)
 
-    limited_request : (waiting : List (ℕ × Request)) (row : Option Record) → stands may up true ≡ true → In Leaves (next_request w.brands d waiting row)
+    limited_request : (waiting : List (ℕ × Request)) (row : Option Record) → stands may active true ≡ true → In Leaves (next_request w.brands d waiting row)
     limited_request (r ∷ rs) (Some row) h = limited_begin rs r.0 r.1 row h
     limited_request (r ∷ rs) None h = stay still
     limited_request [] row h = stay still
 
-    limited_job : (job : Option Job) → desk_stands may up job ≡ true → LeavesBoth (shared_turn v job) (local_job w.brands (objects_of w) d job)
+    limited_job : (job : Option Job) → desk_stands may active job ≡ true → LeavesBoth (shared_turn v job) (local_job w.brands (objects_of w) d job)
     limited_job None h = limited_request d.waiting row h
     limited_job (Some j) h = limited_stage j j.stage h
 
-  limited_turn : desk_stands may (is_up w.desk.active) w.desk.job ≡ true → In Leaves (turn (seen_of w))
+  limited_turn : desk_stands may w.desk.active w.desk.job ≡ true → In Leaves (turn (seen_of w))
   unfolding turn local_turn
   limited_turn h = limited_job w.stored h w.desk.job h
 
   -- a call or a signal. What keeps its number already is kept whole
   limited_change : (pid : ℕ) (f : Process → Process) → ((p : Process) → (f p).pid ≡ p.pid) → within_limit (kernel_of (objects_of (record w { processes = edited (Change (at_pid pid f)) w.processes }))) ≡ true
-      → desk_stands may (is_up w.desk.active) w.desk.job ≡ true → Limited (record w { processes = edited (Change (keeping_pid (at_pid pid f))) w.processes })
+      → desk_stands may w.desk.active w.desk.job ≡ true → Limited (record w { processes = edited (Change (keeping_pid (at_pid pid f))) w.processes })
   limited_change pid f keeps fits h = record {
     may = may;
     none = λ e. ap (edited (Change (keeping_pid (at_pid pid f)))) (none e);
     within = subst (λ (g : Process → Process). within_limit (kernel_of (objects_of (record w { processes = edited (Change g) w.processes }))) ≡ true) whole fits;
+    runs = runs;
     desk = h;
   }
     where
       whole : at_pid pid f ≡ keeping_pid (at_pid pid f)
       whole = λ i. λ p. record (at_pid pid f p) { pid = at_pid_keeps pid f keeps p i }
 
-  limited_called : (ps : List Process) → Called w.processes ps → desk_stands may (is_up w.desk.active) w.desk.job ≡ true → Limited (record w { processes = ps })
+  limited_called : (ps : List Process) → Called w ps → desk_stands may w.desk.active w.desk.job ≡ true → Limited (record w { processes = ps })
   limited_called ps (Forks parent n p name is) h =
-      record { may = may; none = λ e. absurd (nobody e); within = within-forked (kernel_of (objects_of w)) parent n p name is within; desk = h }
+      record { may = may; none = λ e. absurd (nobody e); within = within-forked (kernel_of (objects_of w)) parent n p name is within; runs = runs; desk = h }
     where
       nobody : may ≡ false → ⊥
       nobody e = let none : None ≡ Some p = sym (ap (with_pid parent) (none e)) ∙ is in cc
-  limited_called ps (Goes pid) h = record { may = may; none = λ e. ap (without_pid pid) (none e); within = within-gone (kernel_of (objects_of w)) pid within; desk = h }
+  limited_called ps (Enters n name running) h =
+      record { may = may; none = λ e. absurd (false≢true (rw (e, running) at runs)); within = within-entered (kernel_of (objects_of w)) name false n within; runs = runs; desk = h }
+  limited_called ps (Goes pid) h = record { may = may; none = λ e. ap (without_pid pid) (none e); within = within-gone (kernel_of (objects_of w)) pid within; runs = runs; desk = h }
   limited_called ps (Renames pid name) h = limited_change pid (renamed name) (λ p. refl) (within-renamed (kernel_of (objects_of w)) pid name within) h
   limited_called ps (Drops pid number) h = limited_change pid (dropping number) (λ p. refl) (within-dropped (kernel_of (objects_of w)) pid number within) h
 
 limited-event : (z : Name) (w : World) (e : Event) (g : Grant) → Limited w → Limited (acts_world (session_number e) (act_of (decide (view_of z w) e) g) w)
 limited-event z w e g is =
-    let turned = in-act (Leaves w is.may is.none is.within) (turn (seen_of w)) g (limited_turn w is.may is.none is.within is.desk) in
-    of_event Limited z w (λ sessions sit. is) (λ stored config k sessions sit same. is) (λ row sessions sit same configured idle. is) (λ r sessions sit. is) (λ ps called. limited_called w is.may is.none is.within ps called is.desk)
-    (λ ms mounted. record { may = is.may; none = is.none; within = is.within; desk = is.desk }) g turned e
+    let turned = in-act (Leaves w is.may is.none is.within is.runs) (turn (seen_of w)) g (limited_turn w is.may is.none is.within is.runs is.desk) in
+    of_event Limited z w (λ sessions console sit. is) (λ stored config k sessions console sit same. is) (λ row sessions console sit same configured idle. is) (λ r sessions sit. is) (λ ps sessions called sit. limited_called w is.may is.none is.within is.runs ps called is.desk)
+    (λ ms mounted. record { may = is.may; none = is.none; within = is.within; runs = is.runs; desk = is.desk }) g turned e
 
 pub within-history : (z : Name) (brands : List Tabled) (commits : List Commit) (h : List Entry) → within_limit (kernel_of (objects_of (world z (after (opening brands commits) h)))) ≡ true
-within-history z brands commits h = (kept-after Limited limited-event (λ w d is. record { may = is.may; none = is.none; within = is.within; desk = is.desk }) (λ w is. record { may = false; none = λ e. refl; within = refl; desk = refl }) (opening brands commits) h (λ z. record { may = false; none = λ e. refl; within = refl; desk = refl }) z).within
+within-history z brands commits h = (kept-after Limited limited-event (λ w d is. record { may = is.may; none = is.none; within = is.within; runs = is.runs; desk = is.desk }) (λ w is. record { may = false; none = λ e. refl; within = refl; runs = refl; desk = refl }) (opening brands commits) h (λ z. record { may = false; none = λ e. refl; within = refl; runs = refl; desk = refl }) z).within

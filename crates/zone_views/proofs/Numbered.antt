@@ -15,7 +15,7 @@ use Rattle.zoneadmd_steps.specs.Arrivals.{A_claim, A_process, A_record, An_id, C
 use Rattle.zone_machine.specs.State.Decisions.{Decision, act_of, acts, after_came}
 use Rattle.zone_pools.specs.Asked.{A_pid, A_zid, Asked}
 use Rattle.zone_pools.specs.Decisions.{Ask, Just, asked_of}
-use Rattle.zone_machine.specs.State.Edits.{Edit, Of_objects, comes, edit, edits}
+use Rattle.zone_machine.specs.State.Edits.{Edit, Of_objects, comes, console_gone, edit, edits, keeps_console}
 use Rattle.zone_machine.specs.Machine.Histories.{after, after_entry, is_allowed, is_history, is_legal, is_told}
 use Rattle.zone_machine.specs.Machine.{decide, one, one_of, opening, session_number, subject, whole}
 use Rattle.kernel_objects.specs.Processes.{Process, adopted, below, has_pid, heir}
@@ -68,6 +68,11 @@ numbered-edits : (z : Name) (n : Option ℕ) (es : List Edit) (S : State) → Ar
 numbered-edits z n [] S h = h
 numbered-edits z n (e ∷ es) S h = numbered-edits z n es (edit z n e S) (numbered-edit z n e S h)
 
+-- and so does what becomes of a console
+numbered-gone : (z : Name) (keeps : Bool) (S : State) → AreNumbered S → AreNumbered (console_gone z keeps S)
+numbered-gone z true S h = h
+numbered-gone z false S h = record { pids = h.pids; zids = h.zids; last = h.last }
+
 -- what comes has a number that fits
 numbered-comes : (z : Name) (c : Comes) (asked : List Asked) (n : ℕ) (S : State) → is_asked_for c asked ≡ true → list_all (fits_pool (pools_of S) z n) asked ≡ true → AreNumbered S → AreNumbered (comes z (arrived c n) S)
 unfolding comes
@@ -80,7 +85,7 @@ numbered-comes z (An_id i) (A_zid ∷ []) n S a f h =
     let range = (and_parts (nat_le 1 n && nat_le n 9999) (not ((pools_of S).zid_used n)) (and_parts _ true f).0) in
     let new = new-filter (λ i. i.zid) n keep S.ids (not-true ((pools_of S).zid_used n) range.1) in
     record { pids = h.pids; zids = differ-come (λ i. i.zid) z (record i { zid = n }) (edit_list z (Go all_of) S.ids) new (differ-filter (λ i. i.zid) keep S.ids h.zids); last = h.last }
-numbered-comes z (A_record row) asked n S a f h = record { pids = h.pids; zids = h.zids; last = h.last }
+numbered-comes z (A_record row) asked n S a f h = numbered-gone z (keeps_console (row n)) _ (record { pids = h.pids; zids = h.zids; last = h.last })
 numbered-comes z (A_claim c) asked n S a f h = record { pids = h.pids; zids = h.zids; last = h.last }
 numbered-comes z No_thing asked n S a f h = record { pids = h.pids; zids = h.zids; last = h.last }
 numbered-comes z c asked n S a f h = absurd (false≢true a)
@@ -90,7 +95,7 @@ numbered-yes : (z : Name) (c : Comes) (asked : List Asked) (S : State) → is_as
 unfolding comes
 numbered-yes z (A_claim c) asked S a f h = record { pids = h.pids; zids = h.zids; last = h.last }
 numbered-yes z No_thing asked S a f h = record { pids = h.pids; zids = h.zids; last = h.last }
-numbered-yes z (A_record row) asked S a f h = record { pids = h.pids; zids = h.zids; last = h.last }
+numbered-yes z (A_record row) asked S a f h = numbered-gone z (keeps_console (row 0)) _ (record { pids = h.pids; zids = h.zids; last = h.last })
 numbered-yes z (A_process p) (A_pid ∷ []) S a f h = absurd (false≢true f)
 numbered-yes z (An_id i) (A_zid ∷ []) S a f h = absurd (false≢true f)
 numbered-yes z c asked S a f h = absurd (false≢true a)

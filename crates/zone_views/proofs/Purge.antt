@@ -22,6 +22,7 @@ use Rattle.zone_machine.specs.Machine.{holder, line_subject, one, opening, sessi
 use Rattle.zone_machine.specs.Machine.Same.{same_reply, same_subject}
 use Rattle.zone_machine.specs.State.{At, Idle, Session as Session_mode, State, stored}
 use Rattle.zone_machine.specs.State.Declarations.{none_declared}
+use Rattle.console_link.specs.Consoles.{new_console}
 use Rattle.zone_machine.specs.State.Worlds.{World, doing, world}
 use Rattle.zone_machine.specs.declared.events.Entry.{Entry}
 use Rattle.zone_machine.specs.declared.events.Event.{Event}
@@ -203,7 +204,7 @@ purge z (e ∷ es) S T a = at_test (λ S T a. purge z es S T a) _ refl
 -- the openings of two stores that hold the same of z
 pub opening-agree : (z : Name) (brands : List Tabled) (commits others : List Commit) → stored z commits ≡ stored z others → Agree z (opening brands commits) (opening brands others)
 opening-agree z brands commits others h = record {
-  world = let f : Option Record → World = λ row. record { processes = []; mounts = []; claims = []; devices = []; ids = []; stored = row; desk = empty_desk; sessions = λ n. None; declared = none_declared; brands = brands } in ap f h;
+  world = let f : Option Record → World = λ row. record { processes = []; mounts = []; claims = []; devices = []; ids = []; stored = row; desk = empty_desk; console = new_console; sessions = λ n. None; declared = none_declared; brands = brands } in ap f h;
   purged = IsPurged-opening z brands others;
 }
 

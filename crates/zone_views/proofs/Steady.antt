@@ -303,7 +303,7 @@ keeps-asked (Some row) d r h = record { steady = h; moves = inl refl }
 keeps-event : (z : Name) (w : World) (e : Event) (g : Grant) → steady w.stored w.desk ≡ true
     → let v = acts_world (session_number e) (act_of (decide (view_of z w) e) g) w in Keeps w.stored w.desk v.stored v.desk
 keeps-event z w e g h =
-    of_event (λ v. Keeps w.stored w.desk v.stored v.desk) z w (λ sessions sit. stays) (λ stored config k sessions sit is. subst (λ o. Keeps w.stored w.desk (Some (committed_record z o config k)) w.desk) is (keeps-recorded w.stored w.desk z config k h)) (λ row sessions sit is c r. subst (λ o. Keeps o w.desk None w.desk) (sym is) (keeps-removed row w.desk (subst (λ o. steady o w.desk ≡ true) is h) c r)) (λ r sessions sit. keeps-asked w.stored w.desk r h) (λ ps called. stays) (λ ms mounted. stays) g
+    of_event (λ v. Keeps w.stored w.desk v.stored v.desk) z w (λ sessions console sit. stays) (λ stored config k sessions console sit is. subst (λ o. Keeps w.stored w.desk (Some (committed_record z o config k)) w.desk) is (keeps-recorded w.stored w.desk z config k h)) (λ row sessions console sit is c r. subst (λ o. Keeps o w.desk None w.desk) (sym is) (keeps-removed row w.desk (subst (λ o. steady o w.desk ≡ true) is h) c r)) (λ r sessions sit. keeps-asked w.stored w.desk r h) (λ ps sessions called sit. stays) (λ ms mounted. stays) g
     (of_turned (λ row ms d. Keeps w.stored w.desk row d) w g turned) e
   where
     stays : Keeps w.stored w.desk w.stored w.desk

@@ -1,26 +1,30 @@
 -- What the code's cases decide, as the definitions have it.
-use Rattle.std.specs.Prelude.{◌≡◌, ◌≤◌, ◌+◌, ◌++◌, ℕ, List, [], ◌∷◌, map, false, IfOk, Option, Some}
+use Rattle.std.specs.Prelude.{◌≡◌, ◌≤◌, ◌+◌, ◌++◌, ℕ, List, [], ◌∷◌, map, false, IfOk, IfSome, Option, Some}
 use Rattle.zone_pools.specs.declared.grant.Grant.{Grant}
 use Rattle.zn_base.specs.Names.{Name}
 use Rattle.zone_pools.specs.Asked.{A_pid}
 use Rattle.zone_pools.specs.Decisions as decisions
 use Rattle.zoneadmd_steps.specs.Arrivals.{A_process, A_record, record_asked}
-use Rattle.zone_machine.specs.State.Decisions.{Decision, done_saying, effects, refused, tells, turned}
+use Rattle.zone_machine.specs.State.Decisions.{Decision, answers, done_saying, effects, refused, says, tells, turned}
 use Rattle.kernel_objects.specs.Processes.{process_of}
-use Rattle.zone_machine.specs.declared.replies.Body.TheVariants.{Child}
+use Rattle.zone_machine.specs.declared.replies.Body.TheVariants.{Child, Why}
 use Rattle.zoneadmd_steps.specs.Code.Cases.{IsNamedTurn, IsNumberedTurn, IsTurnOf, object_edits, turn_decision_of}
 use Rattle.zoneadmd_steps.specs.Code.Desks.{as_desk}
-use Rattle.zone_machine.specs.State.Edits.{Here, Of_objects, Set_desk}
-use Rattle.zone_machine.specs.State.{Awaiting}
+use Rattle.zone_machine.specs.State.Edits as edits
+use Rattle.zone_machine.specs.State.Edits.{Here, Of_console, Of_objects, Set_desk}
+use Rattle.zone_machine.specs.State.{Awaiting, Logged_in}
 use Rattle.zoneadmd_steps.specs.Desks.{is_full, with_request}
 use Rattle.zone_machine.specs.declared.cases.Case.{Case}
 use Rattle.zone_config.specs.declared.terms.Contents.{Contents}
 use Rattle.zone_machine.specs.declared.cases.Committer.{Committer}
 use Rattle.zone_machine.specs.declared.cases.Committer.TheVariants.{Alone, GoesOn, Leaves}
-use Rattle.zone_machine.specs.declared.cases.Case.TheVariants.{Answers, Change, Commit, Fork, Says, Put, Remove, Sit, Tells, Turn}
+use Rattle.zone_machine.specs.declared.cases.Case.TheVariants.{Answers, AtConsole, Change, Commit, Fork, Login, Says, Put, Remove, Sit, Tells, Turn, Write}
+use Rattle.zone_machine.specs.declared.cases.Manner.{Manner}
+use Rattle.zone_machine.specs.declared.cases.Manner.TheVariants.{Plain, Status}
 use Rattle.zone_machine.specs.declared.cases.Novelty.{Novelty}
 use Rattle.zone_machine.specs.declared.cases.Novelty.TheVariants as novelty
 use Rattle.zone_machine.specs.Session.Commits.{Alone as Alone_line, Goes_on, Leaves as Leaves_then, Typist, goes_over, places_for, refuses, removes, telling}
+use Rattle.zone_machine.specs.Code.Consoles.{console_edits}
 use Rattle.zone_machine.specs.Code.Doings.{sits}
 use Rattle.zn_base.specs.declared.state.ZoneState.{ZoneState}
 use Rattle.zoneadmd_steps.specs.Code.Cases.{turn_active}
@@ -28,7 +32,10 @@ use Rattle.zoneadmd_steps.specs.declared.desks.Desk.{Desk}
 use Rattle.commit_journal.specs.Uuids.{uuid_of}
 use Rattle.commit_journal.specs.declared.records.Record as records
 use Rattle.config_terms.specs.Fields.{path_text}
-use Rattle.zone_machine.specs.declared.replies.Head.TheVariants.{Ok, Ticket}
+use Rattle.zone_machine.specs.declared.replies.Head.{Head}
+use Rattle.zone_machine.specs.declared.replies.Head.TheVariants.{Ok, Refused, Status as Status_is, Ticket}
+use Rattle.zone_machine.specs.declared.replies.Refusal.{Refusal}
+use Rattle.zone_machine.specs.declared.replies.Reply.{Reply}
 use Rattle.zone_machine.specs.declared.replies.Refusal.TheVariants.{Denied}
 
 -- the record of a commit under its number, by what is new: a new zone takes its UUID from it too
@@ -61,12 +68,26 @@ made new z row told c =
     (places_for new (path_text row.config.zonepath) ++ record_asked (λ n. Some (numbered_row new z row n)) ∷ [])
     (λ pool. refuses (as_typist c) (Denied pool) told) (λ n. telling (goes_over (base_by c row.config) n (as_typist c)) Ok told)
 
+-- how it is answered that something is done, or refused
+abbrev pub done_head : Manner → Head
+done_head Plain = Ok
+done_head (Status n) = Status_is n
+
+abbrev pub refused_reply : Manner → Refusal → Reply
+refused_reply Plain why = says (Refused why)
+refused_reply (Status n) why = record { head = Status_is 1; body = Why why }
+
 -- what an event decides
 abbrev pub decision_of : Desk → Case → Decision
 decision_of d (Says head) = decisions.Just (done_saying [] head)
 decision_of d (Tells body) = decisions.Just (tells body)
-decision_of d (Change edit) = decisions.Just (done_saying (map Of_objects (object_edits edit)) Ok)
-decision_of d (Fork p) = decisions.Ask (A_process (process_of (0, p.value))) (A_pid ∷ []) (λ pool. refused (Denied pool)) (λ n. tells (Child n))
+decision_of d (Change edit m) = decisions.Just (done_saying (map Of_objects (object_edits edit)) (done_head m))
+decision_of d (Fork p m) =
+    decisions.Ask (A_process (process_of (0, p.value))) (A_pid ∷ []) (λ pool. answers (refused_reply m (Denied pool))) (λ n. answers (record { head = done_head m; body = Child n }))
+decision_of d (Write line m) = decisions.Just (done_saying (Of_console (edits.Line line) ∷ []) (done_head m))
+decision_of d (Login l) =
+    decisions.Ask (A_process (process_of (0, l.value.running))) (A_pid ∷ []) (λ pool. refused (Denied pool)) (λ n. done_saying (Here (Some (Logged_in n l.value.escape)) ∷ []) Ok)
+decision_of d (AtConsole c) = decisions.Just (record { edits = sits c.value.sitting ++ console_edits c.value.edit; reply = c.value.reply })
 decision_of d (Answers reply) = decisions.Just (record { edits = []; reply = reply.value })
 decision_of d (Sit s) = decisions.Just (record { edits = sits (Some s.value.sitting); reply = s.value.reply })
 decision_of d (Commit c) = made c.value.novelty c.value.owner c.value.row.value c.value.told c.value.committer
@@ -86,11 +107,22 @@ IsNumbered (Commit c) g = IfOk (decisions.number_in g) (λ n. 1 ≤ n)
 IsNumbered (Turn c) g = IsNumberedTurn c g
 IsNumbered _ g = Unit {0}
 
+-- what a call comes to is told as it is
+abbrev pub IsCallCase : Case → Type 0
+IsCallCase (Says head) = Unit {0}
+IsCallCase (Tells body) = Unit {0}
+IsCallCase (Change edit m) = m ≡ Plain
+IsCallCase (Fork p m) = m ≡ Plain
+IsCallCase (Write line m) = m ≡ Plain
+IsCallCase _ = ⊥
+
 abbrev pub IsNamedCase : Name → Case → Type 0
 IsNamedCase z (Sit s) = s.value.sitting.owner ≡ z
 IsNamedCase z (Commit c) = (c.value.owner ≡ z) × IsNamedCommitter z c.value.committer
 IsNamedCase z (Remove r) = (r.value.owner ≡ z) × IsNamedCommitter z r.value.committer
 IsNamedCase z (Put request owner) = owner ≡ z
+IsNamedCase z (Login l) = l.value.owner ≡ z
+IsNamedCase z (AtConsole c) = IfSome c.value.sitting (λ s. s.owner ≡ z)
 IsNamedCase z (Turn c) = IsNamedTurn z c
 IsNamedCase z _ = Unit {0}
 

@@ -8,6 +8,8 @@ use Rattle.zone_pools.specs.Owners.{held_by, is_owner, owner}
 use Rattle.commit_journal.specs.Zones.{rows_of}
 use Rattle.zone_machine.specs.Machine.Common.{Common, common, holding, standing}
 use Rattle.zoneadmd_steps.specs.Code.Desks.{as_desk}
+use Rattle.console_link.specs.Consoles.{new_console}
+use Rattle.zone_machine.specs.Code.Consoles.{console_in}
 use Rattle.zone_machine.specs.Code.Doings.{as_doing}
 use Rattle.zone_machine.specs.State.{State, stored}
 use Rattle.zone_machine.specs.State.Worlds.{View, World, objects_of, world}
@@ -47,6 +49,7 @@ cell_world out c = record {
   ids = ids_of c.kernel.id;
   stored = out.stored;
   desk = as_desk c.desk;
+  console = console_in c.console;
   sessions = λ n. option_map as_doing (get nat_eq c.doings n);
   declared = out.declared;
   brands = out.brands;
@@ -62,6 +65,7 @@ empty_world out = record {
   ids = [];
   stored = out.stored;
   desk = empty_desk;
+  console = new_console;
   sessions = λ n. None;
   declared = out.declared;
   brands = out.brands;
@@ -109,6 +113,7 @@ pub record Shows (v : View) (z : Name) (c : Cell) : Type 0 where
   pub mounts : v.world.mounts ≡ c.mounts.list
   pub claims : v.world.claims ≡ c.claims.claims
   pub devices : v.world.devices ≡ c.kernel.devices
+  pub console : v.world.console ≡ console_in c.console
 
 -- a cell has a world, but for what it hasn't
 abbrev pub CellOf : Cell → World → Type 0

@@ -1,34 +1,53 @@
 -- What sessions do in a zone, by the code's pairs of a session and what it does.
-use Rattle.std.specs.Prelude.{ℕ, List, [], ◌∷◌, Bool, false, Option, Some, None, nat_eq, ◌&&◌, if◌then◌else◌}
+use Rattle.std.specs.Prelude.{ℕ, List, [], ◌∷◌, Bool, true, false, Option, Some, None, nat_eq, ◌&&◌, if◌then◌else◌}
 use Rattle.std.specs.Option.{option_map}
 use Rattle.zone_machine.specs.State as state
-use Rattle.zone_machine.specs.State.{Awaiting, Editing}
-use Rattle.zone_machine.specs.State.Edits.{Edit, Here}
+use Rattle.zone_machine.specs.State.{At_console, Awaiting, Editing, Logged_in}
+use Rattle.zone_machine.specs.State.Decisions.{ticket_ended}
+use Rattle.zone_machine.specs.State.Edits.{Edit, Here, console_left, login_ended, logins_ended, swept_doing}
+use Rattle.zone_machine.specs.State.Worlds.{World}
 use Rattle.zone_machine.specs.declared.cases.Sitting.{Sitting}
 use Rattle.zone_machine.specs.declared.session.doings.Doing.{Doing}
-use Rattle.zone_machine.specs.declared.session.doings.Doing.TheVariants.{Awaits, Edits}
+use Rattle.zone_machine.specs.declared.session.doings.Doing.TheVariants.{AtConsole, Awaits, Edits, LoggedIn}
+use Rattle.zone_machine.specs.declared.session.doings.Ended.{Ended}
+use Rattle.zone_machine.specs.declared.session.doings.Ended.TheVariants.{Console, Process, Processes, Ticket}
 
 abbrev pub as_doing : Doing → state.Doing
 as_doing (Awaits ticket) = Awaiting ticket
 as_doing (Edits editor) = Editing editor
+as_doing (LoggedIn pid escape) = Logged_in pid escape
+as_doing (AtConsole escape) = At_console escape
 
--- a ticket that ends, at what a session does
-abbrev pub waits_for : ℕ → Doing → Bool
-waits_for t (Awaits u) = nat_eq u t
-waits_for t (Edits editor) = false
+-- something ends, and with it what a session does
+abbrev pub ends_with : Ended → Doing → Bool
+ends_with (Ticket t) (Awaits u) = nat_eq t u
+ends_with (Process pid) (LoggedIn p escape) = nat_eq pid p
+ends_with Processes (LoggedIn p escape) = true
+ends_with Console (AtConsole escape) = true
+ends_with e d = false
 
-abbrev pub is_wait_for : ℕ → Option Doing → Bool
-is_wait_for t None = false
-is_wait_for t (Some d) = waits_for t d
+abbrev pub is_ended : Ended → Option Doing → Bool
+is_ended e None = false
+is_ended e (Some d) = ends_with e d
 
-abbrev pub unless_ended : ℕ → Option Doing → Option Doing
-unless_ended t None = None
-unless_ended t (Some d) = if waits_for t d then None else Some d
+abbrev pub unless_ended : Ended → Option Doing → Option Doing
+unless_ended e None = None
+unless_ended e (Some d) = if ends_with e d then None else Some d
 
--- the session k waits for a ticket, by one pair of a session and what it does
-abbrev pub waits_there : ℕ → ℕ → Option (ℕ × Doing) → Bool
-waits_there t k None = false
-waits_there t k (Some e) = nat_eq e.0 k && waits_for t e.1
+-- what the session k does ends, by one pair of a session and what it does
+abbrev pub ends_there : Ended → ℕ → Option (ℕ × Doing) → Bool
+ends_there e k None = false
+ends_there e k (Some pair) = nat_eq pair.0 k && ends_with e pair.1
+
+abbrev pub sweep_of : Ended → state.Doing → Option state.Doing
+sweep_of (Ticket t) d = ticket_ended t d
+sweep_of (Process pid) d = login_ended pid d
+sweep_of Processes d = logins_ended d
+sweep_of Console d = console_left d
+
+-- the same of a zone's world
+abbrev pub swept_by : Ended → World → World
+swept_by e w = record w { sessions = λ k. swept_doing (sweep_of e) (w.sessions k) }
 
 -- what becomes of the event's session
 abbrev pub sits : Option Sitting → List Edit

@@ -8,7 +8,7 @@ use Rattle.zn_base.specs.Text.{is_text}
 use Rattle.zone_machine.specs.Session.Lines as lines
 use Rattle.zone_machine.specs.Session.Lines.{is_space, past_spaces, past_word, words}
 use Rattle.zone_machine.specs.declared.session.lines.Command.{Command}
-use Rattle.zone_machine.specs.declared.session.lines.Command.TheVariants.{Blank, Boot, Clone, Edit, Help, Hold, Kill, ListOne, ListZones, Move, Reboot, Release, Request, Unforced, Unknown, Verify, Zonecfg}
+use Rattle.zone_machine.specs.declared.session.lines.Command.TheVariants.{Blank, Boot, Clone, Console, Edit, Enter, Help, Hold, Kill, ListOne, ListZones, Login, Move, Reboot, Release, Request, Unforced, Unknown, Verify, Zonecfg}
 use Rattle.zoneadmd_steps.specs.declared.requests.Request.TheVariants as request
 use Rattle.zone_machine.specs.declared.session.lines.Line.{Line}
 
@@ -50,6 +50,10 @@ GivesRest (Some text) rest = rest ≡ Some (words text.now)
 abbrev pub as_word : Option (Bor (List ℕ)) → Option (List ℕ)
 as_word o = option_map (λ word. word.now) o
 
+-- an escape byte or none, and the words that are left
+abbrev pub as_escape : Option ℕ × Bor (List ℕ) → Option ℕ × List (List ℕ)
+as_escape r = (r.0, words r.1.now)
+
 abbrev pub as_command : Command → lines.Command
 as_command Blank = lines.Blank
 as_command Edit = lines.Edit
@@ -63,6 +67,9 @@ as_command Unforced = lines.Unforced
 as_command (Kill signal pid) = lines.Kill signal pid
 as_command (Hold dir) = lines.Hold dir.now
 as_command (Release dir) = lines.Release dir.now
+as_command (Login escape) = lines.Login escape
+as_command (Console escape) = lines.Console escape
+as_command (Enter text) = lines.Enter text.now
 as_command Help = lines.Help
 as_command Verify = lines.Verify
 as_command (ListOne form) = lines.List_one form

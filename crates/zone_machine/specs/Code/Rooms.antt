@@ -13,7 +13,8 @@ use Rattle.zoneadmd_steps.specs.Arrivals.{Arrival, New_claim, New_id, New_proces
 use Rattle.zone_machine.specs.Code.Cases.{case_active, decision_of}
 use Rattle.zoneadmd_steps.specs.Code.Cases.{IsFreeFor, May_mount, Premise, premise_of}
 use Rattle.zoneadmd_steps.specs.Code.Rooms.{HasRequestRoom, HasTurnRoom}
-use Rattle.zone_machine.specs.Code.Works.{objects_of, seats}
+use Rattle.zone_machine.specs.Code.Consoles.{HasConsole}
+use Rattle.zone_machine.specs.Code.Works.{console_of_case, objects_of, seats}
 use Rattle.zone_machine.specs.Code.Cells.{Outside, cell_world, common_in}
 use Rattle.zone_machine.specs.Code.Needs.{pools_in}
 use Rattle.zone_machine.specs.declared.cases.Case.{Case}
@@ -87,6 +88,7 @@ pub record HasRoom (z : Name) (case : Case) (c : Cell) (s : Shared) : Type 0 whe
   pub stored : HasRoomToStore (asked_of (decision_of c.desk case)) s
   pub objects : HasRoomToChange (objects_of case) c
   pub sits : HasRoomIfSits case c s
+  pub console : HasConsole (console_of_case case) c.console
   pub rises : HasRoomToRise z case c s
   pub desk : HasRoomFor c.desk case
 

@@ -11,14 +11,15 @@ use Rattle.loopback_mounts.specs.declared.faults.HoldFault.{HoldFault}
 use Rattle.loopback_mounts.specs.declared.mount.MountEntry.{MountEntry}
 use Rattle.loopback_mounts.specs.declared.faults.HoldFault.TheVariants.{HoldState as Wrong_hold, NoMount as No_such_mount}
 use Rattle.zone_pools.specs.Owned_lists.{Change}
-use Rattle.zoneadmd_steps.specs.Objects.{Object_edit, Of_mounts}
+use Rattle.zoneadmd_steps.specs.Objects.{Object_edit, Of_mounts, kernel_of}
 use Rattle.zone_machine.specs.Calls.{changes, signals}
 use Rattle.kernel_objects.specs.declared.faults.Errno.TheVariants.{ESRCH}
 use Rattle.zn_base.specs.declared.name.NameFault.{NameFault}
-use Rattle.zone_machine.specs.Session.Lines.{Ask as Asks, Blank, Clone, Command, Edit, Help, Hold, Kill, Line, List_one, List_zones, Release, Unforced, Unknown, Verify, Zonecfg}
+use Rattle.zone_machine.specs.Session.Logins.{console_line, holds_console, logged_line, logs_in}
+use Rattle.zone_machine.specs.Session.Lines.{Ask as Asks, Blank, Clone, Command, Console, Edit, Enter, Help, Hold, Kill, Line, List_one, List_zones, Login, Release, Unforced, Unknown, Verify, Zonecfg}
 use Rattle.zone_machine.specs.Session.Listed.{help_line, list_one_reply, list_zones_reply, verify_reply}
-use Rattle.zone_machine.specs.State.{Awaiting, Doing, Editing, State}
-use Rattle.zone_machine.specs.State.Worlds.{View}
+use Rattle.zone_machine.specs.State.{At_console, Awaiting, Doing, Editing, Logged_in, State}
+use Rattle.zone_machine.specs.State.Worlds.{View, objects_of}
 use Rattle.zoneadmd_steps.specs.declared.requests.Request.{Request}
 use Rattle.zoneadmd_steps.specs.declared.requests.Request.TheVariants as request
 use Rattle.commit_journal.specs.declared.records.Record.{Record}
@@ -72,6 +73,9 @@ idle_line v Unforced = Just (refused NeedForce)
 idle_line v (Kill signal pid) = signals false signal pid (v.process pid)
 idle_line v (Hold dir) = holds v.world.stored (held_answer true dir v.world.mounts) (holding_at true dir)
 idle_line v (Release dir) = holds v.world.stored (held_answer false dir v.world.mounts) (holding_at false dir)
+idle_line v (Login escape) = logs_in escape v.world.stored v.world.desk (kernel_of (objects_of v.world))
+idle_line v (Console escape) = holds_console escape v.world.stored v.world.desk v.world.console
+idle_line v (Enter text) = Just (refused Usage)
 idle_line v Help = Just (tells (Lines (help_line ∷ [])))
 idle_line v Verify = Just (answers (verify_reply v.world.brands v.world.stored))
 idle_line v (List_one form) = Just (answers (list_one_reply v.zone form v.world.stored v.world.desk v.world.ids))
@@ -79,11 +83,14 @@ idle_line v (List_one form) = Just (answers (list_one_reply v.zone form v.world.
 idle_line v (List_zones options) = Just (refused Usage)
 idle_line v Unknown = Just (refused Usage)
 
--- by what the session does in the zone. One that edits says every line to its editor
+-- by what the session does in the zone. One that edits says every line to its editor, and one that is logged in or at the console
+-- says it there
 unfoldable pub typed : View → Option Doing → Line → Decision
 typed v None line = idle_line v line.command
 typed v (Some (Awaiting t)) line = Just (refused (Waiting t))
 typed v (Some (Editing e)) line = edits_line v e line.text
+typed v (Some (Logged_in pid escape)) line = logged_line v pid escape line.text
+typed v (Some (At_console escape)) line = console_line v escape line.text
 
 -- a line that belongs to no zone: it names none, or none with a right name
 abbrev pub badly_named : Option (List ℕ) → Refusal
@@ -105,6 +112,7 @@ global_line S line = elim line.command as (λ c. Reply) [
   | Help ↦ global_help line.zone
   | List_zones options ↦ list_zones_reply options S
   | Unknown ↦ says (Refused Usage)
+  | Enter text ↦ says (Refused Usage)
   | Kill signal pid ↦ says (Refused (Of_errno ESRCH))
   | _ ↦ says (Refused (badly_named line.zone))
 ]

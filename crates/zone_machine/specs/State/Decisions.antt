@@ -6,7 +6,7 @@ use Rattle.zone_pools.specs.Decisions.{Ask, Just}
 use Rattle.zone_pools.specs.declared.grant.Grant.{Grant}
 use Rattle.zoneadmd_steps.specs.Arrivals.{Arrival, Comes, arrived}
 use Rattle.zone_machine.specs.State.Edits.{Edit, Of_objects, Set_desk, Sweep, comes, comes_world, edits, edits_world}
-use Rattle.zone_machine.specs.State.{Awaiting, Doing, Editing, State}
+use Rattle.zone_machine.specs.State.{Awaiting, Doing, State}
 use Rattle.zoneadmd_steps.specs.Turns as turns
 use Rattle.zone_machine.specs.State.Worlds.{World}
 use Rattle.zone_machine.specs.declared.replies.Body.{Body}
@@ -70,10 +70,10 @@ answers reply = record { edits = []; reply = reply }
 abbrev pub tells : Body → Effect
 tells body = answers (told body)
 
--- whoever waits for a ticket that ended is idle again; who edits goes on
+-- whoever waits for a ticket that ended is idle again; the others go on
 abbrev pub ticket_ended : ℕ → Doing → Option Doing
 ticket_ended t (Awaiting u) = if nat_eq t u then None else Some (Awaiting u)
-ticket_ended t (Editing e) = Some (Editing e)
+ticket_ended t d = Some d
 
 abbrev pub sweeps : Option ℕ → List Edit
 sweeps None = []

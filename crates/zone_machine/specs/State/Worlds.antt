@@ -13,6 +13,7 @@ use Rattle.zone_machine.specs.State.Declarations.{Declared}
 use Rattle.zone_machine.specs.State.{At, Doing, Idle, Session, State, stored}
 use Rattle.kernel_objects.specs.declared.objects.Id.{Id}
 use Rattle.loopback_mounts.specs.declared.mount.MountEntry.{MountEntry}
+use Rattle.console_link.specs.Consoles.{Console}
 use Rattle.datalink_table.specs.declared.claims.Claim.{Claim}
 use Rattle.commit_journal.specs.declared.records.Record.{Record}
 
@@ -21,7 +22,7 @@ abbrev pub doing : Name → Session → Option Doing
 doing z Idle = None
 doing z (At y d) = if bytes_eq z y then Some d else None
 
--- a zone's world: its objects, its stored record, its desk, what each session does in it, and, of the system, what is declared
+-- a zone's world: its objects, its stored record, its desk, its console, what each session does in it, and, of the system, what is declared
 -- and which brands there are
 pub record World : Type 0 where
   pub processes : List Process
@@ -31,6 +32,7 @@ pub record World : Type 0 where
   pub ids : List Id
   pub stored : Option Record
   pub desk : Desk
+  pub console : Console
   pub sessions : ℕ → Option Doing
   pub declared : Declared
   pub brands : List Tabled
@@ -51,6 +53,7 @@ world z S = record {
   ids = mine z S.ids;
   stored = stored z S.commits;
   desk = S.desks z;
+  console = S.consoles z;
   sessions = λ n. doing z (S.sessions n);
   declared = S.declared;
   brands = S.brands;

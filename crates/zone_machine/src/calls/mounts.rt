@@ -11,12 +11,12 @@ ghost use Rattle.loopback_mounts.specs.Types.{may_mount_type};
 ghost use Rattle.zn_base.specs.Names.{Name};
 ghost use Rattle.zone_machine.specs.Calls as calls;
 ghost use Rattle.zone_machine.specs.Calls.{is_by_process, mount_refusal, mounts_special, tells_place, unmounts};
-ghost use Rattle.zone_machine.specs.Code.Cases.{IsCaseOf, IsNamedCase, decision_of};
+ghost use Rattle.zone_machine.specs.Code.Cases.{IsCallCase, IsCaseOf, IsNamedCase, decision_of};
 ghost use Rattle.zone_machine.specs.Code.Works.{IsFreeCase};
 ghost use Rattle.zoneadmd_steps.specs.declared.desks.Desk as desk_types;
 
 use crate::calls::{line_case, refused_by};
-use crate::cases::Case;
+use crate::cases::{Case, Manner};
 use crate::replies::{Body, Head, Refusal};
 use datalink_table::{ClaimCell, ClaimKind};
 use kernel_objects::{Errno, KernelCell};
@@ -49,6 +49,7 @@ fn mount_special(
     ensures of { IfOk result (λ c. (d : desk_types.Desk) → IsCaseOf d c) }
     ensures named { IfOk result (λ c. (z : Name) → IsNamedCase z c) }
     ensures free { IfOk result (λ c. (cs : List claim_types.Claim) → IsFreeCase c mounts.now.list cs) }
+    ensures call { IfOk result IsCallCase }
 {
     if let Err(fault) = mounts.check_mount(&call.dir) {
         return refused(fault);
@@ -60,7 +61,8 @@ fn mount_special(
         read_only: call.read_only,
         by_process: true,
     };
-    Ok(Case::Change(ObjectEdit::Mount(Box::new(alloc, mount)?)))
+    let mount = Box::new(alloc, mount)?;
+    Ok(Case::Change(ObjectEdit::Mount(mount), Manner::Plain))
 }
 
 // Whether a process may mount a type of file system.
@@ -83,6 +85,7 @@ pub(crate) fn mount_case(
     ensures of { IfOk result (λ c. (d : desk_types.Desk) → IsCaseOf d c) }
     ensures named { IfOk result (λ c. (z : Name) → IsNamedCase z c) }
     ensures free { IfOk result (λ c. (cs : List claim_types.Claim) → IsFreeCase c mounts.now.list cs) }
+    ensures call { IfOk result IsCallCase }
 {
     if !may_mount(kernel, pid, &call.fstype) {
         return Ok(refused_by(Errno::EPERM));
@@ -116,12 +119,13 @@ pub(crate) fn umount_case(
     ensures of { IfOk result (λ c. (d : desk_types.Desk) → IsCaseOf d c) }
     ensures named { IfOk result (λ c. (z : Name) → IsNamedCase z c) }
     ensures free { IfOk result (λ c. (cs : List claim_types.Claim) → IsFreeCase c mounts.now.list cs) }
+    ensures call { IfOk result IsCallCase }
 {
     if kernel.check_mounter(pid).is_err() || !is_by_process(mounts, dir) {
         return Ok(refused_by(Errno::EPERM));
     }
     match mounts.check_unmount(dir) {
-        Ok(()) => Ok(Case::Change(ObjectEdit::Unmount(dir.copy(alloc)?))),
+        Ok(()) => Ok(Case::Change(ObjectEdit::Unmount(dir.copy(alloc)?), Manner::Plain)),
         Err(fault) => refused(fault),
     }
 }
@@ -138,6 +142,7 @@ pub(crate) fn place_case(
     ensures of { IfOk result (λ c. (d : desk_types.Desk) → IsCaseOf d c) }
     ensures named { IfOk result (λ c. (z : Name) → IsNamedCase z c) }
     ensures free { IfOk result (λ c. (cs : List claim_types.Claim) → IsFreeCase c mounts.now.list cs) }
+    ensures call { IfOk result IsCallCase }
 {
     match mounts.place(alloc, path, write) {
         Ok(place) => line_case(alloc, Bytes::from_slice(alloc, place.bytes())?),

@@ -1,11 +1,14 @@
 //! A zone's cell: everything that one zone has, but for its name and what is stored of it.
 ghost use Rattle.std.specs.Prelude.{◌≡◌, option_map, true};
+ghost use Rattle.console_link.specs.Consoles.{is_in_use};
+ghost use Rattle.zone_machine.specs.Code.Consoles.{console_in};
 ghost use Rattle.zone_machine.specs.Code.Cells.{Outside, cell_objects, cell_world, empty_world};
 ghost use Rattle.zoneadmd_steps.specs.Code.Cases.{next_hook};
 ghost use Rattle.zoneadmd_steps.specs.Code.Desks.{as_desk};
 
 use crate::session::doings::Doings;
 use brand_hooks::Change;
+use console_link::Console;
 use datalink_table::ClaimCell;
 use indexmap::IndexMap;
 use kernel_objects::KernelCell;
@@ -19,6 +22,8 @@ pub struct Cell {
     pub(crate) mounts: MountCell,
     pub(crate) claims: ClaimCell,
     pub(crate) desk: Desk,
+    /// The zone's console, from the first time on that it was written to or a session had it.
+    pub(crate) console: Option<Console>,
     /// What sessions do in the zone.
     pub(crate) doings: Doings,
 }
@@ -30,6 +35,7 @@ impl Drop for Cell {
             mounts: _mounts,
             claims: _claims,
             desk: _desk,
+            console: _console,
             doings: _doings,
         } = self;
     }
@@ -45,7 +51,18 @@ impl Cell {
             mounts: MountCell::new(alloc),
             claims: ClaimCell::new(alloc),
             desk: Desk::new(alloc),
+            console: None,
             doings: IndexMap::new(alloc),
+        }
+    }
+
+    // Whether the console keeps something or has a session.
+    fn has_console(&self) -> bool
+        ensures { result ≡ is_in_use (console_in self.now.console) }
+    {
+        match &self.console {
+            Some(console) => console.in_use(),
+            None => false,
         }
     }
 
@@ -57,6 +74,7 @@ impl Cell {
             && self.mounts.entries().is_empty()
             && self.claims.is_empty()
             && self.desk.is_new()
+            && !self.has_console()
             && self.doings.is_empty()
     }
 

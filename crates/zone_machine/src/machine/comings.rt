@@ -86,13 +86,16 @@ fn case_newcomer(case: &Case) -> Newcomer<'_>
     ensures claim { is_claim result ≡ true → premise_of (objects_of case.now) ≡ No_premise }
 {
     match case {
-        Case::Fork(running) => Newcomer::Process(running),
+        Case::Fork(running, _) => Newcomer::Process(running),
+        Case::Login(login) => Newcomer::Process(&login.running),
         Case::Turn(case) => turn_newcomer(case),
         Case::Says(_)
         | Case::Tells(_)
         | Case::Answers(_)
         | Case::Sit(_)
-        | Case::Change(_)
+        | Case::Change(_, _)
+        | Case::Write(_, _)
+        | Case::AtConsole(_)
         | Case::Commit(_)
         | Case::Remove(_)
         | Case::Put(_, _) => Newcomer::Nothing,

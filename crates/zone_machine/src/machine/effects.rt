@@ -1,13 +1,13 @@
 //! What an event does, on its zone's cell and on the shared part. All room for it has been taken, so nothing here takes
 //! memory or fails.
-ghost use Rattle.std.specs.Prelude.{◌∷◌, ◌≡◌, ◌<◌, [], ℕ, IfSome, None, Option, Some, false, true, map, nat_eq};
+ghost use Rattle.std.specs.Prelude.{◌∷◌, ◌≡◌, ◌<◌, [], ℕ, IfSome, None, Option, Some, false, is_some, map, nat_eq, true};
 ghost use Rattle.indexmap.specs.IndexMap.{spare};
 ghost use Rattle.zn_base.specs.Names.{Name};
 ghost use Rattle.zone_pools.specs.Owners.{owner};
 ghost use Rattle.zone_machine.specs.Code.Cases.{IsCaseOf, IsNamedCase, decision_of};
 ghost use Rattle.zoneadmd_steps.specs.Code.Cases.{object_edits};
-ghost use Rattle.zone_machine.specs.Code.Works.{IsNamedWork, IsStoredOf, arrival_by, rest_of, told_by, work_world};
-ghost use Rattle.zone_machine.specs.Code.Doings.{as_doing, sits};
+ghost use Rattle.zone_machine.specs.Code.Works.{IsNamedWork, IsStoredOf, arrival_by, rest_of, told_by, with_row, without_process, without_processes, work_world};
+ghost use Rattle.zone_machine.specs.Code.Doings.{as_doing, sits, swept_by};
 ghost use Rattle.zoneadmd_steps.specs.Code.Works.{gone_by};
 ghost use Rattle.zoneadmd_steps.specs.Code.Cases.{is_last};
 ghost use Rattle.loopback_mounts.specs.Mounts.{last_of};
@@ -15,6 +15,7 @@ ghost use Rattle.std.specs.Option.{option_map};
 ghost use Rattle.zoneadmd_steps.specs.Arrivals.{in_store, New_record};
 ghost use Rattle.indexmap.specs.IndexMap.{get_by};
 ghost use Rattle.zone_machine.specs.Code.Cells.{is_up_in};
+ghost use Rattle.zone_machine.specs.declared.cases.ConsoleEdit as case_types;
 ghost use Rattle.zone_machine.specs.declared.machine.shared.Shared as shared_types;
 ghost use Rattle.zone_machine.specs.Code.Cells.{Acts, Does, kept};
 ghost use Rattle.zone_machine.specs.Code.Needs.{pools_in};
@@ -22,10 +23,13 @@ ghost use Rattle.zone_machine.specs.Code.Records.{HasNumber, rows_with, used_wit
 ghost use Rattle.commit_journal.specs.Zones.{rows_of};
 ghost use Rattle.zone_machine.specs.Machine.Common.{came_common};
 ghost use Rattle.zone_machine.specs.State.Decisions.{act_of, acts_world, after_came_world, sweeps};
-ghost use Rattle.zone_machine.specs.State.Edits.{Here, Of_objects, comes_world, edits_world};
+ghost use Rattle.zone_machine.specs.State.Edits as edits;
+ghost use Rattle.zone_machine.specs.State.Edits.{Here, Of_objects, comes_world, console_gone_world, edit_console, edits_world, keeps_console};
+ghost use Rattle.zone_machine.specs.Code.Consoles.{HasConsole, console_after, console_edits, console_in};
+ghost use Rattle.console_link.specs.Consoles.{new_console};
 ghost use Rattle.zone_machine.specs.Code.Rooms.{HasRoom, HasRoomOf, HasRoomToChange, HasRoomToSit, IsFreeOf, IsOpenTo};
 
-use crate::cases::{Case, Sitting};
+use crate::cases::{Case, ConsoleEdit, Sitting};
 use crate::machine::cell::Cell;
 use crate::machine::settling::settle;
 use crate::machine::shared::Shared;
@@ -33,22 +37,67 @@ use crate::machine::ups::mark;
 use crate::machine::work::{Storing, Work};
 use crate::maps::put;
 use crate::replies::Reply;
-use crate::session::doings::{Doing, begin_doing, end_waits, stop_doing};
-use commit_journal::body_length;
+use crate::session::doings::{Doing, Ended, begin_doing, end_doings, stop_doing};
+use commit_journal::{Row, body_length};
+use console_link::Console;
 use datalink_table::Claim;
 use loopback_mounts::Mount;
 use std::alloc::Global;
 use std::snapshot::Snapshot;
-use zn_base::{AbsPath, Listing, Text, ZoneName};
+use zn_base::{AbsPath, Listing, Text, ZoneName, ZoneState};
 use zone_pools::Grant;
 use zoneadmd_steps::{Gone, Limits, ObjectEdit, Stored};
 
-// What is stored of the zone from now on.
-#[inline(never)]
-fn store(cell: &Cell, shared: &mut Shared, stored: Stored)
+// Whoever did what ends is idle again.
+fn end(cell: &mut Cell, shared: &mut Shared, ended: Ended)
+    ensures does { (z : Name) → Does z (swept_by ended) kept cell.old shared.old cell.new shared.new }
+    ensures room { HasRoomToSit cell.old shared.old → HasRoomToSit cell.new shared.new }
+    ensures open { (z : Name) (k : ℕ) → IsOpenTo z (owner nat_eq shared.old.sessions k) → IsOpenTo z (owner nat_eq shared.new.sessions k) }
+    ensures console { cell.new.console ≡ cell.old.console }
+    ensures objects { (cell.new.kernel ≡ cell.old.kernel) × (cell.new.mounts ≡ cell.old.mounts) × (cell.new.claims ≡ cell.old.claims) }
+    ensures ups { shared.new.ups ≡ shared.old.ups }
+    ensures brands { shared.new.brands ≡ shared.old.brands }
+    ensures rows { shared.new.rows ≡ shared.old.rows }
+    ensures used { shared.new.used ≡ shared.old.used }
+    ensures desk { cell.new.desk ≡ cell.old.desk }
+{
+    end_doings(&mut cell.doings, &mut shared.sessions, ended);
+}
+
+// A zone's console is as a new one.
+fn renew(cell: &mut Cell)
+    ensures new { console_in cell.new.console ≡ new_console }
+    ensures some { is_some cell.new.console ≡ is_some cell.old.console }
+    ensures same { cell.new ≡ record cell.old { console = cell.new.console } }
+{
+    if let Some(console) = &mut cell.console {
+        console.detach();
+        console.clear();
+    }
+}
+
+// Nothing is left of the zone's console.
+fn drop_console(cell: &mut Cell, shared: &mut Shared)
+    ensures does { (z : Name) → Does z (console_gone_world false) kept cell.old shared.old cell.new shared.new }
+    ensures room { HasRoomToSit cell.old shared.old → HasRoomToSit cell.new shared.new }
+    ensures open { (z : Name) (k : ℕ) → IsOpenTo z (owner nat_eq shared.old.sessions k) → IsOpenTo z (owner nat_eq shared.new.sessions k) }
+    ensures objects { (cell.new.kernel ≡ cell.old.kernel) × (cell.new.mounts ≡ cell.old.mounts) × (cell.new.claims ≡ cell.old.claims) }
+    ensures console { (edit : case_types.ConsoleEdit) → HasConsole edit cell.old.console → HasConsole edit cell.new.console }
+    ensures ups { shared.new.ups ≡ shared.old.ups }
+    ensures brands { shared.new.brands ≡ shared.old.brands }
+    ensures rows { shared.new.rows ≡ shared.old.rows }
+    ensures used { shared.new.used ≡ shared.old.used }
+    ensures desk { cell.new.desk ≡ cell.old.desk }
+{
+    renew(cell);
+    end(cell, shared, Ended::Console);
+}
+
+// A record is what is stored of the zone from now on.
+fn put_row(cell: &Cell, shared: &mut Shared, stored: Stored)
     requires free { IsFreeOf stored.owner (Some (New_record (Some stored.row.value))) (pools_in shared.old) }
     requires room { 0 < spare shared.old.rows }
-    ensures does { Does stored.owner (comes_world (New_record (Some stored.row.value))) (came_common stored.owner (Some (New_record (Some stored.row.value)))) cell.now shared.old cell.now shared.new }
+    ensures does { Does stored.owner (with_row (Some stored.row.value)) (came_common stored.owner (Some (New_record (Some stored.row.value)))) cell.now shared.old cell.now shared.new }
     ensures sessions { shared.new.sessions ≡ shared.old.sessions }
     ensures ups { shared.new.ups ≡ shared.old.ups }
     ensures brands { shared.new.brands ≡ shared.old.brands }
@@ -61,31 +110,82 @@ fn store(cell: &Cell, shared: &mut Shared, stored: Stored)
     put(&mut shared.rows, stored.owner, row);
 }
 
-// Nothing is stored of the zone any more.
-#[inline(never)]
+// No record is stored of the zone any more.
 #[tactic(auto, using(commit_journal::proofs::Zones::without_is))]
-fn remove(cell: &Cell, shared: &mut Shared, owner: ZoneName)
-    requires free { IsFreeOf owner (Some (New_record None)) (pools_in shared.old) }
-    ensures does { Does owner (comes_world (New_record None)) (came_common owner (Some (New_record None))) cell.now shared.old cell.now shared.new }
+fn take_row(cell: &Cell, shared: &mut Shared, zone: ZoneName)
+    requires free { IsFreeOf zone (Some (New_record None)) (pools_in shared.old) }
+    ensures does { Does zone (with_row None) (came_common zone (Some (New_record None))) cell.now shared.old cell.now shared.new }
     ensures sessions { shared.new.sessions ≡ shared.old.sessions }
     ensures ups { shared.new.ups ≡ shared.old.ups }
     ensures brands { shared.new.brands ≡ shared.old.brands }
-    ensures rows { rows_of shared.new.rows.entries ≡ rows_with owner (Some (New_record None)) (rows_of shared.old.rows.entries) }
-    ensures used { shared.new.used ≡ used_with owner (Some (New_record None)) shared.old.used }
+    ensures rows { rows_of shared.new.rows.entries ≡ rows_with zone (Some (New_record None)) (rows_of shared.old.rows.entries) }
+    ensures used { shared.new.used ≡ used_with zone (Some (New_record None)) shared.old.used }
 {
-    shared.used += 5 + body_length(&owner, None) as u32;
+    shared.used += 5 + body_length(&zone, None) as u32;
     shared.serial += 1;
-    shared.rows.shift_remove(&owner);
+    shared.rows.shift_remove(&zone);
+}
+
+fn keeps_console(row: &Row) -> bool
+    ensures { result ≡ keeps_console (Some row.now) }
+{
+    matches!(row.record().state, ZoneState::Installed)
+}
+
+// What is stored of the zone from now on. Where it isn't installed by that, nothing is left of its console.
+#[inline(never)]
+fn store(cell: &mut Cell, shared: &mut Shared, stored: Stored)
+    requires free { IsFreeOf stored.owner (Some (New_record (Some stored.row.value))) (pools_in shared.old) }
+    requires room { 0 < spare shared.old.rows }
+    ensures does { Does stored.owner (comes_world (New_record (Some stored.row.value))) (came_common stored.owner (Some (New_record (Some stored.row.value)))) cell.old shared.old cell.new shared.new }
+    ensures rows { rows_of shared.new.rows.entries ≡ rows_with stored.owner (Some (New_record (Some stored.row.value))) (rows_of shared.old.rows.entries) }
+    ensures used { shared.new.used ≡ used_with stored.owner (Some (New_record (Some stored.row.value))) shared.old.used }
+    ensures room { HasRoomToSit cell.old shared.old → HasRoomToSit cell.new shared.new }
+    ensures open { (z : Name) (k : ℕ) → IsOpenTo z (owner nat_eq shared.old.sessions k) → IsOpenTo z (owner nat_eq shared.new.sessions k) }
+    ensures objects { (cell.new.kernel ≡ cell.old.kernel) × (cell.new.mounts ≡ cell.old.mounts) × (cell.new.claims ≡ cell.old.claims) }
+    ensures console { (edit : case_types.ConsoleEdit) → HasConsole edit cell.old.console → HasConsole edit cell.new.console }
+    ensures ups { shared.new.ups ≡ shared.old.ups }
+    ensures brands { shared.new.brands ≡ shared.old.brands }
+    ensures desk { cell.new.desk ≡ cell.old.desk }
+{
+    let keeps = keeps_console(&stored.row);
+    put_row(cell, shared, stored);
+    if !keeps {
+        drop_console(cell, shared);
+    }
+}
+
+// Nothing is stored of the zone any more.
+#[inline(never)]
+fn remove(cell: &mut Cell, shared: &mut Shared, zone: ZoneName)
+    requires free { IsFreeOf zone (Some (New_record None)) (pools_in shared.old) }
+    ensures does { Does zone (comes_world (New_record None)) (came_common zone (Some (New_record None))) cell.old shared.old cell.new shared.new }
+    ensures rows { rows_of shared.new.rows.entries ≡ rows_with zone (Some (New_record None)) (rows_of shared.old.rows.entries) }
+    ensures used { shared.new.used ≡ used_with zone (Some (New_record None)) shared.old.used }
+    ensures room { HasRoomToSit cell.old shared.old → HasRoomToSit cell.new shared.new }
+    ensures open { (z : Name) (k : ℕ) → IsOpenTo z (owner nat_eq shared.old.sessions k) → IsOpenTo z (owner nat_eq shared.new.sessions k) }
+    ensures objects { (cell.new.kernel ≡ cell.old.kernel) × (cell.new.mounts ≡ cell.old.mounts) × (cell.new.claims ≡ cell.old.claims) }
+    ensures console { (edit : case_types.ConsoleEdit) → HasConsole edit cell.old.console → HasConsole edit cell.new.console }
+    ensures ups { shared.new.ups ≡ shared.old.ups }
+    ensures brands { shared.new.brands ≡ shared.old.brands }
+    ensures desk { cell.new.desk ≡ cell.old.desk }
+{
+    take_row(cell, shared, zone);
+    drop_console(cell, shared);
 }
 
 // What is stored of the zone, if that changes.
-fn store_some(cell: &Cell, shared: &mut Shared, stored: Storing)
+fn store_some(cell: &mut Cell, shared: &mut Shared, stored: Storing)
     requires free { (z : Name) → IsStoredOf z stored → IsFreeOf z (arrival_by stored) (pools_in shared.old) }
     requires room { HasRoomOf (arrival_by stored) shared.old }
-    ensures does { (z : Name) → IsStoredOf z stored → Does z (after_came_world (arrival_by stored)) (came_common z (arrival_by stored)) cell.now shared.old cell.now shared.new }
-    ensures sessions { shared.new.sessions ≡ shared.old.sessions }
+    ensures does { (z : Name) → IsStoredOf z stored → Does z (after_came_world (arrival_by stored)) (came_common z (arrival_by stored)) cell.old shared.old cell.new shared.new }
+    ensures room { HasRoomToSit cell.old shared.old → HasRoomToSit cell.new shared.new }
+    ensures open { (z : Name) (k : ℕ) → IsOpenTo z (owner nat_eq shared.old.sessions k) → IsOpenTo z (owner nat_eq shared.new.sessions k) }
+    ensures objects { (cell.new.kernel ≡ cell.old.kernel) × (cell.new.mounts ≡ cell.old.mounts) × (cell.new.claims ≡ cell.old.claims) }
+    ensures console { (edit : case_types.ConsoleEdit) → HasConsole edit cell.old.console → HasConsole edit cell.new.console }
     ensures ups { shared.new.ups ≡ shared.old.ups }
     ensures brands { shared.new.brands ≡ shared.old.brands }
+    ensures desk { cell.new.desk ≡ cell.old.desk }
     ensures rows { (z : Name) → IsStoredOf z stored → rows_of shared.new.rows.entries ≡ rows_with z (arrival_by stored) (rows_of shared.old.rows.entries) }
     ensures used { (z : Name) → IsStoredOf z stored → shared.new.used ≡ used_with z (arrival_by stored) shared.old.used }
 {
@@ -96,12 +196,10 @@ fn store_some(cell: &Cell, shared: &mut Shared, stored: Storing)
     }
 }
 
-// All processes end.
-#[inline(never)]
-fn end_processes(cell: &mut Cell, shared: &mut Shared)
-    ensures does { (z : Name) (n : Option ℕ) → Does z (edits_world n (map Of_objects (object_edits ObjectEdit.EndProcesses))) kept cell.old shared.old cell.new shared.new }
-    ensures doings { cell.new.doings ≡ cell.old.doings }
-    ensures sessions { shared.new.sessions ≡ shared.old.sessions }
+// The kernel has no process of the zone any more.
+fn kill_all(cell: &mut Cell, shared: &mut Shared)
+    ensures does { (z : Name) → Does z without_processes kept cell.old shared.old cell.new shared.new }
+    ensures console { cell.new.console ≡ cell.old.console }
     ensures ups { shared.new.ups ≡ shared.old.ups }
     ensures brands { shared.new.brands ≡ shared.old.brands }
     ensures rows { shared.new.rows ≡ shared.old.rows }
@@ -111,12 +209,26 @@ fn end_processes(cell: &mut Cell, shared: &mut Shared)
     cell.kernel.kill_all(&mut shared.kernel);
 }
 
+// All processes end, and with them what sessions did that were logged in.
+#[inline(never)]
+fn end_processes(cell: &mut Cell, shared: &mut Shared)
+    ensures does { (z : Name) (n : Option ℕ) → Does z (edits_world n (map Of_objects (object_edits ObjectEdit.EndProcesses))) kept cell.old shared.old cell.new shared.new }
+    ensures console { cell.new.console ≡ cell.old.console }
+    ensures ups { shared.new.ups ≡ shared.old.ups }
+    ensures brands { shared.new.brands ≡ shared.old.brands }
+    ensures rows { shared.new.rows ≡ shared.old.rows }
+    ensures used { shared.new.used ≡ shared.old.used }
+    ensures desk { cell.new.desk ≡ cell.old.desk }
+{
+    kill_all(cell, shared);
+    end(cell, shared, Ended::Processes);
+}
+
 // The zone gives its id back.
 #[inline(never)]
 fn end_ids(cell: &mut Cell, shared: &mut Shared)
     ensures does { (z : Name) (n : Option ℕ) → Does z (edits_world n (map Of_objects (object_edits ObjectEdit.EndIds))) kept cell.old shared.old cell.new shared.new }
-    ensures doings { cell.new.doings ≡ cell.old.doings }
-    ensures sessions { shared.new.sessions ≡ shared.old.sessions }
+    ensures console { cell.new.console ≡ cell.old.console }
     ensures ups { shared.new.ups ≡ shared.old.ups }
     ensures brands { shared.new.brands ≡ shared.old.brands }
     ensures rows { shared.new.rows ≡ shared.old.rows }
@@ -126,12 +238,10 @@ fn end_ids(cell: &mut Cell, shared: &mut Shared)
     cell.kernel.give_up_id(&mut shared.kernel);
 }
 
-// The process of a number ends.
-#[inline(never)]
-fn end_process(cell: &mut Cell, shared: &mut Shared, pid: u32)
-    ensures does { (z : Name) (n : Option ℕ) → Does z (edits_world n (map Of_objects (object_edits (ObjectEdit.EndProcess pid)))) kept cell.old shared.old cell.new shared.new }
-    ensures doings { cell.new.doings ≡ cell.old.doings }
-    ensures sessions { shared.new.sessions ≡ shared.old.sessions }
+// The kernel has no process of a number any more.
+fn kill(cell: &mut Cell, shared: &mut Shared, pid: u32)
+    ensures does { (z : Name) → Does z (without_process pid) kept cell.old shared.old cell.new shared.new }
+    ensures console { cell.new.console ≡ cell.old.console }
     ensures ups { shared.new.ups ≡ shared.old.ups }
     ensures brands { shared.new.brands ≡ shared.old.brands }
     ensures rows { shared.new.rows ≡ shared.old.rows }
@@ -141,11 +251,26 @@ fn end_process(cell: &mut Cell, shared: &mut Shared, pid: u32)
     cell.kernel.end(&mut shared.kernel, pid);
 }
 
+// The process of a number ends, and with it what a session did that was logged in with it.
+#[inline(never)]
+fn end_process(cell: &mut Cell, shared: &mut Shared, pid: u32)
+    ensures does { (z : Name) (n : Option ℕ) → Does z (edits_world n (map Of_objects (object_edits (ObjectEdit.EndProcess pid)))) kept cell.old shared.old cell.new shared.new }
+    ensures console { cell.new.console ≡ cell.old.console }
+    ensures ups { shared.new.ups ≡ shared.old.ups }
+    ensures brands { shared.new.brands ≡ shared.old.brands }
+    ensures rows { shared.new.rows ≡ shared.old.rows }
+    ensures used { shared.new.used ≡ shared.old.used }
+    ensures desk { cell.new.desk ≡ cell.old.desk }
+{
+    kill(cell, shared, pid);
+    end(cell, shared, Ended::Process(pid));
+}
+
 // A process runs another program.
 #[inline(never)]
 fn rename(cell: &mut Cell, pid: u32, name: Text)
     ensures does { (z : Name) (n : Option ℕ) (s : shared_types.Shared) → Does z (edits_world n (map Of_objects (object_edits (ObjectEdit.Rename pid name)))) kept cell.old s cell.new s }
-    ensures doings { cell.new.doings ≡ cell.old.doings }
+    ensures console { cell.new.console ≡ cell.old.console }
     ensures desk { cell.new.desk ≡ cell.old.desk }
 {
     cell.kernel.set_name(pid, name);
@@ -155,7 +280,7 @@ fn rename(cell: &mut Cell, pid: u32, name: Text)
 #[inline(never)]
 fn give_up(cell: &mut Cell, pid: u32, number: u8)
     ensures does { (z : Name) (n : Option ℕ) (s : shared_types.Shared) → Does z (edits_world n (map Of_objects (object_edits (ObjectEdit.GiveUp pid number)))) kept cell.old s cell.new s }
-    ensures doings { cell.new.doings ≡ cell.old.doings }
+    ensures console { cell.new.console ≡ cell.old.console }
     ensures desk { cell.new.desk ≡ cell.old.desk }
 {
     cell.kernel.give_up(pid, number);
@@ -166,7 +291,7 @@ fn give_up(cell: &mut Cell, pid: u32, number: u8)
 fn mount_at(cell: &mut Cell, mount: Box<Mount>)
     requires { HasRoomToChange (ObjectEdit.Mount mount) cell.old }
     ensures does { (z : Name) (n : Option ℕ) (s : shared_types.Shared) → Does z (edits_world n (map Of_objects (object_edits (ObjectEdit.Mount mount)))) kept cell.old s cell.new s }
-    ensures doings { cell.new.doings ≡ cell.old.doings }
+    ensures console { cell.new.console ≡ cell.old.console }
     ensures desk { cell.new.desk ≡ cell.old.desk }
 {
     cell.mounts.put_reserved(Box::into_inner(mount));
@@ -176,7 +301,7 @@ fn mount_at(cell: &mut Cell, mount: Box<Mount>)
 #[inline(never)]
 fn unmount(cell: &mut Cell, dir: &AbsPath)
     ensures does { (z : Name) (n : Option ℕ) (s : shared_types.Shared) → Does z (edits_world n (map Of_objects (object_edits (ObjectEdit.Unmount dir.now)))) kept cell.old s cell.new s }
-    ensures doings { cell.new.doings ≡ cell.old.doings }
+    ensures console { cell.new.console ≡ cell.old.console }
     ensures desk { cell.new.desk ≡ cell.old.desk }
 {
     cell.mounts.take_out(dir);
@@ -187,7 +312,7 @@ fn unmount(cell: &mut Cell, dir: &AbsPath)
 fn unmount_last(cell: &mut Cell, dir: Snapshot<AbsPath>) -> Gone
     requires { option_map (λ m. m.mount.dir) (last_of cell.old.mounts.list) ≡ Some dir.value }
     ensures does { (z : Name) (n : Option ℕ) (s : shared_types.Shared) → Does z (edits_world n (map Of_objects (object_edits (ObjectEdit.UnmountLast dir)))) kept cell.old s cell.new s }
-    ensures doings { cell.new.doings ≡ cell.old.doings }
+    ensures console { cell.new.console ≡ cell.old.console }
     ensures desk { cell.new.desk ≡ cell.old.desk }
     ensures gone { result ≡ Gone.Mount dir.value }
 {
@@ -201,7 +326,7 @@ fn unmount_last(cell: &mut Cell, dir: Snapshot<AbsPath>) -> Gone
 #[inline(never)]
 fn hold(cell: &mut Cell, dir: &AbsPath)
     ensures does { (z : Name) (n : Option ℕ) (s : shared_types.Shared) → Does z (edits_world n (map Of_objects (object_edits (ObjectEdit.Hold dir.now)))) kept cell.old s cell.new s }
-    ensures doings { cell.new.doings ≡ cell.old.doings }
+    ensures console { cell.new.console ≡ cell.old.console }
     ensures desk { cell.new.desk ≡ cell.old.desk }
 {
     cell.mounts.put_hold(dir);
@@ -211,7 +336,7 @@ fn hold(cell: &mut Cell, dir: &AbsPath)
 #[inline(never)]
 fn release(cell: &mut Cell, dir: &AbsPath)
     ensures does { (z : Name) (n : Option ℕ) (s : shared_types.Shared) → Does z (edits_world n (map Of_objects (object_edits (ObjectEdit.Release dir.now)))) kept cell.old s cell.new s }
-    ensures doings { cell.new.doings ≡ cell.old.doings }
+    ensures console { cell.new.console ≡ cell.old.console }
     ensures desk { cell.new.desk ≡ cell.old.desk }
 {
     cell.mounts.lift_hold(dir);
@@ -221,8 +346,7 @@ fn release(cell: &mut Cell, dir: &AbsPath)
 #[inline(never)]
 fn end_claim(cell: &mut Cell, shared: &mut Shared)
     ensures does { (z : Name) (n : Option ℕ) → Does z (edits_world n (map Of_objects (object_edits ObjectEdit.EndClaim))) kept cell.old shared.old cell.new shared.new }
-    ensures doings { cell.new.doings ≡ cell.old.doings }
-    ensures sessions { shared.new.sessions ≡ shared.old.sessions }
+    ensures console { cell.new.console ≡ cell.old.console }
     ensures ups { shared.new.ups ≡ shared.old.ups }
     ensures brands { shared.new.brands ≡ shared.old.brands }
     ensures rows { shared.new.rows ≡ shared.old.rows }
@@ -237,8 +361,7 @@ fn end_claim(cell: &mut Cell, shared: &mut Shared)
 fn release_last(cell: &mut Cell, shared: &mut Shared, claim: Snapshot<Claim>) -> Gone
     requires { last_of cell.old.claims.claims ≡ Some claim.value }
     ensures does { (z : Name) (n : Option ℕ) → Does z (edits_world n (map Of_objects (object_edits (ObjectEdit.ReleaseLast claim)))) kept cell.old shared.old cell.new shared.new }
-    ensures doings { cell.new.doings ≡ cell.old.doings }
-    ensures sessions { shared.new.sessions ≡ shared.old.sessions }
+    ensures console { cell.new.console ≡ cell.old.console }
     ensures ups { shared.new.ups ≡ shared.old.ups }
     ensures brands { shared.new.brands ≡ shared.old.brands }
     ensures rows { shared.new.rows ≡ shared.old.rows }
@@ -256,7 +379,7 @@ fn release_last(cell: &mut Cell, shared: &mut Shared, claim: Snapshot<Claim>) ->
 #[inline(never)]
 fn set_devices(cell: &mut Cell, devices: Listing<AbsPath>)
     ensures does { (z : Name) (n : Option ℕ) (s : shared_types.Shared) → Does z (edits_world n (map Of_objects (object_edits (ObjectEdit.SetDevices devices)))) kept cell.old s cell.new s }
-    ensures doings { cell.new.doings ≡ cell.old.doings }
+    ensures console { cell.new.console ≡ cell.old.console }
     ensures desk { cell.new.desk ≡ cell.old.desk }
 {
     cell.kernel.set_devices(devices.into_vec());
@@ -266,7 +389,7 @@ fn set_devices(cell: &mut Cell, devices: Listing<AbsPath>)
 #[inline(never)]
 fn drop_devices(cell: &mut Cell)
     ensures does { (z : Name) (n : Option ℕ) (s : shared_types.Shared) → Does z (edits_world n (map Of_objects (object_edits ObjectEdit.DropDevices))) kept cell.old s cell.new s }
-    ensures doings { cell.new.doings ≡ cell.old.doings }
+    ensures console { cell.new.console ≡ cell.old.console }
     ensures desk { cell.new.desk ≡ cell.old.desk }
 {
     cell.kernel.drop_devices();
@@ -276,7 +399,7 @@ fn drop_devices(cell: &mut Cell)
 #[inline(never)]
 fn set_limits(cell: &mut Cell, limits: Box<Limits>)
     ensures does { (z : Name) (n : Option ℕ) (s : shared_types.Shared) → Does z (edits_world n (map Of_objects (object_edits (ObjectEdit.SetLimits limits)))) kept cell.old s cell.new s }
-    ensures doings { cell.new.doings ≡ cell.old.doings }
+    ensures console { cell.new.console ≡ cell.old.console }
     ensures desk { cell.new.desk ≡ cell.old.desk }
 {
     let limits = Box::into_inner(limits);
@@ -288,7 +411,7 @@ fn set_limits(cell: &mut Cell, limits: Box<Limits>)
 #[inline(never)]
 fn set_bootargs(cell: &mut Cell, args: Text)
     ensures does { (z : Name) (n : Option ℕ) (s : shared_types.Shared) → Does z (edits_world n (map Of_objects (object_edits (ObjectEdit.SetBootargs args)))) kept cell.old s cell.new s }
-    ensures doings { cell.new.doings ≡ cell.old.doings }
+    ensures console { cell.new.console ≡ cell.old.console }
     ensures desk { cell.new.desk ≡ cell.old.desk }
 {
     cell.kernel.set_bootargs(args);
@@ -298,7 +421,7 @@ fn set_bootargs(cell: &mut Cell, args: Text)
 #[inline(never)]
 fn clear_limits(alloc: Global, cell: &mut Cell)
     ensures does { (z : Name) (n : Option ℕ) (s : shared_types.Shared) → Does z (edits_world n (map Of_objects (object_edits ObjectEdit.ClearLimits))) kept cell.old s cell.new s }
-    ensures doings { cell.new.doings ≡ cell.old.doings }
+    ensures console { cell.new.console ≡ cell.old.console }
     ensures desk { cell.new.desk ≡ cell.old.desk }
 {
     cell.kernel.clear_limits(alloc);
@@ -308,7 +431,7 @@ fn clear_limits(alloc: Global, cell: &mut Cell)
 #[inline(never)]
 fn clear(alloc: Global, cell: &mut Cell)
     ensures does { (z : Name) (n : Option ℕ) (s : shared_types.Shared) → Does z (edits_world n (map Of_objects (object_edits ObjectEdit.Clear))) kept cell.old s cell.new s }
-    ensures doings { cell.new.doings ≡ cell.old.doings }
+    ensures console { cell.new.console ≡ cell.old.console }
     ensures desk { cell.new.desk ≡ cell.old.desk }
 {
     cell.kernel.clear(alloc);
@@ -319,8 +442,7 @@ fn edit_objects(alloc: Global, cell: &mut Cell, shared: &mut Shared, edit: Objec
     requires room { HasRoomToChange edit cell.old }
     requires others { is_last edit ≡ false }
     ensures does { (z : Name) (n : Option ℕ) → Does z (edits_world n (map Of_objects (object_edits edit))) kept cell.old shared.old cell.new shared.new }
-    ensures doings { cell.new.doings ≡ cell.old.doings }
-    ensures sessions { shared.new.sessions ≡ shared.old.sessions }
+    ensures console { cell.new.console ≡ cell.old.console }
     ensures ups { shared.new.ups ≡ shared.old.ups }
     ensures brands { shared.new.brands ≡ shared.old.brands }
     ensures rows { shared.new.rows ≡ shared.old.rows }
@@ -353,8 +475,7 @@ fn edit_objects(alloc: Global, cell: &mut Cell, shared: &mut Shared, edit: Objec
 fn change_objects(alloc: Global, cell: &mut Cell, shared: &mut Shared, edit: ObjectEdit) -> Gone
     requires { HasRoomToChange edit cell.old }
     ensures does { (z : Name) (n : Option ℕ) → Does z (edits_world n (map Of_objects (object_edits edit))) kept cell.old shared.old cell.new shared.new }
-    ensures doings { cell.new.doings ≡ cell.old.doings }
-    ensures sessions { shared.new.sessions ≡ shared.old.sessions }
+    ensures console { cell.new.console ≡ cell.old.console }
     ensures ups { shared.new.ups ≡ shared.old.ups }
     ensures brands { shared.new.brands ≡ shared.old.brands }
     ensures rows { shared.new.rows ≡ shared.old.rows }
@@ -380,7 +501,7 @@ fn begin(cell: &mut Cell, shared: &mut Shared, number: u8, doing: Doing, zone: Z
     ensures brands { shared.new.brands ≡ shared.old.brands }
     ensures rows { shared.new.rows ≡ shared.old.rows }
     ensures used { shared.new.used ≡ shared.old.used }
-    ensures desk { cell.new.desk ≡ cell.old.desk }
+    ensures same { cell.new ≡ record cell.old { doings = cell.new.doings } }
 {
     shared.sessions.give_back(&number);
     shared.sessions.take_reserved(number, zone);
@@ -394,7 +515,7 @@ fn stop(cell: &mut Cell, shared: &mut Shared, number: u8)
     ensures brands { shared.new.brands ≡ shared.old.brands }
     ensures rows { shared.new.rows ≡ shared.old.rows }
     ensures used { shared.new.used ≡ shared.old.used }
-    ensures desk { cell.new.desk ≡ cell.old.desk }
+    ensures same { cell.new ≡ record cell.old { doings = cell.new.doings } }
 {
     shared.sessions.give_back(&number);
     stop_doing(&mut cell.doings, number);
@@ -409,7 +530,7 @@ fn sit(cell: &mut Cell, shared: &mut Shared, number: u8, sitting: Sitting)
     ensures brands { shared.new.brands ≡ shared.old.brands }
     ensures rows { shared.new.rows ≡ shared.old.rows }
     ensures used { shared.new.used ≡ shared.old.used }
-    ensures desk { cell.new.desk ≡ cell.old.desk }
+    ensures same { cell.new ≡ record cell.old { doings = cell.new.doings } }
 {
     let Sitting { doing, owner } = sitting;
     match doing {
@@ -426,11 +547,50 @@ fn sit_down(cell: &mut Cell, shared: &mut Shared, number: Option<u8>, sitting: O
     ensures brands { shared.new.brands ≡ shared.old.brands }
     ensures rows { shared.new.rows ≡ shared.old.rows }
     ensures used { shared.new.used ≡ shared.old.used }
-    ensures desk { cell.new.desk ≡ cell.old.desk }
+    ensures same { cell.new ≡ record cell.old { doings = cell.new.doings } }
 {
     match (number, sitting) {
         (Some(number), Some(sitting)) => sit(cell, shared, number, sitting),
         _ => {}
+    }
+}
+
+// A session has the zone's console from now on, and takes what is kept.
+fn hold_console(console: &mut Console, number: Option<u8>)
+    ensures { console.new ≡ edit_console number edits.Hold console.old }
+{
+    if let Some(number) = number {
+        // Where none has it, that changes nothing.
+        console.detach();
+        console.attach_free(number);
+    }
+    console.clear();
+}
+
+// What becomes of a console.
+fn edit_console(console: &mut Console, number: Option<u8>, edit: ConsoleEdit)
+    ensures { console.new ≡ console_after number edit console.old }
+{
+    match edit {
+        ConsoleEdit::Nothing => {}
+        ConsoleEdit::Hold => hold_console(console, number),
+        ConsoleEdit::Take => console.clear(),
+        ConsoleEdit::Leave => {
+            console.detach();
+        }
+        ConsoleEdit::Line(line) => console.write_line(line.bytes()),
+    }
+}
+
+// What becomes of the zone's console. Where there is none yet, it is as a new one, and stays so.
+#[inline(never)]
+fn change_console(cell: &mut Cell, number: Option<u8>, edit: ConsoleEdit)
+    requires { HasConsole edit cell.old.console }
+    ensures does { (z : Name) (s : shared_types.Shared) → Does z (edits_world number (console_edits edit)) kept cell.old s cell.new s }
+    ensures desk { cell.new.desk ≡ cell.old.desk }
+{
+    if let Some(console) = &mut cell.console {
+        edit_console(console, number, edit);
     }
 }
 
@@ -444,7 +604,7 @@ fn end_ticket(cell: &mut Cell, shared: &mut Shared, ended: Option<u32>)
     ensures desk { cell.new.desk ≡ cell.old.desk }
 {
     if let Some(ticket) = ended {
-        end_waits(&mut cell.doings, &mut shared.sessions, ticket);
+        end(cell, shared, Ended::Ticket(ticket));
     }
 }
 
@@ -460,6 +620,7 @@ fn carry_out(
     requires stored { HasRoomOf (arrival_by work.stored) shared.old }
     requires objects { HasRoomToChange work.objects cell.old }
     requires sits { IfSome work.sits (λ s. HasRoomToSit cell.old shared.old) }
+    requires console { HasConsole work.console cell.old.console }
     ensures reply { result ≡ told_by work }
     ensures does { (z : Name) → IsNamedWork z work → IfSome number (λ n. IsOpenTo z (owner nat_eq shared.old.sessions n)) → Does z (work_world number work) (came_common z (arrival_by work.stored)) cell.old shared.old cell.new shared.new }
     ensures ups { shared.new.ups ≡ shared.old.ups }
@@ -469,8 +630,9 @@ fn carry_out(
     ensures desk { cell.new.desk ≡ cell.old.desk }
 {
     store_some(cell, shared, work.stored);
-    let gone = change_objects(alloc, cell, shared, work.objects);
     sit_down(cell, shared, number, work.sits);
+    let gone = change_objects(alloc, cell, shared, work.objects);
+    change_console(cell, number, work.console);
     end_ticket(cell, shared, work.ended);
     work.reply.with_gone(gone)
 }

@@ -131,9 +131,14 @@ pub(crate) fn need_of(case: &Case) -> Need<'_>
     ensures { (d : desk_types.Desk) → IsCaseOf d case.now → asked_of (decision_of d case.now) ≡ asked_by result }
 {
     match case {
-        Case::Says(_) | Case::Tells(_) | Case::Answers(_) | Case::Sit(_) | Case::Change(_) =>
-            Need::Nothing,
-        Case::Fork(_) => Need::Pid,
+        Case::Says(_)
+        | Case::Tells(_)
+        | Case::Answers(_)
+        | Case::Sit(_)
+        | Case::Change(_, _)
+        | Case::Write(_, _)
+        | Case::AtConsole(_) => Need::Nothing,
+        Case::Fork(_, _) | Case::Login(_) => Need::Pid,
         Case::Commit(committed) => commit_need(committed),
         Case::Remove(_) => removal_need(),
         Case::Put(_, _) => Need::Nothing,

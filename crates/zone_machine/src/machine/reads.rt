@@ -99,6 +99,9 @@ fn idle_subject(kernel: &KernelShared, alloc: Global, line: Line<'_>) -> Result<
         | Command::Unforced
         | Command::Hold(_)
         | Command::Release(_)
+        | Command::Login(_)
+        | Command::Console(_)
+        | Command::Enter(_)
         | Command::Help
         | Command::Verify
         | Command::ListOne(_)
@@ -180,6 +183,7 @@ fn global_line(alloc: Global, parts: &Parts, line: Line<'_>) -> Result<Reply, Al
         Command::Help => global_help(alloc, line.zone),
         Command::ListZones(options) => Ok(told(parts.list_zones(alloc, options)?)),
         Command::Unknown
+        | Command::Enter(_)
         | Command::Request(
             RequestKind::Clone | RequestKind::Boot | RequestKind::Reboot | RequestKind::Move,
         ) => Ok(refused(Refusal::Usage)),
@@ -194,6 +198,8 @@ fn global_line(alloc: Global, parts: &Parts, line: Line<'_>) -> Result<Reply, Al
         | Command::Unforced
         | Command::Hold(_)
         | Command::Release(_)
+        | Command::Login(_)
+        | Command::Console(_)
         | Command::Verify
         | Command::ListOne(_) => Ok(refused(badly_named(alloc, line.zone)?)),
     }

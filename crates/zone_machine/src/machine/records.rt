@@ -93,8 +93,11 @@ fn stores_of(case: &Case) -> ToStore<'_>
         | Case::Tells(_)
         | Case::Answers(_)
         | Case::Sit(_)
-        | Case::Change(_)
-        | Case::Fork(_)
+        | Case::Change(_, _)
+        | Case::Fork(_, _)
+        | Case::Write(_, _)
+        | Case::Login(_)
+        | Case::AtConsole(_)
         | Case::Put(_, _) => ToStore::Nothing,
     }
 }

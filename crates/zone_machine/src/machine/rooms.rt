@@ -2,20 +2,22 @@
 ghost use Rattle.std.specs.Prelude.{◌≡◌, OnOk, Option, false};
 ghost use Rattle.zoneadmd_steps.specs.Code.Desks.{as_desk};
 ghost use Rattle.zone_machine.specs.Code.Cases.{IsCaseOf, decision_of};
+ghost use Rattle.zone_machine.specs.Code.Consoles.{HasConsole, wants_console};
 ghost use Rattle.zone_machine.specs.Code.Rooms.{HasRoomFor, Alike, HasRoom, HasRoomIfSits, HasRoomToChange, HasRoomToRise, HasRoomToStore};
-ghost use Rattle.zone_machine.specs.Code.Works.{objects_of, seats, seats_committer};
+ghost use Rattle.zone_machine.specs.Code.Works.{console_of_case, objects_of, seats, seats_committer};
 ghost use Rattle.zoneadmd_steps.specs.Code.Cases.{IsFreeFor, active_with, job_active, turn_active, turn_objects};
 ghost use Rattle.zone_machine.specs.Code.Needs.{asked_by};
 ghost use Rattle.zone_machine.specs.Code.Cases.{case_active};
-ghost use Rattle.zone_machine.specs.Code.Cells.{is_up_in};
+ghost use Rattle.zone_machine.specs.Code.Cells.{Outside, cell_world, is_up_in};
 ghost use Rattle.zn_base.specs.Names.{Name};
 ghost use Rattle.zn_base.specs.declared.state.ZoneState as state_types;
 
-use crate::cases::{Case, Committer};
+use crate::cases::{Case, Committer, ConsoleEdit};
 use crate::machine::cell::Cell;
 use crate::machine::needs::{Need, need_of};
 use crate::machine::shared::Shared;
 use crate::machine::ups::make_place;
+use console_link::Console;
 use std::alloc::{AllocError, Global};
 use zn_base::ZoneName;
 use zoneadmd_steps::{Desk, JobCase, ObjectEdit, Step, TurnCase};
@@ -34,8 +36,11 @@ pub(crate) fn room_on_desk(desk: &mut Desk, case: &Case) -> Result<(), AllocErro
         | Case::Tells(_)
         | Case::Answers(_)
         | Case::Sit(_)
-        | Case::Change(_)
-        | Case::Fork(_)
+        | Case::Change(_, _)
+        | Case::Fork(_, _)
+        | Case::Write(_, _)
+        | Case::Login(_)
+        | Case::AtConsole(_)
         | Case::Commit(_)
         | Case::Remove(_) => Ok(()),
     }
@@ -89,7 +94,7 @@ pub(crate) fn room_for_objects(cell: &mut Cell, case: &Case) -> Result<(), Alloc
 {
     match case {
         Case::Turn(case) => room_to_turn(cell, case),
-        Case::Change(edit) => room_to_change(cell, edit),
+        Case::Change(edit, _) => room_to_change(cell, edit),
         _ => Ok(()),
     }
 }
@@ -108,14 +113,16 @@ fn seats(case: &Case) -> bool
     ensures { result ≡ seats case.now }
 {
     match case {
-        Case::Put(_, _) | Case::Sit(_) => true,
+        Case::Put(_, _) | Case::Sit(_) | Case::Login(_) => true,
+        Case::AtConsole(at) => at.sitting.is_some(),
         Case::Commit(committed) => seats_committer(&committed.committer),
         Case::Remove(removed) => seats_committer(&removed.committer),
         Case::Says(_)
         | Case::Tells(_)
         | Case::Answers(_)
-        | Case::Change(_)
-        | Case::Fork(_)
+        | Case::Change(_, _)
+        | Case::Fork(_, _)
+        | Case::Write(_, _)
         | Case::Turn(_) => false,
     }
 }
@@ -133,15 +140,52 @@ fn room_to_sit(cell: &mut Cell, shared: &mut Shared, case: &Case) -> Result<(), 
     shared.sessions.reserve()
 }
 
-// Room for what a case does to the zone's objects, and for what its session does from now on.
-fn room_to_do(cell: &mut Cell, shared: &mut Shared, case: &Case) -> Result<(), AllocError>
+// Whether the case writes to the zone's console, or has a session begin there.
+fn wants_console(case: &Case) -> bool
+    ensures { result ≡ wants_console (console_of_case case.now) }
+{
+    match case {
+        Case::Write(_, _) => true,
+        Case::AtConsole(at) => matches!(at.edit, ConsoleEdit::Hold | ConsoleEdit::Line(_)),
+        _ => false,
+    }
+}
+
+// A console, where the case wants one and the zone has none yet.
+fn room_at_console(alloc: Global, cell: &mut Cell, case: &Case) -> Result<(), AllocError>
+    ensures world { (out : Outside) → cell_world out cell.new ≡ cell_world out cell.old }
+    ensures same { cell.new ≡ record cell.old { console = cell.new.console } }
+    ensures console { OnOk result (HasConsole (console_of_case case.now) cell.new.console) }
+{
+    if cell.console.is_some() || !wants_console(case) {
+        return Ok(());
+    }
+    match Console::new(alloc) {
+        Ok(console) => {
+            cell.console = Some(console);
+            Ok(())
+        }
+        // Memory is all that a new console can want.
+        Err(_) => Err(AllocError),
+    }
+}
+
+// Room for what a case does to the zone's objects and its console, and for what its session does from now on.
+fn room_to_do(
+    alloc: Global,
+    cell: &mut Cell,
+    shared: &mut Shared,
+    case: &Case,
+) -> Result<(), AllocError>
     requires { IsFreeFor (objects_of case.now) cell.old.mounts.list cell.old.claims.claims }
     ensures alike { Alike cell.old shared.old cell.new shared.new }
     ensures desk { cell.new.desk ≡ cell.old.desk }
     ensures objects { OnOk result (HasRoomToChange (objects_of case.now) cell.new) }
+    ensures console { OnOk result (HasConsole (console_of_case case.now) cell.new.console) }
     ensures sits { OnOk result (HasRoomIfSits case.now cell.new shared.new) }
 {
     room_for_objects(cell, case)?;
+    room_at_console(alloc, cell, case)?;
     room_to_sit(cell, shared, case)
 }
 
@@ -214,7 +258,7 @@ pub(crate) fn make_room(
     ensures of { IsCaseOf cell.new.desk case.now }
     ensures room { OnOk result (HasRoom zone.now case.now cell.new shared.new) }
 {
-    room_to_do(cell, shared, case)?;
+    room_to_do(alloc, cell, shared, case)?;
     room_to_store(shared, need_of(case))?;
     room_to_rise(alloc, shared, zone, cell, case)?;
     room_on_desk(&mut cell.desk, case)

@@ -1,7 +1,7 @@
 //! How a case is settled: the desk changes, and what else is to be done is told. No memory is taken, and nothing fails.
 ghost use Rattle.std.specs.Prelude.{◌+◌, ◌<◌, ◌≤◌, ◌≡◌, IfOk, IfSome, None, Option, Some, false, true, ℕ};
 ghost use Rattle.zn_base.specs.Names.{Name};
-ghost use Rattle.zone_machine.specs.Code.Cases.{IsCaseOf, IsNamedCase, IsNamedCommitter, as_typist, base_by, case_active, decision_of, made, numbered_row};
+ghost use Rattle.zone_machine.specs.Code.Cases.{IsCaseOf, IsNamedCase, IsNamedCommitter, as_typist, base_by, case_active, decision_of, done_head, made, numbered_row, refused_reply};
 ghost use Rattle.zone_machine.specs.Code.Doings.{sits};
 ghost use Rattle.zone_config.specs.declared.terms.Contents.{Contents};
 ghost use Rattle.std.specs.List.{list_all};
@@ -10,7 +10,7 @@ ghost use Rattle.zoneadmd_steps.specs.Local.{is_of_own};
 ghost use Rattle.zone_machine.specs.Code.Records.{HasNumber};
 ghost use Rattle.zone_machine.specs.Code.Rooms.{HasRoomFor};
 ghost use Rattle.zoneadmd_steps.specs.Code.Rooms.{HasRequestRoom};
-ghost use Rattle.zone_machine.specs.Code.Works.{IsNamedWork, IsStoredOf, Works, objects_of, rest_of, seats, seats_committer};
+ghost use Rattle.zone_machine.specs.Code.Works.{IsNamedWork, IsStoredOf, Works, console_of_case, objects_of, rest_of, seats, seats_committer};
 ghost use Rattle.zone_machine.specs.Session.Commits.{based, goes, goes_over, removes, stays};
 ghost use Rattle.zone_machine.specs.State.Decisions.{act_of, says};
 ghost use Rattle.zone_pools.specs.Decisions.{number_in};
@@ -20,7 +20,10 @@ ghost use Rattle.zoneadmd_steps.specs.Desks.{is_full, with_request};
 ghost use Rattle.zone_machine.specs.State.Worlds.{World};
 ghost use Rattle.zoneadmd_steps.specs.declared.desks.Desk as desk_types;
 
-use crate::cases::{Case, Committed, Committer, Removed, Seat, Seated, Sitting};
+use crate::cases::{
+    AtConsole, Case, Committed, Committer, ConsoleEdit, Login, Manner, Removed, Seat, Seated,
+    Sitting,
+};
 use crate::machine::work::{Storing, Work};
 use crate::replies::{Body, Head, Refusal, Reply};
 use crate::session::doings::Doing;
@@ -107,7 +110,7 @@ impl Committer {
 
 // A pool denies what would be stored; what was told before is told.
 fn denied(pool: Pool, told: Listing<Bytes>, sits: Option<Sitting>) -> Work
-    ensures { result ≡ record { stored = Storing.Nothing; objects = ObjectEdit.Nothing; sits = sits; ended = None; reply = record { head = Head.Refused (Refusal.Denied pool); body = Body.Lines told } } }
+    ensures { result ≡ record { stored = Storing.Nothing; objects = ObjectEdit.Nothing; sits = sits; console = ConsoleEdit.Nothing; ended = None; reply = record { head = Head.Refused (Refusal.Denied pool); body = Body.Lines told } } }
 {
     Work {
         sits,
@@ -120,7 +123,7 @@ fn denied(pool: Pool, told: Listing<Bytes>, sits: Option<Sitting>) -> Work
 
 // What becomes of the event's session alone.
 fn seat(seated: Box<Seated>) -> Work
-    ensures { result ≡ record { stored = Storing.Nothing; objects = ObjectEdit.Nothing; sits = Some seated.value.sitting; ended = None; reply = seated.value.reply } }
+    ensures { result ≡ record { stored = Storing.Nothing; objects = ObjectEdit.Nothing; sits = Some seated.value.sitting; console = ConsoleEdit.Nothing; ended = None; reply = seated.value.reply } }
 {
     let Seated { sitting, reply } = Box::into_inner(seated);
     Work {
@@ -134,6 +137,7 @@ fn commit(committed: Box<Committed>, grant: Grant) -> Work
     requires { IfOk (number_in grant) (λ n. numbered_row committed.value.novelty committed.value.owner committed.value.row.value n ≡ committed.value.row.value) }
     ensures works { (n : Option ℕ) (v : World) (d : desks.Desk) → v.desk ≡ d → Works n (rest_of (act_of (made committed.value.novelty committed.value.owner committed.value.row.value committed.value.told committed.value.committer) grant)) v d result }
     ensures objects { result.objects ≡ ObjectEdit.Nothing }
+    ensures console { result.console ≡ ConsoleEdit.Nothing }
     ensures sits { seats_committer committed.value.committer ≡ false → result.sits ≡ None }
     ensures named { (z : Name) → IsNamedCommitter z committed.value.committer → IfSome result.sits (λ s. s.owner ≡ z) }
     ensures owner { IsStoredOf committed.value.owner result.stored }
@@ -159,6 +163,7 @@ fn commit(committed: Box<Committed>, grant: Grant) -> Work
 fn remove(removed: Box<Removed>, grant: Grant) -> Work
     ensures works { (n : Option ℕ) (v : World) (d : desks.Desk) → v.desk ≡ d → Works n (rest_of (act_of (removes removed.value.told (as_typist removed.value.committer)) grant)) v d result }
     ensures objects { result.objects ≡ ObjectEdit.Nothing }
+    ensures console { result.console ≡ ConsoleEdit.Nothing }
     ensures sits { seats_committer removed.value.committer ≡ false → result.sits ≡ None }
     ensures named { (z : Name) → IsNamedCommitter z removed.value.committer → IfSome result.sits (λ s. s.owner ≡ z) }
     ensures owner { IsStoredOf removed.value.owner result.stored }
@@ -178,16 +183,89 @@ fn remove(removed: Box<Removed>, grant: Grant) -> Work
     }
 }
 
+impl Manner {
+    // How it is answered that something is done.
+    fn done(self) -> Head
+        ensures { result ≡ done_head self }
+    {
+        match self {
+            Manner::Plain => Head::Ok,
+            Manner::Status(status) => Head::Status(status),
+        }
+    }
+
+    // How a refusal is answered.
+    fn refusing(self, refusal: Refusal) -> Reply
+        ensures { result ≡ refused_reply self refusal }
+    {
+        match self {
+            Manner::Plain => Reply {
+                head: Head::Refused(refusal),
+                body: Body::Nothing,
+            },
+            Manner::Status(_) => Reply {
+                head: Head::Status(1),
+                body: Body::Why(refusal),
+            },
+        }
+    }
+}
+
 // A process makes another, which has come to the kernel already.
-fn fork(running: Box<Running>, grant: Grant) -> Work
-    ensures works { (n : Option ℕ) (v : World) (d : desk_types.Desk) (e : desks.Desk) → v.desk ≡ e → Works n (rest_of (act_of (decision_of d (Case.Fork running)) grant)) v e result }
+fn fork(running: Box<Running>, manner: Manner, grant: Grant) -> Work
+    ensures works { (n : Option ℕ) (v : World) (d : desk_types.Desk) (e : desks.Desk) → v.desk ≡ e → Works n (rest_of (act_of (decision_of d (Case.Fork running manner)) grant)) v e result }
     ensures objects { result.objects ≡ ObjectEdit.Nothing }
     ensures sits { result.sits ≡ None }
+    ensures console { result.console ≡ ConsoleEdit.Nothing }
     ensures stored { result.stored ≡ Storing.Nothing }
 {
     match number_in(grant) {
-        Ok(pid) => Work::telling(Body::Child(pid)),
+        Ok(pid) => Work::replying(Reply {
+            head: manner.done(),
+            body: Body::Child(pid),
+        }),
+        Err(pool) => Work::replying(manner.refusing(Refusal::Denied(pool))),
+    }
+}
+
+// A session is logged in with a process, which has come to the kernel already.
+fn log_in(login: Box<Login>, grant: Grant) -> Work
+    ensures works { (n : Option ℕ) (v : World) (d : desk_types.Desk) (e : desks.Desk) → v.desk ≡ e → Works n (rest_of (act_of (decision_of d (Case.Login login)) grant)) v e result }
+    ensures objects { result.objects ≡ ObjectEdit.Nothing }
+    ensures named { IfSome result.sits (λ s. s.owner ≡ login.value.owner) }
+    ensures console { result.console ≡ ConsoleEdit.Nothing }
+    ensures stored { result.stored ≡ Storing.Nothing }
+{
+    let Login {
+        running: _,
+        escape,
+        owner,
+    } = Box::into_inner(login);
+    match number_in(grant) {
+        Ok(pid) => Work {
+            sits: Some(Sitting {
+                doing: Some(Doing::LoggedIn(pid, escape)),
+                owner,
+            }),
+            ..Work::saying(Head::Ok)
+        },
         Err(pool) => Work::saying(Head::Refused(Refusal::Denied(pool))),
+    }
+}
+
+// What becomes of the zone's console, and of the session that is there.
+fn at_console(at: Box<AtConsole>) -> Work
+    ensures { result ≡ record { stored = Storing.Nothing; objects = ObjectEdit.Nothing; sits = at.value.sitting; console = at.value.edit; ended = None; reply = at.value.reply } }
+{
+    let AtConsole {
+        edit,
+        sitting,
+        reply,
+    } = Box::into_inner(at);
+    Work {
+        sits: sitting,
+        console: edit,
+        ..Work::replying(reply)
     }
 }
 
@@ -197,7 +275,7 @@ fn put(desk: &mut Desk, request: QueuedRequest, owner: ZoneName) -> Work
     requires room { HasRequestRoom desk.old }
     ensures desk { as_desk desk.new ≡ with_request (as_desk desk.old) request }
     ensures active { desk.new.active ≡ desk.old.active }
-    ensures work { result ≡ record { stored = Storing.Nothing; objects = ObjectEdit.Nothing; sits = Some (record { doing = Some (Doing.Awaits (desk.old.last + 1)); owner = owner }); ended = None; reply = says (Head.Ticket (desk.old.last + 1)) } }
+    ensures work { result ≡ record { stored = Storing.Nothing; objects = ObjectEdit.Nothing; sits = Some (record { doing = Some (Doing.Awaits (desk.old.last + 1)); owner = owner }); console = ConsoleEdit.Nothing; ended = None; reply = says (Head.Ticket (desk.old.last + 1)) } }
 {
     let ticket = desk.put(request);
     let doing = Some(Doing::Awaits(ticket));
@@ -218,16 +296,23 @@ pub(crate) fn settle(alloc: Global, desk: &mut Desk, case: Case, grant: Grant) -
     ensures own { list_all is_of_own (object_edits (objects_of case)) ≡ true → list_all is_of_own (object_edits result.objects) ≡ true }
     ensures active { desk.new.active ≡ case_active case desk.old.active }
     ensures sits { seats case ≡ false → result.sits ≡ None }
+    ensures console { result.console ≡ console_of_case case }
     ensures named { (z : Name) → IsNamedCase z case → IsNamedWork z result }
 {
     match case {
         Case::Says(head) => Work::saying(head),
         Case::Tells(body) => Work::telling(body),
-        Case::Change(objects) => Work {
+        Case::Change(objects, manner) => Work {
             objects,
-            ..Work::saying(Head::Ok)
+            ..Work::saying(manner.done())
         },
-        Case::Fork(running) => fork(running, grant),
+        Case::Fork(running, manner) => fork(running, manner, grant),
+        Case::Write(line, manner) => Work {
+            console: ConsoleEdit::Line(line),
+            ..Work::saying(manner.done())
+        },
+        Case::Login(login) => log_in(login, grant),
+        Case::AtConsole(at) => at_console(at),
         Case::Answers(reply) => Work::replying(Box::into_inner(reply)),
         Case::Sit(seated) => seat(seated),
         Case::Commit(committed) => commit(committed, grant),

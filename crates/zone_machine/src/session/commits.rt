@@ -179,8 +179,8 @@ fn keeps_brand(row: &Row, config: &ZoneConfig) -> bool
     config.shown(Property::Brand) == row.record().config.shown(Property::Brand)
 }
 
-// A zone's state, which is stored or is one of those that aren't.
-fn state_now(row: &Row, desk: &Desk) -> ZoneState
+/// A zone's state, which is stored or is one of those that aren't.
+pub(crate) fn state_now(row: &Row, desk: &Desk) -> ZoneState
     ensures { result ≡ state_now row.now (as_desk desk.now) }
 {
     match desk.active() {

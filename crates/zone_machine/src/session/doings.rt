@@ -1,7 +1,7 @@
 //! What sessions do in a zone. A session that isn't there does nothing in it.
 ghost use Rattle.indexmap.specs.IndexMap.{get, spare};
-ghost use Rattle.std.specs.Prelude.{◌≡◌, ℕ, None, Some, nat_eq, not, option_copied, slice_get, if◌then◌else◌, ◌<◌};
-ghost use Rattle.zone_machine.specs.Code.Doings.{is_wait_for, unless_ended, waits_for, waits_there};
+ghost use Rattle.std.specs.Prelude.{◌≡◌, ℕ, None, Some, nat_eq, not, option_copied, slice_get, if◌then◌else◌, ◌<◌, ◌≤◌};
+ghost use Rattle.zone_machine.specs.Code.Doings.{ends_there, ends_with, is_ended, unless_ended};
 ghost use Rattle.zone_machine.specs.State.Edits.{at_session};
 ghost use Rattle.zone_pools.specs.Owners.{owner};
 
@@ -17,18 +17,38 @@ pub(crate) enum Doing {
     Awaits(u32),
     /// It edits the zone's configuration.
     Edits(HeldEditor),
+    /// It is logged in with this process; a line that begins with the escape byte and a period ends that.
+    LoggedIn(u32, Option<u8>),
+    /// It has the zone's console.
+    AtConsole(Option<u8>),
+}
+
+/// What ends, and with it what sessions do.
+#[derive(Clone, Copy)]
+pub(crate) enum Ended {
+    /// A ticket of the zone's daemon, for which sessions wait.
+    Ticket(u32),
+    /// A process, with which a session may be logged in.
+    Process(u32),
+    /// All processes of the zone.
+    Processes,
+    /// The zone's console.
+    Console,
 }
 
 /// What sessions do, by their numbers.
 pub(crate) type Doings = IndexMap<u8, Doing>;
 
 impl Doing {
-    fn waits_for(&self, ticket: u32) -> bool
-        ensures { result ≡ waits_for ticket self.now }
+    fn ends_with(&self, ended: Ended) -> bool
+        ensures { result ≡ ends_with ended self.now }
     {
-        match self {
-            Doing::Awaits(awaited) => *awaited == ticket,
-            Doing::Edits(_) => false,
+        match (self, ended) {
+            (Doing::Awaits(awaited), Ended::Ticket(ticket)) => *awaited == ticket,
+            (Doing::LoggedIn(own, _), Ended::Process(pid)) => *own == pid,
+            (Doing::LoggedIn(_, _), Ended::Processes) => true,
+            (Doing::AtConsole(_), Ended::Console) => true,
+            _ => false,
         }
     }
 }
@@ -48,31 +68,33 @@ pub(crate) fn stop_doing(doings: &mut Doings, number: u8)
     doings.swap_remove(&number);
 }
 
-// The session at an index is nobody's, where it waits for a ticket.
-fn free_at(sessions: &mut Owners<u8>, doings: &Doings, at: usize, ticket: u32)
-    ensures { (k : ℕ) → owner nat_eq sessions.new k ≡ (if waits_there ticket k (slice_get doings.now.entries at) then None else owner nat_eq sessions.old k) }
+// The session at an index is nobody's, where what it does ends.
+fn free_at(sessions: &mut Owners<u8>, doings: &Doings, at: usize, ended: Ended)
+    ensures sessions { (k : ℕ) → owner nat_eq sessions.new k ≡ (if ends_there ended k (slice_get doings.now.entries at) then None else owner nat_eq sessions.old k) }
+    ensures room { sessions.old.room ≤ sessions.new.room }
 {
     let Some((number, doing)) = doings.get_index(at) else {
         return;
     };
-    if doing.waits_for(ticket) {
+    if doing.ends_with(ended) {
         sessions.give_back(number);
     }
 }
 
-/// Whoever waits for a ticket does nothing from now on, and is nobody's session. Who edits goes on.
+/// Whoever did what ends does nothing from now on, and is nobody's session. The others go on.
 #[inline(never)]
-pub(crate) fn end_waits(doings: &mut Doings, sessions: &mut Owners<u8>, ticket: u32)
-    ensures doings { (k : ℕ) → get nat_eq doings.new k ≡ unless_ended ticket (get nat_eq doings.old k) }
-    ensures sessions { (k : ℕ) → owner nat_eq sessions.new k ≡ (if is_wait_for ticket (get nat_eq doings.old k) then None else owner nat_eq sessions.old k) }
+pub(crate) fn end_doings(doings: &mut Doings, sessions: &mut Owners<u8>, ended: Ended)
+    ensures doings { (k : ℕ) → get nat_eq doings.new k ≡ unless_ended ended (get nat_eq doings.old k) }
+    ensures sessions { (k : ℕ) → owner nat_eq sessions.new k ≡ (if is_ended ended (get nat_eq doings.old k) then None else owner nat_eq sessions.old k) }
+    ensures room { (spare doings.old ≤ spare doings.new) × (sessions.old.room ≤ sessions.new.room) }
 {
     for at in 0..doings.len() {
-        free_at(sessions, doings, at, ticket);
+        free_at(sessions, doings, at, ended);
     }
     doings.retain(
         |_number: &u8, doing: &mut Doing| -> bool
-            ensures { (result ≡ not (waits_for ticket doing.old)) × (doing.new ≡ doing.old) }
-        { !doing.waits_for(ticket) },
+            ensures { (result ≡ not (ends_with ended doing.old)) × (doing.new ≡ doing.old) }
+        { !doing.ends_with(ended) },
     );
 }
 

@@ -24,12 +24,13 @@ ghost use Rattle.zone_machine.specs.State.Worlds.{View};
 ghost use Rattle.zoneadmd_steps.specs.declared.desks.Desk as desk_types;
 
 use crate::calls::signal_case;
-use crate::cases::Case;
+use crate::cases::{Case, Manner};
 use crate::machine::cell::Cell;
 use crate::replies::{Head, Refusal};
 use crate::session::doings::Doing;
 use crate::session::editing::{edit_case, open_case, zonecfg_case};
 use crate::session::lines::{Command, Line, split_word};
+use crate::session::logins::{console_case, hold_console_case, logged_case, login_case};
 use crate::session::telling_cases::{help_case, list_case, verify_case};
 use brand_hooks::BrandTables;
 use commit_journal::Row;
@@ -196,7 +197,7 @@ fn hold_case(
         return Ok(refused(Refusal::NoMount));
     };
     match check_held(mounts, &dir, held) {
-        Ok(()) => Ok(Case::Change(holding_at(dir, held))),
+        Ok(()) => Ok(Case::Change(holding_at(dir, held), Manner::Plain)),
         Err(fault) => Ok(refused(hold_refusal(fault))),
     }
 }
@@ -269,6 +270,9 @@ fn idle_case(
         Command::Kill(signal, pid) => Ok(signal_case(&cell.kernel, false, signal, pid)),
         Command::Hold(word) => hold_case(alloc, &cell.mounts, row, word, true),
         Command::Release(word) => hold_case(alloc, &cell.mounts, row, word, false),
+        Command::Login(escape) => login_case(alloc, zone, cell, row, escape),
+        Command::Console(escape) => hold_console_case(alloc, zone, cell, row, escape),
+        Command::Enter(_) => Ok(refused(Refusal::Usage)),
         Command::Help => help_case(alloc),
         Command::Verify => verify_case(alloc, brands, row),
         Command::ListOne(form) => list_case(alloc, zone, cell, row, form),
@@ -294,6 +298,8 @@ fn busy_case(
     match doing {
         Doing::Awaits(ticket) => Ok(refused(Refusal::Waiting(*ticket))),
         Doing::Edits(editor) => edit_case(alloc, zone, &cell.desk, brands, row, editor, line.text),
+        Doing::LoggedIn(pid, escape) => logged_case(alloc, zone, cell, *pid, *escape, line.text),
+        Doing::AtConsole(escape) => console_case(alloc, zone, cell, *escape, line.text),
     }
 }
 

@@ -1,12 +1,12 @@
-//! How a line of a session is read, by the words of zonecfg(8) and zoneadm(8).
-ghost use Rattle.std.specs.Prelude.{◌∷◌, ◌≡◌, IfSome, IsTrue, None, Some, length, nat_eq, not, position, unwrap_or};
+//! How a line of a session is read, by the words of zonecfg(8), zoneadm(8), zlogin(1) and kill(1).
+ghost use Rattle.std.specs.Prelude.{◌∷◌, ◌≡◌, IfSome, IsTrue, List, None, Some, false, length, nat_eq, not, position, unwrap_or, ℕ};
 ghost use Rattle.std.specs.List.{list_all};
 ghost use Rattle.std.specs.Option.{option_map, option_or};
 ghost use Rattle.zoneadmd_steps.specs.declared.requests.Request.TheVariants.{Boot, Reboot};
 ghost use Rattle.zn_base.specs.Text.{is_text};
 ghost use Rattle.zone_pools.specs.Firsts.{first_of, is_nil};
-ghost use Rattle.zone_machine.specs.Session.Lines.{Ask, after_word, are_args, are_options, args_text, asks, at_end, clone_command, command_by, command_of, dir_words, form_by, form_word, general_command, general_subcommand, has_option, is_option, is_space, joined, kill_command, line_of, list_one_command, list_zones_command, mark_command, move_command, move_path, options_of, options_word, past_spaces, past_word, request_command, request_word, subcommand, tool_command, uninstall_command, word_after_flag, words, zone_command, zoneadm_command, zonecfg_command};
-ghost use Rattle.zone_machine.specs.Code.Lines.{BeginsWord, EndsWord, GivesPast, GivesRest, GivesSpaceless, GivesWord, IsRightLine, IsWordFirst, as_command, as_line, as_word};
+ghost use Rattle.zone_machine.specs.Session.Lines.{Ask, after_word, are_args, are_options, args_text, asks, at_end, attended_command, byte_word, clone_command, command_by, command_of, console_command, dir_words, entered_command, escape_byte, escape_words, form_by, form_word, general_command, general_subcommand, has_option, is_escape_option, is_option, is_space, joined, kill_command, line_of, list_one_command, list_zones_command, mark_command, move_command, move_path, named, options_of, options_word, past_spaces, past_word, request_command, request_word, subcommand, tool_command, uninstall_command, word_after_flag, words, zlogin_command, zlogin_zone, zone_command, zone_word, zoneadm_command, zonecfg_command};
+ghost use Rattle.zone_machine.specs.Code.Lines.{BeginsWord, EndsWord, GivesPast, GivesRest, GivesSpaceless, GivesWord, IsRightLine, IsWordFirst, as_command, as_escape, as_line, as_word};
 
 use crate::session::listing::{Form, Options};
 use kernel_objects::Signal;
@@ -39,6 +39,12 @@ pub(crate) enum Command<'t> {
     Hold(&'t [u8]),
     /// The global zone holds the mount at this directory no more.
     Release(&'t [u8]),
+    /// By zlogin(1), the session is logged in, with this escape byte or none.
+    Login(Option<u8>),
+    /// It has the zone's console.
+    Console(Option<u8>),
+    /// A process enters the zone, makes the call that this text spells, and goes.
+    Enter(&'t [u8]),
     /// It is told what zoneadm(8) can be asked for.
     Help,
     /// The zone's stored configuration is looked at.
@@ -57,6 +63,9 @@ pub(crate) struct Line<'t> {
     pub(crate) zone: Option<&'t [u8]>,
     pub(crate) command: Command<'t>,
 }
+
+// The escape byte where no option says otherwise.
+const USUAL_ESCAPE: Option<u8> = Some(b'~');
 
 fn first_other(text: &[u8]) -> Option<usize>
     ensures { result ≡ position (λ b. not (is_space b)) text.now }
@@ -386,6 +395,129 @@ fn kill_command(text: &[u8]) -> Option<Command<'_>>
     at_end(text, Command::Kill(signal, pid))
 }
 
+// One byte.
+fn byte_word(word: &[u8]) -> Option<u8>
+    ensures { result ≡ byte_word word.now }
+{
+    match word {
+        [byte] => Some(*byte),
+        _ => None,
+    }
+}
+
+// The escape byte that follows `-e`, and the text after it.
+fn escape_byte(text: &[u8]) -> Option<(Option<u8>, &[u8])>
+    ensures { option_map as_escape result ≡ escape_byte (words text.now) }
+{
+    let (word, text) = split_word(text)?;
+    Some((Some(byte_word(word)?), text))
+}
+
+// The escape byte, by `-e C`, `-E` or neither, and the text after that.
+fn escape_words(text: &[u8]) -> Option<(Option<u8>, &[u8])>
+    ensures { option_map as_escape result ≡ escape_words (words text.now) }
+{
+    let Some((word, rest)) = split_word(text) else {
+        return Some((USUAL_ESCAPE, text));
+    };
+    if word == b"-E".as_slice() {
+        Some((None, rest))
+    } else if word == b"-e".as_slice() {
+        escape_byte(rest)
+    } else {
+        Some((USUAL_ESCAPE, text))
+    }
+}
+
+// A name, and no more.
+fn named<'t>(command: Command<'t>, text: &[u8]) -> Option<Command<'t>>
+    ensures { option_map as_command result ≡ named (as_command command.entry) (words text.now) }
+{
+    let (_, text) = split_word(text)?;
+    at_end(text, command)
+}
+
+// What follows `zlogin -C`.
+fn console_command(text: &[u8]) -> Option<Command<'_>>
+    ensures { option_map as_command result ≡ console_command (words text.now) }
+{
+    let (escape, text) = escape_words(text)?;
+    named(Command::Console(escape), text)
+}
+
+// What follows `zlogin` where that is an option which says the escape byte.
+fn attended_command(text: &[u8]) -> Option<Command<'_>>
+    ensures { option_map as_command result ≡ attended_command (words text.now) }
+{
+    let (escape, text) = escape_words(text)?;
+    let (word, text) = split_word(text)?;
+    if word == b"-C".as_slice() {
+        named(Command::Console(escape), text)
+    } else {
+        at_end(text, Command::Login(escape))
+    }
+}
+
+// What follows the name: nothing, or a call.
+fn entered_command(text: &[u8]) -> Command<'_>
+    ensures { as_command result ≡ entered_command (past_spaces text.now) (words text.now) }
+{
+    match after_spaces(text) {
+        Some(text) => Command::Enter(text),
+        None => Command::Login(USUAL_ESCAPE),
+    }
+}
+
+fn is_escape_option(word: &[u8]) -> bool
+    ensures { result ≡ is_escape_option word.now }
+{
+    word == b"-E".as_slice() || word == b"-e".as_slice()
+}
+
+// What follows `zlogin` in a line.
+fn zlogin_command(text: &[u8]) -> Option<Command<'_>>
+    ensures { (line : List ℕ) → text.now ≡ past_word line → option_map as_command result ≡ zlogin_command line (words text.now) }
+{
+    let (word, rest) = split_word(text)?;
+    if word == b"-C".as_slice() {
+        console_command(rest)
+    } else if is_escape_option(word) {
+        attended_command(text)
+    } else {
+        Some(entered_command(rest))
+    }
+}
+
+// What is the name behind `zlogin`: the first word that is no option, nor the one behind `-e`.
+fn zlogin_zone(text: &[u8]) -> Option<&[u8]>
+    ensures { as_word result ≡ zlogin_zone false (words text.now) }
+{
+    let mut text = text;
+    while let Some((word, rest)) = split_word(text) {
+        if word == b"-e".as_slice() {
+            let (_, rest) = split_word(rest)?;
+            text = rest;
+        } else if word == b"-C".as_slice() || word == b"-E".as_slice() {
+            text = rest;
+        } else {
+            return Some(word);
+        }
+    }
+    None
+}
+
+// The word that a line gives as the name of its zone.
+fn zone_word(text: &[u8]) -> Option<&[u8]>
+    ensures { as_word result ≡ zone_word (words text.now) }
+{
+    let (word, rest) = split_word(text)?;
+    if word == b"zlogin".as_slice() {
+        zlogin_zone(rest)
+    } else {
+        word_after_flag(text)
+    }
+}
+
 fn is_option(byte: u8) -> bool
     ensures { result ≡ is_option byte }
 {
@@ -491,11 +623,14 @@ fn tool_line(text: &[u8]) -> Option<Command<'_>>
 
 // By its first word.
 fn command_by<'t>(word: &[u8], rest: &'t [u8], text: &'t [u8]) -> Option<Command<'t>>
-    requires { words text.now ≡ word.now ∷ words rest.now }
+    requires words { words text.now ≡ word.now ∷ words rest.now }
+    requires past { rest.now ≡ past_word text.now }
     ensures { option_map as_command result ≡ command_by text.now word.now (words rest.now) }
 {
     if word == b"kill".as_slice() {
         kill_command(rest)
+    } else if word == b"zlogin".as_slice() {
+        zlogin_command(rest)
     } else {
         tool_line(text)
     }
@@ -520,7 +655,7 @@ pub(crate) fn line_of(text: &[u8]) -> Line<'_>
 {
     Line {
         text,
-        zone: word_after_flag(text),
+        zone: zone_word(text),
         command: command_of(text),
     }
 }

@@ -1,5 +1,11 @@
-use Rattle.zone_machine.proofs.Kernel_doing.{does_end}
+use Rattle.zone_machine.proofs.Doing_laws.{does_then, kept_apart}
+use Rattle.zone_machine.specs.Code.Cells.{kept}
+use Rattle.zone_machine.specs.Code.Doings.{swept_by}
+use Rattle.zone_machine.specs.Code.Works.{without_process}
+use Rattle.zone_machine.specs.declared.session.doings.Ended.TheVariants.{Process}
 use Rattle.zone_machine.proofs.machine.effects.end_process.Goals as goal
 
 pub returns-clause-does : goal.returns-clause-does
-returns-clause-does c = λ z n. does_end z c.args.cell.now c.args.shared.now c.end.new.self c.end.new.shared c.args.pid c.end.ensures.freed c.end.ensures.gone n
+returns-clause-does c = λ z n.
+    does_then z (without_process c.args.pid) (swept_by (Process c.args.pid)) kept kept c.args.cell.now c.kill.new.cell c.end.new.cell c.args.shared.now c.kill.new.shared c.end.new.shared (kept_apart z)
+    (c.kill.ensures.does z) (c.end.ensures.does z)

@@ -6,6 +6,7 @@ use Rattle.zone_machine.proofs.Doing_laws.{acts_up, does_work}
 use Rattle.zone_machine.proofs.Case_asks.{asks-rightly, asks_case}
 use Rattle.zone_machine.proofs.Roomy.{free_owner, room_change, room_to_sit, roomy}
 use Rattle.zone_machine.specs.Code.Cases.{decision_of}
+use Rattle.zone_machine.specs.Code.Consoles.{HasConsole}
 use Rattle.zone_machine.specs.Code.Cells.{cell_world, is_up_in, outside_in}
 use Rattle.zone_machine.specs.Code.Needs.{pools_in}
 use Rattle.zone_machine.specs.State.Decisions.{act_of}
@@ -27,6 +28,9 @@ carry_out-reply-requires-clause-stored c =
 
 pub carry_out-reply-requires-clause-sits : goal.carry_out-reply-requires-clause-sits
 carry_out-reply-requires-clause-sits c = room_to_sit (seats c.args.case) c.args.cell.now c.args.shared.now c.settle-work.result.sits c.settle-work.ensures.sits c.requires.room.sits
+
+pub carry_out-reply-requires-clause-console : goal.carry_out-reply-requires-clause-console
+carry_out-reply-requires-clause-console c = subst (λ e. HasConsole e c.args.cell.now.console) (sym c.settle-work.ensures.console) c.requires.room.console
 
 pub carry_out-reply-requires-clause-objects : goal.carry_out-reply-requires-clause-objects
 carry_out-reply-requires-clause-objects c =

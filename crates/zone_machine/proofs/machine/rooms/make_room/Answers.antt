@@ -27,4 +27,4 @@ returns-clause-room c =
     on_ok c.room_on_desk.result _ _
     (made_room c.args.zone.now case c.room_to_do.new.cell c.room_to_do.new.shared c.room_to_store.new.shared c.room_to_rise.new.shared c.room_on_desk.new.desk _
     c.in_ok-room_to_store.ensures.same c.in_ok-room_to_rise.ensures.same c.room_on_desk.ensures.desk (c.need_of.ensures c.room_on_desk.new.desk of)
-    c.in_ok-room_to_do.ensures.objects c.in_ok-room_to_do.ensures.sits c.in_ok-room_to_store.ensures.room c.in_ok-room_to_rise.ensures.room) c.room_on_desk.ensures.room
+    c.in_ok-room_to_do.ensures.objects c.in_ok-room_to_do.ensures.sits c.in_ok-room_to_do.ensures.console c.in_ok-room_to_store.ensures.room c.in_ok-room_to_rise.ensures.room) c.room_on_desk.ensures.room

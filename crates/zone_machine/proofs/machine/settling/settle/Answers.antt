@@ -32,3 +32,6 @@ returns-in-Turn-clause-works c = λ n v is. rw c.in-Turn.is
 
 pub returns-in-Turn-clause-named : goal.returns-in-Turn-clause-named
 returns-in-Turn-clause-named c = λ z h. record { stored = c.of_turn.ensures.stored z (c.settle_turn.ensures.named z (rw c.in-Turn.is at h)); sits = rw c.of_turn.ensures.sits tt }
+
+pub returns-in-Login-clause-works : goal.returns-in-Login-clause-works
+returns-in-Login-clause-works c = λ n v desk. rw c.in-Login.is (c.log_in.ensures.works n v c.args.desk.now (as_desk c.args.desk.now) desk)

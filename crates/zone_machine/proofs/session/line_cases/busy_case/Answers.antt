@@ -1,5 +1,5 @@
 use Rattle.std.proofs.Common.{Some, ap}
-use Rattle.zone_machine.proofs.Stepping.{edits-case}
+use Rattle.zone_machine.proofs.Stepping.{edits-case, on_case}
 use Rattle.zone_machine.specs.Code.Doings.{as_doing}
 use Rattle.zone_machine.specs.Code.Lines.{as_line}
 use Rattle.zone_machine.specs.Session.Typed.{typed}
@@ -12,3 +12,11 @@ returns-in-Edits c =
     edits-case c.edit_case.result c.args.zone.now c.args.cell.now _ c.args.brands.now c.in-Edits.editor line.text _
     (λ v. ap (λ d. typed v (Some (as_doing d)) line) c.in-Edits.is)
     c.edit_case.ensures.decides c.edit_case.ensures.of c.edit_case.ensures.named c.edit_case.ensures.free
+
+pub returns-in-LoggedIn : goal.returns-in-LoggedIn
+unfolding typed
+returns-in-LoggedIn c = on_case c.logged_case.result (λ case said declared. rw c.in-LoggedIn.is (said _)) c.logged_case.ensures
+
+pub returns-in-AtConsole : goal.returns-in-AtConsole
+unfolding typed
+returns-in-AtConsole c = on_case c.console_case.result (λ case said declared. rw c.in-AtConsole.is (said _)) c.console_case.ensures
