@@ -10,15 +10,15 @@ use Rattle.zones_run.specs.Fixed.{help_text, usage_text, version_text}
 use Rattle.zones_run.specs.Obeyed.{ObeysLines, ObeysRead}
 use Rattle.zones_run.specs.Opening.{Found}
 use Rattle.zones_run.specs.Output.{Output, written}
-use Rattle.zones_run.specs.Program.{AnswersOn, AsksNothing, HasAnswered, HasRecorded, ObeysInput, output_for, traced_on}
-use Rattle.zones_run.specs.Recording.{RanBy}
+use Rattle.zones_run.specs.Program.{AnswersOn, AsksNothing, HasAnswered, HasRecorded, ObeysInput, RecordsOver, done_on, output_for}
 use Rattle.zones_run.specs.Run.{HasFront, TakesFronts, TellsLine, TellsText, fault_status, run_fault_of, write_fault_line}
 use Rattle.zones_run.specs.Statuses.{status_done, status_usage, status_write_fault}
 use Rattle.zones_run.specs.declared.lines.ReadFault.{ReadFault}
 use Rattle.zones_run.specs.declared.lines.ReadFault.TheVariants.{Failed, Memory as No_memory}
 use Rattle.zones_run.specs.declared.outcome.Complaint.{Complaint}
 use Rattle.zones_run.specs.declared.words.Command.{Command}
-use Rattle.zones_run.specs.declared.words.Command.TheVariants.{Export, Help, Trace, Version}
+use Rattle.zones_run.specs.declared.words.Command.TheVariants.{Export, Help, OnStore, Version}
+use Rattle.zones_run.specs.declared.words.Task.{Task}
 use Rattle.zones_run.proofs.Fronts.{after_known-nil}
 use Rattle.zones_run.proofs.Telling.{Complained, never_read}
 
@@ -31,8 +31,8 @@ module _ (brands : List Tabled) (command : Option Command) (found : Found) (inpu
   pub for_export : command ≡ Some Export → IfSome input (λ bytes. P (exported bytes)) → IfSome (output_for brands command found input) P
   for_export is holds = subst (λ (c : Option Command). IfSome (output_for brands c found input) P) (sym is) (if_mapped exported P input holds)
 
-  pub for_trace : command ≡ Some Trace → IfSome (traced_on brands found input) P → IfSome (output_for brands command found input) P
-  for_trace is holds = subst (λ (c : Option Command). IfSome (output_for brands c found input) P) (sym is) holds
+  pub for_store : (task : Task) → command ≡ Some (OnStore task) → IfSome (done_on task brands found input) P → IfSome (output_for brands command found input) P
+  for_store task is holds = subst (λ (c : Option Command). IfSome (output_for brands c found input) P) (sym is) holds
 
   pub for_help : command ≡ Some Help → P (written help_text) → IfSome (output_for brands command found input) P
   for_help is holds = subst (λ (c : Option Command). IfSome (output_for brands c found input) P) (sym is) holds
@@ -82,8 +82,8 @@ module _ (brands : List Tabled) (command : Option Command) (found : Found) (stat
   pub answers_export : command ≡ Some Export → ObeysInput status input left held holds → HasAnswered brands command found status input left held holds
   answers_export is obeys = subst (λ (c : Option Command). HasAnswered brands c found status input left held holds) (sym is) obeys
 
-  pub answers_trace : command ≡ Some Trace → AnswersOn brands found status input left held holds → HasAnswered brands command found status input left held holds
-  answers_trace is answers = subst (λ (c : Option Command). HasAnswered brands c found status input left held holds) (sym is) answers
+  pub answers_store : (task : Task) → command ≡ Some (OnStore task) → AnswersOn task brands found status input left held holds → HasAnswered brands command found status input left held holds
+  answers_store task is answers = subst (λ (c : Option Command). HasAnswered brands c found status input left held holds) (sym is) answers
 
   pub answers_help : command ≡ Some Help → AsksNothing status input left held holds → HasAnswered brands command found status input left held holds
   answers_help is same = subst (λ (c : Option Command). HasAnswered brands c found status input left held holds) (sym is) same
@@ -111,8 +111,8 @@ module _ (status : ℕ) (input left held holds : Option (List ℕ)) where
   obeys_failed No_memory is same taken read = record { taken = taken; nothing = λ f. same; read = λ r. absurd (omega (arith, is, r)) }
 
 module _ (brands : List Tabled) (command : Option Command) (R : List Commit) (status : ℕ) (input held holds : Option (List ℕ)) (v w : View) where
-  pub records_trace : command ≡ Some Trace → RanBy brands R status input held holds v w → HasRecorded brands command R status input held holds v w
-  records_trace is ran = subst (λ (c : Option Command). HasRecorded brands c R status input held holds v w) (sym is) ran
+  pub records_store : (task : Task) → command ≡ Some (OnStore task) → RecordsOver task brands R status input held holds v w → HasRecorded brands command R status input held holds v w
+  records_store task is ran = subst (λ (c : Option Command). HasRecorded brands c R status input held holds v w) (sym is) ran
 
   pub records_export : command ≡ Some Export → HasRecorded brands command R status input held holds v w
   records_export is = subst (λ (c : Option Command). HasRecorded brands c R status input held holds v w) (sym is) tt

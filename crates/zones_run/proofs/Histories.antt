@@ -10,7 +10,7 @@ use Rattle.zoneadmd_steps.specs.Objects.{Processes_go}
 use Rattle.zone_machine.proofs.Same_laws.{reply-Decides, subject-Decides}
 use Rattle.zone_machine.specs.State.{State}
 use Rattle.zone_machine.specs.State.Decisions.{act_of, after_came}
-use Rattle.zone_machine.specs.State.Edits.{Edit, Of_objects, comes, edit, edits}
+use Rattle.zone_machine.specs.State.Edits.{Edit, Of_objects, comes, console_gone, edit, edits, keeps_console}
 use Rattle.zone_machine.specs.State.Worlds.{view}
 use Rattle.zone_machine.specs.Machine.{decide, one, one_of, session_number, subject, whole}
 use Rattle.zone_machine.specs.Machine.Changes.{change, change_of, changes, committed}
@@ -40,11 +40,16 @@ commits-edits : (z : Name) (n : Option ℕ) (es : List Edit) (S : State) → (ed
 commits-edits z n [] S = refl
 commits-edits z n (e ∷ es) S = commits-edits z n es (edit z n e S) ∙ commits-edit z n e S
 
+-- nor does what becomes of a console
+commits-gone : (z : Name) (keeps : Bool) (S : State) → (console_gone z keeps S).commits ≡ S.commits
+commits-gone z true S = refl
+commits-gone z false S = refl
+
 -- what comes is one commit more, where it is a record
 commits-came : (z : Name) (came : Option Arrival) (S : State) → (after_came z came S).commits ≡ S.commits ++ committed z came
 unfolding comes
 commits-came z None S = sym (append-nil S.commits)
-commits-came z (Some (New_record row)) S = refl
+commits-came z (Some (New_record row)) S = commits-gone z (keeps_console row) (record S { commits = S.commits ++ record { zone = z; stored = row } ∷ [] })
 commits-came z (Some (New_process p)) S = sym (append-nil S.commits)
 commits-came z (Some (New_id i)) S = sym (append-nil S.commits)
 commits-came z (Some (New_claim c)) S = sym (append-nil S.commits)

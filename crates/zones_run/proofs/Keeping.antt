@@ -8,21 +8,12 @@ use Rattle.commit_journal.specs.declared.records.Commit.{Commit}
 use Rattle.zone_machine.specs.Machine.{opening}
 use Rattle.zone_machine.specs.Machine.Changes.{HoldsFront, change, changes}
 use Rattle.zone_machine.specs.Machine.Histories.{after, after_entry, is_legal}
-use Rattle.zone_machine.specs.Machine.Images.{Goes, Holds, HoldsEither, IsStoreOf, NowHolds}
+use Rattle.zone_machine.specs.Machine.Images.{Goes, Holds, HoldsEither, IsStoreOf}
 use Rattle.zone_machine.specs.State.{State}
 use Rattle.zone_machine.specs.declared.events.Entry.{Entry}
+use Rattle.zones_run.specs.Midway.{HasKept}
 use Rattle.zones_run.specs.Recording.{GoesSurely, IsFront, Records, commits_with}
 use Rattle.zones_run.proofs.Histories.{after-push, changes-push, commits-after}
-
--- a crash at any moment leaves the commits and those of some of the entries, from the first one on; and now, those of all
-pub record HasKept (brands : List Tabled) (R : List Commit) (h : List Entry) (old new : View) : Type 0 where
-  pub keeps : new.Keeps
-  pub any_moment : Leaves old new (HoldsFront (opening brands R) h)
-  pub now : NowHolds new (commits_with brands R h)
-
--- what the disk of a trace keeps of a store of R
-abbrev pub Left : List Tabled → List Commit → (first now : View) → List Entry → Type 0
-Left brands R v0 v h = IsStoreOf v0 R → HasKept brands R h v0 v
 
 pub front-none : (brands : List Tabled) (R : List Commit) (image : List ℕ) → Holds R image → HoldsFront (opening brands R) [] image
 front-none brands R image h = record { front = []; rest = []; whole = refl; holds = subst (λ (l : List Commit). Holds l image) (sym (append-nil R)) h }

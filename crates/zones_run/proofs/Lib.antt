@@ -5,6 +5,8 @@ pub mod Runs
 pub mod Fronts
 pub mod Starting
 pub mod Declaring
+pub mod Putting
+pub mod Turns_end
 pub mod Traces
 pub mod TraceRuns
 pub mod Begins
@@ -17,7 +19,9 @@ pub mod Stopping
 pub mod Telling
 pub mod Opened
 pub mod Commands
+pub mod Tasks
 pub mod Resting
+pub mod Indexed
 pub mod Denoting
 pub mod Refusing
 pub mod Obeying

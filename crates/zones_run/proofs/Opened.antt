@@ -1,4 +1,4 @@
--- What a trace comes to over the store on its disk, where the machine was opened on it, and where it wasn't.
+-- What a command comes to over the store on its disk, where the machine was opened on it, and where it wasn't.
 use Rattle.std.proofs.Common.{◌≡◌, ◌⊎◌, ◌++◌, inl, inr, ℕ, List, [], Option, Some, None, IfSome, Ok, Err, refl, sym, subst, arith}
 use Rattle.std.specs.Option.{option_map}
 use Rattle.std.proofs.lemmas.List.{append-nil}
@@ -21,19 +21,22 @@ use Rattle.zone_machine.specs.declared.events.Entry.{Entry}
 use Rattle.zone_machine.specs.declared.machine.Machine.{Machine}
 use Rattle.zones_run.specs.Complaints.{complaint_output, complaint_text}
 use Rattle.zones_run.specs.Opening.{Finds, Found}
-use Rattle.zones_run.specs.Program.{AnswersOn, traced_on}
-use Rattle.zones_run.specs.Recording.{RanBy}
+use Rattle.zones_run.specs.Program.{AnswersOn, AnswersOver, RecordsOver, done_on}
+use Rattle.zones_run.specs.Recording.{KeepsStore, RanBy}
 use Rattle.zones_run.specs.Run.{IsWhole, TellsLine, TellsText, fault_status}
 use Rattle.zones_run.specs.Statuses.{status_write_fault}
 use Rattle.zones_run.specs.Tracing.{run_of}
 use Rattle.zones_run.specs.declared.fault.RunFault.{RunFault}
+use Rattle.zones_run.specs.declared.words.Task.{Task}
+use Rattle.zones_run.specs.declared.words.Task.TheVariants.{Index, Run}
+use Rattle.zones_run.specs.declared.words.Turns.{Turns}
 use Rattle.zones_run.specs.declared.outcome.Complaint.TheVariants.{NotAStore}
 use Rattle.zones_run.proofs.Answered.{ready_holds}
 use Rattle.zones_run.proofs.Fronts.{after_known-nil}
 use Rattle.zones_run.proofs.Keeping.{front-none}
 use Rattle.zones_run.proofs.Telling.{Complained, if_some, line_failed, status_told, text_failed, text_nothing}
 use Rattle.zones_run.proofs.TraceRecords.{nearly_all}
-use Rattle.zones_run.proofs.TraceStarts.{no_lines, no_read, no_replies, runs_none}
+use Rattle.zones_run.proofs.TraceStarts.{no_read, no_replies, no_some, runs_none}
 
 -- an image that stands for commits is no faulty store
 pub holds_or_fault : OpensStoreOneWay → (R : List Commit) (image : List ℕ) (fault : StoreFault) → Holds R image → OpensStore image (Err fault) → ⊥
@@ -59,8 +62,8 @@ front_any : (brands : List Tabled) (R : List Commit) (h : List Entry) (image : L
 front_any brands R h image holds = record { front = []; rest = changes (opening brands R) h; whole = refl; holds = subst (λ (l : List Commit). Holds l image) (sym (append-nil R)) holds }
 
 -- what a trace has recorded since the disk was opened
-pub ran_later : (brands : List Tabled) (R : List Commit) (status : ℕ) (input held holds : Option (List ℕ)) (u v w : View) → Leaves u v (Holds R) → RanBy brands R status input held holds v w → RanBy brands R status input held holds u w
-ran_later brands R status input held holds u v w past ran =
+pub ran_later : (turns : Turns) (brands : List Tabled) (R : List Commit) (status : ℕ) (input held holds : Option (List ℕ)) (u v w : View) → Leaves u v (Holds R) → RanBy turns brands R status input held holds v w → RanBy turns brands R status input held holds u w
+ran_later turns brands R status input held holds u v w past ran =
     let h = ran.answered ++ ran.under_way in
     record {
       answered = ran.answered;
@@ -79,8 +82,8 @@ ran_later brands R status input held holds u v w past ran =
     }
 
 -- where the store was not opened nothing was recorded
-pub ran_nothing : (brands : List Tabled) (R : List Commit) (status : ℕ) (input held : Option (List ℕ)) (v w : View) → IsSound w → Leaves v w (Holds R) → (IsWhole status → ⊥) → RanBy brands R status input held held v w
-ran_nothing brands R status input held v w sound past not =
+pub ran_nothing : (turns : Turns) (brands : List Tabled) (R : List Commit) (status : ℕ) (input held : Option (List ℕ)) (v w : View) → IsSound w → Leaves v w (Holds R) → (IsWhole status → ⊥) → RanBy turns brands R status input held held v w
+ran_nothing turns brands R status input held v w sound past not =
     let nothing : held ≡ after_known held [] = sym (after_known-nil held) in
     record {
       answered = [];
@@ -88,7 +91,7 @@ ran_nothing brands R status input held v w sound past not =
       records = record {
         few = omega arith;
         legal = refl;
-        begins = if_some _ (option_map (λ bs. (run_of brands R bs).entries) input) (λ all. record { rest = all; whole = refl });
+        begins = if_some _ (option_map (λ bs. (run_of turns brands R bs).entries) input) (λ all. record { rest = all; whole = refl });
         any_moment = weaker v w (Holds R) (HoldsFront (opening brands R) []) (front-none brands R) past;
         now = λ image now. inl (subst (λ (l : List Commit). Holds l image) (sym (append-nil R)) (past.each image (sound.counts_now v.moment image past.later now)));
       };
@@ -98,36 +101,61 @@ ran_nothing brands R status input held v w sound past not =
       nearly = λ t. nearly_all [] held held nothing;
     }
 
--- and nothing was taken or written
-pub answers_nothing : (brands : List Tabled) (status : ℕ) (input held : Option (List ℕ)) (found : Found) → AnswersOn brands found status input input held held
-answers_nothing brands status input held None = tt
-answers_nothing brands status input held (Some (Ok R)) = record {
-  taken = runs_none brands R held input;
-  some = λ s. no_replies brands R held input;
-  failed = λ f. no_lines brands R held input;
-  read = λ r. no_read brands R held input;
+-- nothing was recorded of whatever was to be done
+pub records_nothing : (task : Task) (brands : List Tabled) (R : List Commit) (status : ℕ) (input held : Option (List ℕ)) (v w : View) → IsSound w → Leaves v w (Holds R) → (IsWhole status → ⊥) → RecordsOver task brands R status input held held v w
+records_nothing (Run turns) brands R status input held v w sound past not = ran_nothing turns brands R status input held v w sound past not
+records_nothing Index brands R status input held v w sound past not = record { any_moment = past; now = λ image now. past.each image (sound.counts_now v.moment image past.later now) }
+
+-- and what was is recorded since the disk was opened
+pub records_later : (task : Task) (brands : List Tabled) (R : List Commit) (status : ℕ) (input held holds : Option (List ℕ)) (u v w : View) → Leaves u v (Holds R) → RecordsOver task brands R status input held holds v w → RecordsOver task brands R status input held holds u w
+records_later (Run turns) brands R status input held holds u v w past ran = ran_later turns brands R status input held holds u v w past ran
+records_later Index brands R status input held holds u v w past kept = record { any_moment = joined u v w (Holds R) past kept.any_moment; now = kept.now }
+
+-- a store that was only read
+pub keeps_store : (R : List Commit) (v : View) → IsSound v → IsStoreOf v R → KeepsStore R v v
+keeps_store R v sound is = record {
+  any_moment = record {
+    later = omega arith;
+    each = λ image since. is.now image (sound.only_now image since);
+    before = λ t image le since. inl since;
+  };
+  now = is.now;
 }
-answers_nothing brands status input held (Some (Err fault)) = record { taken = refl; nothing = refl }
+
+-- and nothing was taken or written
+answers_none : (task : Task) (brands : List Tabled) (R : List Commit) (status : ℕ) (input held : Option (List ℕ)) → AnswersOver task brands R status input input held held
+answers_none (Run turns) brands R status input held = record {
+  taken = runs_none turns brands R held input;
+  some = λ s. no_replies turns brands R held input;
+  failed = λ f. no_some turns brands R held input;
+  read = λ r. no_read turns brands R held input;
+}
+answers_none Index brands R status input held = record { taken = refl; nothing = λ f. refl }
+
+pub answers_nothing : (task : Task) (brands : List Tabled) (status : ℕ) (input held : Option (List ℕ)) (found : Found) → AnswersOn task brands found status input input held held
+answers_nothing task brands status input held None = tt
+answers_nothing task brands status input held (Some (Ok R)) = answers_none task brands R status input held
+answers_nothing task brands status input held (Some (Err fault)) = record { taken = refl; nothing = refl }
 
 -- a fault ended the run
-pub text_refused : (brands : List Tabled) (fault : RunFault) (status : ℕ) (input held : Option (List ℕ)) (found : Found) → status ≡ fault_status fault → (status ≡ status_write_fault → ⊥) → IfSome (traced_on brands found input) (λ o. TellsText o status held held)
-text_refused brands fault status input held found is not = if_some _ (traced_on brands found input) (λ o. text_failed o fault status held held is (λ f. absurd (not f)))
+pub text_refused : (task : Task) (brands : List Tabled) (fault : RunFault) (status : ℕ) (input held : Option (List ℕ)) (found : Found) → status ≡ fault_status fault → (status ≡ status_write_fault → ⊥) → IfSome (done_on task brands found input) (λ o. TellsText o status held held)
+text_refused task brands fault status input held found is not = if_some _ (done_on task brands found input) (λ o. text_failed o fault status held held is (λ f. absurd (not f)))
 
-pub line_refused : (brands : List Tabled) (fault : RunFault) (status : ℕ) (input held holds : Option (List ℕ)) (before now : ℕ) (found : Found) → status ≡ fault_status fault → (status ≡ status_write_fault → ⊥) → IfSome (traced_on brands found input) (λ o. TellsLine o.err status held holds before now)
-line_refused brands fault status input held holds before now found is not = if_some _ (traced_on brands found input) (λ o. line_failed o.err fault status held holds before now is (λ f. absurd (not f)))
+pub line_refused : (task : Task) (brands : List Tabled) (fault : RunFault) (status : ℕ) (input held holds : Option (List ℕ)) (before now : ℕ) (found : Found) → status ≡ fault_status fault → (status ≡ status_write_fault → ⊥) → IfSome (done_on task brands found input) (λ o. TellsLine o.err status held holds before now)
+line_refused task brands fault status input held holds before now found is not = if_some _ (done_on task brands found input) (λ o. line_failed o.err fault status held holds before now is (λ f. absurd (not f)))
 
 -- the disk is no store
-pub text_no_store : (brands : List Tabled) (fault : StoreFault) (status : ℕ) (input held : Option (List ℕ)) (v : View) (found : Found) → Complained status (NotAStore fault) → (v.Keeps → OpensStore v.reads (Err fault)) → OpensStoreOneWay → Finds v found
-    → IfSome (traced_on brands found input) (λ o. TellsText o status held held)
-text_no_store brands fault status input held v None is opens one finds = tt
-text_no_store brands fault status input held v (Some (Ok R)) is opens one finds = absurd (holds_or_fault one R v.reads fault finds.1 (opens finds.0))
-text_no_store brands fault status input held v (Some (Err other)) is opens one finds = text_nothing (complaint_output (NotAStore other)) status held refl (λ d. status_told status (NotAStore fault) is d)
+pub text_no_store : (task : Task) (brands : List Tabled) (fault : StoreFault) (status : ℕ) (input held : Option (List ℕ)) (v : View) (found : Found) → Complained status (NotAStore fault) → (v.Keeps → OpensStore v.reads (Err fault)) → OpensStoreOneWay → Finds v found
+    → IfSome (done_on task brands found input) (λ o. TellsText o status held held)
+text_no_store task brands fault status input held v None is opens one finds = tt
+text_no_store task brands fault status input held v (Some (Ok R)) is opens one finds = absurd (holds_or_fault one R v.reads fault finds.1 (opens finds.0))
+text_no_store task brands fault status input held v (Some (Err other)) is opens one finds = text_nothing (complaint_output (NotAStore other)) status held refl (λ d. status_told status (NotAStore fault) is d)
 
-pub line_no_store : (brands : List Tabled) (fault : StoreFault) (status : ℕ) (input held holds : Option (List ℕ)) (before now : ℕ) (v : View) (found : Found) → TellsLine (complaint_text (NotAStore fault)) status held holds before now → (v.Keeps → OpensStore v.reads (Err fault)) → OpensStoreOneWay → Finds v found
-    → IfSome (traced_on brands found input) (λ o. TellsLine o.err status held holds before now)
-line_no_store brands fault status input held holds before now v None line opens one finds = tt
-line_no_store brands fault status input held holds before now v (Some (Ok R)) line opens one finds = absurd (holds_or_fault one R v.reads fault finds.1 (opens finds.0))
-line_no_store brands fault status input held holds before now v (Some (Err other)) line opens one finds =
+pub line_no_store : (task : Task) (brands : List Tabled) (fault : StoreFault) (status : ℕ) (input held holds : Option (List ℕ)) (before now : ℕ) (v : View) (found : Found) → TellsLine (complaint_text (NotAStore fault)) status held holds before now → (v.Keeps → OpensStore v.reads (Err fault)) → OpensStoreOneWay → Finds v found
+    → IfSome (done_on task brands found input) (λ o. TellsLine o.err status held holds before now)
+line_no_store task brands fault status input held holds before now v None line opens one finds = tt
+line_no_store task brands fault status input held holds before now v (Some (Ok R)) line opens one finds = absurd (holds_or_fault one R v.reads fault finds.1 (opens finds.0))
+line_no_store task brands fault status input held holds before now v (Some (Err other)) line opens one finds =
     let both = one v.reads (Err fault) (Err other) (opens finds.0) finds.1 in
     let same : fault ≡ other = cc in
     subst (λ f. TellsLine (complaint_text (NotAStore f)) status held holds before now) same line

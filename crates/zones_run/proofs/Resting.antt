@@ -45,7 +45,7 @@ rest_stored (c ∷ commits) all =
     let later = All-tail IsCommit c commits all in
     rest_from c.stored c.zone commits (stored commits) (All-head IsCommit c commits all).stored later (rest_stored commits later)
 
-rest_left : (commits : List Commit) → Leave (bodies_of commits) (stored commits) → HasStoredStates commits
+pub rest_left : (commits : List Commit) → Leave (bodies_of commits) (stored commits) → HasStoredStates commits
 rest_left commits left = subst (λ (rows : Rows). All Rests rows) (sym left.are) (rest_stored left.commits left.say.each)
 
 pub crashes_rest : CrashesLeaveStoredStates

@@ -7,7 +7,7 @@ use Rattle.zone_pools.specs.declared.owned.Owned.{Owned}
 use Rattle.zn_base.specs.Names.{Name, name_of}
 use Rattle.zn_base.specs.declared.name.NameFault.{NameFault}
 use Rattle.zone_machine.specs.Machine.{holder, line_subject, named_subject, one, one_of, session_subject, subject, subject_of_name}
-use Rattle.zone_machine.specs.Session.Lines.{Ask, Blank, Clone, Command, Edit, Help, Hold, Kill, Line, List_one, List_zones, Release, Unforced, Unknown, Verify, Zonecfg, line_of}
+use Rattle.zone_machine.specs.Session.Lines.{Ask, Blank, Clone, Command, Console, Edit, Enter, Help, Hold, Kill, Line, List_one, List_zones, Login, Release, Unforced, Unknown, Verify, Zonecfg, line_of}
 use Rattle.zone_machine.specs.State.{At, Idle, Session as Session_mode, State}
 use Rattle.zone_machine.specs.declared.events.Event.{Event}
 use Rattle.zone_machine.specs.declared.events.Event.TheVariants.{Process as Call_of, Restart, Session, System, Turn}
@@ -42,6 +42,9 @@ of_line word os (Clone source) = named word
 of_line word os Unforced = named word
 of_line word os (Hold dir) = named word
 of_line word os (Release dir) = named word
+of_line word os (Login escape) = named word
+of_line word os (Console escape) = named word
+of_line word os (Enter text) = named word
 of_line word os Edit = named word
 of_line word os Help = named word
 of_line word os Verify = named word

@@ -1,21 +1,22 @@
 -- How an event or a line is answered in the midst of a trace: what the machine stands for then, what was written or waits, and
 -- what the disk keeps.
-use Rattle.std.specs.Prelude.{◌≡◌, ◌⊎◌, ℕ, List, [], Bool, false, Option, Some, None, Result, Ok, Err, if◌then◌else◌}
+use Rattle.std.specs.Prelude.{◌≡◌, ◌⊎◌, ℕ, List, [], false, Option, Some, None, Result, Ok, Err, if◌then◌else◌}
 use Rattle.zn_io.specs.Disk.{View}
 use Rattle.zn_io.specs.Streams.{after_known}
 use Rattle.trace_text.specs.Lines.{Said}
 use Rattle.zone_machine.specs.Code.Decided.{entry_by}
-use Rattle.zone_machine.specs.Machine.Histories.{after_entry, entry_at}
 use Rattle.zone_machine.specs.Machine.Images.{Goes}
-use Rattle.zone_machine.specs.Machine.Pools.{allowed}
 use Rattle.zone_machine.specs.State.{State}
 use Rattle.zone_machine.specs.declared.events.Answer.{Answer}
-use Rattle.zone_machine.specs.declared.events.Entry.{Entry}
 use Rattle.zone_machine.specs.declared.events.Event.{Event}
 use Rattle.zone_machine.specs.declared.events.Event.TheVariants.{Restart}
 use Rattle.zone_pools.specs.Pools.{or_else}
 use Rattle.zones_run.specs.Recording.{GoesSurely}
+use Rattle.zone_machine.specs.declared.events.Entry.{Entry}
+use Rattle.zone_machine.specs.declared.replies.Head.{Head}
 use Rattle.zones_run.specs.Run.{HasFront}
+use Rattle.zones_run.specs.Scripting.{entry_in, opened, state_after}
+use Rattle.zones_run.specs.declared.turns.Taken.{Taken}
 use Rattle.zones_run.specs.Tracing.{entry_text, has_restart, is_refusal}
 use Rattle.zones_run.specs.declared.fault.RunFault.{RunFault}
 use Rattle.zones_run.specs.declared.fault.RunFault.TheVariants.{Disk, Memory, Read, Write}
@@ -24,13 +25,6 @@ use Rattle.zones_run.specs.declared.outcome.Complaint.TheVariants.{Grammar as Ba
 use Rattle.zones_run.specs.declared.trace.Stop.{Stop}
 use Rattle.zones_run.specs.declared.trace.Stop.TheVariants.{Fault, Grammar, NoStore}
 
--- the entry of an event in a state, under the grant that the pools give it
-abbrev pub entry_in : State → Event → Entry
-entry_in S e = entry_at S e (allowed S e)
-
-abbrev pub state_after : State → Event → State
-state_after S e = after_entry S (entry_in S e)
-
 -- the machine answered an event in the state S
 pub record Steps (S : State) (e : Event) (a : Answer) (now_stands : State → Type 0) (v w : View) : Type 0 where
   pub told : entry_by e a ≡ entry_in S e
@@ -38,10 +32,10 @@ pub record Steps (S : State) (e : Event) (a : Answer) (now_stands : State → Ty
   pub goes : GoesSurely S.commits (state_after S e).commits v w
 
 -- and its reply was put after what was written and what waited
-pub record IsAnswered (S : State) (e : Event) (refusal : Bool) (now_stands : State → Type 0) (v w : View) (holds new_holds : Option (List ℕ)) : Type 0 where
+pub record IsAnswered (S : State) (e : Event) (a : Answer) (now_stands : State → Type 0) (v w : View) (holds new_holds : Option (List ℕ)) : Type 0 where
+  pub told : entry_by e a ≡ entry_in S e
   pub stands : now_stands (state_after S e)
   pub text : new_holds ≡ after_known holds (entry_text (entry_in S e))
-  pub refused : refusal ≡ is_refusal (entry_in S e).reply.head
   pub goes : GoesSurely S.commits (state_after S e).commits v w
 
 -- what the disk keeps of an event at which a run ended: it is as it was, or memory ran out for the reply of an event that was
@@ -58,12 +52,21 @@ LeavesText Disk holds new_holds waiting left = (after_known new_holds left ≡ a
 LeavesText Memory holds new_holds waiting left = after_known new_holds left ≡ after_known holds waiting
 LeavesText Read holds new_holds waiting left = ⊥
 
+-- the first refused line, once the line of a number was answered
+abbrev pub refused_with : Option ℕ → ℕ → Head → Option ℕ
+refused_with refused number head = if is_refusal head then or_else refused (Some number) else refused
+
+-- what a line comes to whose event was answered
+abbrev pub taken_by : Option ℕ → ℕ → Entry → Taken
+taken_by refused number entry = record { refused = refused_with refused number entry.reply.head; opened = opened entry }
+
 -- a line was taken: it is no event, or its event was answered, and the first refused line is reported
-abbrev pub TakesEvent : State → Said → (now_stands : State → Type 0) → (same : Type 0) → (v w : View) → ℕ → Option ℕ → Option ℕ → (holds new_holds : Option (List ℕ)) → Type 0
-TakesEvent S (Ok None) now_stands same v w number refused now holds new_holds = now_stands S × (now ≡ refused) × (new_holds ≡ holds) × same
-TakesEvent S (Ok (Some e)) now_stands same v w number refused now holds new_holds =
-    (refusal : Bool) × IsAnswered S e refusal now_stands v w holds new_holds × (now ≡ (if refusal then or_else refused (Some number) else refused))
-TakesEvent S (Err fault) now_stands same v w number refused now holds new_holds = ⊥
+abbrev pub TakesEvent : State → Said → (now_stands : State → Type 0) → (same : Type 0) → (v w : View) → ℕ → Option ℕ → Taken → (holds new_holds : Option (List ℕ)) → Type 0
+TakesEvent S (Ok None) now_stands same v w number refused taken holds new_holds =
+    now_stands S × (taken ≡ record { refused = refused; opened = None }) × (new_holds ≡ holds) × same
+TakesEvent S (Ok (Some e)) now_stands same v w number refused taken holds new_holds =
+    (a : Answer) × IsAnswered S e a now_stands v w holds new_holds × (taken ≡ taken_by refused number (entry_in S e))
+TakesEvent S (Err fault) now_stands same v w number refused taken holds new_holds = ⊥
 
 -- what the disk keeps of a line at which a run ended
 abbrev pub FailsLine : RunFault → (same : Type 0) → State → Said → (v w : View) → Type 0

@@ -20,10 +20,13 @@ help_text = text_of_lines (
     codes "COMMAND is one of" ∷
     codes "  export     write the export text of the zonecfg(8) subcommands on standard input" ∷
     codes "  trace      write the reply to each event of the trace on standard input" ∷
+    codes "  script     the same, and give a zone's daemon its turns after each line that asks it" ∷
+    codes "             for something" ∷
+    codes "  index      write a line for each stored zone" ∷
     codes "  --help     write this text" ∷
     codes "  --version  write the version" ∷
     [] ∷
-    codes "The zones of a trace are kept in the file zones.store, in the current folder." ∷
+    codes "Zones are kept in the file zones.store, in the current folder." ∷
     [] ∷
     codes "The exit status is 0 where all is done, 1 where a line or the end of the input is" ∷
     codes "refused, 2 for a faulty command line, 3 for a line outside the grammar of a trace, 4" ∷

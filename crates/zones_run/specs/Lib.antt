@@ -11,10 +11,13 @@ pub mod Output
 pub mod Complaints
 pub mod Exporting
 pub mod Outcomes
+pub mod Scripting
 pub mod Tracing
 pub mod Opening
 pub mod Recording
 pub mod Answering
+pub mod Midway
+pub mod Turns_end
 pub mod Resting
 pub mod Declarations
 pub mod Program

@@ -1,4 +1,4 @@
--- What a trace leaves on its disk.
+-- What a trace or a script leaves on its disk, and what is left of a store that is only read.
 use Rattle.std.specs.Prelude.{◌≡◌, ◌≤◌, ◌⊎◌, ◌++◌, ℕ, List, [], length, IsTrue, Option, IfSome, Result, IsErrOf, IsOk}
 use Rattle.std.specs.Option.{option_map}
 use Rattle.zn_io.specs.Disk.{Leaves, View}
@@ -7,7 +7,7 @@ use Rattle.brand_hooks.specs.Brands.{Tabled}
 use Rattle.commit_journal.specs.declared.records.Commit.{Commit}
 use Rattle.zone_machine.specs.Machine.Changes.{HoldsFront, changes}
 use Rattle.zone_machine.specs.Machine.Histories.{is_legal}
-use Rattle.zone_machine.specs.Machine.Images.{HoldsEither, NowHolds}
+use Rattle.zone_machine.specs.Machine.Images.{Holds, HoldsEither, NowHolds}
 use Rattle.zone_machine.specs.Machine.{opening}
 use Rattle.zone_machine.specs.declared.events.Entry.{Entry}
 use Rattle.zones_run.specs.Run.{IsWhole}
@@ -16,6 +16,7 @@ use Rattle.zones_run.specs.Tracing.{replies_text, run_of}
 use Rattle.zones_run.specs.declared.fault.RunFault.{RunFault}
 use Rattle.zones_run.specs.declared.fault.RunFault.TheVariants.{Disk, Memory, Read}
 use Rattle.zones_run.specs.declared.outcome.Complaint.{Complaint}
+use Rattle.zones_run.specs.declared.words.Turns.{Turns}
 
 -- a step that was answered: at any moment meanwhile a crash leaves the commits from before or those after it, and at its end
 -- those after it
@@ -54,21 +55,26 @@ pub record HasNearlyTold (answered : List Entry) (held holds : Option (List ℕ)
 
 -- what a run has recorded: an entry is under way only where the run was torn; the answered ones are all of the input's where
 -- it is whole; their replies were taken where they are told, and nearly all of them where it was cut
-pub record Ran (brands : List Tabled) (R : List Commit) (whole torn told cut : Type 0) (input held holds : Option (List ℕ)) (old new : View) : Type 0 where
+pub record Ran (turns : Turns) (brands : List Tabled) (R : List Commit) (whole torn told cut : Type 0) (input held holds : Option (List ℕ)) (old new : View) : Type 0 where
   pub answered : List Entry
   pub under_way : List Entry
-  pub records : Records brands R answered under_way (option_map (λ bytes. (run_of brands R bytes).entries) input) old new
+  pub records : Records brands R answered under_way (option_map (λ bytes. (run_of turns brands R bytes).entries) input) old new
   pub settled : (torn → ⊥) → under_way ≡ []
-  pub all : whole → IfSome input (λ bytes. answered ≡ (run_of brands R bytes).entries)
+  pub all : whole → IfSome input (λ bytes. answered ≡ (run_of turns brands R bytes).entries)
   pub replies : told → holds ≡ after_known held (replies_text answered)
   pub nearly : cut → HasNearlyTold answered held holds
 
 -- the same by how the run ended
-abbrev pub RanAs : List Tabled → List Commit → Result (Option Complaint) RunFault → (input held holds : Option (List ℕ)) → (old new : View) → Type 0
-RanAs brands R ended input held holds old new =
-    Ran brands R (IsOk ended) (IsErrOf ended Disk) (IsErrOf ended Disk ⊎ (IsErrOf ended Read ⊎ IsOk ended)) (IsErrOf ended Memory) input held holds old new
+abbrev pub RanAs : Turns → List Tabled → List Commit → Result (Option Complaint) RunFault → (input held holds : Option (List ℕ)) → (old new : View) → Type 0
+RanAs turns brands R ended input held holds old new =
+    Ran turns brands R (IsOk ended) (IsErrOf ended Disk) (IsErrOf ended Disk ⊎ (IsErrOf ended Read ⊎ IsOk ended)) (IsErrOf ended Memory) input held holds old new
 
 -- the same by the exit status
-abbrev pub RanBy : List Tabled → List Commit → ℕ → (input held holds : Option (List ℕ)) → (old new : View) → Type 0
-RanBy brands R status input held holds old new =
-    Ran brands R (IsWhole status) (status ≡ status_disk_fault) ((status ≡ status_disk_fault) ⊎ ((status ≡ status_read_fault) ⊎ IsWhole status)) (status ≡ status_no_memory) input held holds old new
+abbrev pub RanBy : Turns → List Tabled → List Commit → ℕ → (input held holds : Option (List ℕ)) → (old new : View) → Type 0
+RanBy turns brands R status input held holds old new =
+    Ran turns brands R (IsWhole status) (status ≡ status_disk_fault) ((status ≡ status_disk_fault) ⊎ ((status ≡ status_read_fault) ⊎ IsWhole status)) (status ≡ status_no_memory) input held holds old new
+
+-- a store that was only opened: a crash at any moment meanwhile, and at the end, leaves its commits
+pub record KeepsStore (R : List Commit) (old new : View) : Type 0 where
+  pub any_moment : Leaves old new (Holds R)
+  pub now : NowHolds new R

@@ -1,6 +1,7 @@
--- What `trace` writes for the whole of its input: its lines are read, their events make a history of the zone machine
--- from the commits of its store on, with the brands that there are, and the history's replies are printed.
-use Rattle.std.specs.Prelude.{ℕ, List, [], ◌∷◌, ◌+◌, ◌≡◌, map, take, Bool, true, false, ◌||◌, Option, Some, None, IfSome, Result, Ok, Err, if◌then◌else◌}
+-- What `trace` and `script` write for the whole of their input: its lines are read, their events, with the turns that are put in,
+-- make a history of the zone machine from the commits of its store on, with the brands that there are, and the history's replies
+-- are printed.
+use Rattle.std.specs.Prelude.{All, ◌++◌, ℕ, List, [], ◌∷◌, ◌+◌, ◌≡◌, map, take, Bool, true, false, ◌||◌, Option, Some, None, IfSome, Result, Ok, Err, if◌then◌else◌}
 use Rattle.std.specs.List.{flat_map, list_any}
 use Rattle.zn_io.specs.Streams.{after_known}
 use Rattle.brand_hooks.specs.Brands.{Tabled}
@@ -19,7 +20,11 @@ use Rattle.zone_machine.specs.declared.events.Event.{Event}
 use Rattle.zone_machine.specs.declared.events.Event.TheVariants.{System}
 use Rattle.zone_machine.specs.declared.replies.Head.{Head}
 use Rattle.zone_machine.specs.declared.replies.Head.TheVariants.{Refused, Turned}
+use Rattle.zone_machine.specs.State.{State}
 use Rattle.zn_base.specs.Lines.{lines_of}
+use Rattle.zones_run.specs.Scripting.{is_turn, put_in}
+use Rattle.zones_run.specs.declared.words.Turns.{Turns}
+use Rattle.zones_run.specs.declared.words.Turns.TheVariants.{OfInput}
 use Rattle.zones_run.specs.declared.fault.RunFault.{RunFault}
 use Rattle.zones_run.specs.declared.fault.RunFault.TheVariants.{Read, Write}
 use Rattle.zones_run.specs.Taking.{TakesLines, TakesNoMore}
@@ -110,9 +115,13 @@ run_by script entries = record { entries = entries; refused = first_refused scri
 abbrev pub script_run : List Tabled → List Commit → Script → Run
 script_run brands R script = run_by script (history (opening brands R) (map (λ e. e.1) script.events))
 
+-- a script with the turns that are put in, from a state on
+abbrev pub with_turns : Turns → State → Script → Script
+with_turns turns S script = record { events = put_in turns S script.events; ending = script.ending }
+
 -- the run of a whole input
-abbrev pub run_of : List Tabled → List Commit → List ℕ → Run
-run_of brands R bytes = script_run brands R (script_of bytes)
+abbrev pub run_of : Turns → List Tabled → List Commit → List ℕ → Run
+run_of turns brands R bytes = script_run brands R (with_turns turns (opening brands R) (script_of bytes))
 
 -- the text of an entry's reply, and of those of several
 abbrev pub entry_text : Entry → List ℕ
@@ -135,9 +144,9 @@ told_ending text refused (Past_limit number) = record (limit_at number) { out = 
 abbrev pub told : Run → Output
 told run = told_ending (replies_text run.entries) run.refused run.ending
 
--- `trace` over the whole input
-abbrev pub traced : List Tabled → List Commit → List ℕ → Output
-traced brands R bytes = told (run_of brands R bytes)
+-- `trace`, and `script`, over the whole input
+abbrev pub traced : Turns → List Tabled → List Commit → List ℕ → Output
+traced turns brands R bytes = told (run_of turns brands R bytes)
 
 -- what a trace still has to report at its end
 abbrev pub left_to_tell : Option Complaint → Output
@@ -159,25 +168,35 @@ abbrev pub RunsLines : (input left : Option (List ℕ)) → Type 0
 RunsLines input left = TakesLines (λ bytes. (script_of bytes).ending ≡ At_end) input left
 
 -- and has written the replies of just those lines
-pub record AnswersLines (brands : List Tabled) (R : List Commit) (input left held holds : Option (List ℕ)) : Type 0 where
+pub record AnswersLines (turns : Turns) (brands : List Tabled) (R : List Commit) (input left held holds : Option (List ℕ)) : Type 0 where
   pub runs : RunsLines input left
-  pub text : holds ≡ after_known held (replies_text (run_of brands R runs.lines).entries)
+  pub text : holds ≡ after_known held (replies_text (run_of turns brands R runs.lines).entries)
+
+-- or, where a fault came in a turn that was put in, but for those of the last turns that are put in after these lines
+pub record AnswersSome (turns : Turns) (brands : List Tabled) (R : List Commit) (input left held holds : Option (List ℕ)) : Type 0 where
+  pub runs : RunsLines input left
+  pub told : List Entry
+  pub untold : List Entry
+  pub whole : (run_of turns brands R runs.lines).entries ≡ told ++ untold
+  pub are_turns : All (λ (e : Entry). is_turn e.event ≡ true) untold
+  pub alone : turns ≡ OfInput → untold ≡ []
+  pub text : holds ≡ after_known held (replies_text told)
 
 -- the same where the source failed
-abbrev pub AnswersRead : List Tabled → List Commit → (input left held holds : Option (List ℕ)) → Type 0
-AnswersRead brands R input left held holds = (answers : AnswersLines brands R input left held holds) × TakesNoMore answers.runs
+abbrev pub AnswersRead : Turns → List Tabled → List Commit → (input left held holds : Option (List ℕ)) → Type 0
+AnswersRead turns brands R input left held holds = (answers : AnswersLines turns brands R input left held holds) × TakesNoMore answers.runs
 
 -- how a trace ends, as far as its input is known: what standard output has taken of the text of the whole input, or the
 -- replies of which lines. `told` is what standard output has, and then what waits to be written
-abbrev pub EndsAs : List Tabled → List Commit → Result (Option Complaint) RunFault → (input left held holds told : Option (List ℕ)) → Type 0
-EndsAs brands R (Ok complaint) input left held holds told =
-    IfSome input (λ bytes. Tells complaint held told (traced brands R bytes)) × IfSome input (λ _. AnswersLines brands R input left held told)
-EndsAs brands R (Err Write) input left held holds told =
-    IfSome input (λ bytes. HasFront held holds (traced brands R bytes).out) × IfSome input (λ _. RunsLines input left)
-EndsAs brands R (Err Read) input left held holds told =
-    IfSome input (λ bytes. HasReplies held told (run_of brands R bytes)) × IfSome input (λ _. AnswersRead brands R input left held told)
-EndsAs brands R (Err fault) input left held holds told =
-    IfSome input (λ bytes. HasReplies held told (run_of brands R bytes)) × IfSome input (λ _. AnswersLines brands R input left held told)
+abbrev pub EndsAs : Turns → List Tabled → List Commit → Result (Option Complaint) RunFault → (input left held holds told : Option (List ℕ)) → Type 0
+EndsAs turns brands R (Ok complaint) input left held holds told =
+    IfSome input (λ bytes. Tells complaint held told (traced turns brands R bytes)) × IfSome input (λ _. AnswersLines turns brands R input left held told)
+EndsAs turns brands R (Err Write) input left held holds told =
+    IfSome input (λ bytes. HasFront held holds (traced turns brands R bytes).out) × IfSome input (λ _. RunsLines input left)
+EndsAs turns brands R (Err Read) input left held holds told =
+    IfSome input (λ bytes. HasReplies held told (run_of turns brands R bytes)) × IfSome input (λ _. AnswersRead turns brands R input left held told)
+EndsAs turns brands R (Err fault) input left held holds told =
+    IfSome input (λ bytes. HasReplies held told (run_of turns brands R bytes)) × IfSome input (λ _. AnswersSome turns brands R input left held told)
 
 -- nothing but more bytes was taken
 abbrev pub HasWritten : (held holds : Option (List ℕ)) → Type 0

@@ -2,7 +2,13 @@
 //! program's body is.
 ghost use Rattle.zones_run.specs.Declarations.{DeclaresFirst};
 ghost use Rattle.zones_run.specs.Denoted.{ExportsWhatIsDenoted, RefusesAtWhatIsDenoted};
+ghost use Rattle.std.specs.Prelude.{◌≡◌, ℕ, List};
+ghost use Rattle.zone_machine.specs.State.{State};
+ghost use Rattle.zone_machine.specs.declared.events.Event.{Event};
 ghost use Rattle.zones_run.specs.Resting.{CrashesLeaveStoredStates};
+ghost use Rattle.zones_run.specs.Scripting.{put_in};
+ghost use Rattle.zones_run.specs.Turns_end.{TurnsEnd};
+ghost use Rattle.zones_run.specs.declared.words.Turns.TheVariants.{OfInput};
 
 /// A law: where `export` ends with status 0, it has written the export text of the configuration that the
 /// subcommands of its input denote, with scopes as brackets in their list, and that has no flaw.
@@ -24,4 +30,15 @@ pub fn declares_first()
 /// A law: each zone of an image that a crash may leave of a trace, at any moment, is configured, incomplete or installed.
 pub fn crashes_leave_stored_states()
     ensures { CrashesLeaveStoredStates }
+{}
+
+/// A law: `trace` puts no turn in, so its events are those of its lines.
+pub fn trace_puts_nothing_in()
+    ensures { (S : State) (events : List (ℕ × Event)) → put_in OfInput S events ≡ events }
+{}
+
+/// A law: where a zone's daemon has fewer turns left than may be put in, and the zone stays small, the last turn that is put in
+/// after a line answers the line's ticket, or the daemon is stuck or has nothing to do.
+pub fn turns_that_are_put_in_end()
+    ensures { TurnsEnd }
 {}

@@ -1,11 +1,13 @@
-//! The commands of `zones`, over any source, sinks and disk: zone configurations read, checked and written, and traces
-//! run by the zone machine over the store on the disk. Its one contract is that of `run_zones`: what a whole input comes to,
+//! The commands of `zones`, over any source, sinks and disk: zone configurations read, checked and written, traces and scripts
+//! run by the zone machine over the store on the disk, and the index of the zones in it. Its one contract is that of `run_zones`: what a whole input comes to,
 //! what each exit status means, and what a crash at any moment leaves on the disk.
 #![tactic(auto)]
 
+mod answers;
 mod edit;
 mod export;
 mod fault;
+mod index;
 mod laws;
 mod lines;
 mod outcome;
@@ -13,11 +15,12 @@ mod refusal;
 mod run;
 mod status;
 mod trace;
+mod turns;
 mod words;
 
 pub use fault::RunFault;
 pub use laws::{
     crashes_leave_stored_states, declares_first, exports_what_is_denoted,
-    refuses_at_what_is_denoted,
+    refuses_at_what_is_denoted, trace_puts_nothing_in, turns_that_are_put_in_end,
 };
 pub use run::{fail, run_zones};

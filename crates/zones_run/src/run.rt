@@ -5,30 +5,34 @@ ghost use Rattle.brand_hooks.specs.Hooks.{AllFollow};
 ghost use Rattle.commit_journal.specs.declared.records.Commit.{Commit};
 ghost use Rattle.zn_io.specs.Streams.{Rose, TakesFront, after_known};
 ghost use Rattle.zone_machine.specs.Code.Decided.{AsksBrands, MayGoOn};
-ghost use Rattle.zone_machine.specs.Code.Openings.{StandsFor};
+ghost use Rattle.zone_machine.specs.Code.Openings.{Begins, StandsFor};
 ghost use Rattle.zone_machine.specs.Code.Records.{Passes};
 ghost use Rattle.zone_machine.specs.Machine.{opening};
 ghost use Rattle.zone_machine.specs.Machine.Images.{IsStoreOf};
 ghost use Rattle.zones_run.specs.Complaints.{complaint_status, complaint_text};
 ghost use Rattle.zones_run.specs.Opening.{Finds, Found};
-ghost use Rattle.zones_run.specs.Program.{AnswersOn, AnswersTrace, HasAnswered, HasRecorded, IsNoStore, ReadsNothing, TracedOverSome, output_of, traced_on};
+ghost use Rattle.zones_run.specs.Output.{written};
+ghost use Rattle.zones_run.specs.Program.{AnswersOn, AnswersOver, AnswersTrace, DoneOverSome, FindsStore, HasAnswered, HasRecorded, IsNoStore, OpensNothing, ReadsNothing, RecordsOver, RestartsNothing, done_on, done_over, output_of};
 ghost use Rattle.zones_run.specs.Recording.{RanBy};
 ghost use Rattle.zones_run.specs.Run.{HasFront, IsDecided, IsStatus, TakesFronts, TellsLine, TellsText, disk_fault_line, fault_status, memory_line, read_fault_line, write_fault_line};
 ghost use Rattle.zones_run.specs.Words.{command_of};
 ghost use Rattle.zones_run.specs.Answering.{FindsAlways};
-ghost use Rattle.zones_run.specs.Tracing.{has_restart, traced};
+ghost use Rattle.zones_run.specs.Tracing.{traced};
+ghost use Rattle.index_file.specs.Index.{index_text};
+ghost use Rattle.zone_machine.specs.Machine.Indexed.{index_of};
 
 use crate::export::export_all;
 use crate::fault::RunFault;
+use crate::index::index_text;
 use crate::outcome::{Complaint, Outcome};
 use crate::status::{
     DISK_FAULT, DONE, NO_MEMORY, NOT_A_STORE, READ_FAULT, REFUSED, USAGE, WRITE_FAULT,
 };
 use crate::trace::trace_all;
-use crate::words::{Command, HELP, USAGE_LINE, VERSION, command_of};
+use crate::words::{Command, HELP, Task, Turns, USAGE_LINE, VERSION, command_of};
 use brand_hooks::{Brands, Change, HookAnswer};
 use commit_journal::{StoreFault, opens_store_one_way};
-use std::alloc::Global;
+use std::alloc::{AllocError, Global};
 use zn_io::{Disk, Sink, Source, write_all};
 use zone_machine::Machine;
 
@@ -107,9 +111,10 @@ fn complain<E: Sink>(alloc: Global, err: &mut E, complaint: Complaint) -> u8
     }
 }
 
-// The command `trace`, on a machine that is opened.
-fn run_machine<S: Source, K: Sink, E: Sink, D: Disk, F: Fn(&Change) -> HookAnswer>(
+// The commands `trace` and `script`, on a machine that is opened.
+fn run_lines<S: Source, K: Sink, E: Sink, D: Disk, F: Fn(&Change) -> HookAnswer>(
     alloc: Global,
+    turns: Turns,
     machine: &mut Machine<'_, D, F>,
     src: &mut S,
     out: &mut K,
@@ -120,10 +125,10 @@ fn run_machine<S: Source, K: Sink, E: Sink, D: Disk, F: Fn(&Change) -> HookAnswe
     ensures statuses { IsStatus result }
     ensures usage { result ≢ USAGE }
     ensures store { (D.view machine.old.bank.disk).Keeps → result ≢ NOT_A_STORE }
-    ensures text { (brands : List Tabled) (R : List Commit) → StandsFor (opening brands R) machine.old → FindsAlways (D.view machine.old.bank.disk) (S.left src.old) → IfSome (S.left src.old) (λ bytes. TellsText (traced brands R bytes) result (K.holds out.old) (K.holds out.new)) }
-    ensures line { (brands : List Tabled) (R : List Commit) → StandsFor (opening brands R) machine.old → FindsAlways (D.view machine.old.bank.disk) (S.left src.old) → IfSome (S.left src.old) (λ bytes. TellsLine (traced brands R bytes).err result (E.holds err.old) (E.holds err.new) (E.faults err.old) (E.faults err.new)) }
-    ensures answered { (brands : List Tabled) (R : List Commit) → StandsFor (opening brands R) machine.old → FindsAlways (D.view machine.old.bank.disk) (S.left src.old) → AnswersTrace brands R result (S.left src.old) (S.left src.new) (K.holds out.old) (K.holds out.new) }
-    ensures recorded { (brands : List Tabled) (R : List Commit) → StandsFor (opening brands R) machine.old → IsStoreOf (D.view machine.old.bank.disk) R → RanBy brands R result (S.left src.old) (K.holds out.old) (K.holds out.new) (D.view machine.old.bank.disk) (D.view machine.new.bank.disk) }
+    ensures text { (brands : List Tabled) (R : List Commit) → StandsFor (opening brands R) machine.old → FindsAlways (D.view machine.old.bank.disk) (S.left src.old) → IfSome (S.left src.old) (λ bytes. TellsText (traced turns brands R bytes) result (K.holds out.old) (K.holds out.new)) }
+    ensures line { (brands : List Tabled) (R : List Commit) → StandsFor (opening brands R) machine.old → FindsAlways (D.view machine.old.bank.disk) (S.left src.old) → IfSome (S.left src.old) (λ bytes. TellsLine (traced turns brands R bytes).err result (E.holds err.old) (E.holds err.new) (E.faults err.old) (E.faults err.new)) }
+    ensures answered { (brands : List Tabled) (R : List Commit) → StandsFor (opening brands R) machine.old → FindsAlways (D.view machine.old.bank.disk) (S.left src.old) → AnswersTrace turns brands R result (S.left src.old) (S.left src.new) (K.holds out.old) (K.holds out.new) }
+    ensures recorded { (brands : List Tabled) (R : List Commit) → StandsFor (opening brands R) machine.old → IsStoreOf (D.view machine.old.bank.disk) R → RanBy turns brands R result (S.left src.old) (K.holds out.old) (K.holds out.new) (D.view machine.old.bank.disk) (D.view machine.new.bank.disk) }
     ensures read_fault { result ≡ READ_FAULT → Rose (S.faults src.old) (S.faults src.new) }
     ensures read_line { result ≡ READ_FAULT → TakesFront (E.holds err.old) (E.holds err.new) (E.faults err.old) (E.faults err.new) read_fault_line }
     ensures write_fault { result ≡ WRITE_FAULT → Rose (K.faults out.old) (K.faults out.new) ⊎ Rose (E.faults err.old) (E.faults err.new) }
@@ -132,16 +137,73 @@ fn run_machine<S: Source, K: Sink, E: Sink, D: Disk, F: Fn(&Change) -> HookAnswe
     ensures memory_line { result ≡ NO_MEMORY → TakesFront (E.holds err.old) (E.holds err.new) (E.faults err.old) (E.faults err.new) memory_line }
     ensures passes { Passes (D.view machine.old.bank.disk) (D.view machine.new.bank.disk) }
 {
-    match trace_all(alloc, machine, src, out) {
+    match trace_all(alloc, turns, machine, src, out) {
         Ok(None) => DONE,
         Ok(Some(complaint)) => complain(alloc, err, complaint),
         Err(fault) => fail(err, fault),
     }
 }
 
-// The command `trace`: the machine is opened on the disk, which is handed back however that ends.
-fn run_trace<S: Source, K: Sink, E: Sink, D: Disk, F: Fn(&Change) -> HookAnswer>(
+// The command `index`, on a machine that is opened.
+fn run_index<K: Sink, E: Sink, D: Disk, F: Fn(&Change) -> HookAnswer>(
     alloc: Global,
+    machine: &Machine<'_, D, F>,
+    out: &mut K,
+    err: &mut E,
+) -> u8
+    requires stands { (brands : List Tabled) × Begins brands machine.now }
+    requires ready { MayGoOn D.view machine.now }
+    ensures statuses { (result ≡ DONE) ⊎ (result ≡ WRITE_FAULT) ⊎ (result ≡ NO_MEMORY) }
+    ensures text { (brands : List Tabled) (R : List Commit) → StandsFor (opening brands R) machine.now → TellsText (written (index_text (index_of R))) result (K.holds out.old) (K.holds out.new) }
+    ensures line { TellsLine [] result (E.holds err.old) (E.holds err.new) (E.faults err.old) (E.faults err.new) }
+    ensures nothing { result ≡ NO_MEMORY → K.holds out.new ≡ K.holds out.old }
+    ensures write_fault { result ≡ WRITE_FAULT → Rose (K.faults out.old) (K.faults out.new) }
+    ensures memory_line { result ≡ NO_MEMORY → TakesFront (E.holds err.old) (E.holds err.new) (E.faults err.old) (E.faults err.new) memory_line }
+{
+    match index_text(alloc, machine) {
+        Ok(text) => write_text(out, err, &text),
+        Err(AllocError) => fail(err, RunFault::Memory),
+    }
+}
+
+// What a command does on a machine that is opened.
+fn run_task<S: Source, K: Sink, E: Sink, D: Disk, F: Fn(&Change) -> HookAnswer>(
+    alloc: Global,
+    task: Task,
+    machine: &mut Machine<'_, D, F>,
+    src: &mut S,
+    out: &mut K,
+    err: &mut E,
+) -> u8
+    requires asks { AsksBrands F.Fn machine.old }
+    requires ready { MayGoOn D.view machine.old }
+    requires stands { (brands : List Tabled) × Begins brands machine.old }
+    ensures statuses { IsStatus result }
+    ensures usage { result ≢ USAGE }
+    ensures store { (D.view machine.old.bank.disk).Keeps → result ≢ NOT_A_STORE }
+    ensures text { (brands : List Tabled) (R : List Commit) → StandsFor (opening brands R) machine.old → FindsStore task (D.view machine.old.bank.disk) (S.left src.old) → IfSome (done_over task brands R (S.left src.old)) (λ o. TellsText o result (K.holds out.old) (K.holds out.new)) }
+    ensures line { (brands : List Tabled) (R : List Commit) → StandsFor (opening brands R) machine.old → FindsStore task (D.view machine.old.bank.disk) (S.left src.old) → IfSome (done_over task brands R (S.left src.old)) (λ o. TellsLine o.err result (E.holds err.old) (E.holds err.new) (E.faults err.old) (E.faults err.new)) }
+    ensures answered { (brands : List Tabled) (R : List Commit) → StandsFor (opening brands R) machine.old → FindsStore task (D.view machine.old.bank.disk) (S.left src.old) → AnswersOver task brands R result (S.left src.old) (S.left src.new) (K.holds out.old) (K.holds out.new) }
+    ensures unread { task ≡ Task.Index → src.new ≡ src.old }
+    ensures recorded { (brands : List Tabled) (R : List Commit) → StandsFor (opening brands R) machine.old → IsStoreOf (D.view machine.old.bank.disk) R → RecordsOver task brands R result (S.left src.old) (K.holds out.old) (K.holds out.new) (D.view machine.old.bank.disk) (D.view machine.new.bank.disk) }
+    ensures read_fault { result ≡ READ_FAULT → Rose (S.faults src.old) (S.faults src.new) }
+    ensures read_line { result ≡ READ_FAULT → TakesFront (E.holds err.old) (E.holds err.new) (E.faults err.old) (E.faults err.new) read_fault_line }
+    ensures write_fault { result ≡ WRITE_FAULT → Rose (K.faults out.old) (K.faults out.new) ⊎ Rose (E.faults err.old) (E.faults err.new) }
+    ensures disk_fault { result ≡ DISK_FAULT → Rose (D.view machine.old.bank.disk).faults (D.view machine.new.bank.disk).faults }
+    ensures disk_line { result ≡ DISK_FAULT → TakesFront (E.holds err.old) (E.holds err.new) (E.faults err.old) (E.faults err.new) disk_fault_line }
+    ensures memory_line { result ≡ NO_MEMORY → TakesFront (E.holds err.old) (E.holds err.new) (E.faults err.old) (E.faults err.new) memory_line }
+    ensures passes { Passes (D.view machine.old.bank.disk) (D.view machine.new.bank.disk) }
+{
+    match task {
+        Task::Run(turns) => run_lines(alloc, turns, machine, src, out, err),
+        Task::Index => run_index(alloc, machine, out, err),
+    }
+}
+
+// A command over the store: the machine is opened on the disk, which is handed back however that ends.
+fn run_on_store<S: Source, K: Sink, E: Sink, D: Disk, F: Fn(&Change) -> HookAnswer>(
+    alloc: Global,
+    task: Task,
     src: &mut S,
     out: &mut K,
     err: &mut E,
@@ -151,12 +213,13 @@ fn run_trace<S: Source, K: Sink, E: Sink, D: Disk, F: Fn(&Change) -> HookAnswer>
     requires { AllFollow F.Fn brands.now }
     ensures statuses { IsStatus result.0 }
     ensures usage { result.0 ≢ USAGE }
-    ensures text { (found : Found) → Finds (D.view disk) found → IfSome (traced_on (tables_of brands.now) found (S.left src.old)) (λ o. TellsText o result.0 (K.holds out.old) (K.holds out.new)) }
-    ensures line { (found : Found) → Finds (D.view disk) found → IfSome (traced_on (tables_of brands.now) found (S.left src.old)) (λ o. TellsLine o.err result.0 (E.holds err.old) (E.holds err.new) (E.faults err.old) (E.faults err.new)) }
-    ensures answered { (found : Found) → Finds (D.view disk) found → AnswersOn (tables_of brands.now) found result.0 (S.left src.old) (S.left src.new) (K.holds out.old) (K.holds out.new) }
-    ensures any_disk { (bytes : List ℕ) → S.left src.old ≡ Some bytes → has_restart bytes ≡ false → TracedOverSome (tables_of brands.now) result.0 (S.left src.old) (S.left src.new) (K.holds out.old) (K.holds out.new) (E.holds err.old) (E.holds err.new) (E.faults err.old) (E.faults err.new) }
+    ensures text { (found : Found) → Finds (D.view disk) found → IfSome (done_on task (tables_of brands.now) found (S.left src.old)) (λ o. TellsText o result.0 (K.holds out.old) (K.holds out.new)) }
+    ensures line { (found : Found) → Finds (D.view disk) found → IfSome (done_on task (tables_of brands.now) found (S.left src.old)) (λ o. TellsLine o.err result.0 (E.holds err.old) (E.holds err.new) (E.faults err.old) (E.faults err.new)) }
+    ensures answered { (found : Found) → Finds (D.view disk) found → AnswersOn task (tables_of brands.now) found result.0 (S.left src.old) (S.left src.new) (K.holds out.old) (K.holds out.new) }
+    ensures any_disk { RestartsNothing task (S.left src.old) → DoneOverSome task (tables_of brands.now) result.0 (S.left src.old) (S.left src.new) (K.holds out.old) (K.holds out.new) (E.holds err.old) (E.holds err.new) (E.faults err.old) (E.faults err.new) }
+    ensures unread { task ≡ Task.Index → src.new ≡ src.old }
     ensures store { result.0 ≡ NOT_A_STORE → (D.view disk).Keeps → IsNoStore (D.view disk) }
-    ensures recorded { (R : List Commit) → IsStoreOf (D.view disk) R → RanBy (tables_of brands.now) R result.0 (S.left src.old) (K.holds out.old) (K.holds out.new) (D.view disk) (D.view result.1) }
+    ensures recorded { (R : List Commit) → IsStoreOf (D.view disk) R → RecordsOver task (tables_of brands.now) R result.0 (S.left src.old) (K.holds out.old) (K.holds out.new) (D.view disk) (D.view result.1) }
     ensures read_fault { result.0 ≡ READ_FAULT → Rose (S.faults src.old) (S.faults src.new) }
     ensures read_line { result.0 ≡ READ_FAULT → TakesFront (E.holds err.old) (E.holds err.new) (E.faults err.old) (E.faults err.new) read_fault_line }
     ensures write_fault { result.0 ≡ WRITE_FAULT → Rose (K.faults out.old) (K.faults out.new) ⊎ Rose (E.faults err.old) (E.faults err.new) }
@@ -169,7 +232,7 @@ fn run_trace<S: Source, K: Sink, E: Sink, D: Disk, F: Fn(&Change) -> HookAnswer>
     match Machine::open(alloc, disk, brands) {
         Ok(opened) => {
             let mut machine = opened;
-            let status = run_machine(alloc, &mut machine, src, out, err);
+            let status = run_task(alloc, task, &mut machine, src, out, err);
             (status, machine.into_disk())
         }
         Err((StoreFault::Memory, disk)) => (fail(err, RunFault::Memory), disk),
@@ -180,8 +243,8 @@ fn run_trace<S: Source, K: Sink, E: Sink, D: Disk, F: Fn(&Change) -> HookAnswer>
 
 /// Does what the words say, and answers the exit status and the disk. `out` and `err` are standard output and
 /// standard error. Lines are answered one at a time, up to the one that ends the run, and less than a piece of
-/// the input is read beyond it. Only `trace` opens the store on the disk; the replies that wait are written before a record
-/// is stored.
+/// the input is read beyond it. `trace`, `script` and `index` open the store on the disk; the replies that wait are written
+/// before a record is stored.
 pub fn run_zones<S: Source, K: Sink, E: Sink, D: Disk, F: Fn(&Change) -> HookAnswer>(
     alloc: Global,
     words: &[String],
@@ -205,10 +268,10 @@ pub fn run_zones<S: Source, K: Sink, E: Sink, D: Disk, F: Fn(&Change) -> HookAns
     ensures answered { (found : Found) → Finds (D.view disk) found →
         HasAnswered (tables_of brands.now) (command_of (map string_bytes words.now)) found result.0 (S.left src.old) (S.left src.new) (K.holds out.old) (K.holds out.new) }
 
-    // Whatever the disk is, a trace that restarts nothing is answered as one over the store of some commits, or cut before its first
-    // line: then nothing was taken and written, and the status is none of a whole run.
-    ensures any_disk { command_of (map string_bytes words.now) ≡ Some Command.Trace → (bytes : List ℕ) → S.left src.old ≡ Some bytes → has_restart bytes ≡ false →
-        TracedOverSome (tables_of brands.now) result.0 (S.left src.old) (S.left src.new) (K.holds out.old) (K.holds out.new) (E.holds err.old) (E.holds err.new) (E.faults err.old) (E.faults err.new) }
+    // Whatever the disk is, a command over the store that restarts nothing is answered as one over the store of some commits, or cut
+    // before its first line: then nothing was taken and written, and the status is none of a whole run.
+    ensures any_disk { (task : Task) → command_of (map string_bytes words.now) ≡ Some (Command.OnStore task) → RestartsNothing task (S.left src.old) →
+        DoneOverSome task (tables_of brands.now) result.0 (S.left src.old) (S.left src.new) (K.holds out.old) (K.holds out.new) (E.holds err.old) (E.holds err.new) (E.faults err.old) (E.faults err.new) }
 
     // Where no command reads its input, none of it is taken.
     ensures unread { ReadsNothing (command_of (map string_bytes words.now)) → src.new ≡ src.old }
@@ -236,7 +299,7 @@ pub fn run_zones<S: Source, K: Sink, E: Sink, D: Disk, F: Fn(&Change) -> HookAns
     // What a crash leaves at any moment meanwhile, and what is on the disk at the end.
     ensures recorded { (R : List Commit) → IsStoreOf (D.view disk) R →
         HasRecorded (tables_of brands.now) (command_of (map string_bytes words.now)) R result.0 (S.left src.old) (K.holds out.old) (K.holds out.new) (D.view disk) (D.view result.1) }
-    ensures untouched { command_of (map string_bytes words.now) ≢ Some Command.Trace → result.1 ≡ disk }
+    ensures untouched { OpensNothing (command_of (map string_bytes words.now)) → result.1 ≡ disk }
 {
     match command_of(words) {
         Some(Command::Export) => match export_all(alloc, src) {
@@ -244,7 +307,7 @@ pub fn run_zones<S: Source, K: Sink, E: Sink, D: Disk, F: Fn(&Change) -> HookAns
             Ok(Outcome::Complains(complaint)) => (complain(alloc, err, complaint), disk),
             Err(fault) => (fail(err, RunFault::from(fault)), disk),
         },
-        Some(Command::Trace) => run_trace(alloc, src, out, err, disk, brands),
+        Some(Command::OnStore(task)) => run_on_store(alloc, task, src, out, err, disk, brands),
         Some(Command::Help) => (write_text(out, err, HELP), disk),
         Some(Command::Version) => (write_text(out, err, VERSION), disk),
         None => {

@@ -1,4 +1,5 @@
-//! The command `trace`: the events of the input go through a zone machine over the store on a disk, one after the other.
+//! The commands `trace` and `script`: the events of the input go through a zone machine over the store on a disk, one after the
+//! other, and for `script` also the turns that are put in.
 //! Their replies are written together, before an event stores a record and once it has, before the system restarts, before more
 //! is read where no line is begun, and when many of them wait.
 ghost use Rattle.std.specs.Prelude.{◌≡◌, ◌≢◌, ◌<◌, ◌≤◌, ◌⊎◌, ◌++◌, ℕ, List, [], Err, IfErr, length, IfOk, IfSome, IsErrOf, Ok, OnErr, OnOk, Some, false, true};
@@ -19,39 +20,18 @@ ghost use Rattle.zones_run.specs.Recording.{RanAs};
 ghost use Rattle.zones_run.specs.Run.{HasFront};
 ghost use Rattle.zones_run.specs.Tracing.{EndsAs, HasWritten, is_refusal, is_refused_outcome, is_refused_turn, left_to_tell, told_refusal};
 
+use crate::answers::{WAITING_MAX, answer, put_reply, write_waiting};
 use crate::fault::RunFault;
 use crate::lines::{Ahead, Got, LINES_MAX, next_line};
 use crate::outcome::Complaint;
+use crate::turns::{Taken, give_turns, taken_from};
+use crate::words::Turns;
 use brand_hooks::{Change, HookAnswer};
 use commit_journal::StoreFault;
 use std::alloc::{AllocError, Global};
-use trace_text::{LineFault, push_answer, read_line};
-use zn_io::{Disk, Sink, Source, write_all};
-use zone_machine::{Answer, Event, Head, Machine, StepFault};
-use zoneadmd_steps::{Outcome, TurnReply};
-
-// How many bytes of replies may wait before they are written.
-const WAITING_MAX: usize = 16384;
-
-fn is_refused_turn(turn: &TurnReply) -> bool
-    ensures { result ≡ is_refused_turn turn.now }
-{
-    match turn {
-        TurnReply::Failed(_, _) | TurnReply::Stuck => true,
-        TurnReply::Finished(_, outcome) => !matches!(outcome, Outcome::Done),
-        _ => false,
-    }
-}
-
-fn is_refusal(head: &Head) -> bool
-    ensures { result ≡ is_refusal head.now }
-{
-    match head {
-        Head::Refused(_) => true,
-        Head::Turned(turn) => is_refused_turn(turn),
-        _ => false,
-    }
-}
+use trace_text::{LineFault, read_line};
+use zn_io::{Disk, Sink, Source};
+use zone_machine::{Answer, Event, Machine, StepFault};
 
 // What is left to report at the end of the input.
 fn ended(refused: Option<u64>) -> Option<Complaint>
@@ -59,134 +39,6 @@ fn ended(refused: Option<u64>) -> Option<Complaint>
     ensures kind { IfSome result IsOfInput }
 {
     refused.map(Complaint::FirstRefused)
-}
-
-// Writes the replies that wait. None waits then; where standard output fails, a front of them was taken.
-fn write_waiting<K: Sink>(waiting: &mut Vec<u8>, out: &mut K) -> Result<(), RunFault>
-    ensures all { OnOk result (K.holds out.new ≡ after_known (K.holds out.old) waiting.old.items) }
-    ensures none { waiting.new.items ≡ [] }
-    ensures some { OnErr result (waiting.old.items ≢ []) }
-    ensures front { OnErr result (HasFront (K.holds out.old) (K.holds out.new) waiting.old.items) }
-    ensures fault { OnErr result ((result ≡ Err RunFault.Write) × Rose (K.faults out.old) (K.faults out.new)) }
-    ensures later { K.faults out.old ≤ K.faults out.new }
-{
-    if waiting.is_empty() {
-        return Ok(());
-    }
-    let written = write_all(out, waiting);
-    waiting.clear();
-    match written {
-        Ok(()) => Ok(()),
-        Err(_) => Err(RunFault::Write),
-    }
-}
-
-// An event that may store a record, and is no restart, is answered.
-fn answer_recording<D: Disk, F: Fn(&Change) -> HookAnswer>(
-    alloc: Global,
-    machine: &mut Machine<'_, D, F>,
-    event: &Event,
-) -> Result<Answer, RunFault>
-    requires stays { is_restart event.now ≡ false }
-    requires asks { AsksBrands F.Fn machine.old }
-    requires ready { MayGoOn D.view machine.old }
-    ensures steps { IfOk result (λ answer. (S : State) → StandsFor S machine.old → Steps S event.now answer (λ T. StandsFor T machine.new) (D.view machine.old.bank.disk) (D.view machine.new.bank.disk)) }
-    ensures kept { IfErr result (λ fault. (S : State) → StandsFor S machine.old → Fails fault (machine.new.bank ≡ machine.old.bank) S event.now (D.view machine.old.bank.disk) (D.view machine.new.bank.disk)) }
-    ensures only { IfErr result (λ fault. (fault ≡ RunFault.Memory) ⊎ (fault ≡ RunFault.Disk)) }
-    ensures disk { IsErrOf result RunFault.Disk → Rose (D.view machine.old.bank.disk).faults (D.view machine.new.bank.disk).faults }
-    ensures ready { OnOk result (MayGoOn D.view machine.new) }
-    ensures passes { Passes (D.view machine.old.bank.disk) (D.view machine.new.bank.disk) }
-    ensures asks { AsksBrands F.Fn machine.new }
-{
-    match machine.answer(alloc, event, true) {
-        Ok(answer) => Ok(answer),
-        Err(StepFault::Memory) => Err(RunFault::Memory),
-        Err(StepFault::DiskFault) => Err(RunFault::Disk),
-        Err(StepFault::BadGrant | StepFault::WouldRecord | StepFault::NoStore(_)) => unreachable!(),
-    }
-}
-
-// An event that is no restart is answered. Where it stores a record, the replies that wait are written first.
-fn answer_after_waiting<D: Disk, F: Fn(&Change) -> HookAnswer, K: Sink>(
-    alloc: Global,
-    machine: &mut Machine<'_, D, F>,
-    event: &Event,
-    waiting: &mut Vec<u8>,
-    out: &mut K,
-) -> Result<Answer, RunFault>
-    requires stays { is_restart event.now ≡ false }
-    requires asks { AsksBrands F.Fn machine.old }
-    requires ready { MayGoOn D.view machine.old }
-    ensures steps { IfOk result (λ answer. (S : State) → StandsFor S machine.old → Steps S event.now answer (λ T. StandsFor T machine.new) (D.view machine.old.bank.disk) (D.view machine.new.bank.disk)) }
-    ensures kept { IfErr result (λ fault. (S : State) → StandsFor S machine.old → Fails fault (machine.new.bank ≡ machine.old.bank) S event.now (D.view machine.old.bank.disk) (D.view machine.new.bank.disk)) }
-    ensures same { OnOk result (after_known (K.holds out.new) waiting.new.items ≡ after_known (K.holds out.old) waiting.old.items) }
-    ensures text { IfErr result (λ fault. LeavesText fault (K.holds out.old) (K.holds out.new) waiting.old.items waiting.new.items) }
-    ensures written { HasWritten (K.holds out.old) (K.holds out.new) }
-    ensures write { IsErrOf result RunFault.Write → Rose (K.faults out.old) (K.faults out.new) }
-    ensures disk { IsErrOf result RunFault.Disk → Rose (D.view machine.old.bank.disk).faults (D.view machine.new.bank.disk).faults }
-    ensures later { K.faults out.old ≤ K.faults out.new }
-    ensures ready { OnOk result (MayGoOn D.view machine.new) }
-    ensures passes { Passes (D.view machine.old.bank.disk) (D.view machine.new.bank.disk) }
-    ensures asks { AsksBrands F.Fn machine.new }
-{
-    match machine.answer(alloc, event, waiting.is_empty()) {
-        Ok(answer) => Ok(answer),
-        Err(StepFault::WouldRecord) => {
-            write_waiting(waiting, out)?;
-            answer_recording(alloc, machine, event)
-        }
-        Err(StepFault::Memory) => Err(RunFault::Memory),
-        Err(StepFault::DiskFault) => Err(RunFault::Disk),
-        Err(StepFault::BadGrant | StepFault::NoStore(_)) => unreachable!(),
-    }
-}
-
-// Puts the reply to an event after those that wait. `text` is room for it.
-fn put_reply(
-    event: &Event,
-    answer: &Answer,
-    text: &mut Vec<u8>,
-    waiting: &mut Vec<u8>,
-) -> Result<(), AllocError>
-    ensures text { OnOk result (waiting.new.items ≡ waiting.old.items ++ reply_text (subject_by event.now answer.now.whose) answer.now.reply) }
-    ensures same { OnErr result (waiting.new.items ≡ waiting.old.items) }
-{
-    text.clear();
-    push_answer(text, event, answer)?;
-    waiting.extend_from_slice(text)
-}
-
-// One event that is no restart: its reply waits to be written, and the answer is whether it is a refusal. `text` is room for
-// the reply.
-fn answer<D: Disk, F: Fn(&Change) -> HookAnswer, K: Sink>(
-    alloc: Global,
-    machine: &mut Machine<'_, D, F>,
-    event: &Event,
-    text: &mut Vec<u8>,
-    waiting: &mut Vec<u8>,
-    out: &mut K,
-) -> Result<bool, RunFault>
-    requires stays { is_restart event.now ≡ false }
-    requires asks { AsksBrands F.Fn machine.old }
-    requires ready { MayGoOn D.view machine.old }
-    ensures answered { IfOk result (λ refusal. (S : State) → StandsFor S machine.old → IsAnswered S event.now refusal (λ T. StandsFor T machine.new) (D.view machine.old.bank.disk) (D.view machine.new.bank.disk) (after_known (K.holds out.old) waiting.old.items) (after_known (K.holds out.new) waiting.new.items)) }
-    ensures kept { IfErr result (λ fault. (S : State) → StandsFor S machine.old → Fails fault (machine.new.bank ≡ machine.old.bank) S event.now (D.view machine.old.bank.disk) (D.view machine.new.bank.disk)) }
-    ensures text { IfErr result (λ fault. LeavesText fault (K.holds out.old) (K.holds out.new) waiting.old.items waiting.new.items) }
-    ensures written { HasWritten (K.holds out.old) (K.holds out.new) }
-    ensures write { IsErrOf result RunFault.Write → Rose (K.faults out.old) (K.faults out.new) }
-    ensures disk { IsErrOf result RunFault.Disk → Rose (D.view machine.old.bank.disk).faults (D.view machine.new.bank.disk).faults }
-    ensures later { K.faults out.old ≤ K.faults out.new }
-    ensures ready { OnOk result (MayGoOn D.view machine.new) }
-    ensures passes { Passes (D.view machine.old.bank.disk) (D.view machine.new.bank.disk) }
-    ensures asks { AsksBrands F.Fn machine.new }
-{
-    match answer_after_waiting(alloc, machine, event, waiting, out) {
-        Ok(answer) => match put_reply(event, &answer, text, waiting) {
-            Ok(()) => Ok(is_refusal(&answer.reply.head)),
-            Err(AllocError) => Err(RunFault::Memory),
-        },
-        Err(fault) => Err(fault),
-    }
 }
 
 // Why a line ends a trace.
@@ -216,11 +68,11 @@ fn restart<D: Disk, F: Fn(&Change) -> HookAnswer, K: Sink>(
     text: &mut Vec<u8>,
     waiting: &mut Vec<u8>,
     out: &mut K,
-) -> Result<bool, Stop>
+) -> Result<Answer, Stop>
     requires is { is_restart event.now ≡ true }
     requires asks { AsksBrands F.Fn machine.old }
     requires ready { MayGoOn D.view machine.old }
-    ensures answered { IfOk result (λ refusal. (S : State) → StandsFor S machine.old → (D.view machine.old.bank.disk).Keeps → IsAnswered S event.now refusal (λ T. StandsFor T machine.new) (D.view machine.old.bank.disk) (D.view machine.new.bank.disk) (after_known (K.holds out.old) waiting.old.items) (after_known (K.holds out.new) waiting.new.items)) }
+    ensures answered { IfOk result (λ answer. (S : State) → StandsFor S machine.old → (D.view machine.old.bank.disk).Keeps → IsAnswered S event.now answer (λ T. StandsFor T machine.new) (D.view machine.old.bank.disk) (D.view machine.new.bank.disk) (after_known (K.holds out.old) waiting.old.items) (after_known (K.holds out.new) waiting.new.items)) }
     ensures stopped { IfErr result (λ stop. (S : State) → StandsFor S machine.old → Stops stop (machine.new.bank ≡ machine.old.bank) S (Ok (Some event.now)) (D.view machine.old.bank.disk) (D.view machine.new.bank.disk)) }
     ensures may { IfErr result (λ stop. MayStop stop (D.view machine.old.bank.disk)) }
     ensures text { IfErr result (λ stop. StopsText stop (K.holds out.old) (K.holds out.new) waiting.old.items waiting.new.items) }
@@ -237,7 +89,7 @@ fn restart<D: Disk, F: Fn(&Change) -> HookAnswer, K: Sink>(
     }
     match machine.answer(alloc, event, true) {
         Ok(answer) => match put_reply(event, &answer, text, waiting) {
-            Ok(()) => Ok(is_refusal(&answer.reply.head)),
+            Ok(()) => Ok(answer),
             Err(AllocError) => Err(Stop::Fault(RunFault::Memory)),
         },
         Err(StepFault::Memory) => Err(Stop::Fault(RunFault::Memory)),
@@ -247,7 +99,7 @@ fn restart<D: Disk, F: Fn(&Change) -> HookAnswer, K: Sink>(
     }
 }
 
-// One event: its reply waits to be written, and the answer is whether it is a refusal.
+// One event is answered, and its reply waits to be written.
 fn take_event<D: Disk, F: Fn(&Change) -> HookAnswer, K: Sink>(
     alloc: Global,
     machine: &mut Machine<'_, D, F>,
@@ -255,10 +107,10 @@ fn take_event<D: Disk, F: Fn(&Change) -> HookAnswer, K: Sink>(
     text: &mut Vec<u8>,
     waiting: &mut Vec<u8>,
     out: &mut K,
-) -> Result<bool, Stop>
+) -> Result<Answer, Stop>
     requires asks { AsksBrands F.Fn machine.old }
     requires ready { MayGoOn D.view machine.old }
-    ensures answered { IfOk result (λ refusal. (S : State) → StandsFor S machine.old → RestartsWell (Ok (Some event.now)) (D.view machine.old.bank.disk) → IsAnswered S event.now refusal (λ T. StandsFor T machine.new) (D.view machine.old.bank.disk) (D.view machine.new.bank.disk) (after_known (K.holds out.old) waiting.old.items) (after_known (K.holds out.new) waiting.new.items)) }
+    ensures answered { IfOk result (λ answer. (S : State) → StandsFor S machine.old → RestartsWell (Ok (Some event.now)) (D.view machine.old.bank.disk) → IsAnswered S event.now answer (λ T. StandsFor T machine.new) (D.view machine.old.bank.disk) (D.view machine.new.bank.disk) (after_known (K.holds out.old) waiting.old.items) (after_known (K.holds out.new) waiting.new.items)) }
     ensures stopped { IfErr result (λ stop. (S : State) → StandsFor S machine.old → Stops stop (machine.new.bank ≡ machine.old.bank) S (Ok (Some event.now)) (D.view machine.old.bank.disk) (D.view machine.new.bank.disk)) }
     ensures may { IfErr result (λ stop. MayStop stop (D.view machine.old.bank.disk)) }
     ensures text { IfErr result (λ stop. StopsText stop (K.holds out.old) (K.holds out.new) waiting.old.items waiting.new.items) }
@@ -274,7 +126,7 @@ fn take_event<D: Disk, F: Fn(&Change) -> HookAnswer, K: Sink>(
         return restart(alloc, machine, event, text, waiting, out);
     }
     match answer(alloc, machine, event, text, waiting, out) {
-        Ok(refusal) => Ok(refusal),
+        Ok(answer) => Ok(answer),
         Err(fault) => Err(Stop::Fault(fault)),
     }
 }
@@ -289,11 +141,11 @@ fn take_line<D: Disk, F: Fn(&Change) -> HookAnswer, K: Sink>(
     text: &mut Vec<u8>,
     waiting: &mut Vec<u8>,
     out: &mut K,
-) -> Result<Option<u64>, Stop>
+) -> Result<Taken, Stop>
     requires short { length line.now ≤ 4096 }
     requires asks { AsksBrands F.Fn machine.old }
     requires ready { MayGoOn D.view machine.old }
-    ensures taken { IfOk result (λ now. (S : State) → StandsFor S machine.old → RestartsWell (event_of S.started line.now) (D.view machine.old.bank.disk) → TakesEvent S (event_of S.started line.now) (λ T. StandsFor T machine.new) (machine.new.bank ≡ machine.old.bank) (D.view machine.old.bank.disk) (D.view machine.new.bank.disk) number refused now (after_known (K.holds out.old) waiting.old.items) (after_known (K.holds out.new) waiting.new.items)) }
+    ensures taken { IfOk result (λ taken. (S : State) → StandsFor S machine.old → RestartsWell (event_of S.started line.now) (D.view machine.old.bank.disk) → TakesEvent S (event_of S.started line.now) (λ T. StandsFor T machine.new) (machine.new.bank ≡ machine.old.bank) (D.view machine.old.bank.disk) (D.view machine.new.bank.disk) number refused taken (after_known (K.holds out.old) waiting.old.items) (after_known (K.holds out.new) waiting.new.items)) }
     ensures stopped { IfErr result (λ stop. (S : State) → StandsFor S machine.old → Stops stop (machine.new.bank ≡ machine.old.bank) S (event_of S.started line.now) (D.view machine.old.bank.disk) (D.view machine.new.bank.disk)) }
     ensures may { IfErr result (λ stop. MayStop stop (D.view machine.old.bank.disk)) }
     ensures text { IfErr result (λ stop. StopsText stop (K.holds out.old) (K.holds out.new) waiting.old.items waiting.new.items) }
@@ -306,10 +158,12 @@ fn take_line<D: Disk, F: Fn(&Change) -> HookAnswer, K: Sink>(
     ensures asks { AsksBrands F.Fn machine.new }
 {
     match read_line(alloc, line, machine.started()) {
-        Ok(None) => Ok(refused),
+        Ok(None) => Ok(Taken {
+            refused,
+            opened: None,
+        }),
         Ok(Some(event)) => match take_event(alloc, machine, &event, text, waiting, out) {
-            Ok(true) => Ok(refused.or(Some(number))),
-            Ok(false) => Ok(refused),
+            Ok(answer) => Ok(taken_from(refused, number, &event, answer)),
             Err(stop) => Err(stop),
         },
         Err(LineFault::Memory) => Err(Stop::Fault(RunFault::Memory)),
@@ -344,6 +198,7 @@ fn write_some<K: Sink>(
 // line is read, so whoever types whole lines gets each reply before the next line is read; nor while the disk is written.
 fn take_lines<D: Disk, F: Fn(&Change) -> HookAnswer, S: Source, K: Sink>(
     alloc: Global,
+    turns: Turns,
     machine: &mut Machine<'_, D, F>,
     source: &mut S,
     text: &mut Vec<u8>,
@@ -353,8 +208,8 @@ fn take_lines<D: Disk, F: Fn(&Change) -> HookAnswer, S: Source, K: Sink>(
     requires asks { AsksBrands F.Fn machine.old }
     requires ready { MayGoOn D.view machine.old }
     requires none { waiting.old.items ≡ [] }
-    ensures ran { (brands : List Tabled) (R : List Commit) → StandsFor (opening brands R) machine.old → FindsAlways (D.view machine.old.bank.disk) (S.left source.old) → EndsAs brands R result (S.left source.old) (S.left source.new) (K.holds out.old) (K.holds out.new) (after_known (K.holds out.new) waiting.new.items) }
-    ensures recorded { (brands : List Tabled) (R : List Commit) → StandsFor (opening brands R) machine.old → IsStoreOf (D.view machine.old.bank.disk) R → RanAs brands R result (S.left source.old) (K.holds out.old) (after_known (K.holds out.new) waiting.new.items) (D.view machine.old.bank.disk) (D.view machine.new.bank.disk) }
+    ensures ran { (brands : List Tabled) (R : List Commit) → StandsFor (opening brands R) machine.old → FindsAlways (D.view machine.old.bank.disk) (S.left source.old) → EndsAs turns brands R result (S.left source.old) (S.left source.new) (K.holds out.old) (K.holds out.new) (after_known (K.holds out.new) waiting.new.items) }
+    ensures recorded { (brands : List Tabled) (R : List Commit) → StandsFor (opening brands R) machine.old → IsStoreOf (D.view machine.old.bank.disk) R → RanAs turns brands R result (S.left source.old) (K.holds out.old) (after_known (K.holds out.new) waiting.new.items) (D.view machine.old.bank.disk) (D.view machine.new.bank.disk) }
     ensures kind { (D.view machine.old.bank.disk).Keeps → IfOk result (λ complaint. IfSome complaint IsOfInput) }
     ensures read { IsErrOf result RunFault.Read → Rose (S.faults source.old) (S.faults source.new) }
     ensures write { IsErrOf result RunFault.Write → Rose (K.faults out.old) (K.faults out.new) }
@@ -388,7 +243,19 @@ fn take_lines<D: Disk, F: Fn(&Change) -> HookAnswer, S: Source, K: Sink>(
             waiting,
             out,
         ) {
-            Ok(now) => refused = now,
+            Ok(taken) => match give_turns(
+                alloc,
+                turns,
+                machine,
+                taken,
+                before + 1,
+                text,
+                waiting,
+                out,
+            ) {
+                Ok(now) => refused = now,
+                Err(fault) => return Err(fault),
+            },
             Err(stop) => return ended_by(stop, before + 1),
         }
     }
@@ -403,14 +270,15 @@ fn take_lines<D: Disk, F: Fn(&Change) -> HookAnswer, S: Source, K: Sink>(
 /// replies. What is left to report is answered.
 pub fn trace_all<D: Disk, F: Fn(&Change) -> HookAnswer, S: Source, K: Sink>(
     alloc: Global,
+    turns: Turns,
     machine: &mut Machine<'_, D, F>,
     source: &mut S,
     out: &mut K,
 ) -> Result<Option<Complaint>, RunFault>
     requires asks { AsksBrands F.Fn machine.old }
     requires ready { MayGoOn D.view machine.old }
-    ensures ran { (brands : List Tabled) (R : List Commit) → StandsFor (opening brands R) machine.old → FindsAlways (D.view machine.old.bank.disk) (S.left source.old) → EndsAs brands R result (S.left source.old) (S.left source.new) (K.holds out.old) (K.holds out.new) (K.holds out.new) }
-    ensures recorded { (brands : List Tabled) (R : List Commit) → StandsFor (opening brands R) machine.old → IsStoreOf (D.view machine.old.bank.disk) R → RanAs brands R result (S.left source.old) (K.holds out.old) (K.holds out.new) (D.view machine.old.bank.disk) (D.view machine.new.bank.disk) }
+    ensures ran { (brands : List Tabled) (R : List Commit) → StandsFor (opening brands R) machine.old → FindsAlways (D.view machine.old.bank.disk) (S.left source.old) → EndsAs turns brands R result (S.left source.old) (S.left source.new) (K.holds out.old) (K.holds out.new) (K.holds out.new) }
+    ensures recorded { (brands : List Tabled) (R : List Commit) → StandsFor (opening brands R) machine.old → IsStoreOf (D.view machine.old.bank.disk) R → RanAs turns brands R result (S.left source.old) (K.holds out.old) (K.holds out.new) (D.view machine.old.bank.disk) (D.view machine.new.bank.disk) }
     ensures kind { (D.view machine.old.bank.disk).Keeps → IfOk result (λ complaint. IfSome complaint IsOfInput) }
     ensures read { IsErrOf result RunFault.Read → Rose (S.faults source.old) (S.faults source.new) }
     ensures write { IsErrOf result RunFault.Write → Rose (K.faults out.old) (K.faults out.new) }
@@ -420,7 +288,7 @@ pub fn trace_all<D: Disk, F: Fn(&Change) -> HookAnswer, S: Source, K: Sink>(
 {
     let mut text = Vec::new(alloc);
     let mut waiting = Vec::new(alloc);
-    let ended = take_lines(alloc, machine, source, &mut text, &mut waiting, out);
+    let ended = take_lines(alloc, turns, machine, source, &mut text, &mut waiting, out);
     match write_waiting(&mut waiting, out) {
         Ok(()) => ended,
         Err(_) => Err(RunFault::Write),

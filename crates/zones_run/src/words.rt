@@ -14,9 +14,12 @@ pub const HELP: &[u8] = b"usage: zones COMMAND\n
 COMMAND is one of
   export     write the export text of the zonecfg(8) subcommands on standard input
   trace      write the reply to each event of the trace on standard input
+  script     the same, and give a zone's daemon its turns after each line that asks it
+             for something
+  index      write a line for each stored zone
   --help     write this text
   --version  write the version
-\nThe zones of a trace are kept in the file zones.store, in the current folder.\n
+\nZones are kept in the file zones.store, in the current folder.\n
 The exit status is 0 where all is done, 1 where a line or the end of the input is
 refused, 2 for a faulty command line, 3 for a line outside the grammar of a trace, 4
 for a read fault, 5 for a write fault, 6 for a fault of the disk, 7 where zones.store
@@ -24,11 +27,29 @@ is no store, 8 for a line above 4096 bytes or more than 200000 lines, and 9 wher
 memory runs out.\n
 docs/CODES.md says what each code means, and what to do about it.\n";
 
+/// Which turns zones' daemons are given.
+#[derive(Clone, Copy, Debug, PartialEq, Eq)]
+pub enum Turns {
+    /// Those of the input alone.
+    OfInput,
+    /// Also those that are put in after a session's line that is answered by a ticket, until the ticket is answered.
+    PutIn,
+}
+
+/// What a command does once it has opened the store on the disk.
+#[derive(Clone, Copy, Debug, PartialEq, Eq)]
+pub enum Task {
+    /// It runs the lines of its input, as `trace` and `script` do.
+    Run(Turns),
+    /// It writes the index of the stored zones.
+    Index,
+}
+
 /// The forms of the command line.
 #[derive(Clone, Copy, Debug, PartialEq, Eq)]
 pub enum Command {
     Export,
-    Trace,
+    OnStore(Task),
     Help,
     Version,
 }
@@ -39,7 +60,9 @@ fn command_named(word: &str) -> Option<Command>
 {
     match word {
         "export" => Some(Command::Export),
-        "trace" => Some(Command::Trace),
+        "trace" => Some(Command::OnStore(Task::Run(Turns::OfInput))),
+        "script" => Some(Command::OnStore(Task::Run(Turns::PutIn))),
+        "index" => Some(Command::OnStore(Task::Index)),
         "--help" => Some(Command::Help),
         "--version" => Some(Command::Version),
         _ => None,

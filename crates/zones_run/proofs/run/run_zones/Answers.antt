@@ -3,7 +3,7 @@ use Rattle.brand_hooks.specs.Brands.{tables_of}
 use Rattle.zones_run.specs.Complaints.{complaint_output}
 use Rattle.zones_run.specs.Output.{Output, written}
 use Rattle.zones_run.specs.Run.{TellsLine, TellsText, fault_status, run_fault_of}
-use Rattle.zones_run.proofs.Commands.{answers_export, answers_help, answers_trace, answers_usage, answers_version, asks_written, by_outcome, for_export, for_help, for_trace, for_usage, for_version, line_usage, line_written, never_write, obeys_complained, obeys_failed, obeys_written, records_export, records_help, records_trace, records_usage, records_version, text_usage, text_written}
+use Rattle.zones_run.proofs.Commands.{answers_export, answers_help, answers_store, answers_usage, answers_version, asks_written, by_outcome, for_export, for_help, for_store, for_usage, for_version, line_usage, line_written, never_write, obeys_complained, obeys_failed, obeys_written, records_export, records_help, records_store, records_usage, records_version, text_usage, text_written}
 use Rattle.zones_run.proofs.Telling.{if_some, line_complained, line_failed, never_store, status_told, text_failed, text_nothing}
 use Rattle.zones_run.proofs.run.run_zones.Goals as goal
 
@@ -49,17 +49,17 @@ returns-in-Err-clause-answered g c = λ found finds. answers_export (tables_of c
 pub returns-in-Err-clause-recorded : goal.returns-in-Err-clause-recorded
 returns-in-Err-clause-recorded g c = λ R is. records_export (tables_of c.args.brands.now) _ R c.fail.result _ _ _ (g.D.Disk.view c.args.disk) (g.D.Disk.view c.args.disk) (sym (rw c.in-Some-Export.field-0-is at c.in-Some-Export.ensures))
 
-pub returns-in-Some-Trace-clause-text : goal.returns-in-Some-Trace-clause-text
-returns-in-Some-Trace-clause-text g c = λ found finds. for_trace (tables_of c.args.brands.now) _ found (g.S.Source.left c.args.src.now) _ (sym (rw c.in-Some-Trace.field-0-is at c.in-Some-Trace.ensures)) (c.run_trace.ensures.text found finds)
+pub returns-in-Some-OnStore-clause-text : goal.returns-in-Some-OnStore-clause-text
+returns-in-Some-OnStore-clause-text g c = λ found finds. for_store (tables_of c.args.brands.now) _ found (g.S.Source.left c.args.src.now) _ c.in-Some-OnStore.task (sym (rw c.in-Some-OnStore.field-0-is at c.in-Some-OnStore.ensures)) (c.run_on_store.ensures.text found finds)
 
-pub returns-in-Some-Trace-clause-line : goal.returns-in-Some-Trace-clause-line
-returns-in-Some-Trace-clause-line g c = λ found finds. for_trace (tables_of c.args.brands.now) _ found (g.S.Source.left c.args.src.now) _ (sym (rw c.in-Some-Trace.field-0-is at c.in-Some-Trace.ensures)) (c.run_trace.ensures.line found finds)
+pub returns-in-Some-OnStore-clause-line : goal.returns-in-Some-OnStore-clause-line
+returns-in-Some-OnStore-clause-line g c = λ found finds. for_store (tables_of c.args.brands.now) _ found (g.S.Source.left c.args.src.now) _ c.in-Some-OnStore.task (sym (rw c.in-Some-OnStore.field-0-is at c.in-Some-OnStore.ensures)) (c.run_on_store.ensures.line found finds)
 
-pub returns-in-Some-Trace-clause-answered : goal.returns-in-Some-Trace-clause-answered
-returns-in-Some-Trace-clause-answered g c = λ found finds. answers_trace (tables_of c.args.brands.now) _ found c.run_trace.result.0 _ _ _ _ (sym (rw c.in-Some-Trace.field-0-is at c.in-Some-Trace.ensures)) (c.run_trace.ensures.answered found finds)
+pub returns-in-Some-OnStore-clause-answered : goal.returns-in-Some-OnStore-clause-answered
+returns-in-Some-OnStore-clause-answered g c = λ found finds. answers_store (tables_of c.args.brands.now) _ found c.run_on_store.result.0 _ _ _ _ c.in-Some-OnStore.task (sym (rw c.in-Some-OnStore.field-0-is at c.in-Some-OnStore.ensures)) (c.run_on_store.ensures.answered found finds)
 
-pub returns-in-Some-Trace-clause-recorded : goal.returns-in-Some-Trace-clause-recorded
-returns-in-Some-Trace-clause-recorded g c = λ R is. records_trace (tables_of c.args.brands.now) _ R c.run_trace.result.0 _ _ _ (g.D.Disk.view c.args.disk) (g.D.Disk.view c.run_trace.result.1) (sym (rw c.in-Some-Trace.field-0-is at c.in-Some-Trace.ensures)) (c.run_trace.ensures.recorded R is)
+pub returns-in-Some-OnStore-clause-recorded : goal.returns-in-Some-OnStore-clause-recorded
+returns-in-Some-OnStore-clause-recorded g c = λ R is. records_store (tables_of c.args.brands.now) _ R c.run_on_store.result.0 _ _ _ (g.D.Disk.view c.args.disk) (g.D.Disk.view c.run_on_store.result.1) c.in-Some-OnStore.task (sym (rw c.in-Some-OnStore.field-0-is at c.in-Some-OnStore.ensures)) (c.run_on_store.ensures.recorded R is)
 
 pub returns-in-Some-Help-clause-text : goal.returns-in-Some-Help-clause-text
 returns-in-Some-Help-clause-text g c = λ found finds. for_help (tables_of c.args.brands.now) _ found (g.S.Source.left c.args.src.now) (λ (o : Output). TellsText o c.write_text-in-Some-Help.result (g.K.Sink.holds c.args.out.now) (g.K.Sink.holds c.write_text-in-Some-Help.new.out)) (sym (rw c.in-Some-Help.field-0-is at c.in-Some-Help.ensures)) (text_written _ c.write_text-in-Some-Help.result (g.K.Sink.holds c.args.out.now) (g.K.Sink.holds c.write_text-in-Some-Help.new.out) c.write_text-in-Some-Help.ensures.statuses c.write_text-in-Some-Help.ensures.all c.write_text-in-Some-Help.ensures.front)

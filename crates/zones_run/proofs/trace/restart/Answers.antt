@@ -12,11 +12,11 @@ returns-in-Ok-put_reply-clause-answered g c = λ S stands keeps.
     let v = g.D.Disk.view old.bank.disk in
     let finds = finds_restart e v old.bank.records S c.requires.is keeps stands.bodies in
     let steps = steps_by S e c.in-Ok.answer old new v (g.D.Disk.view new.bank.disk) stands (c.in-Ok.ensures.ok S stands.parts finds) c.in-Ok.ensures.goes (c.in-Ok.ensures.bodies S stands.parts stands.bodies finds) c.in-Ok.ensures.ready c.in-Ok.ensures.passes in
-    is_answered S e c.in-Ok.answer _ (λ T. StandsFor T new) _ _ c.write_waiting.new.waiting.items c.put_reply.new.waiting.items _ (g.K.Sink.holds c.write_waiting.new.out) _ steps
-    (rw (c.write_waiting.ensures.none, after_known-nil (g.K.Sink.holds c.write_waiting.new.out)) c.in_default.ensures.all) c.in-Ok-put_reply.ensures.text refl c.is_refusal.ensures
+    is_answered S e c.in-Ok.answer (λ T. StandsFor T new) _ _ c.write_waiting.new.waiting.items c.put_reply.new.waiting.items _ (g.K.Sink.holds c.write_waiting.new.out) _ steps
+    (rw (c.write_waiting.ensures.none, after_known-nil (g.K.Sink.holds c.write_waiting.new.out)) c.in_default.ensures.all) c.in-Ok-put_reply.ensures.text refl
 
-pub returns-in-Ok-clause-stopped : goal.returns-in-Ok-clause-stopped
-returns-in-Ok-clause-stopped g c = λ S stands. inr (restart_goes S c.args.event.now c.requires.is c.args.machine.now _ _ stands c.answer.ensures.goes c.answer.ensures.passes)
+pub returns-in-Err-put_reply-clause-stopped : goal.returns-in-Err-put_reply-clause-stopped
+returns-in-Err-put_reply-clause-stopped g c = λ S stands. inr (restart_goes S c.args.event.now c.requires.is c.args.machine.now _ _ stands c.answer.ensures.goes c.answer.ensures.passes)
 
 pub returns-in-Err-Memory-clause-stopped : goal.returns-in-Err-Memory-clause-stopped
 returns-in-Err-Memory-clause-stopped g c = λ S stands. inr (restart_goes S c.args.event.now c.requires.is c.args.machine.now _ _ stands c.answer.ensures.goes c.answer.ensures.passes)

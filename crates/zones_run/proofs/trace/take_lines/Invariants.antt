@@ -7,9 +7,8 @@ use Rattle.zone_machine.specs.Code.Records.{Passes}
 use Rattle.zone_machine.specs.Machine.{opening}
 use Rattle.zone_machine.specs.Code.Openings.{StandsFor}
 use Rattle.zones_run.specs.Answering.{FindsAlways}
+use Rattle.zones_run.specs.Midway.{Follows, Left, none_put}
 use Rattle.zones_run.specs.Tracing.{HasWritten}
-use Rattle.zones_run.proofs.Keeping.{Left}
-use Rattle.zones_run.proofs.TraceRuns.{Follows}
 use Rattle.zones_run.proofs.trace.take_lines.Given as goal
 
 -- the machine, what standard output has taken and what waits, and the bytes to come make the run of the whole input, and the
@@ -21,7 +20,7 @@ invariant-loop-before g l =
     let view = g.D.Disk.view in
     record {
       run : (brands : List Tabled) (R : List Commit) → StandsFor (opening brands R) l.fn.machine → FindsAlways (view l.fn.machine.bank.disk) (left l.fn.source)
-          → Follows brands R (λ S. StandsFor S l.machine) (Left brands R (view l.fn.machine.bank.disk) (view l.machine.bank.disk)) l.refused (l.before + 1) (holds l.fn.out) (after_known (holds l.out) l.waiting.items) (before_known l.ahead (left l.source)) (left l.fn.source);
+          → Follows l.fn.turns none_put brands R (λ S. StandsFor S l.machine) (Left brands R (view l.fn.machine.bank.disk) (view l.machine.bank.disk)) l.refused (l.before + 1) (holds l.fn.out) (after_known (holds l.out) l.waiting.items) (before_known l.ahead (left l.source)) (left l.fn.source);
       asks : AsksBrands g.F.Fn l.machine;
       ready : MayGoOn view l.machine;
       few : length l.ahead ≤ 4096;

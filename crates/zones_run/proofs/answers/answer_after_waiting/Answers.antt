@@ -4,7 +4,7 @@ use Rattle.zone_machine.specs.declared.events.Answer.{Answer}
 use Rattle.zone_machine.specs.Code.Openings.{StandsFor}
 use Rattle.zones_run.specs.declared.fault.RunFault.{RunFault}
 use Rattle.zones_run.proofs.Answered.{fails_later, if_err_fails, if_ok_steps, leaves_other, left_other, stands_on, steps_later, would_as, would_same}
-use Rattle.zones_run.proofs.trace.answer_after_waiting.Goals as goal
+use Rattle.zones_run.proofs.answers.answer_after_waiting.Goals as goal
 
 pub returns-in_ok-write_waiting-in-Err-WouldRecord-clause-steps : goal.returns-in_ok-write_waiting-in-Err-WouldRecord-clause-steps
 returns-in_ok-write_waiting-in-Err-WouldRecord-clause-steps g c =

@@ -1,0 +1,33 @@
+-- That the turns which are put in after a line come to an end.
+use Rattle.std.specs.Prelude.{◌≡◌, ◌<◌, ◌++◌, ℕ, zero, suc, List, [], ◌∷◌, true}
+use Rattle.zn_base.specs.Names.{Name}
+use Rattle.zoneadmd_laws.specs.Turns_left.{IsSmall, turns_left}
+use Rattle.zoneadmd_steps.specs.Turns.{Seen}
+use Rattle.zone_machine.specs.Machine.Histories.{history}
+use Rattle.zone_machine.specs.State.{State}
+use Rattle.zone_machine.specs.State.Worlds.{seen_of, world}
+use Rattle.zone_machine.specs.declared.events.Entry.{Entry}
+use Rattle.zone_machine.specs.declared.events.Event.TheVariants.{Turn}
+use Rattle.zones_run.specs.Scripting.{is_last, state_after, turns_until}
+use Rattle.zones_run.specs.declared.turns.Opened.{Opened}
+
+-- what a zone's daemon finds in a state
+abbrev pub found_in : Name → State → Seen
+found_in z S = seen_of (world z S)
+
+-- the zone has, and is configured to have, fewer than 10,000 mounts and claims, in a state and after each of so many turns
+abbrev pub StaysSmall : ℕ → Name → State → Type 0
+StaysSmall zero z S = Unit {0}
+StaysSmall (suc more) z S = IsSmall (found_in z S) × StaysSmall more z (state_after S (Turn z))
+
+-- the last of some entries is the last turn for a ticket
+pub record EndsFor (o : Opened) (h : List Entry) : Type 0 where
+  pub before : List Entry
+  pub final : Entry
+  pub whole : h ≡ before ++ final ∷ []
+  pub ends : is_last o.ticket final.reply.head ≡ true
+
+-- a law: where a zone's daemon has fewer turns left than may be put in, the last one that is put in answers the ticket, or the daemon
+-- is stuck or has nothing to do
+abbrev pub TurnsEnd : Type 0
+TurnsEnd = (more : ℕ) (o : Opened) (S : State) → StaysSmall more o.zone S → turns_left (found_in o.zone S) < more → EndsFor o (history S (turns_until more o S))

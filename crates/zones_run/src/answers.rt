@@ -1,0 +1,176 @@
+//! Events are answered by the machine, and their replies wait to be written together.
+ghost use Rattle.std.specs.Prelude.{◌≡◌, ◌≢◌, ◌<◌, ◌≤◌, ◌⊎◌, ◌++◌, ℕ, List, [], Err, IfErr, length, IfOk, IfSome, IsErrOf, Ok, OnErr, OnOk, Some, false, true};
+ghost use Rattle.zn_io.specs.Streams.{Rose, after_known};
+ghost use Rattle.brand_hooks.specs.Brands.{Tabled};
+ghost use Rattle.commit_journal.specs.declared.records.Commit.{Commit};
+ghost use Rattle.zone_machine.specs.Machine.{is_restart, opening};
+ghost use Rattle.zone_machine.specs.Machine.Images.{IsStoreOf};
+ghost use Rattle.zone_machine.specs.State.{State};
+ghost use Rattle.zone_machine.specs.Code.Decided.{AsksBrands, MayGoOn, subject_by};
+ghost use Rattle.zone_machine.specs.Code.Openings.{StandsFor};
+ghost use Rattle.zone_machine.specs.Code.Records.{Passes};
+ghost use Rattle.trace_text.specs.Lines.{event_of};
+ghost use Rattle.trace_text.specs.Replies.{reply_text};
+ghost use Rattle.zones_run.specs.Answering.{Fails, FindsAlways, IsAnswered, LeavesText, MayStop, RestartsWell, Steps, Stops, StopsText, TakesEvent, ended_by};
+ghost use Rattle.zones_run.specs.Complaints.{IsOfInput};
+ghost use Rattle.zones_run.specs.Recording.{RanAs};
+ghost use Rattle.zones_run.specs.Run.{HasFront};
+ghost use Rattle.zones_run.specs.Tracing.{EndsAs, HasWritten, is_refusal, is_refused_outcome, is_refused_turn, left_to_tell, told_refusal};
+
+use crate::fault::RunFault;
+use brand_hooks::{Change, HookAnswer};
+use std::alloc::{AllocError, Global};
+use trace_text::push_answer;
+use zn_io::{Disk, Sink, write_all};
+use zone_machine::{Answer, Event, Head, Machine, StepFault};
+use zoneadmd_steps::{Outcome, TurnReply};
+
+// How many bytes of replies may wait before they are written.
+pub const WAITING_MAX: usize = 16384;
+
+fn is_refused_turn(turn: &TurnReply) -> bool
+    ensures { result ≡ is_refused_turn turn.now }
+{
+    match turn {
+        TurnReply::Failed(_, _) | TurnReply::Stuck => true,
+        TurnReply::Finished(_, outcome) => !matches!(outcome, Outcome::Done),
+        _ => false,
+    }
+}
+
+pub fn is_refusal(head: &Head) -> bool
+    ensures { result ≡ is_refusal head.now }
+{
+    match head {
+        Head::Refused(_) => true,
+        Head::Turned(turn) => is_refused_turn(turn),
+        _ => false,
+    }
+}
+
+// Writes the replies that wait. None waits then; where standard output fails, a front of them was taken.
+pub fn write_waiting<K: Sink>(waiting: &mut Vec<u8>, out: &mut K) -> Result<(), RunFault>
+    ensures all { OnOk result (K.holds out.new ≡ after_known (K.holds out.old) waiting.old.items) }
+    ensures none { waiting.new.items ≡ [] }
+    ensures some { OnErr result (waiting.old.items ≢ []) }
+    ensures front { OnErr result (HasFront (K.holds out.old) (K.holds out.new) waiting.old.items) }
+    ensures fault { OnErr result ((result ≡ Err RunFault.Write) × Rose (K.faults out.old) (K.faults out.new)) }
+    ensures later { K.faults out.old ≤ K.faults out.new }
+{
+    if waiting.is_empty() {
+        return Ok(());
+    }
+    let written = write_all(out, waiting);
+    waiting.clear();
+    match written {
+        Ok(()) => Ok(()),
+        Err(_) => Err(RunFault::Write),
+    }
+}
+
+// An event that may store a record, and is no restart, is answered.
+fn answer_recording<D: Disk, F: Fn(&Change) -> HookAnswer>(
+    alloc: Global,
+    machine: &mut Machine<'_, D, F>,
+    event: &Event,
+) -> Result<Answer, RunFault>
+    requires stays { is_restart event.now ≡ false }
+    requires asks { AsksBrands F.Fn machine.old }
+    requires ready { MayGoOn D.view machine.old }
+    ensures steps { IfOk result (λ answer. (S : State) → StandsFor S machine.old → Steps S event.now answer (λ T. StandsFor T machine.new) (D.view machine.old.bank.disk) (D.view machine.new.bank.disk)) }
+    ensures kept { IfErr result (λ fault. (S : State) → StandsFor S machine.old → Fails fault (machine.new.bank ≡ machine.old.bank) S event.now (D.view machine.old.bank.disk) (D.view machine.new.bank.disk)) }
+    ensures only { IfErr result (λ fault. (fault ≡ RunFault.Memory) ⊎ (fault ≡ RunFault.Disk)) }
+    ensures disk { IsErrOf result RunFault.Disk → Rose (D.view machine.old.bank.disk).faults (D.view machine.new.bank.disk).faults }
+    ensures ready { OnOk result (MayGoOn D.view machine.new) }
+    ensures passes { Passes (D.view machine.old.bank.disk) (D.view machine.new.bank.disk) }
+    ensures asks { AsksBrands F.Fn machine.new }
+{
+    match machine.answer(alloc, event, true) {
+        Ok(answer) => Ok(answer),
+        Err(StepFault::Memory) => Err(RunFault::Memory),
+        Err(StepFault::DiskFault) => Err(RunFault::Disk),
+        Err(StepFault::BadGrant | StepFault::WouldRecord | StepFault::NoStore(_)) => unreachable!(),
+    }
+}
+
+// An event that is no restart is answered. Where it stores a record, the replies that wait are written first.
+fn answer_after_waiting<D: Disk, F: Fn(&Change) -> HookAnswer, K: Sink>(
+    alloc: Global,
+    machine: &mut Machine<'_, D, F>,
+    event: &Event,
+    waiting: &mut Vec<u8>,
+    out: &mut K,
+) -> Result<Answer, RunFault>
+    requires stays { is_restart event.now ≡ false }
+    requires asks { AsksBrands F.Fn machine.old }
+    requires ready { MayGoOn D.view machine.old }
+    ensures steps { IfOk result (λ answer. (S : State) → StandsFor S machine.old → Steps S event.now answer (λ T. StandsFor T machine.new) (D.view machine.old.bank.disk) (D.view machine.new.bank.disk)) }
+    ensures kept { IfErr result (λ fault. (S : State) → StandsFor S machine.old → Fails fault (machine.new.bank ≡ machine.old.bank) S event.now (D.view machine.old.bank.disk) (D.view machine.new.bank.disk)) }
+    ensures same { OnOk result (after_known (K.holds out.new) waiting.new.items ≡ after_known (K.holds out.old) waiting.old.items) }
+    ensures text { IfErr result (λ fault. LeavesText fault (K.holds out.old) (K.holds out.new) waiting.old.items waiting.new.items) }
+    ensures written { HasWritten (K.holds out.old) (K.holds out.new) }
+    ensures write { IsErrOf result RunFault.Write → Rose (K.faults out.old) (K.faults out.new) }
+    ensures disk { IsErrOf result RunFault.Disk → Rose (D.view machine.old.bank.disk).faults (D.view machine.new.bank.disk).faults }
+    ensures later { K.faults out.old ≤ K.faults out.new }
+    ensures ready { OnOk result (MayGoOn D.view machine.new) }
+    ensures passes { Passes (D.view machine.old.bank.disk) (D.view machine.new.bank.disk) }
+    ensures asks { AsksBrands F.Fn machine.new }
+{
+    match machine.answer(alloc, event, waiting.is_empty()) {
+        Ok(answer) => Ok(answer),
+        Err(StepFault::WouldRecord) => {
+            write_waiting(waiting, out)?;
+            answer_recording(alloc, machine, event)
+        }
+        Err(StepFault::Memory) => Err(RunFault::Memory),
+        Err(StepFault::DiskFault) => Err(RunFault::Disk),
+        Err(StepFault::BadGrant | StepFault::NoStore(_)) => unreachable!(),
+    }
+}
+
+// Puts the reply to an event after those that wait. `text` is room for it.
+pub fn put_reply(
+    event: &Event,
+    answer: &Answer,
+    text: &mut Vec<u8>,
+    waiting: &mut Vec<u8>,
+) -> Result<(), AllocError>
+    ensures text { OnOk result (waiting.new.items ≡ waiting.old.items ++ reply_text (subject_by event.now answer.now.whose) answer.now.reply) }
+    ensures same { OnErr result (waiting.new.items ≡ waiting.old.items) }
+{
+    text.clear();
+    push_answer(text, event, answer)?;
+    waiting.extend_from_slice(text)
+}
+
+// One event that is no restart is answered, and its reply waits to be written. `text` is room for the reply.
+pub fn answer<D: Disk, F: Fn(&Change) -> HookAnswer, K: Sink>(
+    alloc: Global,
+    machine: &mut Machine<'_, D, F>,
+    event: &Event,
+    text: &mut Vec<u8>,
+    waiting: &mut Vec<u8>,
+    out: &mut K,
+) -> Result<Answer, RunFault>
+    requires stays { is_restart event.now ≡ false }
+    requires asks { AsksBrands F.Fn machine.old }
+    requires ready { MayGoOn D.view machine.old }
+    ensures answered { IfOk result (λ answer. (S : State) → StandsFor S machine.old → IsAnswered S event.now answer (λ T. StandsFor T machine.new) (D.view machine.old.bank.disk) (D.view machine.new.bank.disk) (after_known (K.holds out.old) waiting.old.items) (after_known (K.holds out.new) waiting.new.items)) }
+    ensures kept { IfErr result (λ fault. (S : State) → StandsFor S machine.old → Fails fault (machine.new.bank ≡ machine.old.bank) S event.now (D.view machine.old.bank.disk) (D.view machine.new.bank.disk)) }
+    ensures text { IfErr result (λ fault. LeavesText fault (K.holds out.old) (K.holds out.new) waiting.old.items waiting.new.items) }
+    ensures written { HasWritten (K.holds out.old) (K.holds out.new) }
+    ensures write { IsErrOf result RunFault.Write → Rose (K.faults out.old) (K.faults out.new) }
+    ensures disk { IsErrOf result RunFault.Disk → Rose (D.view machine.old.bank.disk).faults (D.view machine.new.bank.disk).faults }
+    ensures later { K.faults out.old ≤ K.faults out.new }
+    ensures ready { OnOk result (MayGoOn D.view machine.new) }
+    ensures passes { Passes (D.view machine.old.bank.disk) (D.view machine.new.bank.disk) }
+    ensures asks { AsksBrands F.Fn machine.new }
+{
+    match answer_after_waiting(alloc, machine, event, waiting, out) {
+        Ok(answer) => match put_reply(event, &answer, text, waiting) {
+            Ok(()) => Ok(answer),
+            Err(AllocError) => Err(RunFault::Memory),
+        },
+        Err(fault) => Err(fault),
+    }
+}
