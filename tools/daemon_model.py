@@ -124,10 +124,13 @@ class Daemon:
             raise Refused("83 HookRefused %d" % code)
 
     def step_record(self, name, system, state):
-        """Stores another state of the zone, or another path, of what is stored now."""
+        """Stores another state of the zone, or another path, of what is stored now. Once it isn't installed any more
+        nobody has its console, and its output is gone."""
         record = system.store.records[name]
         if state != "moved":
             system.store.change(name, dataclasses.replace(record, state=state))
+            if record.state == "installed":
+                system.consoles.pop(name, None)
             return
         config = record.config.with_values(zonepath=self.request.detail)
         if len(config.text()) > MOST_TEXT:

@@ -1,24 +1,27 @@
 #!/usr/bin/env python3
-"""Compares `zones trace` with the plain model in trace_model.py over random traces.
+"""Compares `zones trace` or `zones script` with the plain model in trace_model.py over random inputs.
 
-    tools/fuzz_trace.py [--requests] [--twice] [--lines KINDS] [--count N] [--seed S] [--program FILE]
+    tools/fuzz_trace.py [--requests] [--twice] [--index] [--command script] [--lines KINDS] [--count N] [--seed S]
+        [--program FILE]
     tools/fuzz_trace.py --self-test
-    tools/fuzz_trace.py --model-only [--requests] [--twice] [--lines KINDS] [--count N] [--seed S]
+    tools/fuzz_trace.py --model-only [--requests] [--twice] [--command script] [--lines KINDS] [--count N] [--seed S]
 
 Traces are made along the grammar (trace_maker.py, process_maker.py, object_maker.py, request_maker.py), with the model
 at hand so that most events do something, and then some are cut, joined or have bytes changed. With `--requests` they
 are all of requests of zoneadm(8). The first input that differs is made as short as dropping lines and bytes makes it,
 and kept in fuzz-trace.input. Each trace has a store of its own; with `--twice` it is run on it a second time, and
-compared then. It is no part of the gate.
+compared then. With `--index` what `zones index` tells of the store after that is compared too. It is no part of the
+gate.
 
 `--lines` names kinds of lines that the program answers beside the older ones, with commas between them: zonecfg (a line
-of subcommands that makes, edits or deletes a zone), edit (sessions that edit), list, verify, help and restart. Most of
-the traces then have such lines (zonecfg_maker.py), and without it none has.
+of subcommands that makes, edits or deletes a zone), edit (sessions that edit), list, verify, help, restart, zlogin
+(logins and calls alone, with `bootargs`) and console (with `cons`); `all` stands for all of them. Most of the traces
+then have such lines (zonecfg_maker.py, login_maker.py), and without it none has.
 
 `--self-test` compares the model with replies that are known, and looks at what holds of it in random systems
-(trace_rows.py, object_rows.py, request_rows.py, zonecfg_rows.py, request_laws.py, zonecfg_laws.py); it needs no
-program. Nor does `--model-only`, which shows what the traces would be answered, and ends at a reply that has no form
-(reply_forms.py).
+(data_rows.py, trace_rows.py, object_rows.py, request_rows.py, zonecfg_rows.py, index_rows.py, request_laws.py,
+zonecfg_laws.py); it needs no program. Nor does `--model-only`, which shows what the traces would be
+answered, and ends at a reply that has no form (reply_forms.py).
 """
 
 import collections
@@ -28,6 +31,9 @@ import subprocess
 import sys
 import time
 
+import data_rows
+import index_model
+import index_rows
 import object_rows
 import request_laws
 import request_rows
@@ -36,6 +42,7 @@ import trace_rows
 import zonecfg_laws
 import zonecfg_rows
 from arguments import arguments
+from login_maker import LoginMaker
 from own_folder import own_folder
 from reply_forms import kind_of, kind_of_line, misformed
 from request_maker import RequestMaker
@@ -47,22 +54,28 @@ from zonecfg_maker import ZonecfgMaker
 SECONDS = 600
 
 
-def answer_of(program, data, times=1):
-    """The status and both texts of the program over an input, the last of so many times over one store, which is empty
-    before."""
-    with own_folder() as folder:
-        for _ in range(times):
-            done = subprocess.run([pathlib.Path(program).resolve(), "trace"], input=data, capture_output=True,
-                                  timeout=SECONDS, cwd=folder)
+def ran(program, word, data, folder):
+    """The status and both texts of the program with one word, over an input."""
+    done = subprocess.run([pathlib.Path(program).resolve(), word], input=data, capture_output=True, timeout=SECONDS,
+                          cwd=folder)
     return done.returncode, done.stdout, done.stderr
 
 
-def told_of(data, times, known):
+def answer_of(program, data, args):
+    """The status and both texts of the program over an input, the last of its runs over one store, which is empty
+    before; and perhaps those of `index` after it."""
+    with own_folder() as folder:
+        words = [(args.command, data)] * (2 if args.twice else 1) + [("index", b"")] * args.index
+        said = [ran(program, word, text, folder) for word, text in words]
+    return sum(said[-2:] if args.index else said[-1:], ())
+
+
+def told_of(data, args, known):
     """What the model says that is, where such kinds of lines are known."""
     store = Store()
-    for _ in range(times):
-        said = model.run(data, store, known)
-    return said
+    for _ in range(2 if args.twice else 1):
+        said = model.run(data, store, known, args.command)
+    return said + ((0, index_model.text_of(store), b"") if args.index else ())
 
 
 def shortened(pieces, differs):
@@ -88,8 +101,8 @@ def shortest(data, differs):
 
 
 def self_test():
-    fault = trace_rows.fault() or object_rows.fault() or request_rows.fault()
-    fault = fault or zonecfg_rows.fault() or request_laws.fault() or zonecfg_laws.fault()
+    parts = [data_rows, trace_rows, object_rows, request_rows, zonecfg_rows, index_rows, request_laws, zonecfg_laws]
+    fault = next((it for it in (part.fault() for part in parts) if it is not None), None)
     print("the model answers as it is known to" if fault is None else "the model differs: %s" % fault)
     return 0 if fault is None else 1
 
@@ -134,27 +147,37 @@ def compared(maker, args, wanted, got):
             return "input %d is answered by a line without a form: %r" % (number, misformed(want[1])), counts
         if got is not None and got(data) != want:
             return difference(number, data, wanted, got), counts
-        counts.add(*want)
+        counts.add(*want[:3])
     return None, counts
 
 
 def kinds_in(text):
     """The kinds of lines that are named."""
-    known = frozenset(text.split(",") if text else [])
+    known = frozenset(KINDS_OF_LINES if text == "all" else text.split(",") if text else [])
     if not known <= set(KINDS_OF_LINES):
         raise SystemExit("kinds of lines are %s" % ",".join(KINDS_OF_LINES))
     return known
 
 
+def maker_of(rng, known, command="trace", share=0.3):
+    """What makes the inputs of a command where such kinds of lines are known."""
+    if known & {"zlogin", "console"}:
+        return LoginMaker(rng, known, command)
+    maker = ZonecfgMaker(rng, known) if known else RequestMaker(rng, share)
+    maker.command = command
+    return maker
+
+
 def main():
-    args = arguments(__doc__, "self-test", "model-only", "requests", "twice", options=["lines"])
-    times, known = 2 if args.twice else 1, kinds_in(args.lines)
+    args = arguments(__doc__, "self-test", "model-only", "requests", "twice", "index", options=["lines", "command"])
+    args.command, known = args.command or "trace", kinds_in(args.lines)
+    if args.command not in ("trace", "script"):
+        raise SystemExit("the command is trace or script")
     if args.self_test:
         return self_test()
-    rng = random.Random(args.seed)
-    maker = ZonecfgMaker(rng, known) if known else RequestMaker(rng, 1 if args.requests else 0.3)
-    got = None if args.model_only else (lambda data: answer_of(args.program, data, times))
-    fault, counts = compared(maker, args, lambda data: told_of(data, times, known), got)
+    maker = maker_of(random.Random(args.seed), known, args.command, 1 if args.requests else 0.3)
+    got = None if args.model_only else (lambda data: answer_of(args.program, data, args))
+    fault, counts = compared(maker, args, lambda data: told_of(data, args, known), got)
     if fault is not None:
         print(fault)
         return 1

@@ -29,10 +29,14 @@ def columns(row):
     return " ".join([number] + [text.ljust(width) for text, width in rest])
 
 
+def escaped(path):
+    """A path between colons: its own have a backslash before them, and so have backslashes."""
+    return path.replace("\\", "\\\\").replace(":", "\\:")
+
+
 def fields(row):
-    """A row with colons between its fields; those of the path have a backslash before them, and so have backslashes."""
-    path = row[3].replace("\\", "\\\\").replace(":", "\\:")
-    return ":".join(row[:3] + (path,) + row[4:])
+    """A row with colons between its fields."""
+    return ":".join(row[:3] + (escaped(row[3]),) + row[4:])
 
 
 def printed(rows, options):

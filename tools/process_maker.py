@@ -26,7 +26,8 @@ NO_PRIVILEGES = [
     "basic", "zone", "all", "default", "none", "proc", "proc_fork,proc_exec", "PROC_FORK", "!proc_fork", "proc_forks",
     "proc-fork", "{zone}", "sys_tim", "sys_time\r", "0", "21",
 ]
-UNBUILT_FORMS = [
+LATER_CALLS = [call.decode() for call in trace_lines.LATER_CALLS]
+LATER_FORMS = [
     "%s", "%s ", "%s /x", "%s lofs /export /mnt ro", "%s /usr/bin x", "%s  text", "%s" + " x" * 40, "%s \xff",
 ]
 WORDS = [
@@ -98,15 +99,15 @@ class ProcessMaker(Maker):
             return self.rng.choice(["proc_fork", "proc_exec"])
         return self.one_of(PRIVILEGES, NO_PRIVILEGES)
 
-    def unbuilt(self):
-        """The words of a call that isn't read."""
-        return (self.rng.choice(UNBUILT_FORMS) % self.rng.choice(trace_lines.UNBUILT)).split(" ")
+    def later(self):
+        """The words of a call that isn't read, but where its kind of lines is known."""
+        return (self.rng.choice(LATER_FORMS) % self.rng.choice(LATER_CALLS)).split(" ")
 
     def call(self, zone):
         """The words of a call."""
         rng = self.rng
         if rng.random() < self.slips / 4:
-            return self.unbuilt()
+            return self.later()
         call = rng.choices(list(CALLS), CALLS.values())[0]
         if call in ("fork", "exec"):
             return [call, self.one_of(PROCESS_NAMES, NO_PROCESS_NAMES)]
@@ -284,7 +285,7 @@ class ProcessMaker(Maker):
             words = rng.choice([
                 ["fork", rng.choice(NO_PROCESS_NAMES)], ["exec", rng.choice(NO_PROCESS_NAMES)],
                 ["kill", rng.choice(NO_SIGNALS), pid], ["kill", "9", self.odd_pid()], ["kill", "0", self.odd_pid()],
-                ["drop", rng.choice(NO_PRIVILEGES)], self.unbuilt(),
+                ["drop", rng.choice(NO_PRIVILEGES)], self.later(),
             ])
             self.line(" ".join(["P", zone, rng.choice([pid, pid, pid, self.odd_pid()])] + words))
         if rng.random() < 0.5:

@@ -24,9 +24,10 @@ CODE = "|".join([
     "14 NoValue N", "22 UnknownProperty", "23 BadValue", "24 Duplicate", "25 NoMatch", "26 SeveralMatch N",
     "27 TooMany N", "28 AliasHeld", "29 TooLarge N", "31 UnknownCommand",
     "32 WrongScope (global|fs|net|device|rctl|attr|dataset)", "33 NothingOpen", "34 NeedForce", "35 Usage",
-    FLAW, PRIVILEGE, "71 TooManyMounts", "81 WrongState " + STATE, "82 Denied " + POOL, "83 HookRefused N",
+    FLAW, PRIVILEGE, "71 TooManyMounts", "75 Taken", "81 WrongState " + STATE, "82 Denied " + POOL, "83 HookRefused N",
     "84 Privilege " + PRIVILEGE, "85 NotVerified " + FLAW, "90 NoZone", "91 Waiting N", "92 DeskFull",
-    "93 Usage", "94 Changed N N", "96 HoldState", "97 DeskInUse", "98 NoProcess", "99 NoMount",
+    "93 Usage", "94 Changed N N", "95 NotRunning " + STATE, "96 HoldState", "97 DeskInUse", "98 NoProcess",
+    "99 NoMount",
 ])
 ERRNO = "ESRCH|EPERM|EAGAIN|EINVAL|ENOENT|EROFS|EBUSY|ENAMETOOLONG"
 STEP = "|".join([
@@ -37,13 +38,15 @@ STEP = "|".join([
 ])
 KIND = "install|uninstall|clone|attach|detach|mark|move|ready|boot|halt|reboot"
 HEAD = "|".join([
-    "ok", "ticket N", "err (%s|%s)" % (CODE, ERRNO), "idle", "began N (%s)" % KIND, "step (%s)" % STEP,
-    "failed N: (%s)" % CODE, "undone (%s)" % STEP, "stuck unmount", "finished N (ok|err (%s))" % CODE,
+    "ok", "ticket N", "status (0|1|127)", "err (%s|%s)" % (CODE, ERRNO), "idle", "began N (%s)" % KIND,
+    "step (%s)" % STEP, "failed N: (%s)" % CODE, "undone (%s)" % STEP, "stuck unmount",
+    "finished N (ok|err (%s))" % CODE,
 ])
 MADE = [("N", NUMBER), ("PATH", PATH), ("ITEM", ITEM), ("ZONE", ZONE), ("BRAND", BRAND)]
 
-# What a line of a body is, the narrower forms first.
+# What a line of a body is, the narrower forms first. The last one is what was written to a console.
 BODIES = [
+    ("| REFUSAL", "%s|%s" % (CODE, ERRNO)),
     ("| ID:NAME:STATE:PATH:UUID:BRAND:IP", r"(N|-):[!-~]+:%s:PATH:[0-9a-f-]*:[\w.-]*:(shared|excl)" % STATE),
     ("| ID NAME STATUS PATH BRAND IP", r" *(N|-) [!-~]+ +%s +PATH +[\w.-]* +(shared|excl) *" % STATE),
     ("| ID NAME STATUS PATH BRAND IP", r"  ID NAME +STATUS +[P]ATH +[B]RAND +IP +"),
@@ -59,6 +62,7 @@ BODIES = [
     ("| PLACE", r"/[ -~]*"),
     ("| <TYPE:PLACE>", r"<[A-Za-z0-9]{1,15}:[ -~]+>[!-~]*"),
     ("| WORD", r"[!-~]+"),
+    ("| TEXT", r"[ -~]*"),
 ]
 
 
@@ -79,8 +83,8 @@ def body_kind(said):
 
 
 def misformed(text):
-    """The first line of an output that has no form, that isn't ended, or that is a body without `ok` or a refusal above
-    it."""
+    """The first line of an output that has no form, that isn't ended, or that is a body without `ok`, a status or a
+    refusal above it."""
     lines = text.decode("latin-1").split("\n")
     if lines.pop():
         return "a last line without its newline"
@@ -92,14 +96,15 @@ def misformed(text):
             continue
         if not HEAD_LINE.match(line):
             return line
-        has_body = line.split(" ")[1] in ("ok", "err")
+        has_body = line.split(" ")[1] in ("ok", "status", "err")
     return None
 
 
 def kind_of(said):
-    """What is said, without the numbers, directories, names and items that differ from trace to trace; codes stay."""
+    """What is said, without the numbers, directories, names and items that differ from trace to trace; codes and
+    statuses stay."""
     said = re.sub(r"\b(source|UnknownBrand|AttrForm|BadAddress) .*", r"\1 NAME", said)
-    said = re.sub(r"\b\d+\b(?! [A-Z])", "N", said)
+    said = re.sub(r"(?<!status )\b\d+\b(?! [A-Z])", "N", said)
     said = re.sub(r"\b(mount|unmount|SameDir) /.*", r"\1 DIR", said)
     return re.sub(r"\b(link|address|dataset) .*", r"\1 ITEM", said)
 
@@ -107,4 +112,7 @@ def kind_of(said):
 def kind_of_line(line):
     """The same of a line of the replies, without its subject and what a body shows."""
     subject, said = line.split(" ", 1)
-    return body_kind(said) or line if subject == "|" else kind_of(said)
+    if subject == "|":
+        kind = body_kind(said)
+        return "| " + kind_of(said) if kind == "| REFUSAL" else kind or line
+    return kind_of(said)

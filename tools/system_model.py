@@ -1,5 +1,5 @@
-"""A plain, slow model of what the zones of one system have: records, states, ids, processes, mounts, claims and devices
-(zones(7), processes as in fork(2) and kill(2)).
+"""A plain, slow model of what the zones of one system have: records, states, ids, processes, mounts, claims, devices and
+consoles (zones(7), processes as in fork(2) and kill(2)).
 
 At most 256 zones are stored, and each holds one id at most, so the ids never come to their end. The numbers of
 processes do.
@@ -11,6 +11,7 @@ import itertools
 
 from claim_model import Items
 from config_model import DEFAULT
+from console_model import Console
 from mount_model import Mounts
 from plan_model import BRANDS
 from store_model import Store
@@ -65,6 +66,7 @@ class System:
         """Leaves nothing but what is stored and what is declared."""
         self.active, self.items.claims = {}, []
         self.zids, self.limits, self.bootargs = {}, {}, {}
+        self.consoles = collections.defaultdict(Console)
         self.processes, self.firsts = {}, {}
         self.mounts, self.devices = collections.defaultdict(Mounts), {}
         self.last_zid, self.last_pid = 0, 0

@@ -1,8 +1,8 @@
-"""The lines of a trace, as the model in trace_model.py reads them: events, calls of processes, and what sessions type.
+"""The lines of a trace, as the model in trace_model.py reads them: events and calls of processes. What an idle session
+types is read by typed_lines.py.
 
-event_of(line, started, known) reads one line, typed(text, known) what a session types. `known` are the kinds of lines
-that are read beside those that always are; a line of a kind that isn't among them is none of the grammar, or is no line
-that a session may type.
+event_of(line, started, known) reads one line. `known` are the kinds of lines that are read beside those that always
+are; a line of a kind that isn't among them is none of the grammar, or is no line that a session may type.
 """
 
 import re
@@ -11,8 +11,9 @@ import export_model
 from export_model import Refused
 
 # zonecfg: subcommands after `zonecfg -z ZONE`; edit: sessions that edit, `zonecfg -z ZONE` alone; list, verify and
-# help: these of zoneadm(8); restart: the line `R`. Without zonecfg one line makes a zone, and no other edits one.
-KINDS_OF_LINES = ("zonecfg", "edit", "list", "verify", "help", "restart")
+# help: these of zoneadm(8); restart: the line `R`; zlogin: `zlogin ZONE`, `zlogin ZONE CALL` and the call `bootargs`;
+# console: `zlogin -C ZONE` and the call `cons`. Without zonecfg one line makes a zone, and no other edits one.
+KINDS_OF_LINES = ("zonecfg", "edit", "list", "verify", "help", "restart", "zlogin", "console")
 ALL_LINES = frozenset(KINDS_OF_LINES)
 OLD_LINES = frozenset()
 
@@ -119,8 +120,8 @@ def is_path(word):
     return export_model.is_path(word.decode("latin-1"))
 
 
-# Calls of processes, each with what its other words have to be; `mount` has a reader of its own. The unbuilt ones are
-# wrong words until they move into one of these tables.
+# Calls of processes, each with what its other words have to be; `mount` and `cons` have readers of their own. Those of
+# LATER_CALLS are wrong words where their kind of lines isn't known.
 CALLS = {
     b"fork": [is_process_name],
     b"exec": [is_process_name],
@@ -140,8 +141,10 @@ CALLS = {
     b"links": [],
     b"datasets": [],
     b"devices": [],
+    b"bootargs": [],
+    b"cons": None,
 }
-UNBUILT = ["bootargs", "cons"]
+LATER_CALLS = {b"bootargs": "zlogin", b"cons": "console"}
 ITEMS = {b"link": is_item_name, b"address": is_address, b"dataset": is_item_name, b"device": is_path}
 
 
@@ -153,9 +156,18 @@ def mount_of(words):
     return rest + [words.next(lambda word: word == b"ro")] if words.more() else rest
 
 
-def call_of(words):
+def cons_of(words):
+    """The text of `cons`, which is all that follows the space after it."""
+    if not words.more():
+        bad_word(len(words.line))
+    return [words.text()]
+
+
+def call_of(words, known=OLD_LINES):
     """The words of the call that a line goes on with."""
-    call = words.next(lambda word: word in CALLS)
+    call = words.next(lambda word: word in CALLS and (word not in LATER_CALLS or LATER_CALLS[word] in known))
+    if call == b"cons":
+        return [word.decode() for word in [call] + cons_of(words)]
     rest = mount_of(words) if call == b"mount" else [words.next(is_right) for is_right in CALLS[call]]
     words.end()
     return [word.decode() for word in [call] + rest]
@@ -196,114 +208,4 @@ def event_of(line, started=False, known=OLD_LINES):
         words.end()
         return ("D", name)
     pid = words.next(is_number)
-    return ("P", name, int(pid), call_of(words))
-
-
-# What a session types.
-
-def is_one_word(text):
-    """Whether a text is one word of a line of zonecfg(8)."""
-    try:
-        return [token[0] for token in export_model.tokens(text)] == ["word"]
-    except export_model.Refused:
-        return False
-
-
-def made_zone(words):
-    """Zonepath and brand of the zone that these words make, or None where they are no such line."""
-    if len(words) != 9 or words[6][:9] != b"zonepath=" or words[6][-1:] != b";" or words[8][:6] != b"brand=":
-        return None
-    path, brand = words[6][9:-1], words[8][6:]
-    right = [b"zonecfg", b"-z", words[2], b"create", b"-b;", b"set", words[6], b"set", words[8]]
-    return (path.decode(), brand.decode()) if words == right and is_one_word(path) and is_one_word(brand) else None
-
-
-def boot_arguments(words):
-    """Whether these words are arguments of a boot: -s, -i PATH and -m WORD, each once at most."""
-    options, left = set(), list(words)
-    while left:
-        option = left.pop(0)
-        if option in options or option not in (b"-s", b"-i", b"-m"):
-            return False
-        options.add(option)
-        if option != b"-s" and (not left or option == b"-i" and not is_path(left[0])):
-            return False
-        left = left if option == b"-s" else left[1:]
-    return True
-
-
-def request_of(words):
-    """(kind, detail) of the request that the words after `zoneadm -z Z` make, where the detail is the path of a move,
-    the zone that is cloned or the arguments of a boot; or None where they make none."""
-    kind, rest = words[0].decode(), words[1:]
-    if kind in ("install", "attach", "detach", "ready", "halt") and not rest:
-        return (kind, None)
-    if kind == "uninstall" and rest == [b"-F"] or kind == "mark" and rest == [b"incomplete"]:
-        return (kind, None)
-    if kind == "move" and len(rest) == 1 and is_path(rest[0]) and rest[0] != b"/":
-        return (kind, rest[0])
-    if kind == "clone" and len(rest) == 1:
-        return (kind, rest[0])
-    if kind in ("boot", "reboot") and rest[:1] in ([], [b"--"]) and boot_arguments(rest[1:]):
-        return (kind, b" ".join(rest[1:]) or None)
-    return None
-
-
-def zonecfg_of(text, words, known):
-    """What a line of zonecfg(8) asks for, as typed() tells it, or None where it is none that is known. Subcommands are
-    taken as they stand, from the first byte after the spaces behind the zone's name to the end of the line."""
-    if words[:2] != [b"zonecfg", b"-z"] or len(words) < 3:
-        return None
-    if len(words) == 3:
-        return ("edit", words[2], None) if "edit" in known else None
-    if "zonecfg" in known:
-        return ("zonecfg", words[2], re.fullmatch(rb" *zonecfg +-z +[^ ]+ +(.*)", text, re.S).group(1))
-    return ("create", words[2], made_zone(words)) if made_zone(words) is not None else None
-
-
-def is_options(word):
-    """Whether a word is the options of a list of all zones: letters in any order, also repeated. A list is short, or
-    has the columns of -p or those of -v, but not of both."""
-    return re.fullmatch(rb"-[cinpv]+", word) is not None and not (b"p" in word and b"v" in word)
-
-
-def zoneadm_of(words, known):
-    """What a line of zoneadm(8) asks for, as typed() tells it, or None where it is none that is known."""
-    if "list" in known and words[1:2] == [b"list"] and (len(words) == 2 or len(words) == 3 and is_options(words[2])):
-        return ("list", None, words[2].decode() if words[2:] else "")
-    if "help" in known and words[1:] == [b"help"]:
-        return ("help", None, None)
-    if len(words) < 4 or words[1] != b"-z":
-        return None
-    name, rest = words[2], words[3:]
-    if "help" in known and rest == [b"help"]:
-        return ("help", name, None)
-    if "verify" in known and rest == [b"verify"]:
-        return ("verify", name, None)
-    if "list" in known and rest in ([b"list"], [b"list", b"-p"], [b"list", b"-v"]):
-        return ("list", name, b"".join(rest[1:]).decode())
-    if rest == [b"uninstall"]:
-        return ("unforced", name, None)
-    return ("request", name, request_of(rest)) if request_of(rest) is not None else None
-
-
-def typed(text, known=OLD_LINES):
-    """What an idle session's line asks for: (what, name, rest), where name may be None. The rest is the path and brand
-    of a zone that is made, subcommands of zonecfg(8), kind and detail of a request, the options of a list, signal and
-    number of `kill`, or the directory of a hold."""
-    words = text.split()
-    if not words:
-        return ("nothing", None, None)
-    name = None
-    if b"-z" in words[:-1]:
-        name = words[words.index(b"-z") + 1]
-    asked = zonecfg_of(text, words, known) if words[0] == b"zonecfg" else None
-    if words[0] == b"zoneadm":
-        asked = zoneadm_of(words, known)
-    if asked is not None:
-        return asked
-    if len(words) == 3 and words[0] == b"kill" and is_signal(words[1]) and is_number(words[2]):
-        return ("kill", name, (words[1].decode(), int(words[2])))
-    if len(words) == 4 and words[0] in (b"fhold", b"frelease") and words[1] == b"-z" and is_path(words[3]):
-        return (words[0].decode(), name, words[3].decode())
-    return ("unknown", name, None)
+    return ("P", name, int(pid), call_of(words, known))

@@ -65,8 +65,9 @@ class Maker:
     """Makes traces without processes' calls. It runs each line by the model, to know what has a point next."""
 
     heads = HEADS
-    # The kinds of lines that are known beside those that always are.
+    # The kinds of lines that are known beside those that always are, and the command whose input is made.
     known = trace_lines.OLD_LINES
+    command = "trace"
 
     def __init__(self, rng):
         self.rng = rng
@@ -79,13 +80,21 @@ class Maker:
         self.sessions = self.rng.sample(range(1, 65), sessions)
 
     def line(self, text):
+        if self.is_needless(text):
+            return
         self.lines.append(text)
         try:
             event = self.host.read(text.encode("latin-1"))
         except trace_lines.Outside:
             return
         if event is not None:
-            self.host.answer(event)
+            model.answers(self.host, event, self.command)
+
+    def is_needless(self, text):
+        """Whether a line is one of the turns, most of them, that a daemon has had already in a script."""
+        desk = self.host.desks.get(text[2:].encode("latin-1"))
+        is_idle = self.command == "script" and text[:2] == "D " and not (desk and desk.is_busy())
+        return is_idle and self.rng.random() < 0.95
 
     def data(self):
         text = "\n".join(self.lines).encode("latin-1")
@@ -96,8 +105,7 @@ class Maker:
 
     def session(self):
         """A session, for the most part one that is idle."""
-        host = self.host
-        idle = [number for number in self.sessions if number not in host.tickets and number not in host.edits]
+        idle = [number for number in self.sessions if self.host.is_idle(number)]
         return self.rng.choice(idle if idle and self.rng.random() < 0.9 else self.sessions)
 
     def spaced(self, text):

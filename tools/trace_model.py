@@ -1,9 +1,9 @@
-"""A plain, slow model of `zones trace`, written from its rules, and not from the program.
+"""A plain, slow model of `zones trace` and `zones script`, written from their rules, and not from the program.
 
 run(data) gives (status, standard output, standard error) for a whole input. It shares no code with the
 program and is meant for comparing the two; tools/fuzz_trace.py does that, and tools/trace_rows.py,
 tools/object_rows.py and tools/request_rows.py compare the model with replies that are known. Lines are read by
-trace_lines.py; what zones have is kept by system_model.py, and their daemons are daemon_model.py's.
+trace_lines.py and typed_lines.py; what zones have is kept by system_model.py, and their daemons are daemon_model.py's.
 
 `known` are the kinds of lines that are read beside those that always are (trace_lines.KINDS_OF_LINES). Without
 `zonecfg` and `edit` no line sets anything of a zone's configuration but its zonepath and its brand: so each zone that a
@@ -16,13 +16,15 @@ import dataclasses
 import edit_model
 import export_model
 import list_model
+import login_model
 from config_model import Config
 from daemon_model import Daemon, Request
 from edit_model import Edit
 from mount_model import Mount
 from store_model import Record
 from system_model import Process, System
-from trace_lines import OLD_LINES, PRIVILEGES, Outside, Refused, event_of, name_fault, typed
+from trace_lines import OLD_LINES, PRIVILEGES, Outside, Refused, event_of, name_fault
+from typed_lines import typed
 
 MOST_LINES = 200000
 MOST_BYTES = 4096
@@ -31,8 +33,8 @@ NEEDED = {"fork": "proc_fork", "exec": "proc_exec", "mount": "sys_mount", "umoun
 
 
 class Host(System):
-    """The zones of one system, their daemons, and the sessions that ask them: a session edits a zone, waits for a
-    ticket, or is idle."""
+    """The zones of one system, their daemons, and the sessions that ask them: a session edits a zone, is logged in to
+    it, has its console, waits for a ticket, or is idle."""
 
     def __init__(self, brands=None, store=None, known=OLD_LINES):
         super().__init__(brands, store)
@@ -51,21 +53,20 @@ class Host(System):
             lines = self.obey(event)
         except Refused as refused:
             lines = ["err %s" % refused, *refused.shown]
+        self.logins = {number: it for number, it in self.logins.items() if it.pid in self.processes}
         head = lines[0]
         return subject, lines, head.startswith(("err ", "failed ", "stuck ")) or " err " in head
 
     def subject(self, event):
-        """The zone that an event belongs to, `global`, or `*` for all of the system. A session that waits for a zone's
-        daemon or edits a zone gives all its lines to that zone."""
+        """The zone that an event belongs to, `global`, or `*` for all of the system. A session that isn't idle gives
+        all its lines to its zone."""
         if event[0] in ("Y", "R"):
             return b"*"
         if event[0] != "S":
             return event[1]
         _, number, text = event
-        if number in self.tickets:
-            return self.tickets[number][0]
-        if number in self.edits:
-            return self.edits[number].name
+        if not self.is_idle(number):
+            return self.zone_of(number)
         what, name, rest = typed(text, self.known)
         if what == "kill" and rest[1] in self.processes:
             return self.processes[rest[1]].zone
@@ -88,15 +89,32 @@ class Host(System):
             raise Refused("91 Waiting %d" % self.tickets[number][1])
         if number in self.edits:
             return self.edited(number, text)
+        if number in self.logins:
+            return login_model.logged_in(self, number, text)
+        if not self.is_idle(number):
+            return login_model.at_console(self, self.zone_of(number), text)
         return self.line(number, *typed(text, self.known))
 
     def restart(self):
-        """Begins anew with what is stored and what is declared. Nobody edits or waits any longer, and nothing is asked
-        of a daemon; tickets, ids and processes are numbered from their first number on."""
+        """Begins anew with what is stored and what is declared. All sessions are idle, and nothing is asked of a
+        daemon; tickets, ids and processes are numbered from their first number on."""
         super().restart()
-        self.desks, self.tickets, self.edits = {}, {}, {}
+        self.desks, self.tickets, self.edits, self.logins = {}, {}, {}, {}
 
     # Sessions.
+
+    def zone_of(self, number):
+        """The zone that a session edits, is logged in to, has the console of or waits for, or None."""
+        if number in self.tickets:
+            return self.tickets[number][0]
+        if number in self.edits:
+            return self.edits[number].name
+        if number in self.logins:
+            return self.logins[number].zone
+        return next((zone for zone, console in self.consoles.items() if console.holder == number), None)
+
+    def is_idle(self, number):
+        return self.zone_of(number) is None
 
     def line(self, number, what, name, rest):
         """Obeys the line of a session that is idle: first its form, then the names in it, and then what it asks for."""
@@ -134,6 +152,12 @@ class Host(System):
             return [self.request(number, name, *rest)]
         if what == "list":
             return ["ok"] + list_model.zone(self, name, rest)
+        if what == "zlogin":
+            return login_model.log_in(self, number, name, rest)
+        if what == "call":
+            return login_model.run_call(self, name, rest)
+        if what == "console":
+            return login_model.take_console(self, number, name, rest)
         if what == "verify":
             self.verify(self.config(name).values)
             self.config(name).privileges()
@@ -239,6 +263,8 @@ class Host(System):
             self.mount(zone, *rest)
         elif call == "umount":
             self.mounts[zone].unmount_by_process(rest[0])
+        elif call == "cons":
+            self.consoles[zone].write(rest[0].encode())
         return ["ok"]
 
     def shown(self, zone, process, call, rest):
@@ -248,8 +274,8 @@ class Host(System):
             return ["%d %d %s" % (number, row.parent, row.name) for number, row in rows]
         if call == "privs":
             return [",".join(name for name in PRIVILEGES if name in process.privileges)]
-        if call == "zonename":
-            return [zone.decode()]
+        if call in ("zonename", "bootargs"):
+            return [zone.decode() if call == "zonename" else self.bootargs[zone]]
         if call in ("read", "write"):
             return [self.mounts[zone].place(rest[0], call == "write")]
         if call == "mounts":
@@ -271,9 +297,19 @@ class Host(System):
 
 # The whole run.
 
-def run(data, store=None, known=OLD_LINES):
-    """The status and both texts of `zones trace` over an input, on a store that it changes or, without one, on an empty
-    one."""
+def answers(host, event, command):
+    """What an event is answered. In a script a daemon that is asked takes turns, until it has answered or is stuck."""
+    said = [host.answer(event)]
+    if command == "script" and said[0][1][0].startswith("ticket "):
+        _, number, _ = event
+        while number in host.tickets and not said[-1][1][0].startswith("stuck "):
+            said.append(host.answer(("D", said[0][0])))
+    return said
+
+
+def run(data, store=None, known=OLD_LINES, command="trace"):
+    """The status and both texts of `zones trace` or `zones script` over an input, on a store that it changes or,
+    without one, on an empty one."""
     host = Host(store=store, known=known)
     out, first = [], None
     for number, line in enumerate(export_model.lines_of(data), 1):
@@ -283,12 +319,10 @@ def run(data, store=None, known=OLD_LINES):
             event = host.read(line)
         except Outside as fault:
             return 3, b"".join(out), ("line %d: %s\n" % (number, fault)).encode()
-        if event is None:
-            continue
-        subject, lines, refused = host.answer(event)
-        out.append(subject + b" " + "\n| ".join(lines).encode() + b"\n")
-        if refused and first is None:
-            first = number
+        for subject, lines, refused in answers(host, event, command) if event is not None else []:
+            out.append(subject + b" " + "\n| ".join(lines).encode() + b"\n")
+            if refused and first is None:
+                first = number
     if first is not None:
         return 1, b"".join(out), b"first refused line: %d\n" % first
     return 0, b"".join(out), b""

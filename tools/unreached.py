@@ -14,13 +14,11 @@ import sys
 
 import trace_model
 from arguments import arguments
-from fuzz_trace import kinds_in
-from request_maker import RequestMaker
-from zonecfg_maker import ZonecfgMaker
+from fuzz_trace import kinds_in, maker_of
 
 MOST_BYTES = 50000
 MODEL = [
-    "trace_model.py", "trace_lines.py", "system_model.py", "daemon_model.py", "plan_model.py", "config_model.py",
+    "trace_model.py", "trace_lines.py", "typed_lines.py", "login_model.py", "console_model.py", "system_model.py", "daemon_model.py", "plan_model.py", "config_model.py",
     "store_model.py", "claim_model.py", "mount_model.py", "edit_model.py", "list_model.py", "export_model.py",
 ]
 
@@ -65,7 +63,7 @@ def watched(files, reached):
 def main():
     args = arguments(__doc__, options=["lines"])
     known, rng, traces = kinds_in(args.lines), random.Random(args.seed), []
-    maker = ZonecfgMaker(rng, known) if known else RequestMaker(rng)
+    maker = maker_of(rng, known)
     files = {str(pathlib.Path(__file__).parent / name): pathlib.Path(__file__).parent / name for name in MODEL}
     reached = {name: set() for name in files}
     for _ in range(args.count):

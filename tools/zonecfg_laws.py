@@ -1,5 +1,5 @@
-"""What holds of the model in trace_model.py over random traces with configurations, editing sessions, lists and
-restarts, looked at after each of their lines.
+"""What holds of the model in trace_model.py over random traces with configurations, editing sessions, lists, restarts,
+logins and consoles, looked at after each of their lines.
 
 fault(count, seed) gives what doesn't hold in one of so many traces, or None; tools/fuzz_trace.py --self-test does this.
 The brands of these systems have hooks that refuse, which no program's brands have.
@@ -8,14 +8,15 @@ The brands of these systems have hooks that refuse, which no program's brands ha
 import dataclasses
 import random
 
-import export_model
+import index_model
+import login_laws
 import trace_lines
 import trace_model as model
 from config_model import Config
+from login_maker import LoginMaker
 from request_laws import TABLE, Watched, brands_of, wrong_with
 from store_model import AROUND, MOST_BYTES, removal_size
 from trace_lines import ALL_LINES
-from zonecfg_maker import ZonecfgMaker
 
 MOST_TEXT = 32768
 
@@ -42,20 +43,11 @@ def world_of(host, name):
     processes = {pid: dataclasses.astuple(it) for pid, it in host.processes.items() if it.zone == name}
     mounts = repr(host.mounts[name].by_directory) if name in host.mounts else "{}"
     tables = (host.active, host.zids, host.limits, host.bootargs, host.firsts, host.devices)
-    held = [repr(it.get(name)) for it in tables]
+    held = [repr(it.get(name)) for it in tables] + [login_laws.held_of(host, name)]
     return (record_of(host, name), asked, processes, mounts, held, host.items.held(name), sessions_of(host, name))
 
 
-def read_again(config):
-    """A configuration that is made from the export text of another one."""
-    editor = export_model.Editor()
-    for line in config.text().splitlines():
-        for part in export_model.subcommands(line.encode()):
-            editor.obey(export_model.command_of(part))
-    return Config(editor.config)
-
-
-class LawfulMaker(ZonecfgMaker):
+class LawfulMaker(LoginMaker):
     """Makes traces, and looks after each line whether what it did may be."""
 
     def __init__(self, rng):
@@ -80,11 +72,13 @@ class LawfulMaker(ZonecfgMaker):
         worlds = {name: world_of(host, name) for name in names}
         states = {name: host.state(name) for name in names}
         store = (host.store.serial, host.store.used, dict(host.store.records))
+        processes = set(host.processes)
         subject, lines, refused = host.answer(event)
         self.wrong = (
             self.of_others(subject, worlds) or self.of_states(event, lines[0], states, subject)
             or self.of_records(event, lines[0], store, subject) or self.of_refusals(lines[0], worlds, subject)
-            or self.of_turns(event, lines[0]) or self.of_restarts(event, store) or wrong_with(host))
+            or self.of_turns(event, lines[0]) or self.of_restarts(event, store) or wrong_with(host)
+            or login_laws.wrong_with(host) or login_laws.wrong_with_processes(processes, host, event))
         if self.wrong is not None:
             self.wrong = "%s: %s: %s" % (self.wrong, text, " | ".join(lines))
 
@@ -136,7 +130,7 @@ class LawfulMaker(ZonecfgMaker):
             return "a configuration that a daemon changed"
         if event[0] == "S" and was is not None and record.config == was.config:
             return "a commit that changes nothing"
-        if read_again(record.config) != record.config:
+        if index_model.config_of(record.config.text().encode()) != record.config:
             return "a text that reads as another configuration"
         return None
 
@@ -163,18 +157,20 @@ class LawfulMaker(ZonecfgMaker):
             return None
         if (host.store.serial, host.store.used, host.store.records) != store:
             return "a restart that changed a record"
-        left = [host.edits, host.tickets, host.desks, host.processes, host.zids, host.items.claims, host.active]
+        left = [host.edits, host.tickets, host.logins, host.consoles, host.desks, host.processes, host.zids,
+                host.items.claims, host.active]
         return "a restart that left something" if any(left) or (host.last_pid, host.last_zid) != (0, 0) else None
 
 
-def fault(count=60, seed=1):
+def fault(count=100, seed=1):
     """What doesn't hold in one of some random traces, or None."""
     for number in range(count):
         rng = random.Random("%d %d" % (seed, number))
         maker = LawfulMaker(rng)
         rng.choice([
             maker.wholes, maker.denied, maker.tuned, maker.edited, maker.comings, maker.lists, maker.restarts,
-            maker.odd_lines])()
+            maker.odd_lines, maker.logins, maker.written, maker.comes_and_goes, maker.bounded, maker.booted,
+            maker.odd_logins])()
         if maker.wrong is not None:
             return "trace %d: %s" % (number, maker.wrong)
     return None

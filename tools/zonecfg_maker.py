@@ -315,7 +315,7 @@ class ZonecfgMaker(RequestMaker):
     def first(self):
         """A session that is idle, where there is one; one that edits leaves for it."""
         host = self.host
-        idle = [number for number in self.sessions if number not in host.tickets and number not in host.edits]
+        idle = [number for number in self.sessions if host.is_idle(number)]
         if not idle and host.edits:
             idle = list(host.edits)[:1]
             self.line("S %d exit -F" % idle[0])
