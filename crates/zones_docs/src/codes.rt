@@ -197,6 +197,9 @@ S 7 zoneadm -z a install\nS 8 zoneadm -z a install\nS 9 zoneadm -z a install\n";
 const VERIFIED: &str = "S 1 zonecfg -z a create; set zonepath=/a; set limitpriv=none
 S 1 zoneadm -z a verify\n";
 
+const NOT_BOOTED: &str = "S 1 zonecfg -z a create -b; set zonepath=/a; set brand=ipkg
+S 1 zlogin a\n";
+
 // `TooMany` and `TooManyMounts` want longer inputs; of the latter `too_many_mounts` makes one.
 fn reply_runs() -> &'static [Run] {
     runs_of!(Refusal:
@@ -214,7 +217,7 @@ fn reply_runs() -> &'static [Run] {
         Refusal::Waiting(_) => [("trace", ASKED_TWICE, "91 Waiting")],
         Refusal::DeskFull => [("trace", ASKED_NINE_TIMES, "92 DeskFull")],
         Refusal::DeskInUse => [("trace", DELETED_WHILE_ASKED, "97 DeskInUse")],
-        Refusal::Usage => [("trace", "S 1 zlogin a\n", "93 Usage")],
+        Refusal::Usage => [("trace", "S 1 zlogin\n", "93 Usage")],
         Refusal::NoProcess => [("trace", "P a 2 true\n", "98 NoProcess")],
         Refusal::Duplicate => [("trace", "Y link a\nY link a\n", "24 Duplicate")],
         Refusal::TooMany(_) => [],
@@ -222,6 +225,8 @@ fn reply_runs() -> &'static [Run] {
         Refusal::HoldState => [(IN_A_ZONE, "S 1 frelease -z a /\n", "96 HoldState")],
         Refusal::NoMount => [(IN_A_ZONE, "S 1 fhold -z a /x\n", "99 NoMount")],
         Refusal::Errno(_) => [],
+        Refusal::NotRunning(_) => [("trace", NOT_BOOTED, "95 NotRunning")],
+        Refusal::Taken => [(IN_A_ZONE, "S 1 zlogin -C a\nS 2 zlogin -C a\n", "75 Taken")],
         Refusal::Privilege(_) => [("trace", VERIFIED, "47 PrivWord")],
     )
 }

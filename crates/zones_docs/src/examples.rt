@@ -57,6 +57,14 @@ const EXAMPLES: &[Example] = &[
         err: None,
     },
     Example {
+        command: "script",
+        before: None,
+        input: "examples/web.script",
+        status: 0,
+        out: Some("examples/web.replies"),
+        err: None,
+    },
+    Example {
         command: "trace",
         before: Some("examples/web.trace"),
         input: "examples/again.trace",
@@ -119,6 +127,14 @@ const EXAMPLES: &[Example] = &[
         status: 1,
         out: Some("examples/edited.replies"),
         err: Some("examples/edited.message"),
+    },
+    Example {
+        command: "trace",
+        before: None,
+        input: "examples/logged.trace",
+        status: 1,
+        out: Some("examples/logged.replies"),
+        err: Some("examples/logged.message"),
     },
 ];
 

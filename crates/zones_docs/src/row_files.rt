@@ -20,7 +20,11 @@ const FILES: &[(&str, &str)] = &[
     ("processes", "rows/processes.rows"),
     ("mounts", "rows/mounts.rows"),
     ("holds", "rows/holds.rows"),
+    ("logins", "rows/logins.rows"),
+    ("consoles", "rows/consoles.rows"),
     ("restarts", "rows/restarts.rows"),
+    ("scripts", "rows/scripts.rows"),
+    ("indexes", "rows/indexes.rows"),
 ];
 
 // The first line in which two texts differ, as each of them has it; a text that ends before has nothing.

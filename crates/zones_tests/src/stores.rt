@@ -264,7 +264,7 @@ const OTHERS: &[(Given, u8)] = &[
     ),
     (
         Given {
-            words: &["index"],
+            words: &["index", "x"],
             ..EXPORT
         },
         2,
