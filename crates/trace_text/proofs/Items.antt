@@ -15,7 +15,7 @@ use Rattle.datalink_table.specs.declared.claims.ClaimKind.TheVariants.{Address, 
 use Rattle.export_read.proofs.Printable.{all_in, is_text-bytes}
 use Rattle.config_terms.specs.Numbers.{number_of}
 use Rattle.config_verify.specs.Values.{are_four_octets, is_at_most, is_dot, is_plain_address, is_up_to}
-use Rattle.zone_machine.specs.declared.events.Declaration.TheVariants.{Item}
+use Rattle.zone_cases.specs.declared.events.Declaration.TheVariants.{Item}
 use Rattle.trace_text.specs.Declarations.{is_declaration, is_item_byte, is_item_name}
 
 of_parts : (parts : List (List ℕ)) → (length parts == 4 && list_all (is_up_to 255) parts) ≡ are_four_octets parts

@@ -16,9 +16,9 @@ use Rattle.process_calls.specs.Calls.{call_text, greatest_pid, is_call, pid_in}
 use Rattle.process_calls.proofs.Again.{call_again}
 use Rattle.process_calls.proofs.Numbers.{pid_again, pid_lacks}
 use Rattle.datalink_table.specs.declared.claims.ClaimKind.TheVariants.{Address, Dataset, Link}
-use Rattle.zone_machine.specs.declared.events.Declaration.{Declaration}
-use Rattle.zone_machine.specs.declared.events.Declaration.TheVariants.{Device, Item}
-use Rattle.zone_machine.specs.declared.events.Event.TheVariants.{Process, Restart, Session, System, Turn}
+use Rattle.zone_cases.specs.declared.events.Declaration.{Declaration}
+use Rattle.zone_cases.specs.declared.events.Declaration.TheVariants.{Device, Item}
+use Rattle.zone_cases.specs.declared.events.Event.TheVariants.{Process, Restart, Session, System, Turn}
 use Rattle.trace_text.proofs.Items.{item_lacks}
 use Rattle.trace_text.specs.Declarations.{declaration_text, is_declaration}
 use Rattle.trace_text.specs.Lines.{Said, after_word, declaration_by, declaration_of, item_at, pid_by, event_by, event_of, first_word, line_text, pid_at, process_by, process_of, session_of, turn_of, typed_text, types, types_unless}

@@ -6,8 +6,8 @@ use Rattle.zn_base.specs.Path.{is_path, is_slash}
 use Rattle.config_verify.specs.Values.{is_plain_address}
 use Rattle.datalink_table.specs.declared.claims.ClaimKind.TheVariants.{Address, Dataset, Link}
 use Rattle.process_calls.specs.Calls.{is_run}
-use Rattle.zone_machine.specs.declared.events.Declaration.{Declaration}
-use Rattle.zone_machine.specs.declared.events.Declaration.TheVariants.{Device, Item}
+use Rattle.zone_cases.specs.declared.events.Declaration.{Declaration}
+use Rattle.zone_cases.specs.declared.events.Declaration.TheVariants.{Device, Item}
 
 -- a letter, a digit, `_`, `-`, `.` or `/`
 abbrev pub is_item_byte : ℕ → Bool

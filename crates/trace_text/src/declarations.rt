@@ -11,7 +11,7 @@ use config_verify::is_plain_address;
 use datalink_table::ClaimKind;
 use std::alloc::{AllocError, Global};
 use zn_base::{AbsPath, Text, is_name_byte, is_path, push_both, split_at_byte};
-use zone_machine::{Declaration, Event};
+use zone_cases::{Declaration, Event};
 
 // The greatest length of the name of a link or of a dataset.
 const NAME_MAX: usize = 63;

@@ -11,12 +11,13 @@ use Rattle.zone_pools.specs.Owners.{is_owner, owner}
 use Rattle.datalink_table.specs.Claims.{holds}
 use Rattle.kernel_objects.specs.Processes.{has_pid}
 use Rattle.zoneadmd_steps.specs.Objects.{has_zid}
-use Rattle.zone_machine.specs.Code.Cells.{Agree, Does, cell_world, outside_in}
+use Rattle.zone_machine.specs.Code.Cells.{Agree, Does, outside_in}
+use Rattle.zone_cases.specs.Code.Cells.{cell_world}
 use Rattle.zone_machine.specs.Code.Rooms.{Alike, IsOpenTo}
 use Rattle.zone_machine.proofs.Doing_laws.{holds_doing}
 use Rattle.zone_machine.specs.Machine.Common.{Common, holding}
-use Rattle.zone_machine.specs.State.Worlds.{World}
-use Rattle.zone_machine.specs.declared.machine.cell.Cell.{Cell}
+use Rattle.zone_cases.specs.State.Worlds.{World}
+use Rattle.zone_cases.specs.declared.cell.Cell.{Cell}
 use Rattle.zone_machine.specs.declared.machine.shared.Shared.{Shared}
 
 pub alike_both : (c d e : Cell) (s t u : Shared) → Alike c s d t → Alike d t e u → Alike c s e u

@@ -12,9 +12,9 @@ use Rattle.zone_machine.proofs.Standing.{cell-stands, decide-stands, subject-sta
 use Rattle.zone_machine.proofs.Stepping.{takes-by, world-stands}
 use Rattle.zone_machine.proofs.Storing.{case-stored}
 use Rattle.zone_machine.proofs.Writing.{bodies-more, commits-global, commits-whole, commits-zone, goes-nowhere, goes-writes, grows}
-use Rattle.zone_machine.specs.Code.Cases.{decision_of}
-use Rattle.zone_machine.specs.Code.Cells.{CellOf, Outside, SharedOf, cell_at, cell_world, outside_in, world_or_empty}
-use Rattle.zone_machine.specs.Code.Decided.{IsCaseIn}
+use Rattle.zone_cases.specs.Code.Cases.{decision_of, IsCaseIn}
+use Rattle.zone_cases.specs.Code.Cells.{CellOf, Outside, cell_world, world_or_empty}
+use Rattle.zone_machine.specs.Code.Cells.{SharedOf, cell_at, outside_in}
 use Rattle.zone_machine.specs.Code.Needs.{pools_in}
 use Rattle.zone_machine.specs.Code.Reads.{subject_in}
 use Rattle.zone_machine.specs.Code.Records.{GoesInCell, GoesUnder, HasNumber, IsReady, KeepsBodies, KeepsBodiesInCell, StoresUnder, Writes, bodies_with, stored_by, taken}
@@ -22,15 +22,15 @@ use Rattle.zone_machine.specs.Code.Steps.{IsGrantFor, IsTaken, Leaves, LeavesGra
 use Rattle.zone_machine.specs.Machine.{decide, one, subject}
 use Rattle.zone_machine.specs.Machine.Common.{common}
 use Rattle.zone_machine.specs.Machine.Images.{Goes}
-use Rattle.zone_machine.specs.State.{State, bodies_of}
-use Rattle.zone_machine.specs.State.Decisions.{Decision, act_of}
-use Rattle.zone_machine.specs.State.Worlds.{View, view, world}
-use Rattle.zone_machine.specs.declared.cases.Case.{Case}
-use Rattle.zone_machine.specs.declared.events.Event.{Event}
-use Rattle.zone_machine.specs.declared.events.Subject.TheVariants.{Global, Whole, Zone}
+use Rattle.zone_cases.specs.State.{State, bodies_of}
+use Rattle.zone_cases.specs.State.Decisions.{Decision, act_of}
+use Rattle.zone_cases.specs.State.Worlds.{View, view, world}
+use Rattle.zone_cases.specs.declared.cases.Case.{Case}
+use Rattle.zone_cases.specs.declared.events.Event.{Event}
+use Rattle.zone_cases.specs.declared.events.Subject.TheVariants.{Global, Whole, Zone}
 use Rattle.zone_machine.specs.declared.faults.StepFault.{StepFault}
 use Rattle.zone_machine.specs.declared.faults.StepFault.TheVariants.{BadGrant, DiskFault, Memory, NoStore, WouldRecord}
-use Rattle.zone_machine.specs.declared.machine.cell.Cell.{Cell}
+use Rattle.zone_cases.specs.declared.cell.Cell.{Cell}
 use Rattle.zone_machine.specs.declared.machine.parts.Parts.{Parts}
 use Rattle.zone_machine.specs.declared.machine.shared.Shared.{Shared}
 

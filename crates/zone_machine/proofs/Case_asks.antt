@@ -14,19 +14,19 @@ use Rattle.commit_journal.specs.declared.records.Record as records
 use Rattle.zone_machine.proofs.Asking.{asks_rightly}
 use Rattle.zoneadmd_steps.proofs.Of_turns.{is_asked_for}
 use Rattle.zoneadmd_steps.specs.Arrivals.{A_record, Arrival, Comes, arrived}
-use Rattle.zone_machine.specs.State.Decisions.{effects, turned}
+use Rattle.zone_cases.specs.State.Decisions.{effects, turned}
 use Rattle.zoneadmd_steps.specs.Code.Cases.{asked_for, comes_of, edits_under, halt_begun, job_turn, object_edits, on_job, shown_under, turn_decision_of, undo_with}
 use Rattle.zn_base.specs.Names.{Name}
-use Rattle.zone_machine.specs.Code.Cases.{decision_of, made}
-use Rattle.zone_machine.specs.declared.cases.Committer.{Committer}
-use Rattle.zone_machine.specs.declared.cases.Novelty.{Novelty}
-use Rattle.zone_machine.specs.declared.cases.Novelty.TheVariants as novelty
+use Rattle.zone_cases.specs.Code.Cases.{decision_of, made}
+use Rattle.zone_cases.specs.declared.cases.Committer.{Committer}
+use Rattle.zone_cases.specs.declared.cases.Novelty.{Novelty}
+use Rattle.zone_cases.specs.declared.cases.Novelty.TheVariants as novelty
 use Rattle.zoneadmd_steps.specs.Desks as desks
 use Rattle.zoneadmd_steps.specs.Code.Desks.{as_desk, as_job}
 use Rattle.zoneadmd_steps.specs.Objects.{Object_edit}
 use Rattle.zoneadmd_steps.specs.Turns.{Turn_decision, asking}
-use Rattle.zone_machine.specs.declared.cases.Case.{Case}
-use Rattle.zone_machine.specs.declared.cases.Case.TheVariants as cases
+use Rattle.zone_cases.specs.declared.cases.Case.{Case}
+use Rattle.zone_cases.specs.declared.cases.Case.TheVariants as cases
 use Rattle.zoneadmd_steps.specs.declared.cases.JobCase.{JobCase}
 use Rattle.zoneadmd_steps.specs.declared.cases.JobCase.TheVariants as jobs
 use Rattle.zoneadmd_steps.specs.declared.cases.TurnCase.{TurnCase}

@@ -17,11 +17,12 @@ use Rattle.zone_pools.specs.Owners as owners
 use Rattle.zone_pools.specs.Owners.{held_by, is_owner}
 use Rattle.zone_machine.proofs.Acts_laws.{same_other}
 use Rattle.zone_machine.proofs.Doing_laws.{common_by, holds_doing, same_pids, same_sessions, same_zids}
-use Rattle.zone_machine.specs.Code.Cells.{Agree, Does, cell_world, common_in, kept, outside_in}
+use Rattle.zone_machine.specs.Code.Cells.{Agree, Does, common_in, kept, outside_in}
+use Rattle.zone_cases.specs.Code.Cells.{cell_world}
 use Rattle.zone_machine.specs.Machine.Common.{Common, came_common, holding}
-use Rattle.zone_machine.specs.State.Edits.{Of_objects, comes_world, edits_world}
-use Rattle.zone_machine.specs.State.Worlds.{World}
-use Rattle.zone_machine.specs.declared.machine.cell.Cell.{Cell}
+use Rattle.zone_cases.specs.State.Edits.{Of_objects, comes_world, edits_world}
+use Rattle.zone_cases.specs.State.Worlds.{World}
+use Rattle.zone_cases.specs.declared.cell.Cell.{Cell}
 use Rattle.zone_machine.specs.declared.machine.shared.Shared.{Shared}
 use Rattle.zoneadmd_steps.specs.Arrivals.{New_claim}
 use Rattle.zoneadmd_steps.specs.Code.Cases.{object_edits}

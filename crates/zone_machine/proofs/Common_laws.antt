@@ -23,9 +23,9 @@ use Rattle.zone_machine.proofs.Acts_laws.{OwnSession, other-acts, own-acts}
 use Rattle.zone_machine.proofs.Own_worlds.{decide-world, need-world, own_session, view-world}
 use Rattle.zoneadmd_steps.specs.Arrivals.{Arrival, New_claim, New_id, New_process, New_record, No_new_thing}
 use Rattle.zone_machine.specs.Machine.Common.{Common, HoldOnce, acts_common, came_common, common, holds_claim, holds_pid, holds_session, holds_zid, is_up, whole_common}
-use Rattle.zone_machine.specs.State.Decisions.{Act, act_of, acts, acts_world, after_came}
-use Rattle.zone_machine.specs.State.Edits.{Edit, Of_objects, comes, console_gone, edit, edits, keeps_console}
-use Rattle.zone_machine.specs.Session.Lines.{Command, Kill, Line, line_of}
+use Rattle.zone_cases.specs.State.Decisions.{Act, act_of, acts, acts_world, after_came}
+use Rattle.zone_cases.specs.State.Edits.{Edit, Of_objects, comes, console_gone, edit, edits, keeps_console}
+use Rattle.zone_cases.specs.Session.Lines.{Command, Kill, Line, line_of}
 use Rattle.zone_machine.specs.Machine.{decide, holder, line_subject, need, one, one_of, session_number, session_subject, started, subject, whole}
 use Rattle.kernel_objects.specs.Processes.{Process, has_pid}
 use Rattle.zoneadmd_steps.specs.Objects.{Processes_go, all_of, has_zid}
@@ -34,12 +34,12 @@ use Rattle.zone_machine.specs.Machine.Pools.{allowed, allowed_of, fits, fits_of,
 use Rattle.commit_journal.proofs.Applied.{stored-push}
 use Rattle.commit_journal.specs.Stored as rows
 use Rattle.commit_journal.specs.Stored.{Rows}
-use Rattle.zone_machine.specs.State.Declarations.{Declared}
-use Rattle.zone_machine.specs.State.{At, Idle, Session as Session_mode, State, bodies_of, bytes_used}
-use Rattle.zone_machine.specs.State.Worlds.{World, doing, view, view_of, world}
-use Rattle.zone_machine.specs.declared.events.Event.{Event}
-use Rattle.zone_machine.specs.declared.events.Event.TheVariants.{Process as Call_of, Restart, Session, System, Turn}
-use Rattle.zone_machine.specs.declared.events.Subject.TheVariants.{Global, Whole, Zone}
+use Rattle.zone_cases.specs.State.Declarations.{Declared}
+use Rattle.zone_cases.specs.State.{At, Idle, Session as Session_mode, State, bodies_of, bytes_used}
+use Rattle.zone_cases.specs.State.Worlds.{World, doing, view, view_of, world}
+use Rattle.zone_cases.specs.declared.events.Event.{Event}
+use Rattle.zone_cases.specs.declared.events.Event.TheVariants.{Process as Call_of, Restart, Session, System, Turn}
+use Rattle.zone_cases.specs.declared.events.Subject.TheVariants.{Global, Whole, Zone}
 use Rattle.commit_journal.specs.declared.records.Commit.{Commit}
 
 -- what no world shows

@@ -17,20 +17,21 @@ use Rattle.zone_pools.specs.Owners.{held_by, is_owner, owner}
 use Rattle.commit_journal.proofs.Zones.{placed_is}
 use Rattle.commit_journal.specs.Zones.{rows_of}
 use Rattle.zone_machine.proofs.Acts_laws.{same_other}
-use Rattle.zone_machine.proofs.Doings_laws.{some_ended}
-use Rattle.zone_machine.specs.Code.Cells.{Acts, Agree, Does, cell_world, common_in, declared_in, is_up_in, kept, outside_in, row_in}
+use Rattle.zone_cases.proofs.Doings_laws.{some_ended}
+use Rattle.zone_machine.specs.Code.Cells.{Acts, Agree, Does, common_in, declared_in, is_up_in, kept, outside_in, row_in}
+use Rattle.zone_cases.specs.Code.Cells.{cell_world}
 use Rattle.zoneadmd_steps.specs.Objects.{ids_of, has_zid}
-use Rattle.zone_machine.specs.Code.Consoles.{console_edits, console_in}
-use Rattle.zone_machine.specs.Code.Doings.{as_doing, ends_with, is_ended, sits, sweep_of, swept_by, unless_ended}
+use Rattle.zone_cases.specs.Code.Consoles.{console_edits, console_in}
+use Rattle.zone_cases.specs.Code.Doings.{as_doing, ends_with, is_ended, sits, sweep_of, swept_by, unless_ended}
 use Rattle.zone_machine.specs.Code.Works.{arrival_by, with_row, work_world, Works, rest_of, work_act}
 use Rattle.datalink_table.specs.Claims.{holds}
 use Rattle.datalink_table.specs.Shared.{holder}
 use Rattle.datalink_table.specs.declared.claims.Claim.{Claim}
 use Rattle.zone_machine.specs.Machine.Common.{Common, came_common, holding, holds_claim, holds_pid, holds_zid, standing}
-use Rattle.zone_machine.specs.State.Edits.{Edit, Here, Of_objects, Set_desk, at_session, console_gone_world, edit_world, edits_world, keeps_console, swept_doing}
+use Rattle.zone_cases.specs.State.Edits.{Edit, Here, Of_objects, Set_desk, at_session, console_gone_world, edit_world, edits_world, keeps_console, swept_doing}
 use Rattle.console_link.specs.Consoles.{Console, new_console}
-use Rattle.zone_machine.specs.State.Worlds.{World}
-use Rattle.zone_machine.specs.declared.machine.cell.Cell.{Cell}
+use Rattle.zone_cases.specs.State.Worlds.{World}
+use Rattle.zone_cases.specs.declared.cell.Cell.{Cell}
 use Rattle.kernel_objects.specs.Processes.{has_pid}
 use Rattle.kernel_objects.specs.Shared.{pid_owner, zid_owner}
 use Rattle.commit_journal.specs.declared.records.Record.{Record}
@@ -38,13 +39,13 @@ use Rattle.zone_machine.specs.declared.machine.shared.Shared.{Shared}
 use Rattle.zoneadmd_steps.specs.declared.objects.changes.ObjectEdit.TheVariants.{EndIds, EndProcesses}
 use Rattle.zoneadmd_steps.specs.declared.objects.changes.ObjectEdit.TheVariants as object
 use Rattle.zoneadmd_steps.specs.Arrivals.{Arrival, New_claim, New_id, New_process, New_record, No_new_thing, in_kernel, in_store}
-use Rattle.zone_machine.specs.State.Decisions.{Act, acts_world, after_came_world, sweeps}
+use Rattle.zone_cases.specs.State.Decisions.{Act, acts_world, after_came_world, sweeps}
 use Rattle.zone_machine.specs.Code.Rooms.{IsOpenTo}
-use Rattle.zone_machine.specs.declared.cases.Sitting.{Sitting}
-use Rattle.zone_machine.specs.declared.session.doings.Doing.{Doing}
-use Rattle.zone_machine.specs.declared.session.doings.Doing.TheVariants.{AtConsole, Awaits, Edits, LoggedIn}
-use Rattle.zone_machine.specs.declared.session.doings.Ended.{Ended}
-use Rattle.zone_machine.specs.declared.session.doings.Ended.TheVariants.{Console as Console_ends, Process, Processes, Ticket}
+use Rattle.zone_cases.specs.declared.cases.Sitting.{Sitting}
+use Rattle.zone_cases.specs.declared.session.doings.Doing.{Doing}
+use Rattle.zone_cases.specs.declared.session.doings.Doing.TheVariants.{AtConsole, Awaits, Edits, LoggedIn}
+use Rattle.zone_cases.specs.declared.session.doings.Ended.{Ended}
+use Rattle.zone_cases.specs.declared.session.doings.Ended.TheVariants.{Console as Console_ends, Process, Processes, Ticket}
 use Rattle.zone_machine.specs.declared.machine.work.Work.{Work}
 use Rattle.zoneadmd_steps.specs.declared.objects.changes.ObjectEdit.{ObjectEdit}
 use Rattle.zoneadmd_steps.specs.declared.desks.Desk.{Desk}

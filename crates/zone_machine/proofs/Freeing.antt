@@ -19,14 +19,14 @@ use Rattle.zone_pools.specs.declared.grant.Pool.TheVariants.{Paths, Pids, Store,
 use Rattle.zone_pools.specs.declared.limits.TheConstants.{PID_MAX, PID_MIN, ZID_MAX, ZID_MIN}
 use Rattle.zoneadmd_steps.proofs.Of_turns.{asked_item, is_asked_for}
 use Rattle.zoneadmd_steps.specs.Arrivals.{A_claim, A_process, A_record, An_id, Comes, No_thing, arrived, New_record}
-use Rattle.zone_machine.specs.State.Decisions.{Decision, act_of, effects, turned}
+use Rattle.zone_cases.specs.State.Decisions.{Decision, act_of, effects, turned}
 use Rattle.zone_machine.specs.Code.Rooms.{IsFreeOf}
 use Rattle.zone_machine.specs.Code.Steps.{IsGrantFor}
 use Rattle.zoneadmd_steps.specs.Code.Cases.{asked_for, on_job, turn_decision_of, IsNumberedCame, IsNumberedTurn}
-use Rattle.zone_machine.specs.Code.Cases.{decision_of, IsNumbered, numbered_row}
+use Rattle.zone_cases.specs.Code.Cases.{decision_of, IsNumbered, numbered_row}
 use Rattle.zoneadmd_steps.specs.Turns.{Turn_decision}
-use Rattle.zone_machine.specs.declared.cases.Case.{Case}
-use Rattle.zone_machine.specs.declared.cases.Case.TheVariants as cases
+use Rattle.zone_cases.specs.declared.cases.Case.{Case}
+use Rattle.zone_cases.specs.declared.cases.Case.TheVariants as cases
 use Rattle.zoneadmd_steps.specs.declared.cases.JobCase.TheVariants as jobs
 use Rattle.zoneadmd_steps.specs.declared.cases.TurnCase.{TurnCase}
 use Rattle.zoneadmd_steps.specs.declared.cases.TurnCase.TheVariants as turns

@@ -13,13 +13,14 @@ use Rattle.zone_pools.specs.Owners as owners
 use Rattle.zone_pools.specs.Owners.{held_by, is_owner}
 use Rattle.zone_machine.proofs.Acts_laws.{same_other}
 use Rattle.zone_machine.proofs.Lists_laws.{any-put, none_left}
-use Rattle.zone_machine.specs.Code.Cells.{Agree, Does, cell_world, common_in, kept, outside_in}
+use Rattle.zone_machine.specs.Code.Cells.{Agree, Does, common_in, kept, outside_in}
+use Rattle.zone_cases.specs.Code.Cells.{cell_world}
 use Rattle.zoneadmd_steps.specs.Objects.{ids_of, has_zid, keeping_pid, keeping_zid}
 use Rattle.zone_machine.specs.Machine.Common.{Common, came_common, holding}
 use Rattle.zone_machine.specs.Code.Works.{without_process}
-use Rattle.zone_machine.specs.State.Edits.{Of_objects, comes_world, edits_world}
-use Rattle.zone_machine.specs.State.Worlds.{World}
-use Rattle.zone_machine.specs.declared.machine.cell.Cell.{Cell}
+use Rattle.zone_cases.specs.State.Edits.{Of_objects, comes_world, edits_world}
+use Rattle.zone_cases.specs.State.Worlds.{World}
+use Rattle.zone_cases.specs.declared.cell.Cell.{Cell}
 use Rattle.kernel_objects.specs.Kernel as Kernels
 use Rattle.kernel_objects.specs.Kernel.{Kernel, new_id, with_process, with_processes, with_id}
 use Rattle.kernel_objects.specs.Processes.{Process, at_pid, below, dropping, has_pid, renamed, with_pid, without_pid}

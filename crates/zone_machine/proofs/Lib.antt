@@ -17,21 +17,14 @@ mod Opening
 pub mod Freeing
 pub mod Common_laws
 pub mod Local_laws
-pub mod Login_cases
 pub mod Local_doing
-pub mod Words
-pub mod Made
-pub mod Right_lines
 pub mod Pools_laws
 pub mod Indexing
 pub mod Listing_laws
 pub mod Lists_laws
-pub mod Doings_laws
 pub mod Opens
 pub mod Doing_laws
 pub mod Kernel_doing
-pub mod Kernel_cases
-mod Mount_cases
 pub mod Rooms_laws
 pub mod Standing
 pub mod Stepping

@@ -8,10 +8,10 @@ use Rattle.zone_pools.specs.declared.owned.Owned.{Owned}
 use Rattle.zone_machine.proofs.Stepping.{world-stands}
 use Rattle.zone_machine.specs.Code.Cells.{Stands}
 use Rattle.zone_machine.specs.Code.Listed.{row_in_parts, told_entries, told_entry, told_rows}
-use Rattle.zone_machine.specs.Session.Listed.{Zone_row, global_rows, header, is_listed, list_zones, listing, row_now, row_text}
-use Rattle.zone_machine.specs.State.{State}
+use Rattle.zone_cases.specs.Session.Listed.{Zone_row, global_rows, header, is_listed, list_zones, listing, row_now, row_text}
+use Rattle.zone_cases.specs.State.{State}
 use Rattle.zone_machine.specs.declared.machine.parts.Parts.{Parts}
-use Rattle.zone_machine.specs.declared.session.listing.Options.{Options}
+use Rattle.zone_cases.specs.declared.session.listing.Options.{Options}
 
 module _ (o : Options) where
   -- one row before others

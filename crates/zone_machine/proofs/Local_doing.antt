@@ -7,34 +7,34 @@ use Rattle.zone_pools.specs.Decisions.{Ask, Just}
 use Rattle.zone_pools.specs.declared.grant.Grant.TheVariants.{Nothing}
 use Rattle.zone_machine.proofs.Local_laws.{Local, is-local, local-one, not-local, stays, subject-turn, world-after}
 use Rattle.zone_machine.specs.Code.Works.{arrival_by, turned_act, Works, rest_of, told_by}
-use Rattle.zone_machine.specs.Code.Consoles.{console_edits}
-use Rattle.zone_machine.specs.declared.cases.ConsoleEdit.TheVariants as console
-use Rattle.zone_machine.specs.Code.Doings.{sits}
+use Rattle.zone_cases.specs.Code.Consoles.{console_edits}
+use Rattle.zone_cases.specs.declared.cases.ConsoleEdit.TheVariants as console
+use Rattle.zone_cases.specs.Code.Doings.{sits}
 use Rattle.zone_machine.proofs.Turned_laws.{has-turned}
 use Rattle.zoneadmd_steps.specs.Arrivals.{Arrival}
 use Rattle.zoneadmd_steps.specs.Code.Cases.{object_edits}
-use Rattle.zone_machine.specs.Code.Cells.{CellOf, IsHeardIn, Outside, cell_objects, cell_world, outside_of}
+use Rattle.zone_cases.specs.Code.Cells.{CellOf, IsHeardIn, Outside, cell_objects, cell_world, outside_of}
 use Rattle.brand_hooks.specs.declared.table.HookAnswer.{HookAnswer}
 use Rattle.zoneadmd_steps.specs.Objects.{ids_of, Object_edit, Processes_go, devices_after, ids_after, mounts_after}
-use Rattle.zone_machine.specs.State.Decisions.{Decision, act_of, acts_world, after_came_world, effects, says, sweeps, turned}
+use Rattle.zone_cases.specs.State.Decisions.{Decision, act_of, acts_world, after_came_world, effects, says, sweeps, turned}
 use Rattle.zoneadmd_steps.specs.Desks as desks
 use Rattle.zoneadmd_steps.specs.Code.Desks.{as_desk}
-use Rattle.zone_machine.specs.State.Edits.{Of_objects, Set_desk, console_gone_world, edit_world, edits_world, keeps_console}
+use Rattle.zone_cases.specs.State.Edits.{Of_objects, Set_desk, console_gone_world, edit_world, edits_world, keeps_console}
 use Rattle.zone_machine.specs.Code.Local_turns.{After, HasNoNext, IsDone, IsLocalTurn, IsNotLocal}
 use Rattle.zone_machine.specs.Machine.{Answered, one, subject}
 use Rattle.zoneadmd_steps.specs.Turns.{Turn_decision, Turned, local_turn}
-use Rattle.zone_machine.specs.State.{State}
-use Rattle.zone_machine.specs.State.Worlds.{World, objects_of, world}
-use Rattle.zone_machine.specs.declared.machine.cell.Cell.{Cell}
+use Rattle.zone_cases.specs.State.{State}
+use Rattle.zone_cases.specs.State.Worlds.{World, objects_of, world}
+use Rattle.zone_cases.specs.declared.cell.Cell.{Cell}
 use Rattle.zoneadmd_steps.specs.declared.requests.TurnReply.TheVariants.{Idle}
 use Rattle.zoneadmd_steps.specs.declared.desks.Desk.{Desk}
-use Rattle.zone_machine.specs.declared.events.Entry.{Entry}
-use Rattle.zone_machine.specs.declared.events.Event.{Event}
-use Rattle.zone_machine.specs.declared.events.Event.TheVariants.{Turn}
-use Rattle.zone_machine.specs.declared.events.Subject.{Subject}
-use Rattle.zone_machine.specs.declared.events.Subject.TheVariants.{Zone}
-use Rattle.zone_machine.specs.declared.replies.Head.TheVariants.{Turned as Told}
-use Rattle.zone_machine.specs.declared.replies.Reply.{Reply}
+use Rattle.zone_cases.specs.declared.events.Entry.{Entry}
+use Rattle.zone_cases.specs.declared.events.Event.{Event}
+use Rattle.zone_cases.specs.declared.events.Event.TheVariants.{Turn}
+use Rattle.zone_cases.specs.declared.events.Subject.{Subject}
+use Rattle.zone_cases.specs.declared.events.Subject.TheVariants.{Zone}
+use Rattle.zone_cases.specs.declared.replies.Head.TheVariants.{Turned as Told}
+use Rattle.zone_cases.specs.declared.replies.Reply.{Reply}
 use Rattle.zoneadmd_steps.specs.declared.objects.changes.ObjectEdit.{ObjectEdit}
 use Rattle.zone_machine.specs.declared.machine.work.Storing.{Storing}
 use Rattle.zone_machine.specs.declared.machine.work.Storing.TheVariants as storing

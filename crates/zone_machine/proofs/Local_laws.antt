@@ -24,25 +24,25 @@ use Rattle.zoneadmd_steps.specs.Arrivals.{arrived}
 use Rattle.zone_machine.specs.Machine.Common.{Common, common}
 use Rattle.zone_machine.specs.Machine.Local.{is_busy, is_local, is_turn_of, tells_local}
 use Rattle.zoneadmd_steps.specs.Local.{is_idle, is_of_own}
-use Rattle.zone_machine.specs.State.Decisions.{effects, says, sweeps, turned}
+use Rattle.zone_cases.specs.State.Decisions.{effects, says, sweeps, turned}
 use Rattle.zoneadmd_steps.specs.Desks.{Desk}
-use Rattle.zone_machine.specs.State.Edits.{Of_objects, Set_desk, edit, edit_world, edits, edits_world}
+use Rattle.zone_cases.specs.State.Edits.{Of_objects, Set_desk, edit, edit_world, edits, edits_world}
 use Rattle.zone_machine.specs.Machine.Histories.{is_allowed, is_told}
 use Rattle.zone_machine.specs.Machine.{Answered, decide, done_by, one, started, subject}
 use Rattle.zoneadmd_steps.specs.Objects.{Devices_are, Ids_change, Object_edit, Of_mounts, devices_after, has_zid, ids_after, keeping_zid, mounts_after}
 use Rattle.zone_machine.specs.Machine.Pools.{allowed, pools_of}
 use Rattle.zone_machine.specs.Machine.Same.{same_subject}
-use Rattle.zone_machine.specs.State.{State}
+use Rattle.zone_cases.specs.State.{State}
 use Rattle.zoneadmd_steps.specs.Turns.{Turn_decision, Turned, local_turn, turn}
-use Rattle.zone_machine.specs.State.Worlds.{World, objects_of, seen_of, view, world}
+use Rattle.zone_cases.specs.State.Worlds.{World, objects_of, seen_of, view, world}
 use Rattle.zoneadmd_steps.specs.declared.requests.TurnReply.{TurnReply}
 use Rattle.zoneadmd_steps.specs.declared.requests.TurnReply.TheVariants.{Idle}
-use Rattle.zone_machine.specs.declared.events.Entry.{Entry}
-use Rattle.zone_machine.specs.declared.events.Event.{Event}
-use Rattle.zone_machine.specs.declared.events.Event.TheVariants.{Process as Call_of, Restart, Session, System, Turn}
-use Rattle.zone_machine.specs.declared.events.Subject.TheVariants.{Zone}
+use Rattle.zone_cases.specs.declared.events.Entry.{Entry}
+use Rattle.zone_cases.specs.declared.events.Event.{Event}
+use Rattle.zone_cases.specs.declared.events.Event.TheVariants.{Process as Call_of, Restart, Session, System, Turn}
+use Rattle.zone_cases.specs.declared.events.Subject.TheVariants.{Zone}
 use Rattle.loopback_mounts.specs.declared.mount.MountEntry.{MountEntry}
-use Rattle.zone_machine.specs.declared.replies.Head.TheVariants.{Turned as Told}
+use Rattle.zone_cases.specs.declared.replies.Head.TheVariants.{Turned as Told}
 
 -- what a local entry says, with what its turn does
 pub record Local (z : Name) (w : World) (e : Entry) (t : Turned) : Type 0 where

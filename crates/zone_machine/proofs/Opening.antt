@@ -18,7 +18,7 @@ use Rattle.zone_machine.specs.Code.Openings.{HasCommits}
 use Rattle.zone_machine.specs.Code.Records.{IsReady}
 use Rattle.zone_machine.specs.Machine.Common.{common}
 use Rattle.zone_machine.specs.Machine.Images.{Holds, IsStoreOf}
-use Rattle.zone_machine.specs.State.{State, bodies_of}
+use Rattle.zone_cases.specs.State.{State, bodies_of}
 use Rattle.zone_machine.specs.declared.machine.shared.Shared.{Shared}
 
 -- the store that was opened has the bodies and the rows of the commits that the disk stands for

@@ -18,14 +18,15 @@ use Rattle.zone_machine.specs.Code.Openings.{StandsFor}
 use Rattle.zone_machine.specs.Code.Records.{BankLeft, GoesUnder, IsReady, taken}
 use Rattle.zone_machine.specs.Code.Restarts.{BankLeftAny, BeginsAgainAfter, KeepsBodiesOf, LeavesAny, LeavesRestart, LosesStore, RestartLeft, RestartsUnder, restart_entry}
 use Rattle.zone_machine.specs.Code.Steps.{AsItWas, FitsIn, IsGrantFor, IsRefusedIfUnfit, IsTaken, IsUnfit, Leaves}
-use Rattle.zone_machine.specs.Machine.{is_restart, one, restarted, subject}
+use Rattle.zone_cases.specs.Events.{is_restart}
+use Rattle.zone_machine.specs.Machine.{one, restarted, subject}
 use Rattle.zone_machine.specs.Machine.Common.{common}
 use Rattle.zone_machine.specs.Machine.Histories.{entry_at}
 use Rattle.zone_machine.specs.Machine.Images.{Goes, Holds, HoldsEither, IsStoreOf}
-use Rattle.zone_machine.specs.State.{State, bodies_of}
-use Rattle.zone_machine.specs.declared.events.Entry.{Entry}
-use Rattle.zone_machine.specs.declared.events.Event.{Event}
-use Rattle.zone_machine.specs.declared.events.Event.TheVariants.{Process as Call_of, Restart, Session, System, Turn}
+use Rattle.zone_cases.specs.State.{State, bodies_of}
+use Rattle.zone_cases.specs.declared.events.Entry.{Entry}
+use Rattle.zone_cases.specs.declared.events.Event.{Event}
+use Rattle.zone_cases.specs.declared.events.Event.TheVariants.{Process as Call_of, Restart, Session, System, Turn}
 use Rattle.zone_machine.specs.declared.faults.StepFault.{StepFault}
 use Rattle.zone_machine.specs.declared.faults.StepFault.TheVariants.{BadGrant, DiskFault, Memory, NoStore, WouldRecord}
 use Rattle.zone_machine.specs.declared.machine.Machine.{Machine}

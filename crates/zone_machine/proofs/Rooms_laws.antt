@@ -1,14 +1,14 @@
 -- Room is taken, and a cell and the shared part are as they were.
 use Rattle.std.proofs.Common.{◌≡◌, ◌∷◌, [], Bool, List, false, true, refl, ◌∙◌, ap, subst, sym}
-use Rattle.zone_machine.specs.Code.Cells.{Outside, cell_world, common_in, is_up_in, row_in}
+use Rattle.zone_cases.specs.Code.Cells.{Outside, cell_world}
+use Rattle.zone_machine.specs.Code.Cells.{common_in, is_up_in, row_in}
 use Rattle.zoneadmd_steps.specs.Code.Desks.{as_desk}
-use Rattle.zone_machine.specs.Code.Cases.{case_active, decision_of}
+use Rattle.zone_cases.specs.Code.Cases.{case_active, decision_of, console_of_case, objects_of, seats}
 use Rattle.zone_machine.specs.Code.Rooms.{Alike, HasRoom, HasRoomFor, HasRoomIf, HasRoomIfSits, HasRoomToChange, HasRoomToRise, HasRoomToStore}
 use Rattle.loopback_mounts.specs.Mounts.{Mounts}
 use Rattle.zoneadmd_steps.specs.Code.Cases.{Holds, IsFreeFor, No_premise, Premise}
-use Rattle.zone_machine.specs.Code.Consoles.{HasConsole}
-use Rattle.zone_machine.specs.Code.Works.{console_of_case, objects_of, seats}
-use Rattle.zone_machine.specs.declared.cases.Case.{Case}
+use Rattle.zone_cases.specs.Code.Consoles.{HasConsole}
+use Rattle.zone_cases.specs.declared.cases.Case.{Case}
 use Rattle.zone_pools.specs.Asked.{A_pid, A_source, A_zid, An_item, Asked}
 use Rattle.datalink_table.specs.Claims as claims
 use Rattle.datalink_table.specs.Claims.{holds}
@@ -16,7 +16,7 @@ use Rattle.datalink_table.specs.Shared.{Alike as Claims_alike, Shared as Claim_s
 use Rattle.std.specs.Map.{lookup}
 use Rattle.zn_base.specs.Names.{Name}
 use Rattle.zone_pools.specs.Decisions.{asked_of}
-use Rattle.zone_machine.specs.declared.machine.cell.Cell.{Cell}
+use Rattle.zone_cases.specs.declared.cell.Cell.{Cell}
 use Rattle.zoneadmd_steps.specs.declared.desks.Desk.{Desk}
 use Rattle.zoneadmd_steps.specs.Desks as desks
 use Rattle.zone_machine.specs.declared.machine.shared.Shared.{Shared}

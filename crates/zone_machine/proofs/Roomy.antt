@@ -14,10 +14,10 @@ use Rattle.zone_pools.specs.declared.grant.Pool.{Pool}
 use Rattle.zone_machine.proofs.Asking.{asks_rightly}
 use Rattle.zoneadmd_steps.proofs.Of_turns.{is_asked_for}
 use Rattle.zoneadmd_steps.specs.Arrivals.{A_claim, A_process, A_record, An_id, Arrival, Comes, No_thing, in_store}
-use Rattle.zone_machine.specs.State.Decisions.{Decision, act_of}
+use Rattle.zone_cases.specs.State.Decisions.{Decision, act_of}
 use Rattle.zone_machine.specs.Code.Rooms.{HasRoomBy, HasRoomIf, HasRoomOf, HasRoomToChange, HasRoomToSit, HasRoomToStore, IsFreeOf}
-use Rattle.zone_machine.specs.declared.cases.Sitting.{Sitting}
-use Rattle.zone_machine.specs.declared.machine.cell.Cell.{Cell}
+use Rattle.zone_cases.specs.declared.cases.Sitting.{Sitting}
+use Rattle.zone_cases.specs.declared.cell.Cell.{Cell}
 use Rattle.zone_machine.specs.declared.machine.shared.Shared.{Shared}
 use Rattle.zoneadmd_steps.specs.Code.Cases.{Holds, premise_of}
 use Rattle.zoneadmd_steps.specs.declared.desks.Desk.{Desk}

@@ -28,28 +28,29 @@ use Rattle.zone_machine.proofs.Common_laws.{common-acts, has_it, holder-none, ho
 use Rattle.zone_machine.proofs.Doing_laws.{holds_doing}
 use Rattle.zone_machine.proofs.Acts_laws.{own-acts}
 use Rattle.zone_machine.proofs.Own_worlds.{own_session, view-world}
-use Rattle.zone_machine.specs.Code.Cells.{Acts, Agree, CellOf, Outside, SharedOf, Shows, cell_world, declared_in, is_up_in, outside_in, outside_of, row_in}
+use Rattle.zone_machine.specs.Code.Cells.{Acts, Agree, SharedOf, declared_in, is_up_in, outside_in, row_in}
+use Rattle.zone_cases.specs.Code.Cells.{CellOf, Outside, Shows, cell_world, outside_of}
 use Rattle.zone_machine.specs.Code.Reads.{decide_in, subject_at, subject_in, held_subject, idle_subject}
 use Rattle.zone_machine.specs.Machine.Common.{Common, acts_common, came_common, common}
-use Rattle.zone_machine.specs.State.Decisions.{Act, act_of, acts_world}
-use Rattle.zone_machine.specs.Session.Lines.{Line, line_of, Command, Kill}
+use Rattle.zone_cases.specs.State.Decisions.{Act, act_of, acts_world}
+use Rattle.zone_cases.specs.Session.Lines.{Line, line_of, Command, Kill}
 use Rattle.zone_machine.specs.Machine.{decide, done_by, opening, one, one_of, session_number, session_subject, subject, holder, line_subject}
-use Rattle.zone_machine.specs.State as state
-use Rattle.zone_machine.specs.State.Declarations.{Declared}
-use Rattle.zone_machine.specs.State.{State, bytes_used, stored}
+use Rattle.zone_cases.specs.State as state
+use Rattle.zone_cases.specs.State.Declarations.{Declared}
+use Rattle.zone_cases.specs.State.{State, bytes_used, stored}
 use Rattle.zone_machine.specs.Code.Cell_steps.{IsCellStep}
-use Rattle.zone_machine.specs.State.Worlds.{World, doing, view, view_of, world}
-use Rattle.zone_machine.specs.declared.machine.cell.Cell.{Cell}
-use Rattle.zone_machine.specs.declared.events.Event.{Event}
-use Rattle.zone_machine.specs.declared.events.Event.TheVariants as event
-use Rattle.zone_machine.specs.declared.events.Subject.{Subject}
-use Rattle.zone_machine.specs.declared.events.Subject.TheVariants.{Zone}
-use Rattle.zone_machine.specs.declared.replies.Reply.{Reply}
+use Rattle.zone_cases.specs.State.Worlds.{World, doing, view, view_of, world}
+use Rattle.zone_cases.specs.declared.cell.Cell.{Cell}
+use Rattle.zone_cases.specs.declared.events.Event.{Event}
+use Rattle.zone_cases.specs.declared.events.Event.TheVariants as event
+use Rattle.zone_cases.specs.declared.events.Subject.{Subject}
+use Rattle.zone_cases.specs.declared.events.Subject.TheVariants.{Zone}
+use Rattle.zone_cases.specs.declared.replies.Reply.{Reply}
 use Rattle.zone_machine.specs.declared.machine.shared.Shared.{Shared}
 use Rattle.zoneadmd_steps.specs.Objects.{has_zid}
-use Rattle.zone_machine.specs.Code.Cases.{decision_of}
+use Rattle.zone_cases.specs.Code.Cases.{decision_of}
 use Rattle.zone_machine.specs.Code.Rooms.{IsOpenTo}
-use Rattle.zone_machine.specs.declared.cases.Case.{Case}
+use Rattle.zone_cases.specs.declared.cases.Case.{Case}
 
 -- what is stored of a zone is its row of the shared part
 pub stored-stands : (S : State) (s : Shared) (z : Name) → SharedOf s (common S) → stored z S.commits ≡ row_in z s

@@ -16,7 +16,7 @@ use Rattle.zone_pools.proofs.Owned_laws.{mine-edit, other-list, same_self, same_
 use Rattle.zone_pools.proofs.Holding.{not_same}
 use Rattle.datalink_table.specs.Claims.{holds, same_claim}
 use Rattle.datalink_table.specs.Shared.{holder, may_hold}
-use Rattle.zoneadmd_steps.specs.Objects.{all_of}
+use Rattle.zoneadmd_steps.specs.Objects.{all_of, has_zid}
 use Rattle.zone_pools.specs.Asked.{Asked}
 use Rattle.zone_pools.specs.Decisions.{asked_of}
 use Rattle.zone_pools.specs.Owned_lists.{Go, edit_list, edited, mine}
@@ -29,19 +29,21 @@ use Rattle.zone_pools.specs.declared.owned.Owned.{Owned}
 use Rattle.zone_machine.proofs.Common_laws.{any_mine, any_own}
 use Rattle.zone_machine.proofs.Own_worlds.{leaves}
 use Rattle.zone_machine.proofs.Standing.{cell-stands, decide-stands, outside-stands, stored-stands, subject-stands}
-use Rattle.zone_machine.specs.Code.Cells.{CellOf, IsHeardIn, Keeps, Outside, SharedOf, Stands, cell_at, cell_world, common_in, declared_in, empty_world, outside_in, outside_of, row_in, world_or_empty}
+use Rattle.zone_cases.specs.Code.Cells.{CellOf, IsHeardIn, Outside, cell_world, empty_world, outside_of, world_or_empty}
+use Rattle.zone_machine.specs.Code.Cells.{Keeps, SharedOf, Stands, cell_at, common_in, declared_in, outside_in, row_in}
 use Rattle.zone_machine.specs.Code.Needs.{pools_in}
 use Rattle.zone_machine.specs.Code.Reads.{decide_in, held_subject, idle_subject, is_turn, subject_at, subject_in}
 use Rattle.zone_machine.specs.Machine.Common.{Common, common}
 use Rattle.zone_machine.specs.Machine.Histories.{concerns}
-use Rattle.zone_machine.specs.Session.Lines.{Command, Kill, Line, line_of}
-use Rattle.zone_machine.specs.declared.events.Declaration.{Declaration}
-use Rattle.zone_machine.specs.Machine.{decide, declare_reply, declared_by, global_reply, is_restart, named_subject, one, one_of, subject, subject_of_name, whole}
+use Rattle.zone_cases.specs.Session.Lines.{Command, Kill, Line, line_of}
+use Rattle.zone_cases.specs.declared.events.Declaration.{Declaration}
+use Rattle.zone_machine.specs.Machine.{decide, declare_reply, declared_by, global_reply, named_subject, one, one_of, subject, subject_of_name, whole}
+use Rattle.zone_cases.specs.Events.{is_restart}
 use Rattle.zone_machine.specs.Machine.Pools.{allowed, allowed_of, fits, fits_of, is_installed, kind_of, of_kind, path_taken, pools_of}
-use Rattle.zone_machine.specs.State.{State, stored}
-use Rattle.zone_machine.specs.Code.Doings.{as_doing}
-use Rattle.zone_machine.specs.declared.session.doings.Doing.{Doing}
-use Rattle.zone_machine.specs.Session.Typed.{typed}
+use Rattle.zone_cases.specs.State.{State, stored}
+use Rattle.zone_cases.specs.Code.Doings.{as_doing}
+use Rattle.zone_cases.specs.declared.session.doings.Doing.{Doing}
+use Rattle.zone_cases.specs.Session.Typed.{typed}
 use Rattle.zn_io.specs.Disk.{View as Disk_view}
 use Rattle.zone_disk.specs.Bank.{Account}
 use Rattle.zone_machine.specs.Code.Records.{BankLeft, StoresUnder}
@@ -50,39 +52,34 @@ use Rattle.zone_machine.specs.Code.Cell_steps.{CellAnswers, CellLeaves, IsCellSt
 use Rattle.zone_machine.specs.Code.Steps.{IsRefusedIfUnfit, IsStep, IsStepUnder, IsZoneState, Answers, IsGrantFor, IsUnfit, IsMisfitUnder, IsTaken, Leaves, LeavesGranted, Takes, AsItWas}
 use Rattle.zone_machine.specs.declared.faults.StepFault.{StepFault}
 use Rattle.zone_machine.specs.declared.faults.StepFault.TheVariants.{BadGrant, DiskFault, Memory, NoStore, WouldRecord}
-use Rattle.zone_machine.specs.State.Worlds.{World, objects_of, view, view_of, world, View}
+use Rattle.zone_cases.specs.State.Worlds.{World, objects_of, view, view_of, world, View}
 use Rattle.zoneadmd_steps.specs.declared.desks.Desk.{Desk}
-use Rattle.zone_machine.specs.declared.machine.cell.Cell.{Cell}
-use Rattle.zone_machine.specs.declared.events.Entry.{Entry}
-use Rattle.zone_machine.specs.declared.events.Event.{Event}
-use Rattle.zone_machine.specs.declared.events.Event.TheVariants as event
-use Rattle.zone_machine.specs.declared.events.Subject.{Subject}
-use Rattle.zone_machine.specs.declared.events.Subject.TheVariants.{Zone, Global, Whole}
+use Rattle.zone_cases.specs.declared.cell.Cell.{Cell}
+use Rattle.zone_cases.specs.declared.events.Entry.{Entry}
+use Rattle.zone_cases.specs.declared.events.Event.{Event}
+use Rattle.zone_cases.specs.declared.events.Event.TheVariants as event
+use Rattle.zone_cases.specs.declared.events.Subject.{Subject}
+use Rattle.zone_cases.specs.declared.events.Subject.TheVariants.{Zone, Global, Whole}
 use Rattle.zone_machine.specs.declared.machine.parts.Parts.{Parts}
 use Rattle.commit_journal.specs.declared.records.Record.{Record}
-use Rattle.zone_machine.specs.declared.replies.Reply.{Reply}
+use Rattle.zone_cases.specs.declared.replies.Reply.{Reply}
 use Rattle.zone_machine.specs.declared.machine.shared.Shared.{Shared}
 use Rattle.kernel_objects.specs.Processes.{has_pid}
 use Rattle.kernel_objects.specs.Shared.{Shared as Kernel, pid_owner, zid_owner}
-use Rattle.zoneadmd_steps.specs.Objects.{has_zid}
 use Rattle.zoneadmd_steps.specs.Desks.{state_of}
-use Rattle.zone_machine.specs.State.Decisions.{Decision, act_of}
+use Rattle.zone_cases.specs.State.Decisions.{Decision, act_of}
 use Rattle.zone_machine.proofs.Case_asks.{asks_case}
 use Rattle.zone_machine.proofs.Freeing.{freed, numbered_case}
-use Rattle.zone_machine.specs.Code.Cases.{IsCaseOf, IsNamedCase, IsNumbered, decision_of}
-use Rattle.zone_machine.specs.Code.Works.{MountsNothing}
-use Rattle.zoneadmd_steps.specs.Code.Desks.{as_desk}
-use Rattle.zonecfg_scopes.specs.Edited.{Edited}
-use Rattle.zone_machine.specs.Session.Commits.{edits_line}
-use Rattle.zone_machine.specs.Code.Decided.{IsCaseIn, IsCellAt, IsHeard, IsNextHook}
+use Rattle.zone_cases.specs.Code.Cases.{IsNumbered, decision_of, IsCaseIn}
+use Rattle.zone_machine.specs.Code.Decided.{IsCellAt, IsHeard, IsNextHook}
 use Rattle.brand_hooks.specs.Brands.{Tabled}
 use Rattle.brand_hooks.specs.declared.change.Change.{Change}
 use Rattle.brand_hooks.specs.declared.table.HookAnswer.{HookAnswer}
 use Rattle.brand_hooks.specs.declared.table.HookAnswer.TheVariants.{Proceed}
 use Rattle.zoneadmd_steps.specs.Code.Cases.{heard, next_answer}
-use Rattle.zone_machine.specs.State.Declarations.{Declared, none_declared}
+use Rattle.zone_cases.specs.State.Declarations.{Declared, none_declared}
 use Rattle.std.proofs.lemmas.Bool.{false≢true}
-use Rattle.zone_machine.specs.declared.cases.Case.{Case}
+use Rattle.zone_cases.specs.declared.cases.Case.{Case}
 
 -- what the pools know
 module _ {A : Type 0} (p : A → Bool) where
@@ -543,22 +540,3 @@ line-case z s c n line stored doing case row does h = record {
   named = h.named;
   free = h.free;
 }
-
--- a line of a session that edits, by what is known of its case
-pub edits-case : {E : Type 0} (r : Result Case E) (z : Name) (c : Cell) (stored : Option Record) (brands : List Tabled) (e : Edited) (text : List ℕ) (decides : View → Decision) → ((v : View) → decides v ≡ edits_line v e text)
-    → IfOk r (λ case. (d : Desk) (v : View) → v.zone ≡ z → v.world.stored ≡ stored → v.world.brands ≡ brands → v.world.desk ≡ as_desk c.desk → edits_line v e text ≡ decision_of d case)
-    → IfOk r (λ case. (d : Desk) → IsCaseOf d case) → IfOk r (IsNamedCase z) → IfOk r MountsNothing
-    → IfOk r (λ case. (declared : Declared) → IsCaseIn z (record { stored = stored; declared = declared; brands = brands }) c decides case)
-unfolding view_of
-edits-case (Right case) z c stored brands e text decides same decided of named free = λ declared. record {
-  decided = same _ ∙ decided c.desk (view_of z (cell_world (record { stored = stored; declared = declared; brands = brands }) c)) refl refl refl refl;
-  of = of c.desk;
-  named = named;
-  free = free c.mounts.list c.claims.claims;
-}
-edits-case (Err fault) z c stored brands e text decides same decided of named free = tt
-
--- what is known of a case, where there is one
-pub on_case : {E : Type 0} {P Q : Case → Type 0} (r : Result Case E) → ((case : Case) → P case → Q case) → IfOk r P → IfOk r Q
-on_case (Right case) f h = f case h
-on_case (Err fault) f h = tt

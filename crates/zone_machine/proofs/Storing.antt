@@ -24,11 +24,11 @@ use Rattle.zoneadmd_steps.specs.declared.objects.changes.Came.{Came}
 use Rattle.zoneadmd_steps.specs.declared.objects.changes.Came.TheVariants as came_type
 use Rattle.zoneadmd_steps.specs.declared.requests.Request.{Request}
 use Rattle.zone_machine.proofs.Case_asks.{came, came_is}
-use Rattle.zone_machine.specs.Code.Cases.{IsCaseOf, decision_of, numbered_row}
+use Rattle.zone_cases.specs.Code.Cases.{IsCaseOf, decision_of, numbered_row}
 use Rattle.zone_machine.specs.Code.Records.{HasNumber, HasNumberTurn, stored_by, stored_if, stored_turn}
-use Rattle.zone_machine.specs.State.Decisions.{act_of, effects, turned}
-use Rattle.zone_machine.specs.declared.cases.Case.{Case}
-use Rattle.zone_machine.specs.declared.cases.Case.TheVariants as cases
+use Rattle.zone_cases.specs.State.Decisions.{act_of, effects, turned}
+use Rattle.zone_cases.specs.declared.cases.Case.{Case}
+use Rattle.zone_cases.specs.declared.cases.Case.TheVariants as cases
 
 -- what comes to the store by a decision under a grant
 abbrev into_store : {E : Type 0} → decisions.Decision Comes E → Grant → Option Arrival

@@ -10,25 +10,22 @@ use Rattle.zone_pools.specs.declared.grant.Pool.TheVariants.{Store}
 use Rattle.zone_machine.proofs.Acts_laws.{own-acts}
 use Rattle.zone_machine.proofs.Own_worlds.{view-world}
 use Rattle.zoneadmd_steps.specs.Arrivals.{Arrival, Comes, New_process, New_record, arrived}
-use Rattle.zone_machine.specs.Code.Works.{Works, reply_with, rest_of, turned_act, work_act}
+use Rattle.zone_machine.specs.Code.Works.{Works, rest_of, turned_act, work_act}
 use Rattle.zone_machine.specs.declared.machine.work.Work.{Work}
 use Rattle.zoneadmd_steps.specs.Code.Works.{rest_of_turn, turn_work}
 use Rattle.zoneadmd_steps.specs.declared.settling.TurnWork.{TurnWork}
-use Rattle.zone_machine.specs.State.Decisions.{Act, act_of, acts_world, after_came_world, effects, says, sweeps, turned}
+use Rattle.zone_cases.specs.State.Decisions.{Act, act_of, acts_world, after_came_world, effects, says, sweeps, turned}
 use Rattle.zoneadmd_steps.specs.Desks.{Desk}
-use Rattle.zone_machine.specs.State.Edits.{Of_objects, Set_desk, comes_world, console_gone_world, edit_world, edits_world, keeps_console}
+use Rattle.zone_cases.specs.State.Edits.{Of_objects, Set_desk, comes_world, console_gone_world, edit_world, edits_world, keeps_console}
 use Rattle.zone_machine.specs.Machine.{Answered, decide, done_by, one, subject}
 use Rattle.zoneadmd_steps.specs.Objects.{Object_edit, Processes_go, devices_after, mounts_after}
-use Rattle.zone_machine.specs.State.{State}
+use Rattle.zone_cases.specs.State.{State}
 use Rattle.zoneadmd_steps.specs.Turns.{Turned, turn}
-use Rattle.zone_machine.specs.State.Worlds.{World, seen_of, view_of, world}
-use Rattle.zone_machine.specs.declared.events.Event.TheVariants.{Turn}
+use Rattle.zone_cases.specs.State.Worlds.{World, seen_of, view_of, world}
+use Rattle.zone_cases.specs.declared.events.Event.TheVariants.{Turn}
 use Rattle.loopback_mounts.specs.declared.mount.MountEntry.{MountEntry}
 use Rattle.commit_journal.specs.declared.records.Record.{Record}
-use Rattle.zoneadmd_steps.specs.declared.requests.Gone.TheVariants.{Nothing as Nothing_gone}
-use Rattle.zone_machine.specs.declared.replies.Head.{Head}
-use Rattle.zone_machine.specs.declared.replies.Head.TheVariants.{Turned as Told}
-use Rattle.zone_machine.specs.declared.replies.Reply.{Reply}
+use Rattle.zone_cases.specs.declared.replies.Head.TheVariants.{Turned as Told}
 
 -- what a decision comes to is so, whatever is granted
 abbrev pub In : {E : Type 0} → (Option Arrival → E → Type 0) → decisions.Decision Comes E → Type 0
@@ -98,14 +95,6 @@ has-turned n a w = at_came a.came
         at_keeps true = has-edits n a.effect.objects a.effect.desk a.effect.ended (record w { stored = row })
         at_keeps false = has-edits n a.effect.objects a.effect.desk a.effect.ended (console_gone_world false (record w { stored = row }))
     at_came c = has-edits n a.effect.objects a.effect.desk a.effect.ended (after_came_world c w)
-
--- where nothing goes as the last, a reply is as it is
-pub nothing_told : (r : Reply) → reply_with Nothing_gone r ≡ r
-nothing_told r = at_head r.head
-  where
-    at_head : (h : Head) → reply_with Nothing_gone (record r { head = h }) ≡ record r { head = h }
-    at_head (Told t) = refl
-    at_head h = refl
 
 -- the work of a turn does what the machine makes of the turn
 pub settled_turn : (d : decisions.Decision Comes Turned) (g : Grant) (w : TurnWork) (desk : Desk) → rest_of_turn (decisions.act_of arrived d g) ≡ turn_work w desk → rest_of (act_of (effects turned d) g) ≡ turned_act (turn_work w desk)

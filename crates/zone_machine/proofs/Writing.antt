@@ -22,19 +22,19 @@ use Rattle.zoneadmd_steps.specs.Objects.{Processes_go}
 use Rattle.zone_machine.proofs.Common_laws.{used-push}
 use Rattle.zone_machine.specs.Code.Cell_steps.{CellLeaves}
 use Rattle.zone_machine.specs.Code.Rooms.{Alike}
-use Rattle.zone_machine.specs.declared.machine.cell.Cell.{Cell}
+use Rattle.zone_cases.specs.declared.cell.Cell.{Cell}
 use Rattle.zone_machine.specs.Code.Records.{BankLeft, IsReady, NeedsNoDisk, StoresEither, Writes, bodies_with, rows_with, used_with}
 use Rattle.zone_machine.specs.Machine.{decide, one, one_of, session_number, subject, whole}
 use Rattle.zone_machine.specs.Machine.Changes.{committed}
 use Rattle.zone_machine.specs.Machine.Images.{Goes, HoldsEither}
-use Rattle.zone_machine.specs.State.{State, bodies_of}
-use Rattle.zone_machine.specs.State.Decisions.{Act, act_of, acts, after_came}
-use Rattle.zone_machine.specs.State.Edits.{Edit, Of_objects, comes, console_gone, edit, edits, keeps_console}
-use Rattle.zone_machine.specs.State.Worlds.{view}
-use Rattle.zone_machine.specs.declared.events.Event.{Event}
-use Rattle.zone_machine.specs.declared.events.Event.TheVariants.{Process as Call_of, Restart, Session, System, Turn}
-use Rattle.zone_machine.specs.declared.events.Subject.{Subject}
-use Rattle.zone_machine.specs.declared.events.Subject.TheVariants.{Global, Whole, Zone}
+use Rattle.zone_cases.specs.State.{State, bodies_of}
+use Rattle.zone_cases.specs.State.Decisions.{Act, act_of, acts, after_came}
+use Rattle.zone_cases.specs.State.Edits.{Edit, Of_objects, comes, console_gone, edit, edits, keeps_console}
+use Rattle.zone_cases.specs.State.Worlds.{view}
+use Rattle.zone_cases.specs.declared.events.Event.{Event}
+use Rattle.zone_cases.specs.declared.events.Event.TheVariants.{Process as Call_of, Restart, Session, System, Turn}
+use Rattle.zone_cases.specs.declared.events.Subject.{Subject}
+use Rattle.zone_cases.specs.declared.events.Subject.TheVariants.{Global, Whole, Zone}
 use Rattle.zone_machine.specs.declared.faults.StepFault.{StepFault}
 use Rattle.zone_machine.specs.declared.faults.StepFault.TheVariants.{BadGrant, DiskFault, Memory, NoStore, WouldRecord}
 use Rattle.zone_machine.specs.declared.machine.shared.Shared.{Shared}

@@ -1,13 +1,8 @@
 -- What the code's values stand for, and what its steps do to them.
-pub mod Lines
 pub mod Listed
-pub mod Doings
-pub mod Consoles
 pub mod Cells
 pub mod Reads
 pub mod Needs
-pub mod Cases
-pub mod Commits
 pub mod Works
 pub mod Comings
 pub mod Records

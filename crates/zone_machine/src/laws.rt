@@ -5,21 +5,21 @@ ghost use Rattle.commit_journal.specs.Store.{row_of};
 ghost use Rattle.kernel_objects.specs.declared.objects.Id.{Id};
 ghost use Rattle.zone_pools.specs.declared.grant.Grant.{Grant};
 ghost use Rattle.zone_machine.specs.Machine.Common.{HoldOnce, acts_common, common, whole_common};
-ghost use Rattle.zone_machine.specs.State.Decisions.{act_of, says};
+ghost use Rattle.zone_cases.specs.State.Decisions.{act_of, says};
 ghost use Rattle.zoneadmd_steps.specs.Desks.{Desk};
 ghost use Rattle.zone_machine.specs.Machine.Histories.{is_allowed, is_told};
 ghost use Rattle.zone_machine.specs.Machine.Local.{is_busy, is_local};
 ghost use Rattle.zone_machine.specs.Machine.{decide, need, one, session_number, subject};
 ghost use Rattle.zone_machine.specs.Machine.Pools.{allowed, fits};
-ghost use Rattle.zone_machine.specs.State.{State, stored};
-ghost use Rattle.zone_machine.specs.State.Worlds.{World, view_of, world};
+ghost use Rattle.zone_cases.specs.State.{State, stored};
+ghost use Rattle.zone_cases.specs.State.Worlds.{World, view_of, world};
 ghost use Rattle.zoneadmd_steps.specs.declared.requests.TurnReply.TheVariants.{Idle};
-ghost use Rattle.zone_machine.specs.declared.events.Entry.{Entry};
-ghost use Rattle.zone_machine.specs.declared.events.Event.TheVariants.{Turn};
+ghost use Rattle.zone_cases.specs.declared.events.Entry.{Entry};
+ghost use Rattle.zone_cases.specs.declared.events.Event.TheVariants.{Turn};
 ghost use Rattle.loopback_mounts.specs.declared.mount.MountEntry.{MountEntry};
-ghost use Rattle.zone_machine.specs.declared.replies.Head.TheVariants.{Turned};
-ghost use Rattle.zone_machine.specs.declared.events.Event.{Event};
-ghost use Rattle.zone_machine.specs.declared.events.Subject.TheVariants.{Global, Whole, Zone};
+ghost use Rattle.zone_cases.specs.declared.replies.Head.TheVariants.{Turned};
+ghost use Rattle.zone_cases.specs.declared.events.Event.{Event};
+ghost use Rattle.zone_cases.specs.declared.events.Subject.TheVariants.{Global, Whole, Zone};
 
 /// What an event makes of what is common is a function of that, the event, its grant and its zone's world.
 pub fn changes_what_is_common()

@@ -6,25 +6,16 @@
 //! these three alone, by `cell_step`, and a turn that is local the cell alone, by `local_turn`.
 #![tactic(auto)]
 
-mod calls;
-mod cases;
-mod events;
 mod faults;
 mod laws;
 mod machine;
-mod maps;
-mod replies;
-mod session;
 
-pub use events::{Answer, Declaration, Entry, Event, SESSION_MAX, Subject, Whose};
 pub use faults::StepFault;
 pub use laws::{
     allowed_by_what_is_common, busy_turns_are_not_idle, changes_what_is_common,
     is_stored_in_common, local_turns_touch_nothing_common, subject_by_what_is_common,
 };
 pub use machine::Machine;
-pub use machine::cell::Cell;
 pub use machine::local_turns::local_turn;
 pub use machine::shared::Shared;
 pub use machine::steps::{cell_step, cell_step_given};
-pub use replies::{Body, Head, Refusal, Reply};

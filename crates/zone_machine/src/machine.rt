@@ -15,10 +15,9 @@ ghost use Rattle.zone_machine.specs.Code.Steps.{AsItWas, IsAllowed, IsMisfit, Is
 ghost use Rattle.zone_machine.specs.Machine.{opening, restarted};
 ghost use Rattle.zone_machine.specs.Machine.Images.{Holds, IsStoreOf};
 ghost use Rattle.zone_machine.specs.Machine.Indexed.{index_of};
-ghost use Rattle.zone_machine.specs.State.{State};
+ghost use Rattle.zone_cases.specs.State.{State};
 
 pub(crate) mod answering;
-pub(crate) mod cell;
 pub(crate) mod comings;
 pub(crate) mod declarations;
 pub(crate) mod effects;
@@ -40,7 +39,6 @@ pub(crate) mod ups;
 pub(crate) mod work;
 pub(crate) mod zone_events;
 
-use crate::events::{Answer, Entry, Event, Subject};
 use crate::faults::StepFault;
 use crate::machine::indexed::index_rows;
 use crate::machine::parts::Parts;
@@ -51,6 +49,7 @@ use index_file::IndexRow;
 use std::alloc::Global;
 use zn_base::{ZoneName, ZoneState};
 use zn_io::Disk;
+use zone_cases::{Answer, Entry, Event, Subject};
 use zone_disk::Bank;
 use zone_pools::Grant;
 

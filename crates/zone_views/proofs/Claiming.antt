@@ -16,15 +16,15 @@ use Rattle.zone_machine.proofs.Own_worlds.{view-world, world-one}
 use Rattle.zone_machine.specs.Machine.Histories.{after, after_entry, is_history, world_by}
 use Rattle.zone_machine.specs.Machine.Pools.{fits, fits_of, held_elsewhere, may_hold, pools_of}
 use Rattle.zone_machine.specs.Machine.{decide, one, opening, session_number, subject, whole_world}
-use Rattle.zone_machine.specs.State.Decisions.{Act, Decision, act_of, acts_world, after_came_world}
-use Rattle.zone_machine.specs.State.Edits.{Edit, Of_objects, console_gone_world, edit_world, edits_world, keeps_console}
-use Rattle.zone_machine.specs.State.Worlds.{World, view, view_of, world}
-use Rattle.zone_machine.specs.State.{State}
-use Rattle.zone_machine.specs.declared.events.Entry.{Entry}
-use Rattle.zone_machine.specs.declared.events.Event.{Event}
-use Rattle.zone_machine.specs.declared.events.Event.TheVariants.{Process as Call_of, Restart, Session, System, Turn}
-use Rattle.zone_machine.specs.declared.events.Subject.{Subject}
-use Rattle.zone_machine.specs.declared.events.Subject.TheVariants.{Global, Whole, Zone}
+use Rattle.zone_cases.specs.State.Decisions.{Act, Decision, act_of, acts_world, after_came_world}
+use Rattle.zone_cases.specs.State.Edits.{Edit, Of_objects, console_gone_world, edit_world, edits_world, keeps_console}
+use Rattle.zone_cases.specs.State.Worlds.{World, view, view_of, world}
+use Rattle.zone_cases.specs.State.{State}
+use Rattle.zone_cases.specs.declared.events.Entry.{Entry}
+use Rattle.zone_cases.specs.declared.events.Event.{Event}
+use Rattle.zone_cases.specs.declared.events.Event.TheVariants.{Process as Call_of, Restart, Session, System, Turn}
+use Rattle.zone_cases.specs.declared.events.Subject.{Subject}
+use Rattle.zone_cases.specs.declared.events.Subject.TheVariants.{Global, Whole, Zone}
 use Rattle.zone_pools.proofs.Owned_laws.{same_true}
 use Rattle.zone_pools.specs.Asked.{An_item, Asked}
 use Rattle.zone_pools.specs.Decisions.{Ask, Just, asked_of}

@@ -16,7 +16,7 @@ use Rattle.loopback_mounts.specs.declared.faults.HoldFault.{HoldFault}
 use Rattle.loopback_mounts.specs.declared.faults.MountFault.{MountFault}
 use Rattle.loopback_mounts.specs.declared.mount.Mount.{Mount}
 use Rattle.loopback_mounts.specs.declared.mount.MountEntry.{MountEntry}
-use Rattle.zone_machine.specs.Calls.{called, calls, calls_if_there, ending, execs, forks, is_by_process, mount_of, mounts, mounts_if_free, mounts_special, signals, tells_place, unmounts, unmounts_if_free}
+use Rattle.zone_cases.specs.Calls.{called, calls, calls_if_there, ending, execs, forks, is_by_process, mount_of, mounts, mounts_if_free, mounts_special, signals, tells_place, unmounts, unmounts_if_free}
 use Rattle.std.proofs.Common.{◌≡◌, ◌⊎◌, ◌+◌, ◌∷◌, [], ◌∙◌, ℕ, List, Bool, Option, Some, None, true, false, codes, inl, inr, refl, subst, sym}
 use Rattle.console_link.specs.Consoles as consoles
 use Rattle.console_link.specs.Consoles.{new_console}
@@ -43,27 +43,27 @@ use Rattle.zone_machine.proofs.Turned_laws.{In, decide-turn, has-turned, in-act,
 use Rattle.zone_pools.specs.Owned_lists.{Change, Put, edited}
 use Rattle.zoneadmd_steps.specs.Objects.{keeping_pid, kernel_of, mounts_after}
 use Rattle.zoneadmd_steps.specs.Arrivals.{Arrival, New_record}
-use Rattle.zone_machine.specs.State.Decisions.{Act, Decision, Effect, act_of, acts_world, after_came_world, done_saying, told}
+use Rattle.zone_cases.specs.State.Decisions.{Act, Decision, Effect, act_of, acts_world, after_came_world, done_saying, told}
 use Rattle.zoneadmd_steps.specs.Desks.{Desk, has_request, is_full, state_now, with_request}
-use Rattle.zone_machine.specs.State.Edits.{Here, Hold as Hold_console, Leave, Line as Line_of, Of_console, Take, at_session, console_gone_world, console_left, edit_console, edits_world, keeps_console, login_ended, swept_doing}
-use Rattle.zone_machine.specs.Session.Logins.{console_line, console_refusal, escapes, if_any, logged_line, login_of, logs_in, passed_as, runs, said_in, status_of, unless}
-use Rattle.zone_machine.specs.Session.Lines.{Ask as Asks, Blank, Clone, Command, Console, Edit, Enter, Help, Hold, Kill, Line, List_one, List_zones, Login, Release, Unforced, Unknown, Verify, Zonecfg, line_of}
+use Rattle.zone_cases.specs.State.Edits.{Here, Hold as Hold_console, Leave, Line as Line_of, Of_console, Take, at_session, console_gone_world, console_left, edit_console, edits_world, keeps_console, login_ended, swept_doing}
+use Rattle.zone_cases.specs.Session.Logins.{console_line, console_refusal, escapes, if_any, logged_line, login_of, logs_in, passed_as, runs, said_in, status_of, unless}
+use Rattle.zone_cases.specs.Session.Lines.{Ask as Asks, Blank, Clone, Command, Console, Edit, Enter, Help, Hold, Kill, Line, List_one, List_zones, Login, Release, Unforced, Unknown, Verify, Zonecfg, line_of}
 use Rattle.zone_machine.specs.Machine.{decide, session_number}
-use Rattle.zone_machine.specs.State.{At_console, Awaiting, Doing, Editing, Logged_in}
-use Rattle.zone_machine.specs.Session.Commits.{A_session, Alone, Goes_on, Hearer, Leaves, Of_its_own, Typist, base_now, based, commit, commit_over, commit_unless, commits, committed_record, delete, delete_seen, edits_line, ended, goes, goes_over, is_configured, keeps_place, leaves, line_refusal, records, refuses, removes, revision_now, said_alone, said_to, telling, typist, zonecfg}
-use Rattle.zone_machine.specs.Session.Typed.{held_answer, holding_at, holds, idle_line, put_clone, put_request, typed}
-use Rattle.zone_machine.specs.State.Worlds.{World, objects_of, view_of}
+use Rattle.zone_cases.specs.State.{At_console, Awaiting, Doing, Editing, Logged_in}
+use Rattle.zone_cases.specs.Session.Commits.{A_session, Alone, Goes_on, Hearer, Leaves, Of_its_own, Typist, base_now, based, commit, commit_over, commit_unless, commits, committed_record, delete, delete_seen, edits_line, ended, goes, goes_over, is_configured, keeps_place, leaves, line_refusal, records, refuses, removes, revision_now, said_alone, said_to, telling, typist, zonecfg}
+use Rattle.zone_cases.specs.Session.Typed.{held_answer, holding_at, holds, idle_line, put_clone, put_request, typed}
+use Rattle.zone_cases.specs.State.Worlds.{World, objects_of, view_of}
 use Rattle.zoneadmd_steps.specs.declared.requests.Request.{Request}
 use Rattle.zoneadmd_steps.specs.declared.requests.Request.TheVariants as request
 use Rattle.brand_hooks.specs.Brands.{tabled_names}
 use Rattle.config_verify.specs.Flaws.{first, flaws}
 use Rattle.config_verify.specs.declared.flaw.Flaw.{Flaw}
-use Rattle.zone_machine.specs.declared.events.Event.{Event}
-use Rattle.zone_machine.specs.declared.events.Event.TheVariants.{Process as Call_of, Restart, Session, System, Turn}
-use Rattle.zone_machine.specs.declared.replies.Head.TheVariants.{Ok}
-use Rattle.zone_machine.specs.declared.replies.Refusal.{Refusal}
-use Rattle.zone_machine.specs.declared.replies.Refusal.TheVariants.{Changed, Denied, DeskInUse, Errno as Of_errno, Flawed, NoZone, NotRunning, WrongState}
-use Rattle.zone_machine.specs.declared.replies.Body.TheVariants.{Lines}
+use Rattle.zone_cases.specs.declared.events.Event.{Event}
+use Rattle.zone_cases.specs.declared.events.Event.TheVariants.{Process as Call_of, Restart, Session, System, Turn}
+use Rattle.zone_cases.specs.declared.replies.Head.TheVariants.{Ok}
+use Rattle.zone_cases.specs.declared.replies.Refusal.{Refusal}
+use Rattle.zone_cases.specs.declared.replies.Refusal.TheVariants.{Changed, Denied, DeskInUse, Errno as Of_errno, Flawed, NoZone, NotRunning, WrongState}
+use Rattle.zone_cases.specs.declared.replies.Body.TheVariants.{Lines}
 use Rattle.commit_journal.specs.declared.records.Record.{Record}
 
 -- a zone runs where its desk says so

@@ -36,13 +36,13 @@ use Rattle.zone_machine.proofs.Turned_laws.{turn_act}
 use Rattle.zone_machine.specs.Code.Works.{turned_act}
 use Rattle.zone_machine.specs.Machine.{decide, opening, session_number}
 use Rattle.zone_machine.specs.Machine.Histories.{after}
-use Rattle.zone_machine.specs.Session.Commits.{base_now, based, said_to}
-use Rattle.zone_machine.specs.State.{At_console, Awaiting, Doing, Editing, Logged_in}
-use Rattle.zone_machine.specs.State.Decisions.{act_of, acts_world, sweeps, ticket_ended}
-use Rattle.zone_machine.specs.State.Edits.{Of_objects, Set_desk, comes_world, console_gone_world, console_left, edit_world, edits_world, keeps_console, login_ended, logins_ended, swept_doing}
-use Rattle.zone_machine.specs.State.Worlds.{World, view_of, world}
-use Rattle.zone_machine.specs.declared.events.Entry.{Entry}
-use Rattle.zone_machine.specs.declared.events.Event.{Event}
+use Rattle.zone_cases.specs.Session.Commits.{base_now, based, said_to}
+use Rattle.zone_cases.specs.State.{At_console, Awaiting, Doing, Editing, Logged_in}
+use Rattle.zone_cases.specs.State.Decisions.{act_of, acts_world, sweeps, ticket_ended}
+use Rattle.zone_cases.specs.State.Edits.{Of_objects, Set_desk, comes_world, console_gone_world, console_left, edit_world, edits_world, keeps_console, login_ended, logins_ended, swept_doing}
+use Rattle.zone_cases.specs.State.Worlds.{World, view_of, world}
+use Rattle.zone_cases.specs.declared.events.Entry.{Entry}
+use Rattle.zone_cases.specs.declared.events.Event.{Event}
 use Rattle.zone_views.proofs.Deciding.{Idles, Is_seated, Opens, Says, Seats, Sit, Sits_at, Stays, Stores, of_event}
 use Rattle.zone_views.proofs.Keeping.{kept-after}
 use Rattle.zone_views.specs.Edits.{EditsDenoted, IsDenoted}

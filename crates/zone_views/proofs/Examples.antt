@@ -17,28 +17,28 @@ use Rattle.zone_pools.specs.declared.grant.Grant.{Grant}
 use Rattle.zone_pools.specs.declared.grant.Grant.TheVariants.{Nothing, Number, Yes}
 use Rattle.zn_base.specs.declared.state.ZoneState.TheVariants.{Configured, Incomplete, Installed}
 use Rattle.zn_base.specs.declared.state.ZoneState.{ZoneState}
-use Rattle.zone_machine.specs.State.Edits.{comes, edit}
+use Rattle.zone_cases.specs.State.Edits.{comes, edit}
 use Rattle.zone_machine.specs.Machine.Histories.{after, any_grant, asked, history, is_history, is_legal, only, replies, run}
-use Rattle.zone_machine.specs.Session.Lines.{line_of}
+use Rattle.zone_cases.specs.Session.Lines.{line_of}
 use Rattle.zone_machine.specs.Machine.{decide, one, opening, subject}
 use Rattle.zone_machine.specs.Machine.Pools.{allowed, fits}
 use Rattle.commit_journal.specs.Bodies.{body_text, padded, record_text}
 use Rattle.uuid.specs.Text.{by_index}
 use Rattle.zone_pools.specs.Pools.{first_free}
 use Rattle.zone_machine.specs.Machine.Same.{same_reply, same_subject}
-use Rattle.zone_machine.specs.State.{State, zone_state}
+use Rattle.zone_cases.specs.State.{State, zone_state}
 use Rattle.zoneadmd_steps.specs.Turns.{local_turn, turn}
-use Rattle.zone_machine.specs.Session.Typed.{typed}
-use Rattle.zone_machine.specs.State.Worlds.{view}
+use Rattle.zone_cases.specs.Session.Typed.{typed}
+use Rattle.zone_cases.specs.State.Worlds.{view}
 use Rattle.zoneadmd_steps.specs.declared.requests.Outcome.TheVariants.{Denied as Was_denied, WrongState}
 use Rattle.zoneadmd_steps.specs.declared.requests.Step.TheVariants.{Unmount}
 use Rattle.zoneadmd_steps.specs.declared.requests.TurnReply.TheVariants.{Failed, Finished, Idle, Stepped, Stuck}
-use Rattle.zone_machine.specs.declared.events.Entry.{Entry}
-use Rattle.zone_machine.specs.declared.events.Event.{Event}
-use Rattle.zone_machine.specs.declared.events.Declaration.TheVariants.{Device, Item}
-use Rattle.zone_machine.specs.declared.events.Event.TheVariants.{Process as Call_of, Restart, Session, System, Turn}
-use Rattle.zone_machine.specs.declared.events.Subject.TheVariants.{Global, Zone}
-use Rattle.zone_machine.specs.Calls.{called}
+use Rattle.zone_cases.specs.declared.events.Entry.{Entry}
+use Rattle.zone_cases.specs.declared.events.Event.{Event}
+use Rattle.zone_cases.specs.declared.events.Declaration.TheVariants.{Device, Item}
+use Rattle.zone_cases.specs.declared.events.Event.TheVariants.{Process as Call_of, Restart, Session, System, Turn}
+use Rattle.zone_cases.specs.declared.events.Subject.TheVariants.{Global, Zone}
+use Rattle.zone_cases.specs.Calls.{called}
 use Rattle.process_calls.specs.declared.call.Call.TheVariants.{Drop, Fork}
 use Rattle.priv_sets.specs.Sets.{all_of, both as both_of, default_set, has, only as the_one, set_of, union, without}
 use Rattle.priv_sets.specs.Table.{is_of, privileges}
@@ -46,9 +46,9 @@ use Rattle.priv_sets.specs.declared.table.TheConstants.{PROC_EXEC}
 use Rattle.kernel_objects.specs.Processes.{may_exec, may_fork}
 use Rattle.zn_base.specs.Decimals.{decimal_of}
 use Rattle.commit_journal.specs.declared.records.Commit.{Commit}
-use Rattle.zone_machine.specs.declared.replies.Head.{Head}
-use Rattle.zone_machine.specs.declared.replies.Head.TheVariants.{Ok, Refused, Ticket, Turned}
-use Rattle.zone_machine.specs.declared.replies.Refusal.TheVariants.{Duplicate}
+use Rattle.zone_cases.specs.declared.replies.Head.{Head}
+use Rattle.zone_cases.specs.declared.replies.Head.TheVariants.{Ok, Refused, Ticket, Turned}
+use Rattle.zone_cases.specs.declared.replies.Refusal.TheVariants.{Duplicate}
 use Rattle.zone_views.specs.Numbers.{pids, zids}
 use Rattle.zone_views.specs.Whole.{whole_replies}
 

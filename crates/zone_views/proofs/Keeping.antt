@@ -6,15 +6,15 @@ use Rattle.zone_pools.specs.declared.grant.Grant.{Grant}
 use Rattle.zone_machine.proofs.Own_worlds.{world-one}
 use Rattle.zone_machine.specs.Machine.Histories.{after, after_entry, world_by}
 use Rattle.zone_machine.specs.Machine.{decide, restarted_world, session_number, subject, whole_world}
-use Rattle.zone_machine.specs.State.Declarations.{Declared, declaring}
-use Rattle.zone_machine.specs.State.Decisions.{act_of, acts_world}
-use Rattle.zone_machine.specs.State.Worlds.{World, view_of, world}
-use Rattle.zone_machine.specs.State.{State}
-use Rattle.zone_machine.specs.declared.events.Entry.{Entry}
-use Rattle.zone_machine.specs.declared.events.Event.{Event}
-use Rattle.zone_machine.specs.declared.events.Event.TheVariants.{Process as Call_of, Restart, Session, System, Turn}
-use Rattle.zone_machine.specs.declared.events.Subject.{Subject}
-use Rattle.zone_machine.specs.declared.events.Subject.TheVariants.{Zone, Global, Whole}
+use Rattle.zone_cases.specs.State.Declarations.{Declared, declaring}
+use Rattle.zone_cases.specs.State.Decisions.{act_of, acts_world}
+use Rattle.zone_cases.specs.State.Worlds.{World, view_of, world}
+use Rattle.zone_cases.specs.State.{State}
+use Rattle.zone_cases.specs.declared.events.Entry.{Entry}
+use Rattle.zone_cases.specs.declared.events.Event.{Event}
+use Rattle.zone_cases.specs.declared.events.Event.TheVariants.{Process as Call_of, Restart, Session, System, Turn}
+use Rattle.zone_cases.specs.declared.events.Subject.{Subject}
+use Rattle.zone_cases.specs.declared.events.Subject.TheVariants.{Zone, Global, Whole}
 
 module _ (P : World → Type 0) (keeps : (z : Name) (w : World) (e : Event) (g : Grant) → P w → P (acts_world (session_number e) (act_of (decide (view_of z w) e) g) w))
     (declares : (w : World) (d : Declared) → P w → P (record w { declared = d })) (restarts : (w : World) → P w → P (restarted_world w)) where

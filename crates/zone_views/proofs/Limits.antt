@@ -32,16 +32,16 @@ use Rattle.zoneadmd_steps.specs.Turns.{A_claim_left, A_mount, A_step, Next, Noth
 use Rattle.zone_machine.specs.Machine.Histories.{after}
 use Rattle.zone_machine.specs.Machine.{decide, opening, session_number}
 use Rattle.zoneadmd_steps.specs.Objects.{Of_mounts, all_of, keeping_pid, keeping_zid, kernel_of}
-use Rattle.zone_machine.specs.State.Decisions.{act_of, acts_world}
-use Rattle.zone_machine.specs.State.Edits.{console_gone_world, keeps_by}
-use Rattle.zone_machine.specs.State.Worlds.{World, objects_of, seen_of, view_of, world}
+use Rattle.zone_cases.specs.State.Decisions.{act_of, acts_world}
+use Rattle.zone_cases.specs.State.Edits.{console_gone_world, keeps_by}
+use Rattle.zone_cases.specs.State.Worlds.{World, objects_of, seen_of, view_of, world}
 use Rattle.zoneadmd_steps.specs.declared.requests.Outcome.{Outcome}
 use Rattle.zoneadmd_steps.specs.declared.requests.Request.{Request}
 use Rattle.zoneadmd_steps.specs.declared.requests.Request.TheVariants as request
 use Rattle.zoneadmd_steps.specs.declared.requests.Step.{Step}
 use Rattle.zoneadmd_steps.specs.declared.requests.Step.TheVariants.{Hook, Record as Record_step, Moved, Source, Zid, Limits, Devices, Root, Mounted, Claimed, State as State_step, Init, Kill, Clear, ZidBack}
-use Rattle.zone_machine.specs.declared.events.Entry.{Entry}
-use Rattle.zone_machine.specs.declared.events.Event.{Event}
+use Rattle.zone_cases.specs.declared.events.Entry.{Entry}
+use Rattle.zone_cases.specs.declared.events.Event.{Event}
 use Rattle.commit_journal.specs.declared.records.Commit.{Commit}
 use Rattle.commit_journal.specs.declared.records.Record.{Record}
 use Rattle.zone_views.proofs.Deciding.{Called, Drops, Enters, Forks, Goes, Renames, of_event}

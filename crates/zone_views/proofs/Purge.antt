@@ -17,19 +17,19 @@ use Rattle.zone_machine.proofs.Own_worlds.{leaves, reply-world, world-one, world
 use Rattle.zone_machine.proofs.Same_laws.{reply-Decides, subject-Decides}
 use Rattle.zoneadmd_steps.specs.Desks.{empty_desk}
 use Rattle.zone_machine.specs.Machine.Histories.{after, after_entry, any_grant, asked, concerns, entry_at, is_history, is_of, is_told, only, replay, replies, run, world_by, world_one}
-use Rattle.zone_machine.specs.Session.Lines.{Command, Kill, Line, line_of}
+use Rattle.zone_cases.specs.Session.Lines.{Command, Kill, Line, line_of}
 use Rattle.zone_machine.specs.Machine.{holder, line_subject, one, opening, session_subject, subject, whole_world}
 use Rattle.zone_machine.specs.Machine.Same.{same_reply, same_subject}
-use Rattle.zone_machine.specs.State.{At, Idle, Session as Session_mode, State, stored}
-use Rattle.zone_machine.specs.State.Declarations.{none_declared}
+use Rattle.zone_cases.specs.State.{At, Idle, Session as Session_mode, State, stored}
+use Rattle.zone_cases.specs.State.Declarations.{none_declared}
 use Rattle.console_link.specs.Consoles.{new_console}
-use Rattle.zone_machine.specs.State.Worlds.{World, doing, world}
-use Rattle.zone_machine.specs.declared.events.Entry.{Entry}
-use Rattle.zone_machine.specs.declared.events.Event.{Event}
-use Rattle.zone_machine.specs.declared.events.Event.TheVariants.{Process as Call_of, Restart, Session, System, Turn}
-use Rattle.zone_machine.specs.declared.events.Subject.{Subject}
-use Rattle.zone_machine.specs.declared.events.Subject.TheVariants.{Zone, Global, Whole}
-use Rattle.zone_machine.specs.declared.replies.Reply.{Reply}
+use Rattle.zone_cases.specs.State.Worlds.{World, doing, world}
+use Rattle.zone_cases.specs.declared.events.Entry.{Entry}
+use Rattle.zone_cases.specs.declared.events.Event.{Event}
+use Rattle.zone_cases.specs.declared.events.Event.TheVariants.{Process as Call_of, Restart, Session, System, Turn}
+use Rattle.zone_cases.specs.declared.events.Subject.{Subject}
+use Rattle.zone_cases.specs.declared.events.Subject.TheVariants.{Zone, Global, Whole}
+use Rattle.zone_cases.specs.declared.replies.Reply.{Reply}
 use Rattle.brand_hooks.specs.Brands.{Tabled}
 use Rattle.commit_journal.specs.declared.records.Commit.{Commit}
 use Rattle.commit_journal.specs.declared.records.Record.{Record}

@@ -7,8 +7,8 @@ use Rattle.zone_machine.proofs.Same_laws.{reply-Decides, subject-Decides}
 use Rattle.zone_machine.specs.Machine.Histories.{any_grant, entry_at, history, is_history, is_legal, is_told, run}
 use Rattle.zone_machine.specs.Machine.{one, subject}
 use Rattle.zone_machine.specs.Machine.Pools.{allowed}
-use Rattle.zone_machine.specs.State.{State}
-use Rattle.zone_machine.specs.declared.events.Event.{Event}
+use Rattle.zone_cases.specs.State.{State}
+use Rattle.zone_cases.specs.declared.events.Event.{Event}
 
 told-entry_at : (S : State) (e : Event) (g : Grant) → is_told S (entry_at S e g) ≡ true
 told-entry_at S e g = and_from _ _ ((subject-Decides (subject S e) (subject S e)).1 refl) ((reply-Decides (one S e g).reply (one S e g).reply).1 refl)

@@ -22,7 +22,7 @@ use Rattle.zn_base.specs.declared.state.ZoneState.TheVariants.{Configured, Incom
 use Rattle.zone_pools.proofs.Owned_laws.{same_true}
 use Rattle.zone_machine.proofs.Own_worlds.{world-one}
 use Rattle.zone_machine.proofs.Turned_laws.{In, in-act, stored_after, turn_act}
-use Rattle.zone_machine.specs.State.Decisions.{act_of, acts_world}
+use Rattle.zone_cases.specs.State.Decisions.{act_of, acts_world}
 use Rattle.zoneadmd_steps.specs.Configs.{claims_of, fs_dirs, root_dir, with_zonepath}
 use Rattle.zoneadmd_steps.specs.Desks.{Desk, Fails, Goes as Goes_on, Job, Stage, empty_desk, has_request, state_now, state_of, with_request}
 use Rattle.zone_machine.specs.Machine.Histories.{after, world_by}
@@ -31,20 +31,20 @@ use Rattle.zoneadmd_steps.specs.Objects.{Objects, Of_mounts}
 use Rattle.zoneadmd_steps.specs.Plans.{boot_part, kind_of, may_begin, plan, ready_part, refusal}
 use Rattle.zone_machine.proofs.Acts_laws.{stored-append}
 use Rattle.zone_config.specs.declared.terms.Contents.{Contents}
-use Rattle.zone_machine.specs.State.{State, stored}
+use Rattle.zone_cases.specs.State.{State, stored}
 use Rattle.zoneadmd_steps.specs.Turns.{A_claim_left, A_mount, A_step, Next, Nothing_left, Seen, Turn_decision, Turned, active_after, begin, hooked, local_job, local_next, local_stage, local_step, local_turn, local_undo, new_path, next, next_request, or_shared, over, record_config, shared_next, shared_stage, shared_step, shared_turn, started, stuck, turn, undo_edits, undone, with_step}
-use Rattle.zone_machine.specs.Session.Commits.{committed_record, is_configured}
-use Rattle.zone_machine.specs.State.Worlds.{World, objects_of, seen_of, view_of, world}
+use Rattle.zone_cases.specs.Session.Commits.{committed_record, is_configured}
+use Rattle.zone_cases.specs.State.Worlds.{World, objects_of, seen_of, view_of, world}
 use Rattle.zoneadmd_steps.specs.declared.requests.Outcome.{Outcome}
 use Rattle.zoneadmd_steps.specs.declared.requests.Request.{Request}
 use Rattle.zoneadmd_steps.specs.declared.requests.Request.TheVariants as request
 use Rattle.zoneadmd_steps.specs.declared.requests.Step.{Step}
 use Rattle.zoneadmd_steps.specs.declared.requests.Step.TheVariants.{Hook, Record as Record_step, Moved, Source, Zid, Root, Mounted, Claimed, State as State_step, Init}
-use Rattle.zone_machine.specs.declared.events.Entry.{Entry}
-use Rattle.zone_machine.specs.declared.events.Event.{Event}
-use Rattle.zone_machine.specs.declared.events.Event.TheVariants.{Process as Call_of, Restart, Session, System, Turn}
-use Rattle.zone_machine.specs.declared.events.Subject.{Subject}
-use Rattle.zone_machine.specs.declared.events.Subject.TheVariants.{Zone, Global, Whole}
+use Rattle.zone_cases.specs.declared.events.Entry.{Entry}
+use Rattle.zone_cases.specs.declared.events.Event.{Event}
+use Rattle.zone_cases.specs.declared.events.Event.TheVariants.{Process as Call_of, Restart, Session, System, Turn}
+use Rattle.zone_cases.specs.declared.events.Subject.{Subject}
+use Rattle.zone_cases.specs.declared.events.Subject.TheVariants.{Zone, Global, Whole}
 use Rattle.commit_journal.specs.declared.records.Commit.{Commit}
 use Rattle.commit_journal.specs.declared.records.Record.{Record}
 use Rattle.zone_views.proofs.Deciding.{of_event, of_turned}

@@ -15,13 +15,13 @@ use Rattle.zone_machine.specs.Machine.Common.{common}
 use Rattle.zone_machine.specs.Machine.Histories.{after, after_entry}
 use Rattle.zone_machine.specs.Machine.Local.{is_local, job_has_record}
 use Rattle.zone_machine.specs.Machine.{one, one_of, opening, subject, whole}
-use Rattle.zone_machine.specs.State.{State, stored}
-use Rattle.zone_machine.specs.State.Worlds.{objects_of, world}
-use Rattle.zone_machine.specs.declared.events.Entry.{Entry}
-use Rattle.zone_machine.specs.declared.events.Event.{Event}
-use Rattle.zone_machine.specs.declared.events.Event.TheVariants.{Process as Call_of, Restart, Session, System, Turn}
-use Rattle.zone_machine.specs.declared.events.Subject.{Subject}
-use Rattle.zone_machine.specs.declared.events.Subject.TheVariants.{Global, Whole, Zone}
+use Rattle.zone_cases.specs.State.{State, stored}
+use Rattle.zone_cases.specs.State.Worlds.{objects_of, world}
+use Rattle.zone_cases.specs.declared.events.Entry.{Entry}
+use Rattle.zone_cases.specs.declared.events.Event.{Event}
+use Rattle.zone_cases.specs.declared.events.Event.TheVariants.{Process as Call_of, Restart, Session, System, Turn}
+use Rattle.zone_cases.specs.declared.events.Subject.{Subject}
+use Rattle.zone_cases.specs.declared.events.Subject.TheVariants.{Global, Whole, Zone}
 use Rattle.zone_views.proofs.Steady.{steady, steady-history}
 use Rattle.zone_views.specs.Storable.{are_storable}
 

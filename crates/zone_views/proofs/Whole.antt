@@ -11,14 +11,14 @@ use Rattle.zone_machine.proofs.Common_laws.{common-one}
 use Rattle.zoneadmd_steps.specs.Arrivals.{Arrival, New_claim, New_id, New_process, New_record, No_new_thing}
 use Rattle.zone_machine.specs.Machine.Common.{Common, came_common}
 use Rattle.zone_machine.specs.Machine.Histories.{asked, concerns, entry_at, only, run}
-use Rattle.zone_machine.specs.Session.Lines.{Command, Kill, Line, line_of}
+use Rattle.zone_cases.specs.Session.Lines.{Command, Kill, Line, line_of}
 use Rattle.zone_machine.specs.Machine.{declare_reply, declared_by, holder, line_subject, named_subject, one, session_subject, subject, subject_of_name, whole}
-use Rattle.zone_machine.specs.State.{At, Idle, Session as Session_mode, State}
-use Rattle.zone_machine.specs.declared.events.Entry.{Entry}
-use Rattle.zone_machine.specs.declared.events.Event.{Event}
-use Rattle.zone_machine.specs.declared.events.Event.TheVariants.{Process as Call_of, Restart, Session, System, Turn}
-use Rattle.zone_machine.specs.declared.events.Subject.{Subject}
-use Rattle.zone_machine.specs.declared.events.Subject.TheVariants.{Zone, Global, Whole}
+use Rattle.zone_cases.specs.State.{At, Idle, Session as Session_mode, State}
+use Rattle.zone_cases.specs.declared.events.Entry.{Entry}
+use Rattle.zone_cases.specs.declared.events.Event.{Event}
+use Rattle.zone_cases.specs.declared.events.Event.TheVariants.{Process as Call_of, Restart, Session, System, Turn}
+use Rattle.zone_cases.specs.declared.events.Subject.{Subject}
+use Rattle.zone_cases.specs.declared.events.Subject.TheVariants.{Zone, Global, Whole}
 use Rattle.zone_views.proofs.Purge.{told-skip, told-step}
 use Rattle.zone_views.specs.Whole.{is_whole, whole_replies}
 

@@ -1,7 +1,7 @@
 -- What a session edits, by what was said to its editor.
 use Rattle.std.specs.Prelude.{ℕ, List, Option, Some, None}
 use Rattle.zonecfg_scopes.specs.Edited.{Edited, IsAfter}
-use Rattle.zone_machine.specs.State.{At_console, Awaiting, Doing, Editing, Logged_in}
+use Rattle.zone_cases.specs.State.{At_console, Awaiting, Doing, Editing, Logged_in}
 
 -- what an editor holds is what some subcommands denote over its base
 pub record IsDenoted (e : Edited) : Type 0 where

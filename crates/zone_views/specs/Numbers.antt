@@ -1,7 +1,7 @@
 -- The numbers that stand in a state, those of all zones.
 use Rattle.std.specs.Prelude.{ℕ, List, map, nat_eq}
 use Rattle.std.specs.List.{IsDistinct}
-use Rattle.zone_machine.specs.State.{State}
+use Rattle.zone_cases.specs.State.{State}
 
 abbrev pub pids : State → List ℕ
 pids S = map (λ o. o.it.pid) S.processes

@@ -1,9 +1,9 @@
 -- The entries of the whole system.
 use Rattle.std.specs.Prelude.{List, map, filter, Bool, true, false}
-use Rattle.zone_machine.specs.declared.events.Entry.{Entry}
-use Rattle.zone_machine.specs.declared.events.Subject.{Subject}
-use Rattle.zone_machine.specs.declared.events.Subject.TheVariants.{Zone, Global, Whole}
-use Rattle.zone_machine.specs.declared.replies.Reply.{Reply}
+use Rattle.zone_cases.specs.declared.events.Entry.{Entry}
+use Rattle.zone_cases.specs.declared.events.Subject.{Subject}
+use Rattle.zone_cases.specs.declared.events.Subject.TheVariants.{Zone, Global, Whole}
+use Rattle.zone_cases.specs.declared.replies.Reply.{Reply}
 
 abbrev pub is_whole : Subject → Bool
 is_whole (Zone z) = false

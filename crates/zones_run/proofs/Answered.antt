@@ -16,14 +16,15 @@ use Rattle.zone_machine.specs.Code.Decided.{entry_by, subject_by}
 use Rattle.zone_machine.specs.Code.Records.{BankLeft, GoesUnder, IsReady, Passes}
 use Rattle.zone_machine.specs.Code.Restarts.{BankLeftAny, FindsAgain, LeavesAny, RestartLeft}
 use Rattle.zone_machine.specs.Code.Steps.{Answers, AsItWas, Leaves}
-use Rattle.zone_machine.specs.Machine.{is_restart, one, subject}
+use Rattle.zone_cases.specs.Events.{is_restart}
+use Rattle.zone_machine.specs.Machine.{one, subject}
 use Rattle.zone_machine.specs.Machine.Images.{Goes, Holds, NowHolds}
 use Rattle.zone_machine.specs.Machine.Pools.{allowed}
-use Rattle.zone_machine.specs.State.{State, bodies_of}
-use Rattle.zone_machine.specs.declared.events.Answer.{Answer}
-use Rattle.zone_machine.specs.declared.events.Entry.{Entry}
-use Rattle.zone_machine.specs.declared.events.Event.{Event}
-use Rattle.zone_machine.specs.declared.events.Event.TheVariants.{Process as Call_of, Restart, Session, System, Turn}
+use Rattle.zone_cases.specs.State.{State, bodies_of}
+use Rattle.zone_cases.specs.declared.events.Answer.{Answer}
+use Rattle.zone_cases.specs.declared.events.Entry.{Entry}
+use Rattle.zone_cases.specs.declared.events.Event.{Event}
+use Rattle.zone_cases.specs.declared.events.Event.TheVariants.{Process as Call_of, Restart, Session, System, Turn}
 use Rattle.zone_machine.specs.declared.faults.StepFault.{StepFault}
 use Rattle.zone_machine.specs.declared.faults.StepFault.TheVariants.{DiskFault, Memory as No_memory, WouldRecord}
 use Rattle.zone_machine.specs.declared.machine.Machine.{Machine}

@@ -13,11 +13,11 @@ use Rattle.trace_text.specs.Declarations.{is_declaration}
 use Rattle.trace_text.specs.declared.fault.LineFault.TheVariants.{BadWord, GrantForm}
 use Rattle.trace_text.specs.Lines.{Said, begins_with, is_no_event, called, declaration_by, declared, event_by, event_of, first_word, after_word, item_at, item_by, pid_by, process_by, process_of, restart_by, session_of, turn_by, turn_of, typed_by, types_unless, with_words}
 use Rattle.datalink_table.specs.declared.claims.ClaimKind.TheVariants.{Address, Dataset, Link}
-use Rattle.zone_machine.specs.declared.events.Declaration.{Declaration}
-use Rattle.zone_machine.specs.declared.events.Declaration.TheVariants.{Device, Item}
-use Rattle.zone_machine.specs.declared.events.TheConstants.{SESSION_MAX}
-use Rattle.zone_machine.specs.declared.events.Event.{Event}
-use Rattle.zone_machine.specs.declared.events.Event.TheVariants.{System}
+use Rattle.zone_cases.specs.declared.events.Declaration.{Declaration}
+use Rattle.zone_cases.specs.declared.events.Declaration.TheVariants.{Device, Item}
+use Rattle.zone_cases.specs.declared.events.TheConstants.{SESSION_MAX}
+use Rattle.zone_cases.specs.declared.events.Event.{Event}
+use Rattle.zone_cases.specs.declared.events.Event.TheVariants.{System}
 use Rattle.zones_run.specs.Declarations.{DeclaresFirst}
 use Rattle.zones_run.specs.Output.{is_past_limit}
 use Rattle.zones_run.specs.Tracing.{Past_limit, Script, counts, counts_event, ends, script_from, with_line}

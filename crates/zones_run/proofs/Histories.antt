@@ -8,19 +8,19 @@ use Rattle.zone_pools.proofs.Same_laws.{grant-Decides}
 use Rattle.zoneadmd_steps.specs.Arrivals.{Arrival, New_claim, New_id, New_process, New_record, No_new_thing}
 use Rattle.zoneadmd_steps.specs.Objects.{Processes_go}
 use Rattle.zone_machine.proofs.Same_laws.{reply-Decides, subject-Decides}
-use Rattle.zone_machine.specs.State.{State}
-use Rattle.zone_machine.specs.State.Decisions.{act_of, after_came}
-use Rattle.zone_machine.specs.State.Edits.{Edit, Of_objects, comes, console_gone, edit, edits, keeps_console}
-use Rattle.zone_machine.specs.State.Worlds.{view}
+use Rattle.zone_cases.specs.State.{State}
+use Rattle.zone_cases.specs.State.Decisions.{act_of, after_came}
+use Rattle.zone_cases.specs.State.Edits.{Edit, Of_objects, comes, console_gone, edit, edits, keeps_console}
+use Rattle.zone_cases.specs.State.Worlds.{view}
 use Rattle.zone_machine.specs.Machine.{decide, one, one_of, session_number, subject, whole}
 use Rattle.zone_machine.specs.Machine.Changes.{change, change_of, changes, committed}
 use Rattle.zone_machine.specs.Machine.Histories.{after, after_entry, entry_at, is_legal, is_told}
 use Rattle.zone_machine.specs.Machine.Pools.{allowed}
-use Rattle.zone_machine.specs.declared.events.Entry.{Entry}
-use Rattle.zone_machine.specs.declared.events.Event.{Event}
-use Rattle.zone_machine.specs.declared.events.Event.TheVariants.{Process as Call_of, Restart, Session, System, Turn}
-use Rattle.zone_machine.specs.declared.events.Subject.{Subject}
-use Rattle.zone_machine.specs.declared.events.Subject.TheVariants.{Zone, Global, Whole}
+use Rattle.zone_cases.specs.declared.events.Entry.{Entry}
+use Rattle.zone_cases.specs.declared.events.Event.{Event}
+use Rattle.zone_cases.specs.declared.events.Event.TheVariants.{Process as Call_of, Restart, Session, System, Turn}
+use Rattle.zone_cases.specs.declared.events.Subject.{Subject}
+use Rattle.zone_cases.specs.declared.events.Subject.TheVariants.{Zone, Global, Whole}
 
 pub after-push : (S : State) (h : List Entry) (e : Entry) → after S (h ++ e ∷ []) ≡ after_entry (after S h) e
 after-push S [] e = refl

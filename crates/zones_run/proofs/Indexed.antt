@@ -17,7 +17,7 @@ use Rattle.zn_io.specs.Disk.{View}
 use Rattle.commit_journal.specs.Zones.{rows_of}
 use Rattle.zone_machine.specs.Code.Openings.{StandsFor}
 use Rattle.zone_machine.specs.Code.Records.{IsReady}
-use Rattle.zone_machine.specs.State.{State, bodies_of}
+use Rattle.zone_cases.specs.State.{State, bodies_of}
 use Rattle.zone_machine.specs.declared.machine.Machine.{Machine}
 use Rattle.zone_pools.specs.declared.owned.Owned.{Owned}
 use Rattle.zones_run.proofs.Resting.{rest_left}

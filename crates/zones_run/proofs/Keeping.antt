@@ -9,8 +9,8 @@ use Rattle.zone_machine.specs.Machine.{opening}
 use Rattle.zone_machine.specs.Machine.Changes.{HoldsFront, change, changes}
 use Rattle.zone_machine.specs.Machine.Histories.{after, after_entry, is_legal}
 use Rattle.zone_machine.specs.Machine.Images.{Goes, Holds, HoldsEither, IsStoreOf}
-use Rattle.zone_machine.specs.State.{State}
-use Rattle.zone_machine.specs.declared.events.Entry.{Entry}
+use Rattle.zone_cases.specs.State.{State}
+use Rattle.zone_cases.specs.declared.events.Entry.{Entry}
 use Rattle.zones_run.specs.Midway.{HasKept}
 use Rattle.zones_run.specs.Recording.{GoesSurely, IsFront, Records, commits_with}
 use Rattle.zones_run.proofs.Histories.{after-push, changes-push, commits-after}

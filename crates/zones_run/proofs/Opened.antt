@@ -16,8 +16,8 @@ use Rattle.zone_machine.specs.Code.Records.{IsReady, Passes}
 use Rattle.zone_machine.specs.Machine.{opening}
 use Rattle.zone_machine.specs.Machine.Changes.{HoldsFront, changes}
 use Rattle.zone_machine.specs.Machine.Images.{Holds, IsStoreOf}
-use Rattle.zone_machine.specs.State.{bodies_of}
-use Rattle.zone_machine.specs.declared.events.Entry.{Entry}
+use Rattle.zone_cases.specs.State.{bodies_of}
+use Rattle.zone_cases.specs.declared.events.Entry.{Entry}
 use Rattle.zone_machine.specs.declared.machine.Machine.{Machine}
 use Rattle.zones_run.specs.Complaints.{complaint_output, complaint_text}
 use Rattle.zones_run.specs.Opening.{Finds, Found}

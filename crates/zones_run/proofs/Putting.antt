@@ -3,23 +3,23 @@ use Rattle.std.proofs.Common.{◌≡◌, ◌++◌, ◌||◌, ℕ, zero, suc, Boo
 use Rattle.std.proofs.Math.Bool.{or-true}
 use Rattle.std.proofs.lemmas.List.Elements.{All-cons, All-nil}
 use Rattle.std.specs.List.{list_any}
-use Rattle.zone_machine.specs.Machine.{is_restart}
+use Rattle.zone_cases.specs.Events.{is_restart}
 use Rattle.zone_machine.specs.Machine.Histories.{history}
 use Rattle.zone_machine.specs.Machine.Pools.{allowed}
-use Rattle.zone_machine.specs.State.{State}
-use Rattle.zone_machine.specs.declared.events.Entry.{Entry}
-use Rattle.zone_machine.specs.declared.events.Event.{Event}
-use Rattle.zone_machine.specs.declared.events.Event.TheVariants.{Process as Call_of, Restart, Session, System, Turn}
+use Rattle.zone_cases.specs.State.{State}
+use Rattle.zone_cases.specs.declared.events.Entry.{Entry}
+use Rattle.zone_cases.specs.declared.events.Event.{Event}
+use Rattle.zone_cases.specs.declared.events.Event.TheVariants.{Process as Call_of, Restart, Session, System, Turn}
 use Rattle.zn_base.specs.Names.{Name}
 use Rattle.std.proofs.lemmas.List.{append-nil}
 use Rattle.zone_machine.specs.Code.Decided.{entry_by, subject_by}
-use Rattle.zone_machine.specs.declared.events.Answer.{Answer}
-use Rattle.zone_machine.specs.declared.events.Subject.{Subject}
-use Rattle.zone_machine.specs.declared.events.Subject.TheVariants.{Global, Whole, Zone}
-use Rattle.zone_machine.specs.declared.events.Whose.{Whose}
-use Rattle.zone_machine.specs.declared.events.Whose.TheVariants.{Found, Own}
-use Rattle.zone_machine.specs.declared.replies.Head.{Head}
-use Rattle.zone_machine.specs.declared.replies.Head.TheVariants.{Ok as Accepted, Refused, Status, Ticket, Turned}
+use Rattle.zone_cases.specs.declared.events.Answer.{Answer}
+use Rattle.zone_cases.specs.declared.events.Subject.{Subject}
+use Rattle.zone_cases.specs.declared.events.Subject.TheVariants.{Global, Whole, Zone}
+use Rattle.zone_cases.specs.declared.events.Whose.{Whose}
+use Rattle.zone_cases.specs.declared.events.Whose.TheVariants.{Found, Own}
+use Rattle.zone_cases.specs.declared.replies.Head.{Head}
+use Rattle.zone_cases.specs.declared.replies.Head.TheVariants.{Ok as Accepted, Refused, Status, Ticket, Turned}
 use Rattle.zones_run.specs.Midway.{puts_until}
 use Rattle.zones_run.specs.Scripting.{both_parts, entry_in, is_last, is_turn, numbered, opened, opened_by, put_in, state_after, state_past, ticket_by, turns_after, turns_until, zone_by}
 use Rattle.zones_run.specs.Tracing.{counts_event}

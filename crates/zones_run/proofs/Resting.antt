@@ -10,7 +10,7 @@ use Rattle.commit_journal.specs.declared.records.Record.{Record}
 use Rattle.zn_base.specs.Names.{Name}
 use Rattle.zn_base.specs.States.{is_stored}
 use Rattle.zone_pools.specs.declared.owned.Owned.{Owned}
-use Rattle.zone_machine.specs.State.{bodies_of}
+use Rattle.zone_cases.specs.State.{bodies_of}
 use Rattle.zones_run.specs.Resting.{CrashesLeaveStoredStates, HasStoredStates}
 
 abbrev Rests : Owned Record → Type 0

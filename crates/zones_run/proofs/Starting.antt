@@ -7,12 +7,12 @@ use Rattle.zone_pools.specs.declared.owned.Owned.{Owned}
 use Rattle.zn_base.specs.Names.{Name, name_of}
 use Rattle.zn_base.specs.declared.name.NameFault.{NameFault}
 use Rattle.zone_machine.specs.Machine.{holder, line_subject, named_subject, one, one_of, session_subject, subject, subject_of_name}
-use Rattle.zone_machine.specs.Session.Lines.{Ask, Blank, Clone, Command, Console, Edit, Enter, Help, Hold, Kill, Line, List_one, List_zones, Login, Release, Unforced, Unknown, Verify, Zonecfg, line_of}
-use Rattle.zone_machine.specs.State.{At, Idle, Session as Session_mode, State}
-use Rattle.zone_machine.specs.declared.events.Event.{Event}
-use Rattle.zone_machine.specs.declared.events.Event.TheVariants.{Process as Call_of, Restart, Session, System, Turn}
-use Rattle.zone_machine.specs.declared.events.Subject.{Subject}
-use Rattle.zone_machine.specs.declared.events.Subject.TheVariants.{Zone, Global, Whole}
+use Rattle.zone_cases.specs.Session.Lines.{Ask, Blank, Clone, Command, Console, Edit, Enter, Help, Hold, Kill, Line, List_one, List_zones, Login, Release, Unforced, Unknown, Verify, Zonecfg, line_of}
+use Rattle.zone_cases.specs.State.{At, Idle, Session as Session_mode, State}
+use Rattle.zone_cases.specs.declared.events.Event.{Event}
+use Rattle.zone_cases.specs.declared.events.Event.TheVariants.{Process as Call_of, Restart, Session, System, Turn}
+use Rattle.zone_cases.specs.declared.events.Subject.{Subject}
+use Rattle.zone_cases.specs.declared.events.Subject.TheVariants.{Zone, Global, Whole}
 use Rattle.zones_run.specs.Tracing.{counts_event}
 
 -- a zone, or the global zone

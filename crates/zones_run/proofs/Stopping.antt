@@ -10,7 +10,7 @@ use Rattle.brand_hooks.specs.Brands.{Tabled}
 use Rattle.commit_journal.specs.declared.records.Commit.{Commit}
 use Rattle.trace_text.specs.Lines.{event_of}
 use Rattle.zone_machine.specs.Machine.Images.{IsStoreOf}
-use Rattle.zone_machine.specs.State.{State}
+use Rattle.zone_cases.specs.State.{State}
 use Rattle.zones_run.specs.Answering.{LeavesText, MayStop, RestartsWell, Stops, StopsText, ended_by}
 use Rattle.zones_run.specs.Midway.{Follows, Left, RunsOn, none_put}
 use Rattle.zones_run.specs.Reading.{TakesLine}

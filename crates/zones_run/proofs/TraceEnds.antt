@@ -15,10 +15,10 @@ use Rattle.trace_text.specs.declared.fault.LineFault.{LineFault}
 use Rattle.zone_machine.specs.Machine.{opening}
 use Rattle.zone_machine.specs.Machine.Histories.{history}
 use Rattle.std.proofs.lemmas.List.Elements.{All-nil}
-use Rattle.zone_machine.specs.declared.events.Event.{Event}
+use Rattle.zone_cases.specs.declared.events.Event.{Event}
 use Rattle.zone_pools.specs.Pools.{or_else}
-use Rattle.zone_machine.specs.State.{State}
-use Rattle.zone_machine.specs.declared.events.Entry.{Entry}
+use Rattle.zone_cases.specs.State.{State}
+use Rattle.zone_cases.specs.declared.events.Entry.{Entry}
 use Rattle.zn_base.specs.Lines.{is_newline, lines_of, with_first}
 use Rattle.zones_run.specs.Reading.{FirstIsLong}
 use Rattle.zones_run.specs.Taking.{BeginsLine, TakesPiece}

@@ -10,9 +10,9 @@ use Rattle.commit_journal.specs.declared.records.Commit.{Commit}
 use Rattle.trace_text.specs.Lines.{Said, event_of}
 use Rattle.zone_machine.specs.Machine.{opening}
 use Rattle.zone_machine.specs.Machine.Images.{Goes, IsStoreOf}
-use Rattle.zone_machine.specs.State.{State}
-use Rattle.zone_machine.specs.declared.events.Entry.{Entry}
-use Rattle.zone_machine.specs.declared.events.Event.{Event}
+use Rattle.zone_cases.specs.State.{State}
+use Rattle.zone_cases.specs.declared.events.Entry.{Entry}
+use Rattle.zone_cases.specs.declared.events.Event.{Event}
 use Rattle.zones_run.specs.Answering.{Fails, FailsLine, LeavesText}
 use Rattle.zones_run.specs.Midway.{Follows, Knows, Left, none_put}
 use Rattle.zones_run.specs.Scripting.{entry_in, state_after}

@@ -12,13 +12,14 @@ use Rattle.commit_journal.specs.declared.records.Commit.{Commit}
 use Rattle.trace_text.specs.Lines.{Said, event_of}
 use Rattle.zn_io.specs.Disk.{View}
 use Rattle.zone_machine.specs.Machine.Histories.{after, after_entry, history}
-use Rattle.zone_machine.specs.Machine.{is_restart, opening}
+use Rattle.zone_cases.specs.Events.{is_restart}
+use Rattle.zone_machine.specs.Machine.{opening}
 use Rattle.zone_pools.specs.Pools.{or_else}
-use Rattle.zone_machine.specs.State.{State}
-use Rattle.zone_machine.specs.declared.events.Entry.{Entry}
-use Rattle.zone_machine.specs.declared.events.Event.{Event}
-use Rattle.zone_machine.specs.declared.events.Event.TheVariants.{Restart, Turn}
-use Rattle.zone_machine.specs.declared.events.Answer.{Answer}
+use Rattle.zone_cases.specs.State.{State}
+use Rattle.zone_cases.specs.declared.events.Entry.{Entry}
+use Rattle.zone_cases.specs.declared.events.Event.{Event}
+use Rattle.zone_cases.specs.declared.events.Event.TheVariants.{Restart, Turn}
+use Rattle.zone_cases.specs.declared.events.Answer.{Answer}
 use Rattle.zone_machine.specs.Code.Decided.{entry_by}
 use Rattle.zn_base.specs.Lines.{is_newline, lines_of, with_first}
 use Rattle.zones_run.specs.Lines.{AreWhole, has_newline}

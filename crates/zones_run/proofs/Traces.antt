@@ -7,9 +7,9 @@ use Rattle.commit_journal.specs.declared.records.Commit.{Commit}
 use Rattle.trace_text.specs.Lines.{Said, event_of}
 use Rattle.zone_machine.specs.Machine.Histories.{history}
 use Rattle.zone_pools.specs.Pools.{or_else}
-use Rattle.zone_machine.specs.State.{State}
-use Rattle.zone_machine.specs.declared.events.Entry.{Entry}
-use Rattle.zone_machine.specs.declared.events.Event.{Event}
+use Rattle.zone_cases.specs.State.{State}
+use Rattle.zone_cases.specs.declared.events.Entry.{Entry}
+use Rattle.zone_cases.specs.declared.events.Event.{Event}
 use Rattle.zone_machine.specs.Machine.{opening}
 use Rattle.zn_base.specs.Lines.{lines_of}
 use Rattle.zones_run.specs.Midway.{lines_from, run_on, run_onto, with_events, with_script}

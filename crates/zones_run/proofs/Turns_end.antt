@@ -20,13 +20,13 @@ use Rattle.zone_machine.proofs.Acts_laws.{own-acts}
 use Rattle.zone_machine.specs.Machine.{decide, one, subject}
 use Rattle.zone_machine.specs.Machine.Histories.{history}
 use Rattle.zone_machine.specs.Machine.Pools.{allowed}
-use Rattle.zone_machine.specs.State.{State}
-use Rattle.zone_machine.specs.State.Decisions.{Act, act_of, acts_world, after_came_world, effects, sweeps, turned}
-use Rattle.zone_machine.specs.State.Edits.{Of_objects, Set_desk, console_gone_world, edit_world, edits_world, keeps_console}
-use Rattle.zone_machine.specs.State.Worlds.{World, objects_of, seen_of, view, world}
-use Rattle.zone_machine.specs.declared.events.Entry.{Entry}
-use Rattle.zone_machine.specs.declared.events.Event.TheVariants.{Turn}
-use Rattle.zone_machine.specs.declared.replies.Head.TheVariants.{Turned as Told}
+use Rattle.zone_cases.specs.State.{State}
+use Rattle.zone_cases.specs.State.Decisions.{Act, act_of, acts_world, after_came_world, effects, sweeps, turned}
+use Rattle.zone_cases.specs.State.Edits.{Of_objects, Set_desk, console_gone_world, edit_world, edits_world, keeps_console}
+use Rattle.zone_cases.specs.State.Worlds.{World, objects_of, seen_of, view, world}
+use Rattle.zone_cases.specs.declared.events.Entry.{Entry}
+use Rattle.zone_cases.specs.declared.events.Event.TheVariants.{Turn}
+use Rattle.zone_cases.specs.declared.replies.Head.TheVariants.{Turned as Told}
 use Rattle.zones_run.specs.Scripting.{entry_in, is_last, is_last_turn, state_after, turns_until}
 use Rattle.zones_run.specs.Turns_end.{EndsFor, TurnsEnd, found_in}
 use Rattle.zones_run.specs.declared.turns.Opened.{Opened}

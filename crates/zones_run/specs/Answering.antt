@@ -6,14 +6,14 @@ use Rattle.zn_io.specs.Streams.{after_known}
 use Rattle.trace_text.specs.Lines.{Said}
 use Rattle.zone_machine.specs.Code.Decided.{entry_by}
 use Rattle.zone_machine.specs.Machine.Images.{Goes}
-use Rattle.zone_machine.specs.State.{State}
-use Rattle.zone_machine.specs.declared.events.Answer.{Answer}
-use Rattle.zone_machine.specs.declared.events.Event.{Event}
-use Rattle.zone_machine.specs.declared.events.Event.TheVariants.{Restart}
+use Rattle.zone_cases.specs.State.{State}
+use Rattle.zone_cases.specs.declared.events.Answer.{Answer}
+use Rattle.zone_cases.specs.declared.events.Event.{Event}
+use Rattle.zone_cases.specs.declared.events.Event.TheVariants.{Restart}
 use Rattle.zone_pools.specs.Pools.{or_else}
 use Rattle.zones_run.specs.Recording.{GoesSurely}
-use Rattle.zone_machine.specs.declared.events.Entry.{Entry}
-use Rattle.zone_machine.specs.declared.replies.Head.{Head}
+use Rattle.zone_cases.specs.declared.events.Entry.{Entry}
+use Rattle.zone_cases.specs.declared.replies.Head.{Head}
 use Rattle.zones_run.specs.Run.{HasFront}
 use Rattle.zones_run.specs.Scripting.{entry_in, opened, state_after}
 use Rattle.zones_run.specs.declared.turns.Taken.{Taken}

@@ -1,8 +1,8 @@
 -- The order in which a trace declares.
 use Rattle.std.specs.Prelude.{◌≡◌, ◌++◌, ℕ, List, ◌∷◌, map, All, false}
-use Rattle.zone_machine.specs.declared.events.Declaration.{Declaration}
-use Rattle.zone_machine.specs.declared.events.Event.{Event}
-use Rattle.zone_machine.specs.declared.events.Event.TheVariants.{System}
+use Rattle.zone_cases.specs.declared.events.Declaration.{Declaration}
+use Rattle.zone_cases.specs.declared.events.Event.{Event}
+use Rattle.zone_cases.specs.declared.events.Event.TheVariants.{System}
 use Rattle.zones_run.specs.Tracing.{counts_event, script_of}
 
 -- the events of a whole input, in order

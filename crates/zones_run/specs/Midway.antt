@@ -10,9 +10,9 @@ use Rattle.zone_machine.specs.Machine.{opening}
 use Rattle.zone_machine.specs.Machine.Changes.{HoldsFront}
 use Rattle.zone_machine.specs.Machine.Histories.{after, history, is_legal}
 use Rattle.zone_machine.specs.Machine.Images.{IsStoreOf, NowHolds}
-use Rattle.zone_machine.specs.State.{State}
-use Rattle.zone_machine.specs.declared.events.Entry.{Entry}
-use Rattle.zone_machine.specs.declared.events.Event.{Event}
+use Rattle.zone_cases.specs.State.{State}
+use Rattle.zone_cases.specs.declared.events.Entry.{Entry}
+use Rattle.zone_cases.specs.declared.events.Event.{Event}
 use Rattle.zone_pools.specs.Pools.{or_else}
 use Rattle.zones_run.specs.Lines.{AreWhole}
 use Rattle.zones_run.specs.Recording.{commits_with}

@@ -9,7 +9,7 @@ use Rattle.zone_machine.specs.Machine.Changes.{HoldsFront, changes}
 use Rattle.zone_machine.specs.Machine.Histories.{is_legal}
 use Rattle.zone_machine.specs.Machine.Images.{Holds, HoldsEither, NowHolds}
 use Rattle.zone_machine.specs.Machine.{opening}
-use Rattle.zone_machine.specs.declared.events.Entry.{Entry}
+use Rattle.zone_cases.specs.declared.events.Entry.{Entry}
 use Rattle.zones_run.specs.Run.{IsWhole}
 use Rattle.zones_run.specs.Statuses.{status_disk_fault, status_no_memory, status_read_fault}
 use Rattle.zones_run.specs.Tracing.{replies_text, run_of}

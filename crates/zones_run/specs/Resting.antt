@@ -6,7 +6,7 @@ use Rattle.commit_journal.specs.declared.records.Commit.{Commit}
 use Rattle.zn_base.specs.States.{is_stored}
 use Rattle.zone_machine.specs.Machine.{opening}
 use Rattle.zone_machine.specs.Machine.Changes.{HoldsFront}
-use Rattle.zone_machine.specs.declared.events.Entry.{Entry}
+use Rattle.zone_cases.specs.declared.events.Entry.{Entry}
 
 -- each zone that some commits leave is configured, incomplete or installed
 abbrev pub HasStoredStates : List Commit → Type 0

@@ -3,17 +3,17 @@
 use Rattle.std.specs.Prelude.{ℕ, zero, suc, List, [], ◌∷◌, ◌++◌, ◌==◌, map, Bool, true, false, Option, Some, None, if◌then◌else◌}
 use Rattle.zone_machine.specs.Machine.Histories.{after_entry, entry_at}
 use Rattle.zone_machine.specs.Machine.Pools.{allowed}
-use Rattle.zone_machine.specs.State.{State}
-use Rattle.zone_machine.specs.declared.events.Entry.{Entry}
-use Rattle.zone_machine.specs.declared.events.Event.{Event}
-use Rattle.zone_machine.specs.declared.events.Event.TheVariants.{Session, Turn}
-use Rattle.zone_machine.specs.declared.events.Subject.{Subject}
-use Rattle.zone_machine.specs.declared.events.Subject.TheVariants.{Zone}
-use Rattle.zone_machine.specs.declared.events.Whose.{Whose}
-use Rattle.zone_machine.specs.declared.events.Whose.TheVariants.{Found}
+use Rattle.zone_cases.specs.State.{State}
+use Rattle.zone_cases.specs.declared.events.Entry.{Entry}
+use Rattle.zone_cases.specs.declared.events.Event.{Event}
+use Rattle.zone_cases.specs.declared.events.Event.TheVariants.{Session, Turn}
+use Rattle.zone_cases.specs.declared.events.Subject.{Subject}
+use Rattle.zone_cases.specs.declared.events.Subject.TheVariants.{Zone}
+use Rattle.zone_cases.specs.declared.events.Whose.{Whose}
+use Rattle.zone_cases.specs.declared.events.Whose.TheVariants.{Found}
 use Rattle.zn_base.specs.Names.{Name}
-use Rattle.zone_machine.specs.declared.replies.Head.{Head}
-use Rattle.zone_machine.specs.declared.replies.Head.TheVariants.{Ticket, Turned}
+use Rattle.zone_cases.specs.declared.replies.Head.{Head}
+use Rattle.zone_cases.specs.declared.replies.Head.TheVariants.{Ticket, Turned}
 use Rattle.zoneadmd_steps.specs.declared.requests.TurnReply.{TurnReply}
 use Rattle.zoneadmd_steps.specs.declared.requests.TurnReply.TheVariants.{Finished, Idle, Stuck}
 use Rattle.zones_run.specs.declared.turns.Opened.{Opened}

@@ -10,17 +10,18 @@ use Rattle.trace_text.specs.Lines.{Said, event_of}
 use Rattle.trace_text.specs.Replies.{reply_text}
 use Rattle.trace_text.specs.declared.fault.LineFault.{LineFault}
 use Rattle.zone_machine.specs.Machine.Histories.{history}
-use Rattle.zone_machine.specs.Machine.{is_restart, opening}
+use Rattle.zone_cases.specs.Events.{is_restart}
+use Rattle.zone_machine.specs.Machine.{opening}
 use Rattle.zoneadmd_steps.specs.declared.requests.Outcome.{Outcome}
 use Rattle.zoneadmd_steps.specs.declared.requests.Outcome.TheVariants.{Done}
 use Rattle.zoneadmd_steps.specs.declared.requests.TurnReply.{TurnReply}
 use Rattle.zoneadmd_steps.specs.declared.requests.TurnReply.TheVariants.{Failed, Finished, Stuck}
-use Rattle.zone_machine.specs.declared.events.Entry.{Entry}
-use Rattle.zone_machine.specs.declared.events.Event.{Event}
-use Rattle.zone_machine.specs.declared.events.Event.TheVariants.{System}
-use Rattle.zone_machine.specs.declared.replies.Head.{Head}
-use Rattle.zone_machine.specs.declared.replies.Head.TheVariants.{Refused, Turned}
-use Rattle.zone_machine.specs.State.{State}
+use Rattle.zone_cases.specs.declared.events.Entry.{Entry}
+use Rattle.zone_cases.specs.declared.events.Event.{Event}
+use Rattle.zone_cases.specs.declared.events.Event.TheVariants.{System}
+use Rattle.zone_cases.specs.declared.replies.Head.{Head}
+use Rattle.zone_cases.specs.declared.replies.Head.TheVariants.{Refused, Turned}
+use Rattle.zone_cases.specs.State.{State}
 use Rattle.zn_base.specs.Lines.{lines_of}
 use Rattle.zones_run.specs.Scripting.{is_turn, put_in}
 use Rattle.zones_run.specs.declared.words.Turns.{Turns}

@@ -4,10 +4,10 @@ use Rattle.zn_base.specs.Names.{Name}
 use Rattle.zoneadmd_laws.specs.Turns_left.{IsSmall, turns_left}
 use Rattle.zoneadmd_steps.specs.Turns.{Seen}
 use Rattle.zone_machine.specs.Machine.Histories.{history}
-use Rattle.zone_machine.specs.State.{State}
-use Rattle.zone_machine.specs.State.Worlds.{seen_of, world}
-use Rattle.zone_machine.specs.declared.events.Entry.{Entry}
-use Rattle.zone_machine.specs.declared.events.Event.TheVariants.{Turn}
+use Rattle.zone_cases.specs.State.{State}
+use Rattle.zone_cases.specs.State.Worlds.{seen_of, world}
+use Rattle.zone_cases.specs.declared.events.Entry.{Entry}
+use Rattle.zone_cases.specs.declared.events.Event.TheVariants.{Turn}
 use Rattle.zones_run.specs.Scripting.{is_last, state_after, turns_until}
 use Rattle.zones_run.specs.declared.turns.Opened.{Opened}
 

@@ -3,9 +3,10 @@ ghost use Rattle.std.specs.Prelude.{◌≡◌, ◌≢◌, ◌<◌, ◌≤◌, �
 ghost use Rattle.zn_io.specs.Streams.{Rose, after_known};
 ghost use Rattle.brand_hooks.specs.Brands.{Tabled};
 ghost use Rattle.commit_journal.specs.declared.records.Commit.{Commit};
-ghost use Rattle.zone_machine.specs.Machine.{is_restart, opening};
+ghost use Rattle.zone_cases.specs.Events.{is_restart};
+ghost use Rattle.zone_machine.specs.Machine.{opening};
 ghost use Rattle.zone_machine.specs.Machine.Images.{IsStoreOf};
-ghost use Rattle.zone_machine.specs.State.{State};
+ghost use Rattle.zone_cases.specs.State.{State};
 ghost use Rattle.zone_machine.specs.Code.Decided.{AsksBrands, MayGoOn, subject_by};
 ghost use Rattle.zone_machine.specs.Code.Openings.{StandsFor};
 ghost use Rattle.zone_machine.specs.Code.Records.{Passes};
@@ -22,7 +23,8 @@ use brand_hooks::{Change, HookAnswer};
 use std::alloc::{AllocError, Global};
 use trace_text::push_answer;
 use zn_io::{Disk, Sink, write_all};
-use zone_machine::{Answer, Event, Head, Machine, StepFault};
+use zone_cases::{Answer, Event, Head};
+use zone_machine::{Machine, StepFault};
 use zoneadmd_steps::{Outcome, TurnReply};
 
 // How many bytes of replies may wait before they are written.

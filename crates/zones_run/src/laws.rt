@@ -3,8 +3,8 @@
 ghost use Rattle.zones_run.specs.Declarations.{DeclaresFirst};
 ghost use Rattle.zones_run.specs.Denoted.{ExportsWhatIsDenoted, RefusesAtWhatIsDenoted};
 ghost use Rattle.std.specs.Prelude.{◌≡◌, ℕ, List};
-ghost use Rattle.zone_machine.specs.State.{State};
-ghost use Rattle.zone_machine.specs.declared.events.Event.{Event};
+ghost use Rattle.zone_cases.specs.State.{State};
+ghost use Rattle.zone_cases.specs.declared.events.Event.{Event};
 ghost use Rattle.zones_run.specs.Resting.{CrashesLeaveStoredStates};
 ghost use Rattle.zones_run.specs.Scripting.{put_in};
 ghost use Rattle.zones_run.specs.Turns_end.{TurnsEnd};

@@ -6,9 +6,10 @@ ghost use Rattle.std.specs.Prelude.{◌≡◌, ◌≢◌, ◌<◌, ◌≤◌, �
 ghost use Rattle.zn_io.specs.Streams.{Rose, after_known};
 ghost use Rattle.brand_hooks.specs.Brands.{Tabled};
 ghost use Rattle.commit_journal.specs.declared.records.Commit.{Commit};
-ghost use Rattle.zone_machine.specs.Machine.{is_restart, opening};
+ghost use Rattle.zone_cases.specs.Events.{is_restart};
+ghost use Rattle.zone_machine.specs.Machine.{opening};
 ghost use Rattle.zone_machine.specs.Machine.Images.{IsStoreOf};
-ghost use Rattle.zone_machine.specs.State.{State};
+ghost use Rattle.zone_cases.specs.State.{State};
 ghost use Rattle.zone_machine.specs.Code.Decided.{AsksBrands, MayGoOn, subject_by};
 ghost use Rattle.zone_machine.specs.Code.Openings.{StandsFor};
 ghost use Rattle.zone_machine.specs.Code.Records.{Passes};
@@ -31,7 +32,8 @@ use commit_journal::StoreFault;
 use std::alloc::{AllocError, Global};
 use trace_text::{LineFault, read_line};
 use zn_io::{Disk, Sink, Source};
-use zone_machine::{Answer, Event, Machine, StepFault};
+use zone_cases::{Answer, Event};
+use zone_machine::{Machine, StepFault};
 
 // What is left to report at the end of the input.
 fn ended(refused: Option<u64>) -> Option<Complaint>

@@ -5,9 +5,9 @@ ghost use Rattle.zn_io.specs.Disk.{View};
 ghost use Rattle.zn_io.specs.Streams.{Rose, after_known};
 ghost use Rattle.brand_hooks.specs.Brands.{Tabled};
 ghost use Rattle.commit_journal.specs.declared.records.Commit.{Commit};
-ghost use Rattle.zone_machine.specs.Machine.{is_restart};
+ghost use Rattle.zone_cases.specs.Events.{is_restart};
 ghost use Rattle.zone_machine.specs.Machine.Images.{IsStoreOf};
-ghost use Rattle.zone_machine.specs.State.{State};
+ghost use Rattle.zone_cases.specs.State.{State};
 ghost use Rattle.zone_machine.specs.Code.Decided.{AsksBrands, MayGoOn, entry_by};
 ghost use Rattle.zone_machine.specs.Code.Openings.{StandsFor};
 ghost use Rattle.zone_machine.specs.Code.Records.{Passes};
@@ -26,7 +26,8 @@ use brand_hooks::{Change, HookAnswer};
 use std::alloc::Global;
 use zn_base::ZoneName;
 use zn_io::{Disk, Sink};
-use zone_machine::{Answer, Event, Head, Machine, Subject, Whose};
+use zone_cases::{Answer, Event, Head, Subject, Whose};
+use zone_machine::Machine;
 use zoneadmd_steps::TurnReply;
 
 // The greatest number of turns that are put in after a line. The daemon of a zone that stays small has fewer left.

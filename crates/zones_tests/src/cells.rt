@@ -11,10 +11,9 @@ use std::process::Abort;
 use std::test::Fail;
 use zn_base::{Text, TextFault, ZoneName};
 use zn_io::MemDisk;
+use zone_cases::{Cell, Entry, Event, Head};
 use zone_disk::Bank;
-use zone_machine::{
-    Cell, Entry, Event, Head, Shared, StepFault, cell_step, cell_step_given, local_turn,
-};
+use zone_machine::{Shared, StepFault, cell_step, cell_step_given, local_turn};
 use zone_pools::Grant;
 use zoneadmd_steps::{RequestKind, Step, TurnReply};
 

@@ -7,7 +7,7 @@ use priv_sets::PrivFault;
 use std::alloc::Global;
 use std::test::Fail;
 use zn_base::{NameFault, Text, ZoneState};
-use zone_machine::{Head, Refusal, Subject};
+use zone_cases::{Head, Refusal, Subject};
 use zone_pools::Pool;
 use zoneadmd_steps::{Outcome, TurnReply};
 use zonecfg_lex::LexFault;

@@ -6,7 +6,7 @@ use std::process::Abort;
 use std::test::Fail;
 use trace_text::{LineFault, print_reply};
 use zn_base::{NameFault, ZoneState};
-use zone_machine::{Body, Head, Refusal, Reply, Subject};
+use zone_cases::{Body, Head, Refusal, Reply, Subject};
 use zone_pools::Pool;
 use zoneadmd_steps::{Outcome, TurnReply};
 use zonecfg_scopes::EditFault;

@@ -3,7 +3,7 @@ use crate::replies::has_text;
 use std::alloc::Global;
 use std::test::Fail;
 use zn_base::{Bytes, Listing, Text, ZoneName};
-use zone_machine::{Body, Head, Subject};
+use zone_cases::{Body, Head, Subject};
 
 fn is_body(alloc: Global, body: Body, wanted: &str) -> Result<bool, Fail> {
     let zone = Subject::Zone(ZoneName::read(alloc, b"a")?);

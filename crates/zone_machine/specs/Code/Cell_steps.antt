@@ -2,18 +2,19 @@
 use Rattle.std.specs.Prelude.{◌≡◌, true, false, Option, Some, None}
 use Rattle.zn_base.specs.Names.{Name}
 use Rattle.zone_machine.specs.Machine.Common.{common}
-use Rattle.zone_machine.specs.State.{State}
-use Rattle.zone_machine.specs.State.Worlds.{world}
-use Rattle.zone_machine.specs.declared.machine.cell.Cell.{Cell}
-use Rattle.zone_machine.specs.declared.events.Event.{Event}
-use Rattle.zone_machine.specs.declared.events.Subject.TheVariants.{Zone}
+use Rattle.zone_cases.specs.State.{State}
+use Rattle.zone_cases.specs.State.Worlds.{world}
+use Rattle.zone_cases.specs.declared.cell.Cell.{Cell}
+use Rattle.zone_cases.specs.declared.events.Event.{Event}
+use Rattle.zone_cases.specs.declared.events.Subject.TheVariants.{Zone}
 use Rattle.zone_machine.specs.declared.machine.shared.Shared.{Shared}
 use Rattle.zone_pools.specs.declared.grant.Grant.{Grant}
 use Rattle.zone_machine.specs.Machine.Histories.{entry_at}
 use Rattle.zone_machine.specs.Machine.{one, subject}
 use Rattle.zone_machine.specs.Machine.Pools.{allowed, fits}
-use Rattle.zone_machine.specs.Code.Cells.{CellOf, SharedOf}
-use Rattle.zone_machine.specs.declared.events.Entry.{Entry}
+use Rattle.zone_cases.specs.Code.Cells.{CellOf}
+use Rattle.zone_machine.specs.Code.Cells.{SharedOf}
+use Rattle.zone_cases.specs.declared.events.Entry.{Entry}
 use Rattle.zone_machine.specs.Code.Rooms.{Alike}
 use Rattle.zone_machine.specs.Code.Steps.{Takes}
 use Rattle.zone_machine.specs.declared.faults.StepFault.{StepFault}

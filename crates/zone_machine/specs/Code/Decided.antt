@@ -4,21 +4,17 @@ use Rattle.std.specs.Fn.{Shared}
 use denote.Ref.{Bor}
 use Rattle.indexmap.specs.IndexMap.{IsUnique, index_of_by, values}
 use Rattle.zn_base.specs.Names.{Name}
-use Rattle.zone_machine.specs.Code.Cases.{IsCaseOf, IsNamedCase, decision_of}
-use Rattle.zone_machine.specs.Code.Works.{IsFreeCase}
-use Rattle.zone_machine.specs.Code.Cells.{IsHeardIn, Outside, cell_at, cell_objects, cell_world}
-use Rattle.zone_machine.specs.State.Decisions.{Decision}
-use Rattle.zone_machine.specs.State.Worlds.{View, view_of}
-use Rattle.zone_machine.specs.declared.cases.Case.{Case}
-use Rattle.zone_machine.specs.declared.machine.cell.Cell.{Cell}
-use Rattle.zone_machine.specs.declared.events.Answer.{Answer}
-use Rattle.zone_machine.specs.declared.events.Entry.{Entry}
-use Rattle.zone_machine.specs.declared.events.Event.{Event}
-use Rattle.zone_machine.specs.declared.events.Event.TheVariants.{Process, Restart, Session, System, Turn}
-use Rattle.zone_machine.specs.declared.events.Subject.{Subject}
-use Rattle.zone_machine.specs.declared.events.Subject.TheVariants.{Global, Whole, Zone}
-use Rattle.zone_machine.specs.declared.events.Whose.{Whose}
-use Rattle.zone_machine.specs.declared.events.Whose.TheVariants.{Found, Own}
+use Rattle.zone_cases.specs.Code.Cells.{IsHeardIn, cell_objects}
+use Rattle.zone_machine.specs.Code.Cells.{cell_at}
+use Rattle.zone_cases.specs.declared.cell.Cell.{Cell}
+use Rattle.zone_cases.specs.declared.events.Answer.{Answer}
+use Rattle.zone_cases.specs.declared.events.Entry.{Entry}
+use Rattle.zone_cases.specs.declared.events.Event.{Event}
+use Rattle.zone_cases.specs.declared.events.Event.TheVariants.{Process, Restart, Session, System, Turn}
+use Rattle.zone_cases.specs.declared.events.Subject.{Subject}
+use Rattle.zone_cases.specs.declared.events.Subject.TheVariants.{Global, Whole, Zone}
+use Rattle.zone_cases.specs.declared.events.Whose.{Whose}
+use Rattle.zone_cases.specs.declared.events.Whose.TheVariants.{Found, Own}
 use Rattle.zone_machine.specs.declared.machine.parts.Parts.{Parts}
 use Rattle.brand_hooks.specs.Brands.{tables_of}
 use Rattle.brand_hooks.specs.Hooks.{AllFollow}
@@ -29,15 +25,8 @@ use Rattle.zone_machine.specs.Code.Records.{IsReady}
 use Rattle.zn_io.specs.Disk.{View as Disk_view}
 use Rattle.zoneadmd_steps.specs.Code.Cases.{next_hook}
 use Rattle.zoneadmd_steps.specs.Code.Desks.{as_desk}
-use Rattle.zone_machine.specs.declared.replies.Reply.{Reply}
+use Rattle.zone_cases.specs.declared.replies.Reply.{Reply}
 use Rattle.zone_pools.specs.declared.grant.Grant.{Grant}
-
--- a case of z's cell, of what is decided in its view
-pub record IsCaseIn (z : Name) (out : Outside) (c : Cell) (decides : View → Decision) (case : Case) : Type 0 where
-  pub decided : decides (view_of z (cell_world out c)) ≡ decision_of c.desk case
-  pub of : IsCaseOf c.desk case
-  pub named : IsNamedCase z case
-  pub free : IsFreeCase case c.mounts.list c.claims.claims
 
 -- z's cell stands at an index
 pub record IsCellAt (p : Parts) (at : ℕ) (z : Name) : Type 0 where

@@ -1,20 +1,12 @@
 -- What the code has of a zone that it tells of, as the definitions have it.
 use Rattle.std.specs.Prelude.{ℕ, List, [], ◌∷◌, filter, map, Option, Some, None}
-use Rattle.uuid_text.specs.Text.{uuid_text}
 use Rattle.commit_journal.specs.declared.records.Record.{Record}
 use Rattle.zn_base.specs.Names.{Name}
-use Rattle.zone_machine.specs.Code.Cells.{cell_at, outside_in, world_or_empty}
-use Rattle.zone_machine.specs.Session.Listed.{Zone_row, is_listed, row_now, row_text}
+use Rattle.zone_machine.specs.Code.Cells.{cell_at, outside_in}
+use Rattle.zone_cases.specs.Code.Cells.{world_or_empty}
+use Rattle.zone_cases.specs.Session.Listed.{Zone_row, is_listed, row_now, row_text}
 use Rattle.zone_machine.specs.declared.machine.parts.Parts.{Parts}
-use Rattle.zone_machine.specs.declared.session.listing.Options.{Options}
-use Rattle.zone_machine.specs.declared.session.listing.ZoneRow.{ZoneRow}
-
-abbrev pub some_uuid_text : Option (List ℕ) → List ℕ
-some_uuid_text None = []
-some_uuid_text (Some uuid) = uuid_text uuid
-
-abbrev pub as_row : ZoneRow → Zone_row
-as_row r = record { id = r.id; name = r.name.now; state = r.state; path = r.path.now; uuid = some_uuid_text r.uuid; brand = r.brand.now; ip = r.ip }
+use Rattle.zone_cases.specs.declared.session.listing.Options.{Options}
 
 -- what is told of a stored zone, by the machine's parts
 abbrev pub row_in_parts : Parts → Name → Record → Zone_row

@@ -3,18 +3,18 @@ use Rattle.std.specs.Prelude.{◌≡◌, None, Some, true, false}
 use Rattle.zn_base.specs.Names.{Name}
 use Rattle.zone_pools.specs.declared.grant.Grant.TheVariants.{Nothing}
 use Rattle.brand_hooks.specs.declared.table.HookAnswer.{HookAnswer}
-use Rattle.zone_machine.specs.Code.Cells.{CellOf, IsHeardIn, Outside, cell_objects, cell_world}
+use Rattle.zone_cases.specs.Code.Cells.{CellOf, IsHeardIn, Outside, cell_objects, cell_world}
 use Rattle.zoneadmd_steps.specs.Code.Desks.{as_desk}
 use Rattle.zoneadmd_steps.specs.Objects.{devices_after, ids_of, ids_after, mounts_after}
 use Rattle.zone_machine.specs.Machine.Histories.{entry_at}
 use Rattle.zone_machine.specs.Machine.Local.{is_local}
 use Rattle.zone_machine.specs.Machine.{one}
-use Rattle.zone_machine.specs.State.{State}
+use Rattle.zone_cases.specs.State.{State}
 use Rattle.zoneadmd_steps.specs.Turns.{Turned, local_turn}
-use Rattle.zone_machine.specs.State.Worlds.{world}
-use Rattle.zone_machine.specs.declared.machine.cell.Cell.{Cell}
-use Rattle.zone_machine.specs.declared.events.Entry.{Entry}
-use Rattle.zone_machine.specs.declared.events.Event.TheVariants.{Turn}
+use Rattle.zone_cases.specs.State.Worlds.{world}
+use Rattle.zone_cases.specs.declared.cell.Cell.{Cell}
+use Rattle.zone_cases.specs.declared.events.Entry.{Entry}
+use Rattle.zone_cases.specs.declared.events.Event.TheVariants.{Turn}
 
 -- the next turn of a cell's zone is local and does this, and it is not local, where its brand answers so
 abbrev pub IsNext : Cell → HookAnswer → Turned → Type 0

@@ -5,7 +5,7 @@ use Rattle.commit_journal.specs.Stored.{Rows, stored}
 use Rattle.commit_journal.specs.declared.records.Commit.{Commit}
 use Rattle.zone_machine.specs.Code.Cells.{Stands as Parts_stand}
 use Rattle.zone_machine.specs.Machine.{opening, restarted}
-use Rattle.zone_machine.specs.State.{State, bodies_of, bytes_used}
+use Rattle.zone_cases.specs.State.{State, bodies_of, bytes_used}
 use Rattle.zone_machine.specs.declared.machine.Machine.{Machine}
 
 -- a store has the bodies and the rows of some commits, as many records and as many bytes in use

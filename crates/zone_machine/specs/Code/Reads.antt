@@ -1,28 +1,28 @@
 -- An event as the code reads it once, as the definitions have it.
 use Rattle.std.specs.Prelude.{ℕ, List, [], Bool, true, false, Option, Some, None, nat_eq}
 use Rattle.kernel_objects.specs.Shared.{Shared as Kernel, pid_owner}
-use Rattle.zone_machine.specs.Calls.{called}
+use Rattle.zone_cases.specs.Calls.{called}
 use Rattle.zn_base.specs.Names.{Name}
 use Rattle.zone_pools.specs.Decisions.{Just}
-use Rattle.zone_machine.specs.State.Decisions.{Decision, done_saying, says}
-use Rattle.zone_machine.specs.declared.replies.Head.TheVariants.{Ok}
+use Rattle.zone_cases.specs.State.Decisions.{Decision, done_saying, says}
+use Rattle.zone_cases.specs.declared.replies.Head.TheVariants.{Ok}
 use Rattle.zone_pools.specs.Owners.{owner}
-use Rattle.zone_machine.specs.Session.Lines.{Command, Kill, Line, line_of}
+use Rattle.zone_cases.specs.Session.Lines.{Command, Kill, Line, line_of}
 use Rattle.zone_machine.specs.Machine.{decide, named_subject, turn}
-use Rattle.zone_machine.specs.State.{State}
-use Rattle.zone_machine.specs.State.Worlds.{view_of, View}
-use Rattle.zone_machine.specs.declared.machine.cell.Cell.{Cell}
-use Rattle.zone_machine.specs.declared.events.Event.{Event}
-use Rattle.zone_machine.specs.declared.events.Event.TheVariants as event
-use Rattle.zone_machine.specs.declared.events.Subject.{Subject}
-use Rattle.zone_machine.specs.declared.events.Subject.TheVariants.{Global, Whole, Zone}
+use Rattle.zone_cases.specs.State.{State}
+use Rattle.zone_cases.specs.State.Worlds.{view_of, View}
+use Rattle.zone_cases.specs.declared.cell.Cell.{Cell}
+use Rattle.zone_cases.specs.declared.events.Event.{Event}
+use Rattle.zone_cases.specs.declared.events.Event.TheVariants as event
+use Rattle.zone_cases.specs.declared.events.Subject.{Subject}
+use Rattle.zone_cases.specs.declared.events.Subject.TheVariants.{Global, Whole, Zone}
 use Rattle.zone_machine.specs.declared.machine.shared.Shared.{Shared}
-use Rattle.zone_machine.specs.declared.replies.Reply.{Reply}
+use Rattle.zone_cases.specs.declared.replies.Reply.{Reply}
 use Rattle.zone_machine.specs.declared.machine.reads.Read.TheVariants as read
 use Rattle.zone_machine.specs.declared.machine.reads.Read.{Read}
-use Rattle.zone_machine.specs.Session.Typed.{global_line, typed}
-use Rattle.zone_machine.specs.Code.Lines.{IsRightLine, as_line}
-use Rattle.zone_machine.specs.Code.Cells.{Outside, cell_world}
+use Rattle.zone_cases.specs.Session.Typed.{global_line, typed}
+use Rattle.zone_cases.specs.Code.Lines.{IsRightLine, as_line}
+use Rattle.zone_cases.specs.Code.Cells.{Outside, cell_world}
 
 -- whose an event is, by the shared part
 abbrev pub held_subject : Option Name → Subject

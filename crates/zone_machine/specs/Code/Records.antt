@@ -17,22 +17,23 @@ use Rattle.zoneadmd_steps.specs.declared.cases.JobCase.TheVariants.{Ask}
 use Rattle.zoneadmd_steps.specs.declared.cases.TurnCase.{TurnCase}
 use Rattle.zoneadmd_steps.specs.declared.cases.TurnCase.TheVariants.{GoOn}
 use Rattle.zoneadmd_steps.specs.declared.objects.changes.Came.TheVariants as came
-use Rattle.zone_machine.specs.declared.cases.Case.{Case}
-use Rattle.zone_machine.specs.declared.cases.Case.TheVariants.{Commit, Remove, Turn}
+use Rattle.zone_cases.specs.declared.cases.Case.{Case}
+use Rattle.zone_cases.specs.declared.cases.Case.TheVariants.{Commit, Remove, Turn}
 use Rattle.zone_machine.specs.declared.machine.records.ToStore.{ToStore}
 use Rattle.zone_machine.specs.declared.machine.records.ToStore.TheVariants as stores
-use Rattle.zone_machine.specs.Code.Cases.{numbered_row}
+use Rattle.zone_cases.specs.Code.Cases.{numbered_row}
 use Rattle.zn_io.specs.Streams.{Rose}
-use Rattle.zone_machine.specs.Code.Cells.{CellOf, SharedOf, Stands as Parts_stand}
+use Rattle.zone_cases.specs.Code.Cells.{CellOf}
+use Rattle.zone_machine.specs.Code.Cells.{SharedOf, Stands as Parts_stand}
 use Rattle.zone_machine.specs.Machine.Common.{common}
-use Rattle.zone_machine.specs.State.Worlds.{world}
-use Rattle.zone_machine.specs.declared.events.Subject.TheVariants.{Zone}
-use Rattle.zone_machine.specs.declared.machine.cell.Cell.{Cell}
+use Rattle.zone_cases.specs.State.Worlds.{world}
+use Rattle.zone_cases.specs.declared.events.Subject.TheVariants.{Zone}
+use Rattle.zone_cases.specs.declared.cell.Cell.{Cell}
 use Rattle.zone_machine.specs.Machine.{one, subject}
 use Rattle.zone_machine.specs.Machine.Images.{Goes}
 use Rattle.zone_machine.specs.Machine.Pools.{allowed}
-use Rattle.zone_machine.specs.State.{State, bodies_of}
-use Rattle.zone_machine.specs.declared.events.Event.{Event}
+use Rattle.zone_cases.specs.State.{State, bodies_of}
+use Rattle.zone_cases.specs.declared.events.Event.{Event}
 use Rattle.zone_machine.specs.declared.faults.StepFault.{StepFault}
 use Rattle.zone_machine.specs.declared.faults.StepFault.TheVariants.{BadGrant, DiskFault, Memory, NoStore, WouldRecord}
 use Rattle.zone_machine.specs.declared.machine.parts.Parts.{Parts}

@@ -12,18 +12,18 @@ use Rattle.zone_machine.specs.Code.Records.{BankLeft, IsReady, taken}
 use Rattle.zone_machine.specs.Code.Steps.{Answers, FitsIn, IsMisfitUnder, Leaves, StepsUnder}
 use Rattle.zone_machine.specs.Machine.{one}
 use Rattle.zone_machine.specs.Machine.Pools.{allowed, fits}
-use Rattle.zone_machine.specs.State.{State, bodies_of}
-use Rattle.zone_machine.specs.State.Decisions.{says}
-use Rattle.zone_machine.specs.declared.events.Entry.{Entry}
-use Rattle.zone_machine.specs.declared.events.Event.{Event}
-use Rattle.zone_machine.specs.declared.events.Event.TheVariants.{Restart}
-use Rattle.zone_machine.specs.declared.events.Subject.TheVariants.{Whole}
+use Rattle.zone_cases.specs.State.{State, bodies_of}
+use Rattle.zone_cases.specs.State.Decisions.{says}
+use Rattle.zone_cases.specs.declared.events.Entry.{Entry}
+use Rattle.zone_cases.specs.declared.events.Event.{Event}
+use Rattle.zone_cases.specs.declared.events.Event.TheVariants.{Restart}
+use Rattle.zone_cases.specs.declared.events.Subject.TheVariants.{Whole}
 use Rattle.zone_machine.specs.declared.faults.StepFault.{StepFault}
 use Rattle.zone_machine.specs.declared.faults.StepFault.TheVariants.{BadGrant, DiskFault, Memory, NoStore, WouldRecord}
 use Rattle.zone_machine.specs.declared.machine.Machine.{Machine}
 use Rattle.zone_machine.specs.declared.machine.parts.Parts.{Parts}
 use Rattle.zone_machine.specs.declared.machine.shared.Shared.{Shared}
-use Rattle.zone_machine.specs.declared.replies.Head.TheVariants.{Ok}
+use Rattle.zone_cases.specs.declared.replies.Head.TheVariants.{Ok}
 
 -- a restart reads the store again, which gives a state's commits where the disk keeps to its model and the bank has their bodies. Of
 -- every other event nothing is asked

@@ -10,18 +10,18 @@ use Rattle.zone_pools.specs.Owners.{owner}
 use Rattle.zone_pools.specs.Pools.{Pools, has_serial}
 use Rattle.commit_journal.specs.Bodies.{stored_text}
 use Rattle.zoneadmd_steps.specs.Arrivals.{Arrival, New_claim, New_id, New_process, New_record, No_new_thing}
-use Rattle.zone_machine.specs.Code.Cases.{case_active, decision_of}
+use Rattle.zone_cases.specs.Code.Cases.{case_active, decision_of, console_of_case, objects_of, seats}
 use Rattle.zoneadmd_steps.specs.Code.Cases.{IsFreeFor, May_mount, Premise, premise_of}
 use Rattle.zoneadmd_steps.specs.Code.Rooms.{HasRequestRoom, HasTurnRoom}
-use Rattle.zone_machine.specs.Code.Consoles.{HasConsole}
-use Rattle.zone_machine.specs.Code.Works.{console_of_case, objects_of, seats}
-use Rattle.zone_machine.specs.Code.Cells.{Outside, cell_world, common_in}
+use Rattle.zone_cases.specs.Code.Consoles.{HasConsole}
+use Rattle.zone_cases.specs.Code.Cells.{Outside, cell_world}
+use Rattle.zone_machine.specs.Code.Cells.{common_in}
 use Rattle.zone_machine.specs.Code.Needs.{pools_in}
-use Rattle.zone_machine.specs.declared.cases.Case.{Case}
-use Rattle.zone_machine.specs.declared.machine.cell.Cell.{Cell}
+use Rattle.zone_cases.specs.declared.cases.Case.{Case}
+use Rattle.zone_cases.specs.declared.cell.Cell.{Cell}
 use Rattle.zone_machine.specs.declared.machine.shared.Shared.{Shared}
 use Rattle.zoneadmd_steps.specs.declared.objects.changes.ObjectEdit.{ObjectEdit}
-use Rattle.zone_machine.specs.declared.cases.Case.TheVariants.{Put, Turn}
+use Rattle.zone_cases.specs.declared.cases.Case.TheVariants.{Put, Turn}
 use Rattle.zoneadmd_steps.specs.declared.desks.Desk.{Desk}
 
 -- a cell and a shared part are as they were, but for room

@@ -7,12 +7,12 @@ use Rattle.zn_base.specs.declared.state.ZoneState.{ZoneState}
 use Rattle.zone_machine.specs.Machine.Histories.{entry_at}
 use Rattle.zone_machine.specs.Machine.{one, subject}
 use Rattle.zone_machine.specs.Machine.Pools.{allowed, fits}
-use Rattle.zone_machine.specs.State.{State, zone_state}
+use Rattle.zone_cases.specs.State.{State, zone_state}
 use Rattle.zone_machine.specs.Code.Cells.{Stands}
 use Rattle.zone_machine.specs.Code.Records.{StoresUnder}
-use Rattle.zone_machine.specs.declared.events.Entry.{Entry}
-use Rattle.zone_machine.specs.declared.events.Event.{Event}
-use Rattle.zone_machine.specs.declared.events.Subject.{Subject}
+use Rattle.zone_cases.specs.declared.events.Entry.{Entry}
+use Rattle.zone_cases.specs.declared.events.Event.{Event}
+use Rattle.zone_cases.specs.declared.events.Subject.{Subject}
 use Rattle.zone_machine.specs.declared.faults.StepFault.{StepFault}
 use Rattle.zone_machine.specs.declared.faults.StepFault.TheVariants.{Memory, BadGrant, DiskFault, NoStore, WouldRecord}
 use Rattle.zone_machine.specs.declared.machine.parts.Parts.{Parts}

@@ -6,12 +6,12 @@ use Rattle.zoneadmd_steps.specs.Arrivals.{Arrival, New_record}
 use Rattle.zone_machine.specs.Machine.{decide, subject}
 use Rattle.zone_machine.specs.Machine.Histories.{after_entry}
 use Rattle.zone_machine.specs.Machine.Images.{Holds}
-use Rattle.zone_machine.specs.State.{State}
-use Rattle.zone_machine.specs.State.Decisions.{act_of}
-use Rattle.zone_machine.specs.State.Worlds.{view}
-use Rattle.zone_machine.specs.declared.events.Entry.{Entry}
-use Rattle.zone_machine.specs.declared.events.Subject.{Subject}
-use Rattle.zone_machine.specs.declared.events.Subject.TheVariants.{Zone, Global, Whole}
+use Rattle.zone_cases.specs.State.{State}
+use Rattle.zone_cases.specs.State.Decisions.{act_of}
+use Rattle.zone_cases.specs.State.Worlds.{view}
+use Rattle.zone_cases.specs.declared.events.Entry.{Entry}
+use Rattle.zone_cases.specs.declared.events.Subject.{Subject}
+use Rattle.zone_cases.specs.declared.events.Subject.TheVariants.{Zone, Global, Whole}
 
 -- the commit of what comes to z, where that is stored
 abbrev pub committed : Name → Option Arrival → List Commit

@@ -8,17 +8,17 @@ use Rattle.brand_hooks.specs.Brands.{Tabled}
 use Rattle.datalink_table.specs.Claims.{holds}
 use Rattle.datalink_table.specs.declared.claims.Claim.{Claim}
 use Rattle.zoneadmd_steps.specs.Arrivals.{Arrival, New_claim, New_id, New_process, New_record, No_new_thing}
-use Rattle.zone_machine.specs.State.Decisions.{Act, acts_world}
+use Rattle.zone_cases.specs.State.Decisions.{Act, acts_world}
 use Rattle.kernel_objects.specs.Processes.{has_pid}
 use Rattle.zoneadmd_steps.specs.Objects.{has_zid}
 use Rattle.commit_journal.specs.Store.{change_text}
 use Rattle.commit_journal.specs.Stored.{Rows, stored, with_stored}
 use Rattle.zone_machine.specs.Machine.{declared_by}
-use Rattle.zone_machine.specs.State.{State, bytes_used}
-use Rattle.zone_machine.specs.State.Declarations.{Declared}
-use Rattle.zone_machine.specs.State.Worlds.{World, world}
-use Rattle.zone_machine.specs.declared.events.Event.{Event}
-use Rattle.zone_machine.specs.declared.events.Event.TheVariants.{Restart}
+use Rattle.zone_cases.specs.State.{State, bytes_used}
+use Rattle.zone_cases.specs.State.Declarations.{Declared}
+use Rattle.zone_cases.specs.State.Worlds.{World, world}
+use Rattle.zone_cases.specs.declared.events.Event.{Event}
+use Rattle.zone_cases.specs.declared.events.Event.TheVariants.{Restart}
 
 pub record Common : Type 0 where
   -- whether a zone holds a process number, an id, a claimed item, a session

@@ -3,17 +3,17 @@ use Rattle.std.specs.Prelude.{List, [], ◌∷◌, map, filter, Bool, true, fals
 use Rattle.zn_base.specs.Names.{Name}
 use Rattle.zone_pools.specs.Same.{same_grant}
 use Rattle.zone_pools.specs.declared.grant.Grant.{Grant}
-use Rattle.zone_machine.specs.State.Decisions.{act_of, acts_world}
+use Rattle.zone_cases.specs.State.Decisions.{act_of, acts_world}
 use Rattle.zone_machine.specs.Machine.{decide, one, session_number, subject, whole_world}
 use Rattle.zone_machine.specs.Machine.Pools.{allowed}
 use Rattle.zone_machine.specs.Machine.Same.{same_reply, same_subject}
-use Rattle.zone_machine.specs.State.{State}
-use Rattle.zone_machine.specs.State.Worlds.{World, view_of}
-use Rattle.zone_machine.specs.declared.events.Entry.{Entry}
-use Rattle.zone_machine.specs.declared.events.Event.{Event}
-use Rattle.zone_machine.specs.declared.events.Subject.{Subject}
-use Rattle.zone_machine.specs.declared.events.Subject.TheVariants.{Zone, Global, Whole}
-use Rattle.zone_machine.specs.declared.replies.Reply.{Reply}
+use Rattle.zone_cases.specs.State.{State}
+use Rattle.zone_cases.specs.State.Worlds.{World, view_of}
+use Rattle.zone_cases.specs.declared.events.Entry.{Entry}
+use Rattle.zone_cases.specs.declared.events.Event.{Event}
+use Rattle.zone_cases.specs.declared.events.Subject.{Subject}
+use Rattle.zone_cases.specs.declared.events.Subject.TheVariants.{Zone, Global, Whole}
+use Rattle.zone_cases.specs.declared.replies.Reply.{Reply}
 
 abbrev pub entry_at : State → Event → Grant → Entry
 entry_at S e g = record { event = e; subject = subject S e; grant = g; reply = (one S e g).reply }

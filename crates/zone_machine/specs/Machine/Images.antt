@@ -5,7 +5,7 @@ use Rattle.commit_journal.specs.Store.{OpensStore, Stores}
 use Rattle.commit_journal.specs.Stored.{stored}
 use Rattle.commit_journal.specs.declared.fault.StoreFault.{StoreFault}
 use Rattle.commit_journal.specs.declared.records.Commit.{Commit}
-use Rattle.zone_machine.specs.State.{bodies_of}
+use Rattle.zone_cases.specs.State.{bodies_of}
 
 -- an image stands for some commits: for their bodies, which leave the zones that they leave
 abbrev pub Holds : List Commit → List ℕ → Type 0

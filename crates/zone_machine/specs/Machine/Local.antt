@@ -4,17 +4,17 @@ use Rattle.zn_base.specs.Names.{Name}
 use Rattle.zone_pools.specs.Firsts.{is_nil}
 use Rattle.zone_pools.specs.Same.{same_grant}
 use Rattle.zone_pools.specs.declared.grant.Grant.TheVariants.{Nothing}
-use Rattle.zone_machine.specs.State.Decisions.{says}
+use Rattle.zone_cases.specs.State.Decisions.{says}
 use Rattle.zone_machine.specs.Machine.Same.{same_reply, same_subject}
 use Rattle.zoneadmd_steps.specs.Turns as turns
 use Rattle.zoneadmd_steps.specs.Turns.{local_turn}
-use Rattle.zone_machine.specs.State.Worlds.{World, objects_of}
-use Rattle.zone_machine.specs.declared.events.Entry.{Entry}
-use Rattle.zone_machine.specs.declared.events.Event.{Event}
-use Rattle.zone_machine.specs.declared.events.Event.TheVariants.{Process as Call_of, Restart, Session, System, Turn}
-use Rattle.zone_machine.specs.declared.events.Subject.TheVariants.{Zone}
-use Rattle.zone_machine.specs.declared.replies.Head.TheVariants.{Turned}
-use Rattle.zone_machine.specs.declared.replies.Reply.{Reply}
+use Rattle.zone_cases.specs.State.Worlds.{World, objects_of}
+use Rattle.zone_cases.specs.declared.events.Entry.{Entry}
+use Rattle.zone_cases.specs.declared.events.Event.{Event}
+use Rattle.zone_cases.specs.declared.events.Event.TheVariants.{Process as Call_of, Restart, Session, System, Turn}
+use Rattle.zone_cases.specs.declared.events.Subject.TheVariants.{Zone}
+use Rattle.zone_cases.specs.declared.replies.Head.TheVariants.{Turned}
+use Rattle.zone_cases.specs.declared.replies.Reply.{Reply}
 
 -- the zone is stored, and a request waits or is under way
 abbrev pub is_busy : World → Bool

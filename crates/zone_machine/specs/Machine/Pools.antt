@@ -20,13 +20,13 @@ use Rattle.zone_pools.specs.declared.grant.Grant.TheVariants.{Nothing}
 use Rattle.zone_machine.specs.Machine.{decide, subject}
 use Rattle.commit_journal.specs.Journal.{body_size, fits_after}
 use Rattle.commit_journal.specs.Stored.{Rows, stored}
-use Rattle.zone_machine.specs.State.{State, bytes_used, stored as stored_of}
+use Rattle.zone_cases.specs.State.{State, bytes_used, stored as stored_of}
 use Rattle.kernel_objects.specs.Processes.{has_pid}
 use Rattle.zoneadmd_steps.specs.Objects.{has_zid}
-use Rattle.zone_machine.specs.State.Worlds.{view}
-use Rattle.zone_machine.specs.declared.events.Event.{Event}
-use Rattle.zone_machine.specs.declared.events.Subject.{Subject}
-use Rattle.zone_machine.specs.declared.events.Subject.TheVariants.{Zone, Global, Whole}
+use Rattle.zone_cases.specs.State.Worlds.{view}
+use Rattle.zone_cases.specs.declared.events.Event.{Event}
+use Rattle.zone_cases.specs.declared.events.Subject.{Subject}
+use Rattle.zone_cases.specs.declared.events.Subject.TheVariants.{Zone, Global, Whole}
 
 abbrev pub is_path : List ℕ → Option (List ℕ) → Bool
 is_path path None = false

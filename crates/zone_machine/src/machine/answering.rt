@@ -4,21 +4,21 @@ ghost use Rattle.zone_machine.specs.Code.Reads.{IsRightRead, decide_read, global
 ghost use Rattle.zone_machine.specs.Code.Decided.{IsHeard, entry_by, entry_of, own_subject};
 ghost use Rattle.zone_machine.specs.Code.Records.{BankLeft, GoesUnder, IsReady, KeepsBodies, NeedsNoDisk, Passes};
 ghost use Rattle.zone_machine.specs.Code.Steps.{IsStepUnder, Leaves};
-ghost use Rattle.zone_machine.specs.Machine.{decide, global_reply, is_restart};
-ghost use Rattle.zone_machine.specs.State.{State};
-ghost use Rattle.zone_machine.specs.State.Worlds.{View};
-ghost use Rattle.zone_machine.specs.declared.events.Subject.TheVariants as subject_variants;
-ghost use Rattle.zone_machine.specs.declared.events.Subject.TheVariants.{Zone};
+ghost use Rattle.zone_machine.specs.Machine.{decide, global_reply};
+ghost use Rattle.zone_cases.specs.Events.{is_restart};
+ghost use Rattle.zone_cases.specs.State.{State};
+ghost use Rattle.zone_cases.specs.State.Worlds.{View};
+ghost use Rattle.zone_cases.specs.declared.events.Subject.TheVariants as subject_variants;
+ghost use Rattle.zone_cases.specs.declared.events.Subject.TheVariants.{Zone};
 
-use crate::events::{Answer, Entry, Event, Subject, Whose};
 use crate::faults::StepFault;
 use crate::machine::parts::Parts;
 use crate::machine::reads::{Read, read_event, subject};
-use crate::replies::Reply;
 use brand_hooks::HookAnswer;
 use std::alloc::Global;
 use zn_base::ZoneName;
 use zn_io::Disk;
+use zone_cases::{Answer, Entry, Event, Reply, Subject, Whose};
 use zone_disk::Bank;
 use zone_pools::Grant;
 

@@ -1,16 +1,15 @@
 //! What the whole system declares for its zones to ask for. All memory is taken before anything is changed.
 ghost use Rattle.std.specs.Prelude.{◌≡◌, IfOk, OnErr, OnOk};
 ghost use Rattle.zone_machine.specs.Code.Cells.{common_in};
-ghost use Rattle.zone_machine.specs.State.Declarations.{declare_refusal, declaring};
-ghost use Rattle.zone_machine.specs.declared.events.Declaration.TheVariants as declarations;
+ghost use Rattle.zone_cases.specs.State.Declarations.{declare_refusal, declaring};
+ghost use Rattle.zone_cases.specs.declared.events.Declaration.TheVariants as declarations;
 
-use crate::events::Declaration;
 use crate::machine::shared::Shared;
-use crate::replies::Refusal;
 use datalink_table::{ClaimFault, ClaimKind};
 use kernel_objects::KernelFault;
 use std::alloc::{AllocError, Global};
 use zn_base::{AbsPath, Text};
+use zone_cases::{Declaration, Refusal};
 
 // A link, an address or a dataset is declared, or it is told why not.
 fn declare_item(

@@ -4,10 +4,10 @@ ghost use Rattle.std.specs.Prelude.{◌∷◌, ◌≡◌, ◌<◌, [], ℕ, IfSo
 ghost use Rattle.indexmap.specs.IndexMap.{spare};
 ghost use Rattle.zn_base.specs.Names.{Name};
 ghost use Rattle.zone_pools.specs.Owners.{owner};
-ghost use Rattle.zone_machine.specs.Code.Cases.{IsCaseOf, IsNamedCase, decision_of};
+ghost use Rattle.zone_cases.specs.Code.Cases.{IsCaseOf, IsNamedCase, decision_of};
 ghost use Rattle.zoneadmd_steps.specs.Code.Cases.{object_edits};
 ghost use Rattle.zone_machine.specs.Code.Works.{IsNamedWork, IsStoredOf, arrival_by, rest_of, told_by, with_row, without_process, without_processes, work_world};
-ghost use Rattle.zone_machine.specs.Code.Doings.{as_doing, sits, swept_by};
+ghost use Rattle.zone_cases.specs.Code.Doings.{as_doing, sits, swept_by};
 ghost use Rattle.zoneadmd_steps.specs.Code.Works.{gone_by};
 ghost use Rattle.zoneadmd_steps.specs.Code.Cases.{is_last};
 ghost use Rattle.loopback_mounts.specs.Mounts.{last_of};
@@ -15,29 +15,24 @@ ghost use Rattle.std.specs.Option.{option_map};
 ghost use Rattle.zoneadmd_steps.specs.Arrivals.{in_store, New_record};
 ghost use Rattle.indexmap.specs.IndexMap.{get_by};
 ghost use Rattle.zone_machine.specs.Code.Cells.{is_up_in};
-ghost use Rattle.zone_machine.specs.declared.cases.ConsoleEdit as case_types;
+ghost use Rattle.zone_cases.specs.declared.cases.ConsoleEdit as case_types;
 ghost use Rattle.zone_machine.specs.declared.machine.shared.Shared as shared_types;
 ghost use Rattle.zone_machine.specs.Code.Cells.{Acts, Does, kept};
 ghost use Rattle.zone_machine.specs.Code.Needs.{pools_in};
 ghost use Rattle.zone_machine.specs.Code.Records.{HasNumber, rows_with, used_with};
 ghost use Rattle.commit_journal.specs.Zones.{rows_of};
 ghost use Rattle.zone_machine.specs.Machine.Common.{came_common};
-ghost use Rattle.zone_machine.specs.State.Decisions.{act_of, acts_world, after_came_world, sweeps};
-ghost use Rattle.zone_machine.specs.State.Edits as edits;
-ghost use Rattle.zone_machine.specs.State.Edits.{Here, Of_objects, comes_world, console_gone_world, edit_console, edits_world, keeps_console};
-ghost use Rattle.zone_machine.specs.Code.Consoles.{HasConsole, console_after, console_edits, console_in};
+ghost use Rattle.zone_cases.specs.State.Decisions.{act_of, acts_world, after_came_world, sweeps};
+ghost use Rattle.zone_cases.specs.State.Edits as edits;
+ghost use Rattle.zone_cases.specs.State.Edits.{Here, Of_objects, comes_world, console_gone_world, edit_console, edits_world, keeps_console};
+ghost use Rattle.zone_cases.specs.Code.Consoles.{HasConsole, console_after, console_edits, console_in};
 ghost use Rattle.console_link.specs.Consoles.{new_console};
 ghost use Rattle.zone_machine.specs.Code.Rooms.{HasRoom, HasRoomOf, HasRoomToChange, HasRoomToSit, IsFreeOf, IsOpenTo};
 
-use crate::cases::{Case, ConsoleEdit, Sitting};
-use crate::machine::cell::Cell;
 use crate::machine::settling::settle;
 use crate::machine::shared::Shared;
 use crate::machine::ups::mark;
 use crate::machine::work::{Storing, Work};
-use crate::maps::put;
-use crate::replies::Reply;
-use crate::session::doings::{Doing, Ended, begin_doing, end_doings, stop_doing};
 use commit_journal::{Row, body_length};
 use console_link::Console;
 use datalink_table::Claim;
@@ -45,6 +40,9 @@ use loopback_mounts::Mount;
 use std::alloc::Global;
 use std::snapshot::Snapshot;
 use zn_base::{AbsPath, Listing, Text, ZoneName, ZoneState};
+use zone_cases::{
+    Case, Cell, ConsoleEdit, Doing, Ended, Reply, Sitting, begin_doing, end_doings, put, stop_doing,
+};
 use zone_pools::Grant;
 use zoneadmd_steps::{Gone, Limits, ObjectEdit, Stored};
 

@@ -1,17 +1,16 @@
 //! What `list` of zoneadm(8) tells of all zones.
 ghost use Rattle.std.specs.Prelude.{◌≡◌, ◌++◌, IfOk, OnOk, slice_get};
 ghost use Rattle.zone_machine.specs.Code.Cells.{Stands};
-ghost use Rattle.zone_machine.specs.Code.Listed.{as_row, row_in_parts, told_entries, told_entry};
-ghost use Rattle.zone_machine.specs.Session.Listed.{list_zones, listing};
-ghost use Rattle.zone_machine.specs.State.{State};
+ghost use Rattle.zone_cases.specs.Code.Rows.{as_row};
+ghost use Rattle.zone_machine.specs.Code.Listed.{row_in_parts, told_entries, told_entry};
+ghost use Rattle.zone_cases.specs.Session.Listed.{list_zones, listing};
+ghost use Rattle.zone_cases.specs.State.{State};
 
 use crate::machine::parts::Parts;
-use crate::session::listing::{
-    Options, ZoneRow, bare_row, cell_row, is_listed, list_global, push_line,
-};
 use commit_journal::Row;
 use std::alloc::{AllocError, Global};
 use zn_base::{Bytes, Listing, ZoneName};
+use zone_cases::{Options, ZoneRow, bare_row, cell_row, is_listed, list_global, push_line};
 
 impl Parts {
     fn zone_row<'p>(&'p self, zone: &'p ZoneName, row: &'p Row) -> ZoneRow<'p>

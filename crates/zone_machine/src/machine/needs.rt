@@ -4,17 +4,17 @@ ghost use Rattle.zone_pools.specs.Asked.{A_path};
 ghost use Rattle.zoneadmd_steps.specs.Arrivals.{record_asked};
 ghost use Rattle.std.specs.Prelude.{◌∷◌, ◌≡◌, [], None};
 ghost use Rattle.zone_pools.specs.Decisions.{asked_of};
-ghost use Rattle.zone_machine.specs.Code.Cases.{IsCaseOf, decision_of, made};
+ghost use Rattle.zone_cases.specs.Code.Cases.{IsCaseOf, decision_of, made};
 ghost use Rattle.zoneadmd_steps.specs.Code.Cases.{IsTurnOf, asked_for, job_turn, turn_decision_of};
 ghost use Rattle.zoneadmd_steps.specs.Desks as desks;
 ghost use Rattle.zone_machine.specs.Code.Needs.{asked_by};
 ghost use Rattle.zoneadmd_steps.specs.declared.desks.Desk as desk_types;
 ghost use Rattle.zoneadmd_steps.specs.declared.desks.Job as job_types;
 
-use crate::cases::{Case, Committed, Novelty};
 use commit_journal::{Row, record_length};
 use datalink_table::Claim;
 use zn_base::ZoneName;
+use zone_cases::{Case, Committed, Novelty};
 use zone_config::Property;
 use zoneadmd_steps::{Came, JobCase, TurnCase};
 

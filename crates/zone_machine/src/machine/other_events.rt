@@ -6,19 +6,19 @@ ghost use Rattle.zone_machine.specs.Code.Reads.{global_read, subject_in};
 ghost use Rattle.zone_machine.specs.Code.Decided.{entry_of};
 ghost use Rattle.zone_machine.specs.Code.Records.{NeedsNoDisk};
 ghost use Rattle.zone_machine.specs.Code.Steps.{IsGrantFor, IsStepUnder, IsUnfit, Leaves};
-ghost use Rattle.zone_machine.specs.Machine.{global_reply, is_restart};
-ghost use Rattle.zone_machine.specs.State.{State};
-ghost use Rattle.zone_machine.specs.State.Decisions.{head_of, says};
-ghost use Rattle.zone_machine.specs.declared.events.Event.TheVariants as events;
-ghost use Rattle.zone_machine.specs.declared.events.Subject.TheVariants as subject_variants;
+ghost use Rattle.zone_machine.specs.Machine.{global_reply};
+ghost use Rattle.zone_cases.specs.Events.{is_restart};
+ghost use Rattle.zone_cases.specs.State.{State};
+ghost use Rattle.zone_cases.specs.State.Decisions.{head_of, says};
+ghost use Rattle.zone_cases.specs.declared.events.Event.TheVariants as events;
+ghost use Rattle.zone_cases.specs.declared.events.Subject.TheVariants as subject_variants;
 
-use crate::events::{Declaration, Event};
 use crate::faults::StepFault;
 use crate::machine::declarations::declare;
 use crate::machine::parts::Parts;
 use crate::machine::reads::{Read, global_reply, says};
-use crate::replies::{Head, Refusal, Reply};
 use std::alloc::Global;
+use zone_cases::{Declaration, Event, Head, Refusal, Reply};
 use zone_pools::Grant;
 
 /// The grant of an event that asks nothing.

@@ -1,22 +1,20 @@
 //! The parts of the machine: a cell for each zone that has something, and what zones share.
 ghost use Rattle.std.specs.Prelude.{◌≡◌, ◌<◌, IfOk, IsOkUnless, List, None, Some, length};
-ghost use Rattle.zone_machine.specs.Code.Cells.{Stands, cell_at, outside_in, row_in, world_or_empty};
+ghost use Rattle.zone_machine.specs.Code.Cells.{Stands, cell_at, outside_in, row_in};
+ghost use Rattle.zone_cases.specs.Code.Cells.{world_or_empty};
 ghost use Rattle.zone_machine.specs.Code.Reads.{IsRightRead, decide_read, is_turn, is_turn_read, subject_in};
 ghost use Rattle.zone_machine.specs.Code.Decided.{IsHeard, IsNextHook};
 ghost use Rattle.commit_journal.specs.Stored.{stored};
 ghost use Rattle.commit_journal.specs.Zones.{rows_of};
 ghost use Rattle.commit_journal.specs.declared.records.Commit.{Commit};
-ghost use Rattle.zone_machine.specs.State.{bytes_used};
+ghost use Rattle.zone_cases.specs.State.{bytes_used, State};
 ghost use Rattle.zone_machine.specs.Code.Steps.{IsAllowed, IsTaken};
 ghost use Rattle.zoneadmd_steps.specs.Desks.{state_of};
 ghost use Rattle.zone_machine.specs.Machine.{decide, opening, restarted};
-ghost use Rattle.zone_machine.specs.State.{State};
-ghost use Rattle.zone_machine.specs.State.Worlds.{View};
-ghost use Rattle.zone_machine.specs.declared.events.Subject.TheVariants.{Zone};
+ghost use Rattle.zone_cases.specs.State.Worlds.{View};
+ghost use Rattle.zone_cases.specs.declared.events.Subject.TheVariants.{Zone};
 
-use crate::events::{Event, Subject};
 use crate::faults::StepFault;
-use crate::machine::cell::Cell;
 use crate::machine::reads::{Read, read_event, subject};
 use crate::machine::shared::Shared;
 use crate::machine::steps::cell_grant;
@@ -25,6 +23,7 @@ use commit_journal::Zones;
 use indexmap::IndexMap;
 use std::alloc::Global;
 use zn_base::{ZoneName, ZoneState};
+use zone_cases::{Cell, Event, Subject};
 use zone_pools::Grant;
 
 /// A cell for each zone that has something, and what zones share.

@@ -3,25 +3,24 @@ ghost use Rattle.std.specs.Prelude.{◌≡◌, IfOk, None, Some, Option};
 ghost use Rattle.zone_machine.specs.Code.Reads.{IsRightRead, decide_read, global_read, held_subject, idle_subject, is_turn, is_turn_read, number_read, subject_in, subject_read};
 ghost use Rattle.kernel_objects.specs.Shared.{pid_owner};
 ghost use Rattle.zone_machine.specs.Code.Cells.{Stands};
-ghost use Rattle.zone_machine.specs.State.Decisions.{says, told};
-ghost use Rattle.zone_machine.specs.Code.Lines.{as_line, as_word};
+ghost use Rattle.zone_cases.specs.State.Decisions.{says, told};
+ghost use Rattle.zone_cases.specs.Code.Lines.{as_line, as_word};
 ghost use Rattle.zone_machine.specs.Machine.{decide, global_reply, named_subject, session_number};
-ghost use Rattle.zone_machine.specs.State.{State};
-ghost use Rattle.zone_machine.specs.Session.Typed.{badly_named, global_help, global_line};
-ghost use Rattle.zone_machine.specs.State.Worlds.{View};
-ghost use Rattle.zone_machine.specs.declared.events.Subject.TheVariants.{Zone};
+ghost use Rattle.zone_cases.specs.State.{State};
+ghost use Rattle.zone_cases.specs.Session.Typed.{badly_named, global_help, global_line};
+ghost use Rattle.zone_cases.specs.State.Worlds.{View};
+ghost use Rattle.zone_cases.specs.declared.events.Subject.TheVariants.{Zone};
 ghost use Rattle.zone_machine.specs.declared.machine.shared.Shared as shared_types;
 
-use crate::events::{Declaration, Event, Subject};
 use crate::machine::parts::Parts;
 use crate::machine::shared::Shared;
-use crate::replies::{Body, Head, Refusal, Reply};
-use crate::session::lines::{Command, Line, line_of};
-use crate::session::listing::help;
 use kernel_objects::{Errno, KernelShared};
 use process_calls::Call;
 use std::alloc::{AllocError, Global};
 use zn_base::{Bytes, Listing, NameFault, ZoneName};
+use zone_cases::{
+    Body, Command, Declaration, Event, Head, Line, Refusal, Reply, Subject, help, line_of,
+};
 use zoneadmd_steps::RequestKind;
 
 /// An event as it is read, once: what a session types, a turn of a zone's daemon, a call of a zone's process, what the whole

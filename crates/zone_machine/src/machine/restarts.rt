@@ -6,19 +6,18 @@ ghost use Rattle.zone_machine.specs.Code.Openings.{BeginsAgain};
 ghost use Rattle.zone_machine.specs.Code.Records.{GoesUnder, Passes};
 ghost use Rattle.zone_machine.specs.Code.Restarts.{KeepsBodiesOf, LeavesRestart, RestartLeft, RestartsUnder, restart_entry};
 ghost use Rattle.zone_machine.specs.Code.Steps.{FitsIn};
-ghost use Rattle.zone_machine.specs.State.{State};
-ghost use Rattle.zone_machine.specs.declared.events.Event.TheVariants as events;
+ghost use Rattle.zone_cases.specs.State.{State};
+ghost use Rattle.zone_cases.specs.declared.events.Event.TheVariants as events;
 
-use crate::events::{Answer, Entry, Event, Subject, Whose};
 use crate::faults::StepFault;
 use crate::machine::Machine;
 use crate::machine::other_events::nothing_of;
 use crate::machine::reads::says;
-use crate::replies::Head;
 use brand_hooks::{Change, HookAnswer};
 use commit_journal::StoreFault;
 use std::alloc::Global;
 use zn_io::Disk;
+use zone_cases::{Answer, Entry, Event, Head, Subject, Whose};
 use zone_pools::Grant;
 
 impl<'b, D: Disk, F: Fn(&Change) -> HookAnswer> Machine<'b, D, F> {

@@ -1,25 +1,23 @@
 //! Room for what a case puts into its cell and into the shared part, taken before anything is changed.
 ghost use Rattle.std.specs.Prelude.{◌≡◌, OnOk, Option, false};
 ghost use Rattle.zoneadmd_steps.specs.Code.Desks.{as_desk};
-ghost use Rattle.zone_machine.specs.Code.Cases.{IsCaseOf, decision_of};
-ghost use Rattle.zone_machine.specs.Code.Consoles.{HasConsole, wants_console};
+ghost use Rattle.zone_cases.specs.Code.Cases.{IsCaseOf, decision_of, console_of_case, objects_of, seats, seats_committer, case_active};
+ghost use Rattle.zone_cases.specs.Code.Consoles.{HasConsole, wants_console};
 ghost use Rattle.zone_machine.specs.Code.Rooms.{HasRoomFor, Alike, HasRoom, HasRoomIfSits, HasRoomToChange, HasRoomToRise, HasRoomToStore};
-ghost use Rattle.zone_machine.specs.Code.Works.{console_of_case, objects_of, seats, seats_committer};
 ghost use Rattle.zoneadmd_steps.specs.Code.Cases.{IsFreeFor, active_with, job_active, turn_active, turn_objects};
 ghost use Rattle.zone_machine.specs.Code.Needs.{asked_by};
-ghost use Rattle.zone_machine.specs.Code.Cases.{case_active};
-ghost use Rattle.zone_machine.specs.Code.Cells.{Outside, cell_world, is_up_in};
+ghost use Rattle.zone_cases.specs.Code.Cells.{Outside, cell_world};
+ghost use Rattle.zone_machine.specs.Code.Cells.{is_up_in};
 ghost use Rattle.zn_base.specs.Names.{Name};
 ghost use Rattle.zn_base.specs.declared.state.ZoneState as state_types;
 
-use crate::cases::{Case, Committer, ConsoleEdit};
-use crate::machine::cell::Cell;
 use crate::machine::needs::{Need, need_of};
 use crate::machine::shared::Shared;
 use crate::machine::ups::make_place;
 use console_link::Console;
 use std::alloc::{AllocError, Global};
 use zn_base::ZoneName;
+use zone_cases::{Case, Cell, Committer, ConsoleEdit};
 use zoneadmd_steps::{Desk, JobCase, ObjectEdit, Step, TurnCase};
 
 /// Room for what the case puts on the desk: a request that waits, or a step that a failure undoes.

@@ -1,112 +1,34 @@
 //! How a case is settled: the desk changes, and what else is to be done is told. No memory is taken, and nothing fails.
-ghost use Rattle.std.specs.Prelude.{◌+◌, ◌<◌, ◌≤◌, ◌≡◌, IfOk, IfSome, None, Option, Some, false, true, ℕ};
+ghost use Rattle.std.specs.Prelude.{◌+◌, ◌<◌, ◌≡◌, IfOk, IfSome, None, Option, Some, false, true, ℕ};
 ghost use Rattle.zn_base.specs.Names.{Name};
-ghost use Rattle.zone_machine.specs.Code.Cases.{IsCaseOf, IsNamedCase, IsNamedCommitter, as_typist, base_by, case_active, decision_of, done_head, made, numbered_row, refused_reply};
-ghost use Rattle.zone_machine.specs.Code.Doings.{sits};
-ghost use Rattle.zone_config.specs.declared.terms.Contents.{Contents};
+ghost use Rattle.zone_cases.specs.Code.Cases.{IsCaseOf, IsNamedCase, IsNamedCommitter, as_typist, case_active, decision_of, made, numbered_row, console_of_case, objects_of, seats, seats_committer};
+ghost use Rattle.zone_cases.specs.Code.Doings.{sits};
 ghost use Rattle.std.specs.List.{list_all};
 ghost use Rattle.zoneadmd_steps.specs.Code.Cases.{object_edits, premise_of};
 ghost use Rattle.zoneadmd_steps.specs.Local.{is_of_own};
 ghost use Rattle.zone_machine.specs.Code.Records.{HasNumber};
 ghost use Rattle.zone_machine.specs.Code.Rooms.{HasRoomFor};
 ghost use Rattle.zoneadmd_steps.specs.Code.Rooms.{HasRequestRoom};
-ghost use Rattle.zone_machine.specs.Code.Works.{IsNamedWork, IsStoredOf, Works, console_of_case, objects_of, rest_of, seats, seats_committer};
-ghost use Rattle.zone_machine.specs.Session.Commits.{based, goes, goes_over, removes, stays};
-ghost use Rattle.zone_machine.specs.State.Decisions.{act_of, says};
+ghost use Rattle.zone_machine.specs.Code.Works.{IsNamedWork, IsStoredOf, Works, rest_of};
+ghost use Rattle.zone_cases.specs.Session.Commits.{removes};
+ghost use Rattle.zone_cases.specs.State.Decisions.{act_of, says};
 ghost use Rattle.zone_pools.specs.Decisions.{number_in};
 ghost use Rattle.zoneadmd_steps.specs.Desks as desks;
 ghost use Rattle.zoneadmd_steps.specs.Code.Desks.{as_desk};
 ghost use Rattle.zoneadmd_steps.specs.Desks.{is_full, with_request};
-ghost use Rattle.zone_machine.specs.State.Worlds.{World};
+ghost use Rattle.zone_cases.specs.State.Worlds.{World};
 ghost use Rattle.zoneadmd_steps.specs.declared.desks.Desk as desk_types;
 
-use crate::cases::{
-    AtConsole, Case, Committed, Committer, ConsoleEdit, Login, Manner, Removed, Seat, Seated,
-    Sitting,
-};
 use crate::machine::work::{Storing, Work};
-use crate::replies::{Body, Head, Refusal, Reply};
-use crate::session::doings::Doing;
-use crate::session::held::HeldConfig;
 use kernel_objects::Running;
 use std::alloc::Global;
 use zn_base::{Bytes, Listing, ZoneName};
+use zone_cases::{
+    AtConsole, Body, Case, Committed, ConsoleEdit, Doing, Head, Login, Manner, Refusal, Removed,
+    Reply, Seated, Sitting,
+};
 use zone_pools::{Grant, Pool, number_in};
 use zoneadmd_steps::{Desk, ObjectEdit, QueuedRequest, Stored, settle_turn};
-
-impl Seat {
-    // The session stays in the editor.
-    fn stay(self) -> Sitting
-        ensures { result ≡ record { doing = Some (Doing.Edits self.editor); owner = self.owner } }
-    {
-        let Seat { editor, owner } = self;
-        Sitting {
-            doing: Some(Doing::Edits(editor)),
-            owner,
-        }
-    }
-
-    // It leaves the editor.
-    fn leave(self) -> Sitting
-        ensures { result ≡ record { doing = None; owner = self.owner } }
-    {
-        let Seat { editor: _, owner } = self;
-        Sitting { doing: None, owner }
-    }
-
-    // It stays, with what was stored for the base of its editor.
-    fn go_over(self, base: HeldConfig, revision: u32) -> Sitting
-        ensures { result ≡ record { doing = Some (Doing.Edits (based base revision self.editor)); owner = self.owner } }
-    {
-        let Seat { mut editor, owner } = self;
-        editor.set_base(base, revision);
-        Sitting {
-            doing: Some(Doing::Edits(editor)),
-            owner,
-        }
-    }
-}
-
-impl Committer {
-    // What becomes of the session where its commit is denied.
-    fn denied(self) -> Option<Sitting>
-        ensures sits { sits result ≡ stays (as_typist self) }
-        ensures seats { seats_committer self ≡ false → result ≡ None }
-        ensures named { (z : Name) → IsNamedCommitter z self → IfSome result (λ s. s.owner ≡ z) }
-    {
-        match self {
-            Committer::Alone => None,
-            Committer::GoesOn(seat, _) => Some(seat.stay()),
-            Committer::Leaves(seat) => Some(seat.stay()),
-        }
-    }
-
-    // Where a configuration was stored under this number.
-    fn stored(self, number: u32) -> Option<Sitting>
-        ensures sits { (config : Contents) → sits result ≡ goes_over (base_by self config) number (as_typist self) }
-        ensures seats { seats_committer self ≡ false → result ≡ None }
-        ensures named { (z : Name) → IsNamedCommitter z self → IfSome result (λ s. s.owner ≡ z) }
-    {
-        match self {
-            Committer::Alone => None,
-            Committer::GoesOn(seat, base) => Some(seat.go_over(base, number)),
-            Committer::Leaves(seat) => Some(seat.leave()),
-        }
-    }
-
-    // Where the zone was removed.
-    fn removed(self) -> Option<Sitting>
-        ensures sits { sits result ≡ goes (as_typist self) }
-        ensures seats { seats_committer self ≡ false → result ≡ None }
-        ensures named { (z : Name) → IsNamedCommitter z self → IfSome result (λ s. s.owner ≡ z) }
-    {
-        match self {
-            Committer::Alone => None,
-            Committer::GoesOn(seat, _) => Some(seat.stay()),
-            Committer::Leaves(seat) => Some(seat.leave()),
-        }
-    }
-}
 
 // A pool denies what would be stored; what was told before is told.
 fn denied(pool: Pool, told: Listing<Bytes>, sits: Option<Sitting>) -> Work
@@ -180,34 +102,6 @@ fn remove(removed: Box<Removed>, grant: Grant) -> Work
             ..Work::telling(Body::Lines(told))
         },
         Err(pool) => denied(pool, told, committer.denied()),
-    }
-}
-
-impl Manner {
-    // How it is answered that something is done.
-    fn done(self) -> Head
-        ensures { result ≡ done_head self }
-    {
-        match self {
-            Manner::Plain => Head::Ok,
-            Manner::Status(status) => Head::Status(status),
-        }
-    }
-
-    // How a refusal is answered.
-    fn refusing(self, refusal: Refusal) -> Reply
-        ensures { result ≡ refused_reply self refusal }
-    {
-        match self {
-            Manner::Plain => Reply {
-                head: Head::Refused(refusal),
-                body: Body::Nothing,
-            },
-            Manner::Status(_) => Reply {
-                head: Head::Status(1),
-                body: Body::Why(refusal),
-            },
-        }
     }
 }
 

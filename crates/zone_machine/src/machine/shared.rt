@@ -3,7 +3,7 @@ ghost use Rattle.std.specs.Prelude.{◌≡◌, [], List, length};
 ghost use Rattle.commit_journal.specs.Stored.{stored};
 ghost use Rattle.commit_journal.specs.Zones.{rows_of};
 ghost use Rattle.commit_journal.specs.declared.records.Commit.{Commit};
-ghost use Rattle.zone_machine.specs.State.{State, bytes_used};
+ghost use Rattle.zone_cases.specs.State.{State, bytes_used};
 ghost use Rattle.zone_machine.specs.Code.Cells.{SharedOf};
 ghost use Rattle.zone_machine.specs.Machine.Common.{common};
 ghost use Rattle.zone_machine.specs.Machine.{opening, restarted};

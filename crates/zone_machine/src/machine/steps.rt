@@ -1,38 +1,34 @@
 //! One event of a zone, on its cell and on the shared part: it is read, its case is decided, its grant is found or
 //! looked at, room is taken, and only then anything is changed.
 ghost use Rattle.std.specs.Prelude.{◌≡◌, ◌⊎◌, IfErr, IfOk, IsErrOf, IsOkUnless, None, OnErr, OnOk, Option, Some, false, is_some, nat_eq, true, ℕ, List};
-ghost use Rattle.zone_machine.specs.Code.Cases.{IsCaseOf, IsNumbered, decision_of};
-ghost use Rattle.zone_machine.specs.Code.Cells.{is_up_in, Does, IsHeardIn, cell_world, outside_in};
+ghost use Rattle.zone_cases.specs.Code.Cases.{IsCaseOf, IsNumbered, decision_of, IsCaseIn, objects_of};
+ghost use Rattle.zone_machine.specs.Code.Cells.{is_up_in, Does, outside_in};
+ghost use Rattle.zone_cases.specs.Code.Cells.{IsHeardIn, cell_world};
 ghost use Rattle.zone_machine.specs.Code.Needs.{pools_in};
 ghost use Rattle.zone_machine.specs.Code.Reads.{IsRightRead, decide_read, is_turn, is_turn_read};
-ghost use Rattle.zone_machine.specs.Code.Decided.{IsCaseIn, entry_of};
-ghost use Rattle.zone_machine.specs.State.Decisions.{act_of, after_came_world};
+ghost use Rattle.zone_machine.specs.Code.Decided.{entry_of};
+ghost use Rattle.zone_cases.specs.State.Decisions.{act_of, after_came_world};
 ghost use Rattle.zone_machine.specs.Machine.{decide, session_number, turn};
-ghost use Rattle.zone_machine.specs.Code.Lines.{IsRightLine, as_line};
-ghost use Rattle.zone_machine.specs.Session.Typed.{typed};
+ghost use Rattle.zone_cases.specs.Code.Lines.{IsRightLine, as_line};
+ghost use Rattle.zone_cases.specs.Session.Typed.{typed};
 ghost use Rattle.zone_disk.specs.Image.{Stands};
 ghost use Rattle.commit_journal.specs.Store.{HasZones};
 ghost use Rattle.commit_journal.specs.Zones.{rows_of};
 ghost use Rattle.zn_io.specs.Streams.{Rose};
 ghost use Rattle.zone_machine.specs.Code.Records.{BankLeft, GoesInCell, HasNumber, IsReady, KeepsBodiesInCell, MayStand, Passes, Writes, bodies_with, rows_with, stored_by};
 ghost use Rattle.zone_machine.specs.Code.Rooms.{Alike, HasRoom, IsFreeOf};
-ghost use Rattle.zone_machine.specs.State.{State};
+ghost use Rattle.zone_cases.specs.State.{State};
 ghost use Rattle.zone_machine.specs.Code.Cell_steps.{CellLeaves, IsAllowedCellStep, IsCellStep, IsCellStepUnder, IsFittingCellStep};
 ghost use Rattle.zone_machine.specs.Code.Steps.{IsGrantFor, IsUnfit};
-ghost use Rattle.zone_machine.specs.State.Worlds.{view_of};
-ghost use Rattle.zone_machine.specs.declared.events.Subject.TheVariants.{Zone};
+ghost use Rattle.zone_cases.specs.State.Worlds.{view_of};
+ghost use Rattle.zone_cases.specs.declared.events.Subject.TheVariants.{Zone};
 ghost use Rattle.zone_pools.specs.Decisions.{asked_of};
 ghost use Rattle.zone_pools.specs.Owners.{owner};
 ghost use Rattle.zoneadmd_steps.specs.Arrivals.{in_kernel, in_store};
 ghost use Rattle.zoneadmd_steps.specs.Code.Cases.{IsFreeFor};
-ghost use Rattle.zone_machine.specs.Code.Works.{objects_of};
 ghost use Rattle.zone_machine.specs.Machine.Common.{came_common};
 
-use crate::calls::decide_call;
-use crate::cases::Case;
-use crate::events::{Entry, Event, Subject};
 use crate::faults::StepFault;
-use crate::machine::cell::Cell;
 use crate::machine::comings::come;
 use crate::machine::effects::perform;
 use crate::machine::needs::need_of;
@@ -41,14 +37,13 @@ use crate::machine::reads::{Read, read_event};
 use crate::machine::records::{number, stores, write};
 use crate::machine::rooms::make_room;
 use crate::machine::shared::Shared;
-use crate::replies::{Head, Reply};
-use crate::session::doings::doing_of;
-use crate::session::line_cases::decide_line;
-use crate::session::lines::Line;
 use brand_hooks::HookAnswer;
 use std::alloc::{AllocError, Global};
 use zn_base::ZoneName;
 use zn_io::Disk;
+use zone_cases::{
+    Case, Cell, Entry, Event, Head, Line, Reply, Subject, decide_call, decide_line, doing_of,
+};
 use zone_disk::Bank;
 use zone_pools::Grant;
 use zoneadmd_steps::{Objects, System, decide_turn};
@@ -71,7 +66,7 @@ fn line_case(
 }
 
 // What a turn of a zone's daemon comes to. The brand answers `hook` where it is asked.
-#[tactic(auto, unfolding(crate::specs::State::Worlds::view_of))]
+#[tactic(auto, unfolding(zone_cases::specs::State::Worlds::view_of))]
 fn turn_case(
     alloc: Global,
     zone: &ZoneName,
@@ -97,7 +92,7 @@ fn turn_case(
 }
 
 // The case of an event of a zone, by its cell and what zones share.
-#[tactic(auto, unfolding(crate::specs::State::Worlds::view_of))]
+#[tactic(auto, unfolding(zone_cases::specs::State::Worlds::view_of))]
 fn case_of(
     alloc: Global,
     zone: &ZoneName,

@@ -1,35 +1,32 @@
 //! Events of a zone, on its cell and on the shared part. An event is decided before anything is changed.
 ghost use Rattle.std.specs.Prelude.{◌≡◌, ◌<◌, IfErr, IfOk, None, OnOk, Some, bytes_eq};
 ghost use Rattle.indexmap.specs.IndexMap.{get_by, spare};
-ghost use Rattle.zone_machine.specs.Code.Cases.{decision_of};
-ghost use Rattle.zone_machine.specs.Code.Cells.{Keeps, Outside, cell_at, cell_world, empty_world, outside_in};
+ghost use Rattle.zone_cases.specs.Code.Cases.{decision_of, IsCaseIn};
+ghost use Rattle.zone_machine.specs.Code.Cells.{Keeps, cell_at, outside_in};
+ghost use Rattle.zone_cases.specs.Code.Cells.{Outside, cell_world, empty_world};
 ghost use Rattle.zone_machine.specs.Code.Needs.{pools_in};
 ghost use Rattle.zone_machine.specs.Code.Reads.{IsRightRead, decide_read, is_turn, is_turn_read, subject_in};
-ghost use Rattle.zone_machine.specs.Code.Decided.{IsCaseIn, IsCellAt, IsHeard, entry_of};
+ghost use Rattle.zone_machine.specs.Code.Decided.{IsCellAt, IsHeard, entry_of};
 ghost use Rattle.commit_journal.specs.Zones.{rows_of};
 ghost use Rattle.zone_machine.specs.Code.Records.{BankLeft, GoesUnder, HasNumber, IsReady, KeepsBodies, MayStand, Passes, stored_by};
 ghost use Rattle.zone_machine.specs.Code.Rooms.{IsFreeOf};
 ghost use Rattle.zone_machine.specs.Code.Steps.{IsStep, IsStepUnder, Leaves, LeavesGranted};
 ghost use Rattle.zone_machine.specs.Machine.{decide};
-ghost use Rattle.zone_machine.specs.State.Decisions.{act_of};
-ghost use Rattle.zone_machine.specs.State.Worlds.{View};
-ghost use Rattle.zone_machine.specs.declared.events.Subject.TheVariants.{Zone};
-ghost use Rattle.zone_machine.specs.declared.machine.cell.Cell as cell_types;
+ghost use Rattle.zone_cases.specs.State.Decisions.{act_of};
+ghost use Rattle.zone_cases.specs.State.Worlds.{View};
+ghost use Rattle.zone_cases.specs.declared.events.Subject.TheVariants.{Zone};
+ghost use Rattle.zone_cases.specs.declared.cell.Cell as cell_types;
 
-use crate::cases::Case;
-use crate::events::Event;
 use crate::faults::StepFault;
-use crate::machine::cell::Cell;
 use crate::machine::parts::Parts;
 use crate::machine::reads::Read;
 use crate::machine::steps::{granted_case, perform_case};
-use crate::maps::put;
-use crate::replies::Reply;
 use brand_hooks::HookAnswer;
 use indexmap::IndexMap;
 use std::alloc::{AllocError, Global};
 use zn_base::ZoneName;
 use zn_io::Disk;
+use zone_cases::{Case, Cell, Event, Reply, put};
 use zone_disk::Bank;
 use zone_pools::Grant;
 

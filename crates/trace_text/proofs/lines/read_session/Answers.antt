@@ -2,7 +2,7 @@ use Rattle.std.proofs.Common.{◌≡◌, ◌+◌, ◌∙◌, [], Some, arith, le
 use Rattle.std.specs.Prelude.{unwrap_or}
 use Rattle.zn_base.specs.Decimals.{decimal_of}
 use Rattle.trace_text.specs.Lines.{after_word, first_word}
-use Rattle.zone_machine.specs.declared.events.TheConstants.{SESSION_MAX}
+use Rattle.zone_cases.specs.declared.events.TheConstants.{SESSION_MAX}
 use Rattle.trace_text.proofs.lines.read_session.Goals as goal
 
 pub returns-in-Some : goal.returns-in-Some

@@ -2,7 +2,7 @@ use Rattle.std.proofs.Common.{ap, sym, ◌∙◌}
 use Rattle.zone_machine.proofs.Own_worlds.{need-world, reply-world, world-one}
 use Rattle.zone_machine.specs.Machine.Histories.{world_by}
 use Rattle.zone_machine.specs.Machine.{subject}
-use Rattle.zone_machine.specs.State.Worlds.{world}
+use Rattle.zone_cases.specs.State.Worlds.{world}
 use Rattle.zone_views.proofs.laws.own_world_decides.Goals as goal
 
 pub returns-clause-reply : goal.returns-clause-reply

@@ -2,9 +2,9 @@ use Rattle.std.proofs.Common.{◌≡◌, ◌+◌, ◌-◌, ◌∙◌, zero, suc,
 use Rattle.zone_disk.specs.Bank.{Account}
 use Rattle.zone_machine.specs.Code.Openings.{StandsFor}
 use Rattle.zn_io.specs.Streams.{after_known}
-use Rattle.zone_machine.specs.Machine.{is_restart}
-use Rattle.zone_machine.specs.declared.events.Event.{Event}
-use Rattle.zone_machine.specs.declared.events.Event.TheVariants.{Turn}
+use Rattle.zone_cases.specs.Events.{is_restart}
+use Rattle.zone_cases.specs.declared.events.Event.{Event}
+use Rattle.zone_cases.specs.declared.events.Event.TheVariants.{Turn}
 use Rattle.zones_run.specs.Answering.{Fails, IsAnswered}
 use Rattle.zones_run.specs.Midway.{Left, puts_until}
 use Rattle.zones_run.specs.Scripting.{entry_in}

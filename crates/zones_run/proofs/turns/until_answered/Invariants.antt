@@ -5,7 +5,7 @@ use Rattle.commit_journal.specs.declared.records.Commit.{Commit}
 use Rattle.zone_machine.specs.Code.Decided.{AsksBrands, MayGoOn}
 use Rattle.zone_machine.specs.Code.Openings.{StandsFor}
 use Rattle.zone_machine.specs.Code.Records.{Passes}
-use Rattle.zone_machine.specs.declared.events.Event.TheVariants.{Turn}
+use Rattle.zone_cases.specs.declared.events.Event.TheVariants.{Turn}
 use Rattle.zones_run.specs.Midway.{Follows, Left, puts_until}
 use Rattle.zones_run.specs.Tracing.{HasWritten}
 use Rattle.zones_run.specs.declared.words.Turns.TheVariants.{PutIn}

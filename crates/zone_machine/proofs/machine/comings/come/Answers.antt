@@ -1,9 +1,9 @@
 use Rattle.std.proofs.Common.{ap}
 use Rattle.zone_machine.proofs.Rooms_laws.{free_came}
 use Rattle.zone_machine.specs.Code.Comings.{is_claim}
-use Rattle.zone_machine.specs.Code.Works.{objects_of}
+use Rattle.zone_cases.specs.Code.Cases.{objects_of}
 use Rattle.zoneadmd_steps.specs.Code.Cases.{premise_of}
-use Rattle.zone_machine.specs.declared.machine.cell.Cell.{Cell}
+use Rattle.zone_cases.specs.declared.cell.Cell.{Cell}
 use Rattle.zone_machine.proofs.machine.comings.come.Goals as goal
 
 pub returns-clause-objects : goal.returns-clause-objects

@@ -1,13 +1,13 @@
 use Rattle.std.proofs.Common.{map}
 use Rattle.zone_machine.proofs.Doing_laws.{does_then, kept_apart}
 use Rattle.zoneadmd_steps.specs.Code.Cases.{object_edits}
-use Rattle.zone_machine.specs.Code.Consoles.{console_edits}
+use Rattle.zone_cases.specs.Code.Consoles.{console_edits}
 use Rattle.zone_machine.specs.Code.Works.{arrival_by}
-use Rattle.zone_machine.specs.Code.Doings.{sits}
+use Rattle.zone_cases.specs.Code.Doings.{sits}
 use Rattle.zone_machine.specs.Machine.Common.{came_common}
-use Rattle.zone_machine.specs.State.Decisions.{after_came_world, sweeps}
-use Rattle.zone_machine.specs.State.Edits.{Of_objects, edits_world}
-use Rattle.zone_machine.specs.State.Worlds.{World}
+use Rattle.zone_cases.specs.State.Decisions.{after_came_world, sweeps}
+use Rattle.zone_cases.specs.State.Edits.{Of_objects, edits_world}
+use Rattle.zone_cases.specs.State.Worlds.{World}
 use Rattle.zone_machine.specs.Code.Cells.{kept}
 use Rattle.zone_machine.proofs.Opens.{opens_if}
 use Rattle.zone_machine.proofs.machine.effects.carry_out.Goals as goal

@@ -1,9 +1,9 @@
 use Rattle.zone_machine.proofs.Doing_laws.{does_renew, does_then, kept_apart}
 use Rattle.console_link.specs.Consoles.{new_console}
 use Rattle.zone_machine.specs.Code.Cells.{kept}
-use Rattle.zone_machine.specs.Code.Doings.{swept_by}
-use Rattle.zone_machine.specs.State.Worlds.{World}
-use Rattle.zone_machine.specs.declared.session.doings.Ended.TheVariants.{Console}
+use Rattle.zone_cases.specs.Code.Doings.{swept_by}
+use Rattle.zone_cases.specs.State.Worlds.{World}
+use Rattle.zone_cases.specs.declared.session.doings.Ended.TheVariants.{Console}
 use Rattle.zone_machine.proofs.machine.effects.drop_console.Goals as goal
 
 pub returns-clause-does : goal.returns-clause-does

@@ -1,7 +1,7 @@
 use Rattle.std.proofs.Common.{arith, nat_eq, subst, sym}
 use Rattle.indexmap.specs.IndexMap.{get}
 use Rattle.zone_machine.proofs.Doing_laws.{does_ends, open_ended}
-use Rattle.zone_machine.specs.Code.Doings.{is_ended}
+use Rattle.zone_cases.specs.Code.Doings.{is_ended}
 use Rattle.zone_machine.specs.Code.Rooms.{IsOpenTo}
 use Rattle.zone_pools.specs.Owners.{owner}
 use Rattle.zone_machine.proofs.machine.effects.end.Goals as goal

@@ -1,8 +1,8 @@
 use Rattle.zone_machine.proofs.Doing_laws.{does_then, kept_apart}
 use Rattle.zone_machine.specs.Code.Cells.{kept}
-use Rattle.zone_machine.specs.Code.Doings.{swept_by}
+use Rattle.zone_cases.specs.Code.Doings.{swept_by}
 use Rattle.zone_machine.specs.Code.Works.{without_process}
-use Rattle.zone_machine.specs.declared.session.doings.Ended.TheVariants.{Process}
+use Rattle.zone_cases.specs.declared.session.doings.Ended.TheVariants.{Process}
 use Rattle.zone_machine.proofs.machine.effects.end_process.Goals as goal
 
 pub returns-clause-does : goal.returns-clause-does

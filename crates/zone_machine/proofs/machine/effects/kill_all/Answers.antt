@@ -3,7 +3,8 @@ use Rattle.std.specs.List.{list_any}
 use Rattle.kernel_objects.specs.Processes.{has_pid}
 use Rattle.zone_machine.proofs.Kernel_doing.{does_go, none_of}
 use Rattle.zone_machine.proofs.Lists_laws.{none_left}
-use Rattle.zone_machine.specs.Code.Cells.{cell_world, outside_in}
+use Rattle.zone_cases.specs.Code.Cells.{cell_world}
+use Rattle.zone_machine.specs.Code.Cells.{outside_in}
 use Rattle.zone_machine.specs.Code.Works.{without_processes}
 use Rattle.zone_machine.proofs.machine.effects.kill_all.Goals as goal
 

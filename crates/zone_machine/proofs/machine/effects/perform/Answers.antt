@@ -1,15 +1,16 @@
 use Rattle.std.proofs.Common.{◌≡◌, None, ap, is_some, refl, subst, sym, ◌∙◌}
 use Rattle.std.specs.Prelude.{bytes_eq, if◌then◌else◌}
 use Rattle.zoneadmd_steps.specs.declared.desks.Desk.{Desk}
-use Rattle.zone_machine.specs.Code.Works.{objects_of, rest_of, seats}
+use Rattle.zone_cases.specs.Code.Cases.{objects_of, seats, decision_of}
+use Rattle.zone_machine.specs.Code.Works.{rest_of}
 use Rattle.zone_machine.proofs.Doing_laws.{acts_up, does_work}
 use Rattle.zone_machine.proofs.Case_asks.{asks-rightly, asks_case}
 use Rattle.zone_machine.proofs.Roomy.{free_owner, room_change, room_to_sit, roomy}
-use Rattle.zone_machine.specs.Code.Cases.{decision_of}
-use Rattle.zone_machine.specs.Code.Consoles.{HasConsole}
-use Rattle.zone_machine.specs.Code.Cells.{cell_world, is_up_in, outside_in}
+use Rattle.zone_cases.specs.Code.Consoles.{HasConsole}
+use Rattle.zone_cases.specs.Code.Cells.{cell_world}
+use Rattle.zone_machine.specs.Code.Cells.{is_up_in, outside_in}
 use Rattle.zone_machine.specs.Code.Needs.{pools_in}
-use Rattle.zone_machine.specs.State.Decisions.{act_of}
+use Rattle.zone_cases.specs.State.Decisions.{act_of}
 use Rattle.zone_machine.specs.Code.Rooms.{HasRoomOf}
 use Rattle.commit_journal.specs.Zones.{rows_of}
 use Rattle.zone_machine.specs.Code.Records.{rows_with, used_with}

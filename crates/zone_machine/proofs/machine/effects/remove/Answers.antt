@@ -6,7 +6,7 @@ use Rattle.zone_machine.specs.Code.Cells.{kept}
 use Rattle.zone_machine.specs.Code.Rooms.{IsOpenTo}
 use Rattle.zone_machine.specs.Code.Works.{with_row}
 use Rattle.zone_machine.specs.Machine.Common.{came_common}
-use Rattle.zone_machine.specs.State.Edits.{console_gone_world}
+use Rattle.zone_cases.specs.State.Edits.{console_gone_world}
 use Rattle.zone_machine.proofs.machine.effects.remove.Goals as goal
 
 pub returns-clause-does : goal.returns-clause-does

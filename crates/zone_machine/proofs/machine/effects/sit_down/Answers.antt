@@ -3,8 +3,8 @@ use Rattle.std.specs.Prelude.{nat_eq}
 use Rattle.zone_pools.specs.Owners.{owner}
 use Rattle.zone_machine.specs.Code.Cells.{Does, kept}
 use Rattle.zone_machine.specs.Code.Rooms.{IsOpenTo}
-use Rattle.zone_machine.specs.Code.Doings.{sits}
-use Rattle.zone_machine.specs.State.Edits.{edits_world}
+use Rattle.zone_cases.specs.Code.Doings.{sits}
+use Rattle.zone_cases.specs.State.Edits.{edits_world}
 use Rattle.zone_machine.proofs.machine.effects.sit_down.Goals as goal
 
 pub returns-in-Some-Some-clause-does : goal.returns-in-Some-Some-clause-does

@@ -7,8 +7,8 @@ use Rattle.zone_machine.specs.Code.Cells.{Does, kept}
 use Rattle.zone_machine.specs.Code.Rooms.{IsOpenTo}
 use Rattle.zone_machine.specs.Code.Works.{with_row}
 use Rattle.zone_machine.specs.Machine.Common.{Common, came_common}
-use Rattle.zone_machine.specs.State.Edits.{console_gone_world, keeps_by}
-use Rattle.zone_machine.specs.State.Worlds.{World}
+use Rattle.zone_cases.specs.State.Edits.{console_gone_world, keeps_by}
+use Rattle.zone_cases.specs.State.Worlds.{World}
 use Rattle.zone_machine.proofs.machine.effects.store.Goals as goal
 
 pub returns-then-not-keeps-clause-does : goal.returns-then-not-keeps-clause-does

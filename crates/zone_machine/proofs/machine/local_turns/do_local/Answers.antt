@@ -1,13 +1,13 @@
 use Rattle.std.proofs.Common.{[], None, ap, refl, ◌∙◌}
 use Rattle.zone_pools.specs.declared.grant.Grant.TheVariants.{Nothing}
 use Rattle.zone_machine.proofs.Local_doing.{after, settled}
-use Rattle.zone_machine.specs.Code.Cases.{decision_of}
-use Rattle.zone_machine.specs.Code.Works.{reply_with}
-use Rattle.zone_machine.specs.Code.Cells.{cell_world}
-use Rattle.zone_machine.specs.State.Declarations.{none_declared}
-use Rattle.zone_machine.specs.State.Decisions.{act_of}
+use Rattle.zone_cases.specs.Code.Cases.{decision_of}
+use Rattle.zone_cases.specs.Code.Replies.{reply_with}
+use Rattle.zone_cases.specs.Code.Cells.{cell_world}
+use Rattle.zone_cases.specs.State.Declarations.{none_declared}
+use Rattle.zone_cases.specs.State.Decisions.{act_of}
 use Rattle.zoneadmd_steps.specs.Code.Desks.{as_desk}
-use Rattle.zone_machine.specs.declared.cases.Case.TheVariants.{Turn}
+use Rattle.zone_cases.specs.declared.cases.Case.TheVariants.{Turn}
 use Rattle.zone_machine.proofs.machine.local_turns.do_local.Goals as goal
 
 pub returns-clause-reply : goal.returns-clause-reply

@@ -5,7 +5,7 @@ use Rattle.commit_journal.specs.declared.records.Record.{Record}
 use Rattle.config_terms.specs.Fields.{path_text}
 use Rattle.zone_pools.specs.Asked.{A_path}
 use Rattle.zone_machine.proofs.Numbering.{asks-alike}
-use Rattle.zone_machine.specs.State.Decisions.{effects, turned}
+use Rattle.zone_cases.specs.State.Decisions.{effects, turned}
 use Rattle.zoneadmd_steps.specs.Arrivals.{A_record, record_asked}
 use Rattle.zoneadmd_steps.specs.declared.objects.changes.Came.TheVariants.{Moved}
 use Rattle.zone_machine.proofs.machine.records.number.Goals as goal

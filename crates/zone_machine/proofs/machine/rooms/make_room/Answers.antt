@@ -1,7 +1,7 @@
 use Rattle.std.proofs.Common.{subst, sym}
 use Rattle.zone_machine.proofs.Results.{on_ok}
 use Rattle.zone_machine.proofs.Rooms_laws.{alike_desk, alike_rows, alike_then, alike_ups, made_room}
-use Rattle.zone_machine.specs.Code.Cases.{IsCaseOf}
+use Rattle.zone_cases.specs.Code.Cases.{IsCaseOf}
 use Rattle.zone_machine.proofs.machine.rooms.make_room.Goals as goal
 
 pub returns-in_err-room_to_store-clause-alike : goal.returns-in_err-room_to_store-clause-alike

@@ -1,7 +1,7 @@
 use Rattle.std.proofs.Common.{◌≡◌, ◌∙◌, Err, refl, sym}
 use Rattle.zone_pools.specs.Decisions.{number_in}
 use Rattle.zone_machine.proofs.Doing_laws.{sits_alone}
-use Rattle.zone_machine.proofs.Turned_laws.{nothing_told}
+use Rattle.zone_cases.proofs.Gone_laws.{nothing_told}
 use Rattle.zone_machine.proofs.machine.settling.remove.Goals as goal
 
 pub returns-in-Err-clause-works : goal.returns-in-Err-clause-works

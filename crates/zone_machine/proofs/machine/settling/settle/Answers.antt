@@ -1,10 +1,11 @@
 use Rattle.zoneadmd_steps.specs.Code.Desks.{as_desk}
 use Rattle.std.proofs.Common.{Some, ap, refl, sym, ◌∙◌}
 use Rattle.zoneadmd_steps.specs.Desks.{Desk}
-use Rattle.zone_machine.proofs.Turned_laws.{nothing_told, settled_turn, works_same}
+use Rattle.zone_cases.proofs.Gone_laws.{nothing_told}
+use Rattle.zone_machine.proofs.Turned_laws.{settled_turn, works_same}
 use Rattle.zoneadmd_steps.specs.Code.Cases.{turn_decision_of}
-use Rattle.zone_machine.specs.Code.Doings.{sits}
-use Rattle.zone_machine.specs.State.Edits.{edits_world}
+use Rattle.zone_cases.specs.Code.Doings.{sits}
+use Rattle.zone_cases.specs.State.Edits.{edits_world}
 use Rattle.zone_machine.proofs.machine.settling.settle.Goals as goal
 
 pub returns-in-Says-clause-works : goal.returns-in-Says-clause-works

@@ -5,15 +5,16 @@ use Rattle.zone_machine.proofs.Banking.{case-read, cell-goes, cell-goes-taken, c
 use Rattle.zone_machine.proofs.Places.{place_case}
 use Rattle.zone_machine.proofs.Results.{if_err}
 use Rattle.zone_machine.proofs.Stepping.{IsCellMisfitUnder-by, IsCellStepUnder-by, case_freed, cell-leaves-stated, cell-left_so}
-use Rattle.zone_machine.specs.Code.Cases.{decision_of}
-use Rattle.zone_machine.specs.Code.Cells.{cell_world, outside_in}
+use Rattle.zone_cases.specs.Code.Cases.{decision_of, IsCaseIn}
+use Rattle.zone_cases.specs.Code.Cells.{cell_world}
+use Rattle.zone_machine.specs.Code.Cells.{outside_in}
 use Rattle.zone_machine.specs.Code.Needs.{pools_in}
 use Rattle.zone_machine.specs.Code.Reads.{decide_read}
 use Rattle.zone_machine.specs.Code.Cell_steps.{CellLeaves}
-use Rattle.zone_machine.specs.Code.Decided.{IsCaseIn, entry_of}
+use Rattle.zone_machine.specs.Code.Decided.{entry_of}
 use Rattle.zone_machine.specs.Machine.{decide}
-use Rattle.zone_machine.specs.State.Worlds.{view_of}
-use Rattle.zone_machine.specs.declared.events.Subject.TheVariants.{Zone}
+use Rattle.zone_cases.specs.State.Worlds.{view_of}
+use Rattle.zone_cases.specs.declared.events.Subject.TheVariants.{Zone}
 use Rattle.zone_machine.proofs.machine.steps.answer.Goals as goal
 
 pub returns-in_err-case-clause-fault : goal.returns-in_err-case-clause-fault

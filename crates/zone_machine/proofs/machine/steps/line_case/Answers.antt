@@ -1,7 +1,7 @@
 use Rattle.zoneadmd_steps.proofs.Results.{if_ok}
 use Rattle.zone_machine.proofs.Stepping.{line-case}
 use Rattle.zone_machine.specs.Code.Cells.{declared_in}
-use Rattle.zone_machine.specs.Code.Lines.{as_line}
+use Rattle.zone_cases.specs.Code.Lines.{as_line}
 use Rattle.zone_machine.proofs.machine.steps.line_case.Goals as goal
 
 pub returns : goal.returns

@@ -3,9 +3,9 @@ use Rattle.std.specs.Prelude.{is_some, not}
 use Rattle.commit_journal.specs.Zones.{rows_of}
 use Rattle.zone_machine.proofs.Storing.{case-stored, store-alone}
 use Rattle.zone_machine.proofs.Writing.{and_false, left-written, ready-alike, write-fault, writes-nothing}
-use Rattle.zone_machine.specs.Code.Cases.{decision_of}
+use Rattle.zone_cases.specs.Code.Cases.{decision_of}
 use Rattle.zone_machine.specs.Code.Records.{stored_by}
-use Rattle.zone_machine.specs.State.Decisions.{act_of}
+use Rattle.zone_cases.specs.State.Decisions.{act_of}
 use Rattle.zone_machine.proofs.machine.steps.make_ready.Goals as goal
 use Rattle.zone_machine.proofs.machine.steps.make_ready.Goals.{else-not-may_record-via-then-not-may_record+else-stores, else-not-may_record-via-else-not-may_record}
 

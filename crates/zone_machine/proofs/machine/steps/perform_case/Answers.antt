@@ -6,12 +6,12 @@ use Rattle.zone_machine.specs.Code.Records.{rows_with, stored_by, used_with}
 use Rattle.zone_machine.proofs.Acting.{opens_alike}
 use Rattle.zone_machine.proofs.Doing_laws.{acts_whole}
 use Rattle.zone_machine.proofs.Standing.{answered}
-use Rattle.zone_machine.specs.Code.Cases.{decision_of}
+use Rattle.zone_cases.specs.Code.Cases.{decision_of}
 use Rattle.zone_machine.specs.Code.Cells.{Acts}
 use Rattle.zone_machine.specs.Code.Works.{rest_of}
 use Rattle.zone_machine.specs.Machine.{session_number}
 use Rattle.zone_machine.specs.Machine.Common.{came_common}
-use Rattle.zone_machine.specs.State.Decisions.{Decision, act_of, acts_world}
+use Rattle.zone_cases.specs.State.Decisions.{Decision, act_of, acts_world}
 use Rattle.zoneadmd_steps.specs.Arrivals.{in_store}
 use Rattle.zone_machine.proofs.machine.steps.perform_case.Goals as goal
 

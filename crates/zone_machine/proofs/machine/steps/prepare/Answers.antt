@@ -7,10 +7,10 @@ use Rattle.zone_machine.proofs.Acting.{alike_both, alike_does, on_ok_always, sam
 use Rattle.zone_machine.proofs.Rooms_laws.{room_came}
 use Rattle.zone_machine.specs.Code.Cells.{Does, is_up_in, outside_in}
 use Rattle.zone_machine.specs.Code.Rooms.{Alike}
-use Rattle.zone_machine.specs.State.Worlds.{World}
-use Rattle.zone_machine.specs.declared.machine.cell.Cell.{Cell}
+use Rattle.zone_cases.specs.State.Worlds.{World}
+use Rattle.zone_cases.specs.declared.cell.Cell.{Cell}
 use Rattle.zone_machine.specs.Machine.Common.{Common, came_common}
-use Rattle.zone_machine.specs.State.Decisions.{Decision, act_of, after_came_world}
+use Rattle.zone_cases.specs.State.Decisions.{Decision, act_of, after_came_world}
 use Rattle.zone_machine.specs.declared.machine.shared.Shared.{Shared}
 use Rattle.zone_machine.proofs.machine.steps.prepare.Goals as goal
 

@@ -1,7 +1,7 @@
 use Rattle.std.proofs.Common.{ap, bytes_eq, sym, ◌∙◌}
 use Rattle.std.specs.HashMap.{get_by}
 use Rattle.zone_machine.proofs.Stepping.{Keeps-new, Keeps-same}
-use Rattle.zone_machine.specs.Code.Cells.{world_or_empty}
+use Rattle.zone_cases.specs.Code.Cells.{world_or_empty}
 use Rattle.zone_machine.proofs.machine.zone_events.keep.Goals as goal
 
 pub returns-then-not-is_empty : goal.returns-then-not-is_empty

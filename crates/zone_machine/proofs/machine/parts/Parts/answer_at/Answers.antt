@@ -5,12 +5,13 @@ use Rattle.zone_machine.proofs.Results.{if_err}
 use Rattle.zone_machine.specs.Code.Steps.{IsTaken, LeavesGranted}
 use Rattle.zone_machine.proofs.Places.{place_case}
 use Rattle.zone_machine.proofs.Stepping.{case_freed, heard-at, here_at, left_so, some_is, taken, unfit}
-use Rattle.zone_machine.specs.Code.Cases.{decision_of}
-use Rattle.zone_machine.specs.Code.Cells.{cell_at, world_or_empty}
+use Rattle.zone_cases.specs.Code.Cases.{decision_of}
+use Rattle.zone_machine.specs.Code.Cells.{cell_at}
+use Rattle.zone_cases.specs.Code.Cells.{world_or_empty}
 use Rattle.zone_machine.specs.Code.Needs.{pools_in}
 use Rattle.zone_machine.specs.Code.Reads.{decide_read}
 use Rattle.zone_machine.specs.Code.Rooms.{IsFreeOf}
-use Rattle.zone_machine.specs.State.Decisions.{act_of}
+use Rattle.zone_cases.specs.State.Decisions.{act_of}
 use Rattle.zone_machine.proofs.machine.parts.Parts.answer_at.Goals as goal
 
 pub returns-in_err-case-clause-fault : goal.returns-in_err-case-clause-fault

@@ -1,7 +1,7 @@
 use Rattle.std.proofs.Common.{ap, refl, rules, ◌∙◌}
 use Rattle.zone_machine.proofs.Stepping.{IsMisfitUnder-whole, IsStep-whole, IsTaken-whole, left_so}
-use Rattle.zone_machine.specs.State.Decisions.{head_of, says}
-use Rattle.zone_machine.specs.declared.events.Event.TheVariants.{System}
+use Rattle.zone_cases.specs.State.Decisions.{head_of, says}
+use Rattle.zone_cases.specs.declared.events.Event.TheVariants.{System}
 use Rattle.zone_machine.proofs.machine.parts.Parts.answer_declaration.Goals as goal
 
 pub returns-in_err-grant-clause-fault : goal.returns-in_err-grant-clause-fault

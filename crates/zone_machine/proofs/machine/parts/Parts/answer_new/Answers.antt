@@ -5,11 +5,12 @@ use Rattle.zone_machine.proofs.Banking.{goes-taken, goes-unwritten, keeps-taken,
 use Rattle.zone_machine.proofs.Results.{if_err}
 use Rattle.zone_machine.proofs.Places.{place_case}
 use Rattle.zone_machine.proofs.Stepping.{case_freed, heard-new, left_so, same_none, taken, unfit}
-use Rattle.zone_machine.specs.Code.Cells.{cell_world, outside_in}
+use Rattle.zone_cases.specs.Code.Cells.{cell_world}
+use Rattle.zone_machine.specs.Code.Cells.{outside_in}
 use Rattle.zone_machine.specs.Code.Needs.{pools_in}
 use Rattle.zone_machine.specs.Code.Reads.{decide_read}
 use Rattle.zone_machine.specs.Code.Steps.{IsTaken, IsUnfit, LeavesGranted}
-use Rattle.zone_machine.specs.State.Worlds.{view_of}
+use Rattle.zone_cases.specs.State.Worlds.{view_of}
 use Rattle.zone_machine.proofs.machine.parts.Parts.answer_new.Goals as goal
 
 pub do_new-requires-clause-nothing : goal.do_new-requires-clause-nothing

@@ -5,10 +5,11 @@ use Rattle.zoneadmd_steps.proofs.Results.{if_ok}
 use Rattle.zone_machine.proofs.Banking.{parts-goes, parts-keeps, parts-more}
 use Rattle.zone_machine.proofs.Results.{if_err_both, on_ok}
 use Rattle.zone_machine.proofs.Stepping.{IsStep-cell, Keeps-at, Leaves-cell, here_at}
-use Rattle.zone_machine.specs.Code.Cells.{cell_at, world_or_empty}
+use Rattle.zone_machine.specs.Code.Cells.{cell_at}
+use Rattle.zone_cases.specs.Code.Cells.{world_or_empty}
 use Rattle.zone_machine.specs.Code.Decided.{entry_of}
 use Rattle.zone_machine.specs.Code.Records.{StoresUnder, stored_by}
-use Rattle.zone_machine.specs.declared.events.Subject.TheVariants.{Zone}
+use Rattle.zone_cases.specs.declared.events.Subject.TheVariants.{Zone}
 use Rattle.zone_machine.specs.declared.machine.parts.Parts.{Parts}
 use Rattle.zone_machine.proofs.machine.parts.Parts.do_at.Goals as goal
 

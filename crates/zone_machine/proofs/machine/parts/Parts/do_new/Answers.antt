@@ -10,7 +10,7 @@ use Rattle.zone_machine.specs.Code.Cells.{cell_at}
 use Rattle.zone_machine.specs.Code.Cell_steps.{CellLeaves}
 use Rattle.zone_machine.specs.Code.Decided.{entry_of}
 use Rattle.zone_machine.specs.Code.Records.{StoresUnder, stored_by}
-use Rattle.zone_machine.specs.declared.events.Subject.TheVariants.{Zone}
+use Rattle.zone_cases.specs.declared.events.Subject.TheVariants.{Zone}
 use Rattle.zone_machine.specs.declared.faults.StepFault.TheVariants.{WouldRecord}
 use Rattle.zone_machine.specs.declared.machine.parts.Parts.{Parts}
 use Rattle.zone_machine.proofs.machine.parts.Parts.do_new.Goals as goal

@@ -1,8 +1,8 @@
 use Rattle.std.proofs.Common.{◌≡◌, None, ap, bytes_eq, sym}
 use Rattle.std.specs.Map.{lookup}
 use Rattle.zn_base.specs.Names.{Name}
-use Rattle.zone_machine.specs.Code.Cells.{world_or_empty}
-use Rattle.zone_machine.specs.State.{stored}
+use Rattle.zone_cases.specs.Code.Cells.{world_or_empty}
+use Rattle.zone_cases.specs.State.{stored}
 use Rattle.zone_machine.proofs.machine.parts.Parts.restart.Goals as goal
 
 pub returns-clause-stands : goal.returns-clause-stands

@@ -1,7 +1,7 @@
 use Rattle.std.proofs.Common.{None, ap, sym, ◌∙◌}
 use Rattle.zoneadmd_steps.proofs.Results.{if_ok}
 use Rattle.zone_machine.proofs.Stepping.{heard-at, heard-new, same_none, taken_read}
-use Rattle.zone_machine.specs.Code.Cells.{world_or_empty}
+use Rattle.zone_cases.specs.Code.Cells.{world_or_empty}
 use Rattle.zone_machine.specs.Code.Reads.{decide_read}
 use Rattle.zone_machine.proofs.machine.parts.Parts.zone_grant.Goals as goal
 

@@ -1,7 +1,7 @@
 use Rattle.std.proofs.Common.{[], false, refl, ap, sym}
 use Rattle.commit_journal.specs.Zones.{rows_of}
 use Rattle.zone_machine.proofs.Standing.{begun-shared}
-use Rattle.zone_machine.specs.State.Declarations.{none_declared}
+use Rattle.zone_cases.specs.State.Declarations.{none_declared}
 use Rattle.zone_machine.proofs.machine.shared.Shared.new.Goals as goal
 
 pub returns-clause-stands : goal.returns-clause-stands

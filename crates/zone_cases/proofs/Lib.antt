@@ -1,0 +1,9 @@
+pub mod Words
+pub mod Right_lines
+pub mod Made
+pub mod Doings_laws
+pub mod Kernel_cases
+pub mod Mount_cases
+pub mod Login_cases
+pub mod Line_cases
+pub mod Gone_laws
