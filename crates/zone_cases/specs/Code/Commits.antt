@@ -15,8 +15,8 @@ use Rattle.zone_cases.specs.declared.session.commits.Hearer.{Hearer}
 use Rattle.zone_cases.specs.declared.session.commits.Hearer.TheVariants.{ASession, OfItsOwn}
 use Rattle.zone_cases.specs.declared.session.commits.Going.{Going}
 use Rattle.zone_cases.specs.declared.session.commits.Going.TheVariants.{Alone, GoesOn, Leaves}
-use Rattle.zone_cases.specs.declared.session.commits.Judged.{Judged}
-use Rattle.zone_cases.specs.declared.session.commits.Judged.TheVariants.{Records, Refused, Same}
+use Rattle.zone_cases.specs.declared.session.judging.Judged.{Judged}
+use Rattle.zone_cases.specs.declared.session.judging.Judged.TheVariants.{Records, Refused, Same}
 
 abbrev pub as_hearer : Hearer → commits.Hearer
 as_hearer OfItsOwn = commits.Of_its_own

@@ -1,14 +1,17 @@
 //! How a line of a session is read, by the words of zonecfg(8), zoneadm(8), zlogin(1) and kill(1).
-ghost use Rattle.std.specs.Prelude.{◌∷◌, ◌≡◌, IfSome, IsTrue, List, None, Some, false, length, nat_eq, not, position, unwrap_or, ℕ};
+ghost use Rattle.std.specs.Prelude.{◌∷◌, ◌≡◌, IsTrue};
 ghost use Rattle.std.specs.List.{list_all};
 ghost use Rattle.std.specs.Option.{option_map, option_or};
 ghost use Rattle.zoneadmd_steps.specs.declared.requests.Request.TheVariants.{Boot, Reboot};
 ghost use Rattle.zn_base.specs.Text.{is_text};
-ghost use Rattle.zone_pools.specs.Firsts.{first_of, is_nil};
-ghost use Rattle.zone_cases.specs.Session.Lines.{Ask, after_word, are_args, are_options, args_text, asks, at_end, attended_command, byte_word, clone_command, command_by, command_of, console_command, dir_words, entered_command, escape_byte, escape_words, form_by, form_word, general_command, general_subcommand, has_option, is_escape_option, is_option, is_space, joined, kill_command, line_of, list_one_command, list_zones_command, mark_command, move_command, move_path, named, options_of, options_word, past_spaces, past_word, request_command, request_word, subcommand, tool_command, uninstall_command, word_after_flag, words, zlogin_command, zlogin_zone, zone_command, zone_word, zoneadm_command, zonecfg_command};
-ghost use Rattle.zone_cases.specs.Code.Lines.{BeginsWord, EndsWord, GivesPast, GivesRest, GivesSpaceless, GivesWord, IsRightLine, IsWordFirst, as_command, as_escape, as_line, as_word};
+ghost use Rattle.zone_cases.specs.Session.Lines.{Ask, are_args, are_options, args_text, asks, at_end, clone_command, command_by, command_of, dir_words, form_by, form_word, general_command, general_subcommand, has_option, is_option, joined, kill_command, line_of, list_one_command, list_zones_command, mark_command, move_command, move_path, options_of, options_word, past_spaces, past_word, request_command, request_word, subcommand, tool_command, uninstall_command, words, zone_command, zone_word, zoneadm_command, zonecfg_command};
+ghost use Rattle.zone_cases.specs.Code.Lines.{IsRightLine, as_command, as_line, as_word};
 
 use crate::session::listing::{Form, Options};
+use crate::session::words::{
+    after_spaces, behind_word, first_word, is_blank, split_word, word_after_flag,
+};
+use crate::session::zlogin_lines::{zlogin_command, zlogin_zone};
 use kernel_objects::Signal;
 use process_calls::{pid_in, signal_in};
 use zn_base::is_path;
@@ -64,89 +67,8 @@ pub struct Line<'t> {
     pub command: Command<'t>,
 }
 
-// The escape byte where no option says otherwise.
-const USUAL_ESCAPE: Option<u8> = Some(b'~');
-
-fn first_other(text: &[u8]) -> Option<usize>
-    ensures { result ≡ position (λ b. not (is_space b)) text.now }
-{
-    text.iter().position(|byte| *byte != b' ')
-}
-
-fn first_space(text: &[u8]) -> Option<usize>
-    ensures { result ≡ position is_space text.now }
-{
-    text.iter().position(|byte| *byte == b' ')
-}
-
-// The text from its first word on.
-#[tactic(auto, using(crate::proofs::Words::no_words))]
-fn after_spaces(text: &[u8]) -> Option<&[u8]>
-    ensures begins { BeginsWord result text.now }
-    ensures text { GivesSpaceless result text.now }
-{
-    let start = first_other(text)?;
-    Some(&text[start..])
-}
-
-// Where the word ends that a text begins with.
-#[tactic(auto, using(crate::proofs::Words::ends_at_space, crate::proofs::Words::ends_all))]
-fn word_end(text: &[u8]) -> usize
-    requires { IsWordFirst text.now }
-    ensures ends { EndsWord result text.now }
-    ensures end { result ≡ unwrap_or (position is_space text.now) (length text.now) }
-{
-    first_space(text).unwrap_or(text.len())
-}
-
-/// The first word of a text, and the text after it.
-pub(crate) fn split_word(text: &[u8]) -> Option<(&[u8], &[u8])>
-    ensures word { GivesWord result (words text.now) }
-    ensures past { GivesPast result text.now }
-{
-    let text = after_spaces(text)?;
-    let end = word_end(text);
-    Some((&text[..end], &text[end..]))
-}
-
-// The text after a word that is wanted.
-fn behind_word<'t>(text: &'t [u8], wanted: &[u8]) -> Option<&'t [u8]>
-    ensures words { GivesRest result (after_word wanted.now (words text.now)) }
-    ensures past { IfSome result (λ rest. rest.now ≡ past_word text.now) }
-{
-    let (word, rest) = split_word(text)?;
-    if word == wanted { Some(rest) } else { None }
-}
-
-fn is_blank(text: &[u8]) -> bool
-    ensures { result ≡ is_nil (words text.now) }
-{
-    split_word(text).is_none()
-}
-
-fn first_word(text: &[u8]) -> Option<&[u8]>
-    ensures { as_word result ≡ first_of (words text.now) }
-{
-    let (word, _) = split_word(text)?;
-    Some(word)
-}
-
-// The word after the first `-z`.
-fn word_after_flag(text: &[u8]) -> Option<&[u8]>
-    ensures { as_word result ≡ word_after_flag (words text.now) }
-{
-    let mut text = text;
-    while let Some((word, rest)) = split_word(text) {
-        if word == b"-z".as_slice() {
-            return first_word(rest);
-        }
-        text = rest;
-    }
-    None
-}
-
-// What ends a line's words.
-fn at_end<'t>(text: &[u8], command: Command<'t>) -> Option<Command<'t>>
+/// What ends a line's words.
+pub(crate) fn at_end<'t>(text: &[u8], command: Command<'t>) -> Option<Command<'t>>
     ensures { option_map as_command result ≡ at_end (as_command command.entry) (words text.now) }
 {
     if is_blank(text) { Some(command) } else { None }
@@ -393,117 +315,6 @@ fn kill_command(text: &[u8]) -> Option<Command<'_>>
     let (word, text) = split_word(text)?;
     let pid = pid_in(word)?;
     at_end(text, Command::Kill(signal, pid))
-}
-
-// One byte.
-fn byte_word(word: &[u8]) -> Option<u8>
-    ensures { result ≡ byte_word word.now }
-{
-    match word {
-        [byte] => Some(*byte),
-        _ => None,
-    }
-}
-
-// The escape byte that follows `-e`, and the text after it.
-fn escape_byte(text: &[u8]) -> Option<(Option<u8>, &[u8])>
-    ensures { option_map as_escape result ≡ escape_byte (words text.now) }
-{
-    let (word, text) = split_word(text)?;
-    Some((Some(byte_word(word)?), text))
-}
-
-// The escape byte, by `-e C`, `-E` or neither, and the text after that.
-fn escape_words(text: &[u8]) -> Option<(Option<u8>, &[u8])>
-    ensures { option_map as_escape result ≡ escape_words (words text.now) }
-{
-    let Some((word, rest)) = split_word(text) else {
-        return Some((USUAL_ESCAPE, text));
-    };
-    if word == b"-E".as_slice() {
-        Some((None, rest))
-    } else if word == b"-e".as_slice() {
-        escape_byte(rest)
-    } else {
-        Some((USUAL_ESCAPE, text))
-    }
-}
-
-// A name, and no more.
-fn named<'t>(command: Command<'t>, text: &[u8]) -> Option<Command<'t>>
-    ensures { option_map as_command result ≡ named (as_command command.entry) (words text.now) }
-{
-    let (_, text) = split_word(text)?;
-    at_end(text, command)
-}
-
-// What follows `zlogin -C`.
-fn console_command(text: &[u8]) -> Option<Command<'_>>
-    ensures { option_map as_command result ≡ console_command (words text.now) }
-{
-    let (escape, text) = escape_words(text)?;
-    named(Command::Console(escape), text)
-}
-
-// What follows `zlogin` where that is an option which says the escape byte.
-fn attended_command(text: &[u8]) -> Option<Command<'_>>
-    ensures { option_map as_command result ≡ attended_command (words text.now) }
-{
-    let (escape, text) = escape_words(text)?;
-    let (word, text) = split_word(text)?;
-    if word == b"-C".as_slice() {
-        named(Command::Console(escape), text)
-    } else {
-        at_end(text, Command::Login(escape))
-    }
-}
-
-// What follows the name: nothing, or a call.
-fn entered_command(text: &[u8]) -> Command<'_>
-    ensures { as_command result ≡ entered_command (past_spaces text.now) (words text.now) }
-{
-    match after_spaces(text) {
-        Some(text) => Command::Enter(text),
-        None => Command::Login(USUAL_ESCAPE),
-    }
-}
-
-fn is_escape_option(word: &[u8]) -> bool
-    ensures { result ≡ is_escape_option word.now }
-{
-    word == b"-E".as_slice() || word == b"-e".as_slice()
-}
-
-// What follows `zlogin` in a line.
-fn zlogin_command(text: &[u8]) -> Option<Command<'_>>
-    ensures { (line : List ℕ) → text.now ≡ past_word line → option_map as_command result ≡ zlogin_command line (words text.now) }
-{
-    let (word, rest) = split_word(text)?;
-    if word == b"-C".as_slice() {
-        console_command(rest)
-    } else if is_escape_option(word) {
-        attended_command(text)
-    } else {
-        Some(entered_command(rest))
-    }
-}
-
-// What is the name behind `zlogin`: the first word that is no option, nor the one behind `-e`.
-fn zlogin_zone(text: &[u8]) -> Option<&[u8]>
-    ensures { as_word result ≡ zlogin_zone false (words text.now) }
-{
-    let mut text = text;
-    while let Some((word, rest)) = split_word(text) {
-        if word == b"-e".as_slice() {
-            let (_, rest) = split_word(rest)?;
-            text = rest;
-        } else if word == b"-C".as_slice() || word == b"-E".as_slice() {
-            text = rest;
-        } else {
-            return Some(word);
-        }
-    }
-    None
 }
 
 // The word that a line gives as the name of its zone.
