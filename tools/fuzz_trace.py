@@ -15,8 +15,9 @@ gate.
 
 `--lines` names kinds of lines that the program answers beside the older ones, with commas between them: zonecfg (a line
 of subcommands that makes, edits or deletes a zone), edit (sessions that edit), list, verify, help, restart, zlogin
-(logins and calls alone, with `bootargs`) and console (with `cons`); `all` stands for all of them. Most of the traces
-then have such lines (zonecfg_maker.py, login_maker.py), and without it none has.
+(logins, with `bootargs`), console (with `cons`) and enter (calls alone). `all` stands for all of them that the program
+knows, which `enter` isn't among until trace_lines.HAS_ENTER says so. Most of the traces then have such lines
+(zonecfg_maker.py, login_maker.py), and without it none has.
 
 `--self-test` compares the model with replies that are known, and looks at what holds of it in random systems
 (data_rows.py, trace_rows.py, object_rows.py, request_rows.py, zonecfg_rows.py, index_rows.py, request_laws.py,
@@ -47,7 +48,7 @@ from own_folder import own_folder
 from reply_forms import kind_of, kind_of_line, misformed
 from request_maker import RequestMaker
 from store_model import Store
-from trace_lines import KINDS_OF_LINES
+from trace_lines import ALL_LINES, KINDS_OF_LINES
 from zonecfg_maker import ZonecfgMaker
 
 
@@ -153,7 +154,8 @@ def compared(maker, args, wanted, got):
 
 def kinds_in(text):
     """The kinds of lines that are named."""
-    known = frozenset(KINDS_OF_LINES if text == "all" else text.split(",") if text else [])
+    named = frozenset(text.split(",") if text else [])
+    known = named - {"all"} | (ALL_LINES if "all" in named else frozenset())
     if not known <= set(KINDS_OF_LINES):
         raise SystemExit("kinds of lines are %s" % ",".join(KINDS_OF_LINES))
     return known
@@ -161,7 +163,7 @@ def kinds_in(text):
 
 def maker_of(rng, known, command="trace", share=0.3):
     """What makes the inputs of a command where such kinds of lines are known."""
-    if known & {"zlogin", "console"}:
+    if known & {"zlogin", "console", "enter"}:
         return LoginMaker(rng, known, command)
     maker = ZonecfgMaker(rng, known) if known else RequestMaker(rng, share)
     maker.command = command

@@ -138,11 +138,16 @@ class LoginLines(ZonecfgMaker):
 
     def any_login(self):
         """A login, a call alone or a console, as far as such lines are known."""
-        kinds = [self.log_in, self.log_in, self.run_call] if self.has("zlogin") else []
+        kinds = [self.log_in, self.log_in] if self.has("zlogin") else []
+        kinds += [self.run_call] if self.has("enter") else []
         kinds += [self.take_console] if self.has("console") else []
         self.rng.choice(kinds)()
 
     # Lines of others.
+
+    def any_call(self, name=None):
+        """A call that a process of its own makes, or one of the zone's, where no other lines are known."""
+        self.run_call(name) if self.has("enter") else self.process_line(name)
 
     def write(self, zone=None):
         """A process that writes to its console."""
@@ -167,12 +172,13 @@ class LoginLines(ZonecfgMaker):
             return self.any_login()
         login = rng.choice(logins)
         zone, pid = login.zone.decode(), login.pid
-        return self.line(rng.choice([
+        ends = [
             "S %d kill 9 %d" % (self.first(), pid), "S %d kill 0 %d" % (self.first(), pid),
             "P %s %d exit" % (zone, pid), "P %s %d exec sh" % (zone, pid),
             "P %s %s kill 15 %d" % (zone, self.some_pid(zone), pid),
-            "S %d zlogin %s kill 9 %d" % (self.first(), zone, pid),
-        ]))
+        ]
+        ends += ["S %d zlogin %s kill 9 %d" % (self.first(), zone, pid)] if self.has("enter") else []
+        return self.line(rng.choice(ends))
 
     def sets_bootargs(self, name):
         """Sets what a zone is booted with where a boot has no arguments of its own, as far as such lines are known."""
@@ -183,7 +189,7 @@ class LoginLines(ZonecfgMaker):
     def known_line(self):
         """A line of one of the kinds that are known."""
         rng = self.rng
-        if not self.known - {"zlogin", "console"} or rng.random() < 0.5:
+        if not self.known - {"zlogin", "console", "enter"} or rng.random() < 0.5:
             return rng.choice([self.any_login, self.work_line])()
         return super().known_line()
 
@@ -195,9 +201,9 @@ class LoginLines(ZonecfgMaker):
         elif chance < 0.62:
             self.work_line()
         elif chance < 0.67:
-            self.write() if self.has("console") else self.run_call()
+            self.write() if self.has("console") else self.any_call()
         elif chance < 0.70:
-            self.left_behind(self.rng.choice(self.names)) if self.has("console") else self.run_call()
+            self.left_behind(self.rng.choice(self.names)) if self.has("console") else self.any_call()
         elif chance < 0.74:
             self.end_login() if self.has("zlogin") else self.write()
         elif chance < 0.82:

@@ -55,7 +55,7 @@ class LoginMaker(LoginLines):
             elif chance < 0.9:
                 self.work_line()
             else:
-                self.run_call(name) if self.has("zlogin") else self.process_line(name)
+                self.any_call(name)
         return self.data()
 
     def comes_and_goes(self):
@@ -153,7 +153,10 @@ class LoginMaker(LoginLines):
                     self.process_line(name, ["bootargs"])
                 if rng.random() < 0.03:
                     self.sets_bootargs(name)
-            self.line("S %d zlogin %s bootargs" % (self.first(), name))
+            if self.has("enter"):
+                self.line("S %d zlogin %s bootargs" % (self.first(), name))
+            else:
+                self.process_line(name, ["bootargs"])
             if rng.random() < 0.3:
                 self.login_move()
         return self.data()
@@ -190,7 +193,7 @@ class LoginMaker(LoginLines):
         for _ in range(len(PIDS) - len(self.host.processes) - rng.choice([0, 1, 2])):
             self.line("P %s %d fork x" % (name, first))
         for _ in range(rng.choice([5, 15])):
-            rng.choice([self.log_in, self.run_call])(name)
+            rng.choice([self.log_in, self.run_call] if self.has("enter") else [self.log_in])(name)
             if rng.random() < 0.4:
                 self.line("P %s %d exit" % (name, rng.randrange(9, 29999)))
             if self.host.logins and rng.random() < 0.5:
@@ -203,7 +206,10 @@ class LoginMaker(LoginLines):
         """The number of a login's process goes to another one, and the session types on."""
         number = self.rng.choice(list(self.host.logins))
         self.line("P %s %d kill 9 %d" % (name, first, self.host.logins[number].pid))
-        self.rng.choice([lambda: self.line("P %s %d fork z" % (name, first)), lambda: self.run_call(name)])()
+        if self.has("enter") and self.rng.random() < 0.5:
+            self.run_call(name)
+        else:
+            self.line("P %s %d fork z" % (name, first))
         self.line("S %d ps" % number)
 
     def next(self, traces):

@@ -111,7 +111,7 @@ def zlogin_of(text, words, known):
     """What a line of zlogin(1) asks for, as typed() tells it, or None where it is none that is known. A call is taken
     as it stands, from the first byte after the spaces behind the zone's name to the end of the line."""
     options, left = of_zlogin(words)
-    if len(left) > 1 and not options and "zlogin" in known:
+    if len(left) > 1 and not options and "enter" in known:
         try:
             rest = re.fullmatch(rb" *zlogin +[^ ]+ +(.*)", text, re.S).group(1)
             return ("call", left[0], call_of(Words(rest), known))
@@ -130,7 +130,7 @@ def zlogin_of(text, words, known):
 
 def name_in(words, known):
     """The zone that a line names, or None."""
-    if words[0] == b"zlogin" and ("zlogin" in known or "console" in known):
+    if words[0] == b"zlogin" and known & {"zlogin", "console", "enter"}:
         return next(iter(of_zlogin(words)[1]), None)
     return words[words.index(b"-z") + 1] if b"-z" in words[:-1] else None
 

@@ -16,7 +16,7 @@ from config_model import Config
 from login_maker import LoginMaker
 from request_laws import TABLE, Watched, brands_of, wrong_with
 from store_model import AROUND, MOST_BYTES, removal_size
-from trace_lines import ALL_LINES
+from trace_lines import KINDS_OF_LINES
 
 MOST_TEXT = 32768
 
@@ -52,7 +52,7 @@ class LawfulMaker(LoginMaker):
 
     def __init__(self, rng):
         self.wrong = None
-        super().__init__(rng, ALL_LINES)
+        super().__init__(rng, frozenset(KINDS_OF_LINES))
 
     def begin(self, names, sessions):
         super().begin(names, sessions)
