@@ -20,8 +20,8 @@ knows, which `enter` isn't among until trace_lines.HAS_ENTER says so. Most of th
 (zonecfg_maker.py, login_maker.py), and without it none has.
 
 `--self-test` compares the model with replies that are known, and looks at what holds of it in random systems
-(data_rows.py, trace_rows.py, object_rows.py, request_rows.py, zonecfg_rows.py, index_rows.py, request_laws.py,
-zonecfg_laws.py); it needs no program. Nor does `--model-only`, which shows what the traces would be
+(data_rows.py, trace_rows.py, object_rows.py, request_rows.py, zonecfg_rows.py, call_rows.py, index_rows.py,
+request_laws.py, zonecfg_laws.py); it needs no program. Nor does `--model-only`, which shows what the traces would be
 answered, and ends at a reply that has no form (reply_forms.py).
 """
 
@@ -32,6 +32,7 @@ import subprocess
 import sys
 import time
 
+import call_rows
 import data_rows
 import index_model
 import index_rows
@@ -102,7 +103,8 @@ def shortest(data, differs):
 
 
 def self_test():
-    parts = [data_rows, trace_rows, object_rows, request_rows, zonecfg_rows, index_rows, request_laws, zonecfg_laws]
+    parts = [data_rows, trace_rows, object_rows, request_rows, zonecfg_rows, call_rows, index_rows, request_laws,
+             zonecfg_laws]
     fault = next((it for it in (part.fault() for part in parts) if it is not None), None)
     print("the model answers as it is known to" if fault is None else "the model differs: %s" % fault)
     return 0 if fault is None else 1

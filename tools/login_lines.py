@@ -3,7 +3,9 @@ write to a console, end a login or leave what was written.
 """
 
 from console_model import MOST_OUTPUT
+from process_maker import PRIVILEGES, PROCESS_NAMES, SIGNALS
 from request_maker import ARGUMENTS
+from system_model import PIDS, next_number
 from trace_model import MOST_BYTES
 from zonecfg_maker import ZonecfgMaker
 
@@ -101,10 +103,27 @@ class LoginLines(ZonecfgMaker):
         words = ["zlogin", self.options(False), name or self.running()]
         self.type(" ".join(it for it in words if it))
 
+    def next_pid(self):
+        """The number of the process that comes next, or the first number where none is free."""
+        host = self.host
+        is_full = len(host.processes) == len(PIDS)
+        return PIDS.start if is_full else next_number(PIDS, host.last_pid, host.processes, "pids")
+
+    def call_alone(self, zone):
+        """The words of a call that a process of its own makes: any one, or one that has to do with that process."""
+        rng = self.rng
+        if rng.random() < 0.6:
+            return self.call(zone)
+        return rng.choice([
+            ["kill", rng.choice(SIGNALS), str(self.next_pid() + rng.choice([0, 0, 0, -1, 1]))],
+            ["fork", rng.choice(PROCESS_NAMES)], ["exec", rng.choice(PROCESS_NAMES)], ["drop", rng.choice(PRIVILEGES)],
+            ["exit"], ["ps"], ["privs"], ["true"], ["false"],
+        ])
+
     def run_call(self, name=None):
         """A call alone, for the most part one that is read."""
         rng, zone = self.rng, name or self.running()
-        words = self.call(zone) if rng.random() < 0.93 else self.spoilt(self.call(zone))
+        words = self.call_alone(zone) if rng.random() < 0.93 else self.spoilt(self.call_alone(zone))
         text = rng.choice(NO_CALLS) if rng.random() < 0.04 else " ".join(words)
         space = rng.choice(["", "", "", "", "  "])
         self.line(("S %d zlogin %s %s%s" % (self.first(), zone, space, text))[:MOST_BYTES])

@@ -89,6 +89,30 @@ class LoginMaker(LoginLines):
             "ready": ["boot", "halt"], "configured": ["attach", "install"], "incomplete": ["uninstall"],
         }.get(state, ["halt"]))
 
+    def called(self):
+        """Calls alone in one or two zones, of which one may have many mounts or long places, and what they leave."""
+        rng = self.rng
+        self.begin_running(rng.choice([1, 1, 2]))
+        name = self.names[0]
+        first = self.host.firsts.get(name.encode())
+        if first is not None and rng.random() < 0.1:
+            for number in range(rng.choice([126, 127])):
+                self.line("P %s %d mount nfs x /m%d" % (name, first, number))
+        for _ in range(rng.choice([5, 20, 60])):
+            zone = rng.choice(self.names)
+            chance = rng.random()
+            if chance < 0.55:
+                self.run_call(zone)
+            elif chance < 0.7:
+                self.process_line(zone, rng.choice([["ps"], ["mounts"], ["fork", "x"], ["exit"]]))
+            elif chance < 0.8 and self.has("console"):
+                self.take_console(zone)
+            elif chance < 0.9:
+                self.any_login()
+            else:
+                rng.choice([self.work_line, self.end_login, self.hold, self.login_move])()
+        return self.data()
+
     def bounded(self):
         """A zone that may have few processes, and logins that are one too many."""
         rng = self.rng
@@ -219,6 +243,7 @@ class LoginMaker(LoginLines):
         chance = rng.random()
         for bound, make in [
             (0.28, self.logins), (0.40, self.written if self.has("console") else self.logins),
+            (0.50 if self.has("enter") else 0, self.called),
             (0.57, self.comes_and_goes), (0.63, self.bounded), (0.69, self.booted), (0.74, self.emptied),
             (0.85, self.odd_logins), (0.8505, self.no_numbers_left),
         ]:

@@ -40,13 +40,18 @@ def log_in(host, number, zone, escape):
 
 
 def run_call(host, zone, words):
-    """Lets a process of its own make one call, and removes it. One number is asked for, and the process has it: so a
-    fork, which each process that enters has the privilege for, gets none."""
+    """Lets a process of its own, which has the call's name, make one call, and removes it, unless the call did. What
+    the call did to others stays, and so do the mounts that it made. The line has one number, and the process has that:
+    so a fork, for which the process has the privilege, gets none."""
     pid = enter(host, zone, words[0])
-    said = ["status 1", "EAGAIN"] if words[0] == "fork" else status(host, zone, pid, words)
+    said = forked_alone(host.processes[pid]) if words[0] == "fork" else status(host, zone, pid, words)
     if pid in host.processes:
         host.remove(pid)
     return said
+
+
+def forked_alone(process):
+    return ["status 1", "EAGAIN" if "proc_fork" in process.privileges else "EPERM"]
 
 
 def take_console(host, number, zone, escape):

@@ -72,13 +72,16 @@ class LawfulMaker(LoginMaker):
         worlds = {name: world_of(host, name) for name in names}
         states = {name: host.state(name) for name in names}
         store = (host.store.serial, host.store.used, dict(host.store.records))
-        processes = set(host.processes)
+        processes, last = set(host.processes), host.last_pid
+        in_a_login = login_laws.in_a_login(host, event)
         subject, lines, refused = host.answer(event)
         self.wrong = (
             self.of_others(subject, worlds) or self.of_states(event, lines[0], states, subject)
             or self.of_records(event, lines[0], store, subject) or self.of_refusals(lines[0], worlds, subject)
             or self.of_turns(event, lines[0]) or self.of_restarts(event, store) or wrong_with(host)
-            or login_laws.wrong_with(host) or login_laws.wrong_with_processes(processes, host, event))
+            or login_laws.wrong_with(host)
+            or login_laws.wrong_with_processes(processes, last, host, event, lines[0])
+            or login_laws.wrong_with_call(in_a_login, host, lines))
         if self.wrong is not None:
             self.wrong = "%s: %s: %s" % (self.wrong, text, " | ".join(lines))
 
@@ -170,7 +173,7 @@ def fault(count=100, seed=1):
         rng.choice([
             maker.wholes, maker.denied, maker.tuned, maker.edited, maker.comings, maker.lists, maker.restarts,
             maker.odd_lines, maker.logins, maker.written, maker.comes_and_goes, maker.bounded, maker.booted,
-            maker.odd_logins])()
+            maker.odd_logins, maker.called])()
         if maker.wrong is not None:
             return "trace %d: %s" % (number, maker.wrong)
     return None

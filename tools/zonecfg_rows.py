@@ -505,6 +505,9 @@ FEWER = [
     (("list",), "S 1 zoneadm -z a list", "a ok | a"), (("verify",), "S 1 zoneadm -z a list", "a err 93 Usage"),
     (("verify",), "S 1 zoneadm -z a verify", "a ok"), (("help",), "S 1 zoneadm help", "global ok | " + ZONEADM),
     (("restart",), "R", "* ok"), ((), "S 1 zoneadm help", "global err 93 Usage"),
+    (("zlogin",), "S 1 zlogin a", "a err 95 NotRunning configured"), (("zlogin",), "S 1 zlogin a ps", "a err 93 Usage"),
+    (("enter",), "S 1 zlogin a ps", "a err 95 NotRunning configured"), (("enter",), "S 1 zlogin a", "a err 93 Usage"),
+    (("enter",), "S 1 zlogin a cons x", "a err 93 Usage"), ((), "S 1 zlogin a ps", "global err 93 Usage"),
     ((), "S 1 zonecfg -z b create -b; set zonepath=/b; set brand=lx", "b ok"),
 ]
 
