@@ -39,8 +39,6 @@ use Rattle.zone_cases.specs.declared.replies.Refusal.TheVariants.{Denied}
 use Rattle.zone_cases.specs.Code.Cells.{Outside, cell_world}
 use Rattle.zone_cases.specs.State.Worlds.{View, view_of}
 use Rattle.zone_cases.specs.declared.cell.Cell.{Cell}
-use Rattle.zone_cases.specs.declared.events.Event.TheVariants.{Turn}
-use Rattle.brand_hooks.specs.declared.change.Change.{Change}
 use Rattle.zone_cases.specs.declared.cases.ConsoleEdit.{ConsoleEdit}
 use Rattle.zone_cases.specs.declared.cases.ConsoleEdit.TheVariants.{Line, Nothing as No_edit}
 use Rattle.zoneadmd_steps.specs.declared.objects.changes.ObjectEdit.{ObjectEdit}
@@ -141,13 +139,7 @@ abbrev pub case_active : Case → Option ZoneState → Option ZoneState
 case_active (Turn c) active = turn_active c active
 case_active _ active = active
 
--- a case of z's cell, of what is decided in its view
-pub record IsCaseIn (z : Name) (out : Outside) (c : Cell) (decides : View → Decision) (case : Case) : Type 0 where
-  pub decided : decides (view_of z (cell_world out c)) ≡ decision_of c.desk case
-  pub of : IsCaseOf c.desk case
-  pub named : IsNamedCase z case
-  pub free : IsFreeCase case c.mounts.list c.claims.claims
-
+-- what becomes of the zone's objects
 abbrev pub objects_of : Case → ObjectEdit
 objects_of (Turn c) = turn_objects c
 objects_of (Change edit m) = edit
@@ -159,6 +151,13 @@ IsFreeCase c ms cs = IsFreeFor (objects_of c) ms cs
 
 abbrev pub MountsNothing : Case → Type 0
 MountsNothing c = (ms : List MountEntry) (cs : List Claim) → IsFreeCase c ms cs
+
+-- a case of z's cell, of what is decided in its view
+pub record IsCaseIn (z : Name) (out : Outside) (c : Cell) (decides : View → Decision) (case : Case) : Type 0 where
+  pub decided : decides (view_of z (cell_world out c)) ≡ decision_of c.desk case
+  pub of : IsCaseOf c.desk case
+  pub named : IsNamedCase z case
+  pub free : IsFreeCase case c.mounts.list c.claims.claims
 
 -- whether what its session does in the zone may change
 abbrev pub seats_committer : Committer → Bool
