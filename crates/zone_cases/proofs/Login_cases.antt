@@ -1,5 +1,5 @@
 -- What the code decides of a line of a session that is logged in, as the definitions have it.
-use Rattle.std.proofs.Common.{◌≡◌, ◌∙◌, ℕ, Bool, true, false, List, [], ◌∷◌, Option, Result, Ok, Err, IfOk, ap, refl, subst, sym, if◌then◌else◌}
+use Rattle.std.proofs.Common.{◌≡◌, ◌∙◌, ℕ, Bool, false, List, [], ◌∷◌, Option, Result, Ok, Err, IfOk, ap, refl, subst, sym, if◌then◌else◌}
 use Rattle.process_calls.specs.Calls.{call_of}
 use Rattle.process_calls.specs.declared.call.Call.{Call}
 use Rattle.zn_base.specs.Names.{Name}

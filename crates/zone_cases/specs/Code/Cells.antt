@@ -7,7 +7,6 @@ use Rattle.zoneadmd_steps.specs.Code.Desks.{as_desk}
 use Rattle.console_link.specs.Consoles.{new_console}
 use Rattle.zone_cases.specs.Code.Consoles.{console_in}
 use Rattle.zone_cases.specs.Code.Doings.{as_doing}
-use Rattle.zone_cases.specs.State.{stored}
 use Rattle.zone_cases.specs.State.Worlds.{View, World, objects_of}
 use Rattle.zone_cases.specs.declared.cell.Cell.{Cell}
 use Rattle.commit_journal.specs.declared.records.Record.{Record}

@@ -1,5 +1,5 @@
 -- What becomes of a zone's console, by the code's edits, as the definitions have it.
-use Rattle.std.specs.Prelude.{◌≡◌, ℕ, List, [], ◌∷◌, Bool, true, false, Option, Some, None, is_some, unwrap_or}
+use Rattle.std.specs.Prelude.{◌≡◌, ℕ, List, [], ◌∷◌, Bool, true, false, Option, is_some, unwrap_or}
 use Rattle.console_link.specs.Consoles.{Console, new_console}
 use Rattle.zone_cases.specs.State.Edits as edits
 use Rattle.zone_cases.specs.State.Edits.{Edit, Of_console, edit_console}

@@ -1,6 +1,6 @@
 -- What zlogin(1) does: a session is logged in to a zone, with a process of its own there, or has the zone's console; a line of such
 -- a session is a call of that process, or goes to the console.
-use Rattle.std.specs.Prelude.{ℕ, List, [], ◌∷◌, Bool, true, false, ◌&&◌, ◌==◌, Option, Some, None, Result, Ok as Right, Err, codes, if◌then◌else◌, is_some}
+use Rattle.std.specs.Prelude.{ℕ, List, [], ◌∷◌, Bool, true, false, ◌&&◌, ◌==◌, Option, Some, None, Ok as Right, Err, codes, if◌then◌else◌, is_some}
 use Rattle.console_link.specs.Consoles.{Console, typed as typed_at}
 use Rattle.kernel_objects.specs.Kernel.{Kernel, at_limit, entered}
 use Rattle.kernel_objects.specs.declared.faults.Errno.TheVariants.{EAGAIN}
@@ -16,12 +16,12 @@ use Rattle.zone_pools.specs.Decisions.{Ask, Just}
 use Rattle.zone_pools.specs.Firsts.{is_nil}
 use Rattle.zoneadmd_steps.specs.Arrivals.{A_process}
 use Rattle.zoneadmd_steps.specs.Desks.{Desk, state_now}
-use Rattle.zoneadmd_steps.specs.Objects.{Process_goes, kernel_of}
+use Rattle.zoneadmd_steps.specs.Objects.{Process_goes}
 use Rattle.zone_cases.specs.Calls.{calls_if_there}
 use Rattle.zone_cases.specs.State.{At_console, Logged_in}
 use Rattle.zone_cases.specs.State.Decisions.{Decision, Effect, done_saying, effects, refused, told}
 use Rattle.zone_cases.specs.State.Edits.{Here, Hold, Leave, Of_console, Of_objects, Take}
-use Rattle.zone_cases.specs.State.Worlds.{View, objects_of}
+use Rattle.zone_cases.specs.State.Worlds.{View}
 use Rattle.zone_cases.specs.declared.replies.Body.TheVariants.{Lines, Why}
 use Rattle.zone_cases.specs.declared.replies.Head.TheVariants.{Ok, Refused, Status}
 use Rattle.zone_cases.specs.declared.replies.Refusal.{Refusal}
