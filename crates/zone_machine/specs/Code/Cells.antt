@@ -6,6 +6,7 @@ use Rattle.zn_base.specs.Names.{Name}
 use Rattle.zone_pools.specs.Owners.{held_by, is_owner, owner}
 use Rattle.commit_journal.specs.Zones.{rows_of}
 use Rattle.zone_machine.specs.Machine.Common.{Common, common, holding, standing}
+use Rattle.zone_cases.specs.Code.Cells.{Outside, cell_world, world_or_empty}
 use Rattle.zone_cases.specs.State.{State, stored}
 use Rattle.zone_cases.specs.State.Worlds.{World, world}
 use Rattle.zone_cases.specs.declared.cell.Cell.{Cell}

@@ -3,6 +3,7 @@ use Rattle.std.specs.Prelude.{◌≡◌, ℕ, ◌∷◌, ◌++◌, map, Option, 
 use Rattle.zn_base.specs.Names.{Name}
 use Rattle.zoneadmd_steps.specs.Arrivals.{Arrival, New_record, in_store}
 use Rattle.zone_pools.specs.Decisions as decisions
+use Rattle.zone_cases.specs.Code.Replies.{reply_with}
 use Rattle.zone_cases.specs.State.Decisions.{Act, acts_world, sweeps, after_came_world, turned}
 use Rattle.zoneadmd_steps.specs.Turns.{Turned}
 use Rattle.zoneadmd_steps.specs.Desks as desks
