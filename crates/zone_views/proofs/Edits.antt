@@ -1,5 +1,5 @@
 -- What a session edits is what subcommands denote over its base, after any history.
-use Rattle.std.proofs.Common.{◌≡◌, ◌∷◌, ◌++◌, [], ◌∙◌, ℕ, List, Bool, Option, Some, None, Result, Ok, Err, true, false, cond, map, refl, ap, sym, subst}
+use Rattle.std.proofs.Common.{◌≡◌, ◌+◌, ◌∷◌, ◌++◌, [], ◌∙◌, ℕ, List, Bool, Option, Some, None, Result, Ok, Err, true, false, cond, map, refl, ap, sym, subst}
 use Rattle.std.specs.Prelude.{nat_eq, if◌then◌else◌}
 use Rattle.zn_base.specs.Names.{Name}
 use Rattle.brand_hooks.specs.Brands.{Tabled, tabled_names}
@@ -36,14 +36,14 @@ use Rattle.zone_machine.proofs.Turned_laws.{turn_act}
 use Rattle.zone_machine.specs.Code.Works.{turned_act}
 use Rattle.zone_machine.specs.Machine.{decide, opening, session_number}
 use Rattle.zone_machine.specs.Machine.Histories.{after}
-use Rattle.zone_cases.specs.Session.Commits.{base_now, based, said_to}
+use Rattle.zone_cases.specs.Session.Commits.{base_now, based, committed_record, said_to}
 use Rattle.zone_cases.specs.State.{At_console, Awaiting, Doing, Editing, Logged_in}
-use Rattle.zone_cases.specs.State.Decisions.{act_of, acts_world, sweeps, ticket_ended}
-use Rattle.zone_cases.specs.State.Edits.{Of_objects, Set_desk, comes_world, console_gone_world, console_left, edit_world, edits_world, keeps_console, login_ended, logins_ended, swept_doing}
+use Rattle.zone_cases.specs.State.Decisions.{act_of, acts_world, after_came_world, sweeps, ticket_ended}
+use Rattle.zone_cases.specs.State.Edits.{Edit, Of_objects, Set_desk, at_session, comes_world, console_gone_world, console_left, edit_world, edits_world, keeps_console, login_ended, logins_ended, swept_doing}
 use Rattle.zone_cases.specs.State.Worlds.{World, view_of, world}
 use Rattle.zone_cases.specs.declared.events.Entry.{Entry}
 use Rattle.zone_cases.specs.declared.events.Event.{Event}
-use Rattle.zone_views.proofs.Deciding.{Idles, Is_seated, Opens, Says, Seats, Sit, Sits_at, Stays, Stores, of_event}
+use Rattle.zone_views.proofs.Deciding.{Attaches, Called, Calls, Consoled, Consoles, Detaches, Does, Drops, Edits, Enters, Forks, Goes, Is_seated, Leaves_off, Opens, Puts, Records, Remounts, Removes, Renames, Says, Seat, Seated, Stores, Takes, Tells, Unseated, Writes, of_any}
 use Rattle.zone_views.proofs.Keeping.{kept-after}
 use Rattle.zone_views.specs.Edits.{EditsDenoted, IsDenoted}
 
@@ -149,23 +149,21 @@ stored_denoted config k e (Whole c) is h shown =
     let same : c ≡ config = cc in
     subst (λ o. IsDenoted (record (based config k e) { opened = o })) (sym (is ∙ ap Whole same)) (record { said = []; denotes = denotes_base })
 
-module _ (z : Name) (w : World) (h : (n : ℕ) → EditsDenoted (w.sessions n)) where
-  seats_denoted : (d : Option Doing) → Seats z w d → EditsDenoted d
-  seats_denoted None Idles = tt
-  seats_denoted (Some (Awaiting t)) s = tt
-  seats_denoted (Some (Logged_in pid escape)) s = tt
-  seats_denoted (Some (At_console escape)) s = tt
-  seats_denoted (Some (Editing e)) (Opens base) = begun z base
-  seats_denoted (Some (Editing e)) (Says n old text there) = line_denoted (base_now (view_of z w)) (tabled_names (view_of z w).world.brands) text old (subst EditsDenoted there (h n))
-  seats_denoted (Some (Editing e)) (Stores n old text config k there ends shown) =
-      stored_denoted config k (said_to (view_of z w) old text).edited _ refl (line_whole (base_now (view_of z w)) (tabled_names (view_of z w).world.brands) text old ends) shown
+-- the session k does this from now on, and the others do what they did
+here_denoted : (k : ℕ) (d : Option Doing) (sessions : ℕ → Option Doing) → EditsDenoted d → ((j : ℕ) → EditsDenoted (sessions j)) → (j : ℕ) → EditsDenoted (at_session (Some k) j d (sessions j))
+here_denoted k d sessions s h j = at_here (nat_eq k j)
+  where
+    at_here : (b : Bool) → EditsDenoted (if b then d else sessions j)
+    at_here true = s
+    at_here false = h j
 
-  sit_denoted : (sessions : ℕ → Option Doing) → Sit z w sessions → (k : ℕ) → EditsDenoted (sessions k)
-  sit_denoted sessions sit k = at_session_of (sessions k) (sit k)
-    where
-      at_session_of : (d : Option Doing) → Sits_at z w k d → EditsDenoted d
-      at_session_of d Stays = h k
-      at_session_of _ (Is_seated d s) = seats_denoted d s
+module _ (z : Name) (w : World) (k : ℕ) (h : EditsDenoted (w.sessions k)) where
+  seat_denoted : (d : Option Doing) → Seat z w k d → EditsDenoted d
+  seat_denoted _ (Leaves_off e there) = tt
+  seat_denoted _ (Opens base idle) = begun z base
+  seat_denoted _ (Says old text there) = line_denoted (base_now (view_of z w)) (tabled_names (view_of z w).world.brands) text old (subst EditsDenoted there h)
+  seat_denoted _ (Stores old text config m there ends shown) =
+      stored_denoted config m (said_to (view_of z w) old text).edited _ refl (line_whole (base_now (view_of z w)) (tabled_names (view_of z w).world.brands) text old ends) shown
 
 -- a turn leaves who edits
 at_test : (b : Bool) (d : Doing) → EditsDenoted (Some d) → EditsDenoted (if b then None else Some d)
@@ -209,13 +207,13 @@ edits_denoted (Process_goes pid ∷ es) d ended w h k =
     edits_denoted es d ended (edit_world None (Of_objects (Process_goes pid)) w) (λ j. all_denoted (login_ended pid) (login_denoted pid) (w.sessions j) (h j)) k
 edits_denoted (e ∷ es) d ended w h k = edits_denoted es d ended (edit_world None (Of_objects e) w) h k
 
+gone_denoted : (keeps : Bool) (w : World) → ((k : ℕ) → EditsDenoted (w.sessions k)) → (k : ℕ) → EditsDenoted ((console_gone_world keeps w).sessions k)
+gone_denoted true w h k = h k
+gone_denoted false w h k = all_denoted console_left console_denoted (w.sessions k) (h k)
+
 turn_denoted : (a : decisions.Act Arrival Turned) (w : World) → ((k : ℕ) → EditsDenoted (w.sessions k)) → (k : ℕ) → EditsDenoted ((acts_world None (turned_act a) w).sessions k)
 turn_denoted a w h k = at_came a.came
   where
-    at_keeps : (b : Bool) (v : World) → ((k : ℕ) → EditsDenoted (v.sessions k)) → (j : ℕ) → EditsDenoted ((console_gone_world b v).sessions j)
-    at_keeps true v h j = h j
-    at_keeps false v h j = all_denoted console_left console_denoted (v.sessions j) (h j)
-
     at_came : (c : Option Arrival) → EditsDenoted ((acts_world None (turned_act (record a { came = c })) w).sessions k)
     at_came None = edits_denoted a.effect.objects a.effect.desk a.effect.ended w h k
     at_came (Some (New_process p)) = edits_denoted a.effect.objects a.effect.desk a.effect.ended (comes_world (New_process p) w) h k
@@ -223,15 +221,43 @@ turn_denoted a w h k = at_came a.came
     at_came (Some (New_claim c)) = edits_denoted a.effect.objects a.effect.desk a.effect.ended (comes_world (New_claim c) w) h k
     at_came (Some No_new_thing) = edits_denoted a.effect.objects a.effect.desk a.effect.ended w h k
     at_came (Some (New_record row)) =
-        edits_denoted a.effect.objects a.effect.desk a.effect.ended (comes_world (New_record row) w) (at_keeps (keeps_console row) (record w { stored = row }) h) k
+        edits_denoted a.effect.objects a.effect.desk a.effect.ended (comes_world (New_record row) w) (gone_denoted (keeps_console row) (record w { stored = row }) h) k
 
 abbrev AllDenoted : World → Type 0
 AllDenoted w = (n : ℕ) → EditsDenoted (w.sessions n)
 
+-- any other event
+module _ (z : Name) (w : World) (h : AllDenoted w) where
+  seated_denoted : (k : ℕ) (es : List Edit) → Seated z w k es → (v : World) → AllDenoted v → AllDenoted (edits_world (Some k) es v)
+  seated_denoted k _ Unseated v is = is
+  seated_denoted k _ (Is_seated d s) v is = here_denoted k d v.sessions (seat_denoted z w k (h k) d s) is
+
+  called_denoted : (n : Option ℕ) (c : Option Arrival) (es : List Edit) → Called w n c es → AllDenoted (edits_world n es (after_came_world c w))
+  called_denoted _ _ _ (Forks n parent pid p name is) = h
+  called_denoted _ _ _ (Enters k pid name escape running idle) = here_denoted k (Some (Logged_in pid escape)) w.sessions tt h
+  called_denoted _ _ _ (Goes n pid) = λ j. all_denoted (login_ended pid) (login_denoted pid) (w.sessions j) (h j)
+  called_denoted _ _ _ (Renames n pid name) = h
+  called_denoted _ _ _ (Drops n pid number) = h
+
+  consoled_denoted : (n : Option ℕ) (es : List Edit) → Consoled w n es → AllDenoted (edits_world n es w)
+  consoled_denoted _ _ (Writes n text) = h
+  consoled_denoted _ _ (Takes n) = h
+  consoled_denoted _ _ (Attaches k escape idle free) = here_denoted k (Some (At_console escape)) w.sessions tt h
+  consoled_denoted _ _ (Detaches k escape there) = here_denoted k None w.sessions tt h
+
+  does_denoted : (n : Option ℕ) (c : Option Arrival) (es : List Edit) → Does z w n c es → AllDenoted (edits_world n es (after_came_world c w))
+  does_denoted _ _ _ (Tells n) = h
+  does_denoted _ _ _ (Edits k es s) = seated_denoted k es s w h
+  does_denoted _ _ _ (Records k stored config m es is s) =
+      let row = Some (committed_record z stored config m) in seated_denoted k es s (console_gone_world (keeps_console row) (record w { stored = row })) (gone_denoted (keeps_console row) (record w { stored = row }) h)
+  does_denoted _ _ _ (Removes k row es is c r s) = seated_denoted k es s (console_gone_world false (record w { stored = None })) (gone_denoted false (record w { stored = None }) h)
+  does_denoted _ _ _ (Puts k r row is idle) = here_denoted k (Some (Awaiting (w.desk.last + 1))) w.sessions tt h
+  does_denoted _ _ _ (Calls n c es called) = called_denoted n c es called
+  does_denoted _ _ _ (Remounts n e mounted) = h
+  does_denoted _ _ _ (Consoles n es consoled) = consoled_denoted n es consoled
+
 denoted-event : (z : Name) (w : World) (e : Event) (g : Grant) → AllDenoted w → AllDenoted (acts_world (session_number e) (act_of (decide (view_of z w) e) g) w)
-denoted-event z w e g h =
-    of_event AllDenoted z w (λ sessions console sit. sit_denoted z w h sessions sit) (λ stored config k sessions console sit is. sit_denoted z w h sessions sit) (λ row sessions console sit is c r. sit_denoted z w h sessions sit)
-    (λ r sessions sit. sit_denoted z w h sessions sit) (λ ps sessions called sit. sit_denoted z w h sessions sit) (λ ms mounted. h) g (turn_denoted (turn_act w g) w h) e
+denoted-event z w e g h = of_any z w AllDenoted (does_denoted z w h) g (turn_denoted (turn_act w g) w h) e
 
 pub denoted-history : (z : Name) (brands : List Tabled) (commits : List Commit_of) (h : List Entry) (n : ℕ) → EditsDenoted ((world z (after (opening brands commits) h)).sessions n)
 denoted-history z brands commits h = kept-after AllDenoted denoted-event (λ w d h. h) (λ w h n. tt) (opening brands commits) h (λ z n. tt) z

@@ -32,8 +32,8 @@ use Rattle.zoneadmd_steps.specs.Turns.{A_claim_left, A_mount, A_step, Next, Noth
 use Rattle.zone_machine.specs.Machine.Histories.{after}
 use Rattle.zone_machine.specs.Machine.{decide, opening, session_number}
 use Rattle.zoneadmd_steps.specs.Objects.{Of_mounts, all_of, keeping_pid, keeping_zid, kernel_of}
-use Rattle.zone_cases.specs.State.Decisions.{act_of, acts_world}
-use Rattle.zone_cases.specs.State.Edits.{console_gone_world, keeps_by}
+use Rattle.zone_cases.specs.State.Decisions.{act_of, acts_world, after_came_world}
+use Rattle.zone_cases.specs.State.Edits.{Edit, console_gone_world, edits_world, keeps_by}
 use Rattle.zone_cases.specs.State.Worlds.{World, objects_of, seen_of, view_of, world}
 use Rattle.zoneadmd_steps.specs.declared.requests.Outcome.{Outcome}
 use Rattle.zoneadmd_steps.specs.declared.requests.Request.{Request}
@@ -336,23 +336,23 @@ module _ (w : World) (may : Bool) (none : may ≡ false → w.processes ≡ []) 
       whole : at_pid pid f ≡ keeping_pid (at_pid pid f)
       whole = λ i. λ p. record (at_pid pid f p) { pid = at_pid_keeps pid f keeps p i }
 
-  limited_called : (ps : List Process) → Called w ps → desk_stands may w.desk.active w.desk.job ≡ true → Limited (record w { processes = ps })
-  limited_called ps (Forks parent n p name is) h =
-      record { may = may; none = λ e. absurd (nobody e); within = within-forked (kernel_of (objects_of w)) parent n p name is within; runs = runs; desk = h }
+  limited_called : (n : Option ℕ) (c : Option Arrival) (es : List Edit) → Called w n c es → desk_stands may w.desk.active w.desk.job ≡ true → Limited (edits_world n es (after_came_world c w))
+  limited_called _ _ _ (Forks n parent pid p name is) h =
+      record { may = may; none = λ e. absurd (nobody e); within = within-forked (kernel_of (objects_of w)) parent pid p name is within; runs = runs; desk = h }
     where
       nobody : may ≡ false → ⊥
       nobody e = let none : None ≡ Some p = sym (ap (with_pid parent) (none e)) ∙ is in cc
-  limited_called ps (Enters n name running) h =
-      record { may = may; none = λ e. absurd (false≢true (rw (e, running) at runs)); within = within-entered (kernel_of (objects_of w)) name false n within; runs = runs; desk = h }
-  limited_called ps (Goes pid) h = record { may = may; none = λ e. ap (without_pid pid) (none e); within = within-gone (kernel_of (objects_of w)) pid within; runs = runs; desk = h }
-  limited_called ps (Renames pid name) h = limited_change pid (renamed name) (λ p. refl) (within-renamed (kernel_of (objects_of w)) pid name within) h
-  limited_called ps (Drops pid number) h = limited_change pid (dropping number) (λ p. refl) (within-dropped (kernel_of (objects_of w)) pid number within) h
+  limited_called _ _ _ (Enters k pid name escape running idle) h =
+      record { may = may; none = λ e. absurd (false≢true (rw (e, running) at runs)); within = within-entered (kernel_of (objects_of w)) name false pid within; runs = runs; desk = h }
+  limited_called _ _ _ (Goes n pid) h = record { may = may; none = λ e. ap (without_pid pid) (none e); within = within-gone (kernel_of (objects_of w)) pid within; runs = runs; desk = h }
+  limited_called _ _ _ (Renames n pid name) h = limited_change pid (renamed name) (λ p. refl) (within-renamed (kernel_of (objects_of w)) pid name within) h
+  limited_called _ _ _ (Drops n pid number) h = limited_change pid (dropping number) (λ p. refl) (within-dropped (kernel_of (objects_of w)) pid number within) h
 
 limited-event : (z : Name) (w : World) (e : Event) (g : Grant) → Limited w → Limited (acts_world (session_number e) (act_of (decide (view_of z w) e) g) w)
 limited-event z w e g is =
     let turned = in-act (Leaves w is.may is.none is.within is.runs) (turn (seen_of w)) g (limited_turn w is.may is.none is.within is.runs is.desk) in
-    of_event Limited z w (λ sessions console sit. is) (λ stored config k sessions console sit same. is) (λ row sessions console sit same configured idle. is) (λ r sessions sit. is) (λ ps sessions called sit. limited_called w is.may is.none is.within is.runs ps called is.desk)
-    (λ ms mounted. record { may = is.may; none = is.none; within = is.within; runs = is.runs; desk = is.desk }) g turned e
+    of_event Limited z w (λ sessions console. is) (λ stored config k sessions console same. is) (λ row sessions console same configured idle. is) (λ r sessions. is)
+    (λ n c es called. limited_called w is.may is.none is.within is.runs n c es called is.desk) (λ ms. record { may = is.may; none = is.none; within = is.within; runs = is.runs; desk = is.desk }) g turned e
 
 pub within-history : (z : Name) (brands : List Tabled) (commits : List Commit) (h : List Entry) → within_limit (kernel_of (objects_of (world z (after (opening brands commits) h)))) ≡ true
 within-history z brands commits h = (kept-after Limited limited-event (λ w d is. record { may = is.may; none = is.none; within = is.within; runs = is.runs; desk = is.desk }) (λ w is. record { may = false; none = λ e. refl; within = refl; runs = refl; desk = refl }) (opening brands commits) h (λ z. record { may = false; none = λ e. refl; within = refl; runs = refl; desk = refl }) z).within
