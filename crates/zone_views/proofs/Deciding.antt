@@ -17,10 +17,11 @@ use Rattle.loopback_mounts.specs.declared.faults.MountFault.{MountFault}
 use Rattle.loopback_mounts.specs.declared.mount.Mount.{Mount}
 use Rattle.loopback_mounts.specs.declared.mount.MountEntry.{MountEntry}
 use Rattle.zone_cases.specs.Calls.{called, calls, calls_if_there, ending, execs, forks, is_by_process, mount_of, mounts, mounts_if_free, mounts_special, signals, tells_place, unmounts, unmounts_if_free}
-use Rattle.std.proofs.Common.{◌≡◌, ◌⊎◌, ◌+◌, ◌∷◌, [], ◌∙◌, ℕ, List, Bool, Option, Some, None, true, false, codes, inl, inr, refl, subst, sym}
+use Rattle.std.proofs.Common.{◌≡◌, ◌+◌, ◌∷◌, ◌++◌, [], map, ℕ, List, Bool, Option, Some, None, true, false, codes, refl, subst, sym}
 use Rattle.console_link.specs.Consoles as consoles
 use Rattle.console_link.specs.Consoles.{new_console}
 use Rattle.zn_base.specs.Lines.{lines_of}
+use Rattle.zone_pools.specs.Decisions as decisions
 use Rattle.zone_pools.specs.Decisions.{Ask, Just}
 use Rattle.zone_pools.specs.Firsts.{is_nil}
 use Rattle.zn_base.specs.Names.{Name, name_of}
@@ -41,11 +42,12 @@ use Rattle.zone_pools.specs.declared.grant.Grant.{Grant}
 use Rattle.zone_machine.specs.Code.Works.{turned_act}
 use Rattle.zone_machine.proofs.Turned_laws.{In, decide-turn, has-turned, in-act, stored_after, turn_act}
 use Rattle.zone_pools.specs.Owned_lists.{Change, Go, List_edit, Put, edited}
-use Rattle.zoneadmd_steps.specs.Objects.{Of_mounts, Process_goes, Processes_change, kernel_of, mounts_after}
+use Rattle.zoneadmd_steps.specs.Objects.{Object_edit, Of_mounts, Process_goes, Processes_change, kernel_of, mounts_after}
 use Rattle.zoneadmd_steps.specs.Arrivals.{Arrival, New_process, New_record}
-use Rattle.zone_cases.specs.State.Decisions.{Act, Decision, Effect, act_of, acts_world, after_came_world, done_saying, told}
+use Rattle.zone_cases.specs.State.Decisions.{Act, Decision, Effect, act_of, acts_world, after_came_world, done_saying, sweeps, ticket_ended, told}
+use Rattle.zoneadmd_steps.specs.Turns.{Turned}
 use Rattle.zoneadmd_steps.specs.Desks.{Desk, has_request, is_full, state_now, with_request}
-use Rattle.zone_cases.specs.State.Edits.{Edit as Zone_edit, Here, Hold as Hold_console, Leave, Line as Line_of, Of_console, Of_objects, Set_desk, Take, at_session, console_gone_world, console_left, edit_console, edits_world, keeps_console, swept_doing}
+use Rattle.zone_cases.specs.State.Edits.{Edit as Zone_edit, Here, Hold as Hold_console, Leave, Line as Line_of, Of_console, Of_objects, Set_desk, Sweep, Take, at_session, comes_world, console_gone_world, console_left, edit_console, edit_world, edits_world, keeps_console, swept_doing}
 use Rattle.zone_cases.specs.Session.Logins.{console_by, console_line, console_refusal, escapes, if_any, logged_line, login_of, logs_in, passed_as, runs, said_in, status_of, unless}
 use Rattle.zone_cases.specs.Session.Lines.{Ask as Asks, Blank, Clone, Command, Console, Edit, Enter, Help, Hold, Kill, Line, List_one, List_zones, Login, Release, Unforced, Unknown, Verify, Zonecfg, line_of}
 use Rattle.zone_machine.specs.Machine.{decide, session_number}
@@ -451,6 +453,21 @@ module _ (P : World → Type 0) (z : Name) (w : World) (seated : (sessions : ℕ
 
   pub of_event : (g : Grant) → P (acts_world None (turned_act (turn_act w g)) w) → (e : Event) → P (acts_world (session_number e) (act_of (decide (view_of z w) e) g) w)
   of_event g h e = of_any z w P of_does g h e
+
+-- what each thing that a turn does keeps holds of what the turn leaves
+module _ (P : World → Type 0) (objects : (e : Object_edit) (w : World) → P w → P (edit_world None (Of_objects e) w)) (desks : (d : Desk) (w : World) → P w → P (record w { desk = d }))
+    (tickets : (t : ℕ) (w : World) → P w → P (edit_world None (Sweep (ticket_ended t)) w)) (comes : (c : Arrival) (w : World) → P w → P (comes_world c w)) where
+  kept_edits : (es : List Object_edit) (d : Desk) (ended : Option ℕ) (w : World) → P w → P (edits_world None (map Of_objects es ++ Set_desk d ∷ sweeps ended) w)
+  kept_edits [] d None w h = desks d w h
+  kept_edits [] d (Some t) w h = tickets t (record w { desk = d }) (desks d w h)
+  kept_edits (e ∷ es) d ended w h = kept_edits es d ended (edit_world None (Of_objects e) w) (objects e w h)
+
+  pub kept_turn : (a : decisions.Act Arrival Turned) (w : World) → P w → P (acts_world None (turned_act a) w)
+  kept_turn a w h = at_came a.came
+    where
+      at_came : (c : Option Arrival) → P (acts_world None (turned_act (record a { came = c })) w)
+      at_came None = kept_edits a.effect.objects a.effect.desk a.effect.ended w h
+      at_came (Some c) = kept_edits a.effect.objects a.effect.desk a.effect.ended (comes_world c w) (comes c w h)
 
 -- what holds of what a turn leaves stored, of the mounts and of the desk holds of these in the world that it leaves
 pub of_turned : (P : Option Record → List MountEntry → Desk → Type 0) (w : World) (g : Grant) → (let a = turn_act w g in P (stored_after a.came w.stored) (mounts_after a.effect.objects w.mounts) a.effect.desk)

@@ -43,7 +43,7 @@ use Rattle.zone_cases.specs.State.Edits.{Edit, Of_objects, Set_desk, at_session,
 use Rattle.zone_cases.specs.State.Worlds.{World, view_of, world}
 use Rattle.zone_cases.specs.declared.events.Entry.{Entry}
 use Rattle.zone_cases.specs.declared.events.Event.{Event}
-use Rattle.zone_views.proofs.Deciding.{Attaches, Called, Calls, Consoled, Consoles, Detaches, Does, Drops, Edits, Enters, Forks, Goes, Is_seated, Leaves_off, Opens, Puts, Records, Remounts, Removes, Renames, Says, Seat, Seated, Stores, Takes, Tells, Unseated, Writes, of_any}
+use Rattle.zone_views.proofs.Deciding.{Attaches, Called, Calls, Consoled, Consoles, Detaches, Does, Drops, Edits, Enters, Forks, Goes, Is_seated, Leaves_off, Opens, Puts, Records, Remounts, Removes, Renames, Says, Seat, Seated, Stores, Takes, Tells, Unseated, Writes, kept_turn, of_any}
 use Rattle.zone_views.proofs.Keeping.{kept-after}
 use Rattle.zone_views.specs.Edits.{EditsDenoted, IsDenoted}
 
@@ -198,33 +198,21 @@ all_denoted : (f : Doing → Option Doing) → ((d : Doing) → EditsDenoted (So
 all_denoted f one None h = tt
 all_denoted f one (Some d) h = one d h
 
-edits_denoted : (es : List Object_edit) (d : Desk) (ended : Option ℕ) (w : World) → ((k : ℕ) → EditsDenoted (w.sessions k)) → (k : ℕ) → EditsDenoted ((edits_world None (map Of_objects es ++ Set_desk d ∷ sweeps ended) w).sessions k)
-edits_denoted [] d None w h k = h k
-edits_denoted [] d (Some t) w h k = all_denoted (ticket_ended t) (ticket_denoted t) (w.sessions k) (h k)
-edits_denoted (Processes_go p ∷ es) d ended w h k =
-    edits_denoted es d ended (edit_world None (Of_objects (Processes_go p)) w) (λ j. all_denoted logins_ended logins_denoted (w.sessions j) (h j)) k
-edits_denoted (Process_goes pid ∷ es) d ended w h k =
-    edits_denoted es d ended (edit_world None (Of_objects (Process_goes pid)) w) (λ j. all_denoted (login_ended pid) (login_denoted pid) (w.sessions j) (h j)) k
-edits_denoted (e ∷ es) d ended w h k = edits_denoted es d ended (edit_world None (Of_objects e) w) h k
-
 gone_denoted : (keeps : Bool) (w : World) → ((k : ℕ) → EditsDenoted (w.sessions k)) → (k : ℕ) → EditsDenoted ((console_gone_world keeps w).sessions k)
 gone_denoted true w h k = h k
 gone_denoted false w h k = all_denoted console_left console_denoted (w.sessions k) (h k)
 
-turn_denoted : (a : decisions.Act Arrival Turned) (w : World) → ((k : ℕ) → EditsDenoted (w.sessions k)) → (k : ℕ) → EditsDenoted ((acts_world None (turned_act a) w).sessions k)
-turn_denoted a w h k = at_came a.came
-  where
-    at_came : (c : Option Arrival) → EditsDenoted ((acts_world None (turned_act (record a { came = c })) w).sessions k)
-    at_came None = edits_denoted a.effect.objects a.effect.desk a.effect.ended w h k
-    at_came (Some (New_process p)) = edits_denoted a.effect.objects a.effect.desk a.effect.ended (comes_world (New_process p) w) h k
-    at_came (Some (New_id i)) = edits_denoted a.effect.objects a.effect.desk a.effect.ended (comes_world (New_id i) w) h k
-    at_came (Some (New_claim c)) = edits_denoted a.effect.objects a.effect.desk a.effect.ended (comes_world (New_claim c) w) h k
-    at_came (Some No_new_thing) = edits_denoted a.effect.objects a.effect.desk a.effect.ended w h k
-    at_came (Some (New_record row)) =
-        edits_denoted a.effect.objects a.effect.desk a.effect.ended (comes_world (New_record row) w) (gone_denoted (keeps_console row) (record w { stored = row }) h) k
-
 abbrev AllDenoted : World → Type 0
 AllDenoted w = (n : ℕ) → EditsDenoted (w.sessions n)
+
+objects_denoted : (e : Object_edit) (w : World) → AllDenoted w → AllDenoted (edit_world None (Of_objects e) w)
+objects_denoted (Processes_go p) w h = λ k. all_denoted logins_ended logins_denoted (w.sessions k) (h k)
+objects_denoted (Process_goes pid) w h = λ k. all_denoted (login_ended pid) (login_denoted pid) (w.sessions k) (h k)
+objects_denoted e w h = h
+
+comes_denoted : (c : Arrival) (w : World) → AllDenoted w → AllDenoted (comes_world c w)
+comes_denoted (New_record row) w h = gone_denoted (keeps_console row) (record w { stored = row }) h
+comes_denoted c w h = h
 
 -- any other event
 module _ (z : Name) (w : World) (h : AllDenoted w) where
@@ -257,7 +245,7 @@ module _ (z : Name) (w : World) (h : AllDenoted w) where
   does_denoted _ _ _ (Consoles n es consoled) = consoled_denoted n es consoled
 
 denoted-event : (z : Name) (w : World) (e : Event) (g : Grant) → AllDenoted w → AllDenoted (acts_world (session_number e) (act_of (decide (view_of z w) e) g) w)
-denoted-event z w e g h = of_any z w AllDenoted (does_denoted z w h) g (turn_denoted (turn_act w g) w h) e
+denoted-event z w e g h = of_any z w AllDenoted (does_denoted z w h) g (kept_turn AllDenoted objects_denoted (λ d w h. h) (λ t w h k. all_denoted (ticket_ended t) (ticket_denoted t) (w.sessions k) (h k)) comes_denoted (turn_act w g) w h) e
 
 pub denoted-history : (z : Name) (brands : List Tabled) (commits : List Commit_of) (h : List Entry) (n : ℕ) → EditsDenoted ((world z (after (opening brands commits) h)).sessions n)
 denoted-history z brands commits h = kept-after AllDenoted denoted-event (λ w d h. h) (λ w h n. tt) (opening brands commits) h (λ z n. tt) z

@@ -1,20 +1,25 @@
 -- What each zone's world keeps under the zone's own events holds after any history.
-use Rattle.std.proofs.Common.{◌∷◌, [], List, Bool, true, false, subst, sym}
+use Rattle.std.proofs.Common.{◌≡◌, ◌∷◌, [], List, Bool, Some, true, false, refl, subst, sym}
 use Rattle.std.specs.Prelude.{bytes_eq, if◌then◌else◌}
 use Rattle.zn_base.specs.Names.{Name}
+use Rattle.zone_pools.proofs.Owned_laws.{same_self}
 use Rattle.zone_pools.specs.declared.grant.Grant.{Grant}
 use Rattle.zone_machine.proofs.Own_worlds.{world-one}
 use Rattle.zone_machine.specs.Machine.Histories.{after, after_entry, world_by}
 use Rattle.zone_machine.specs.Machine.{decide, restarted_world, session_number, subject, whole_world}
 use Rattle.zone_cases.specs.State.Declarations.{Declared, declaring}
 use Rattle.zone_cases.specs.State.Decisions.{act_of, acts_world}
-use Rattle.zone_cases.specs.State.Worlds.{World, view_of, world}
-use Rattle.zone_cases.specs.State.{State}
+use Rattle.zone_cases.specs.State.Worlds.{World, doing, view_of, world}
+use Rattle.zone_cases.specs.State.{At, Doing, State}
 use Rattle.zone_cases.specs.declared.events.Entry.{Entry}
 use Rattle.zone_cases.specs.declared.events.Event.{Event}
 use Rattle.zone_cases.specs.declared.events.Event.TheVariants.{Process as Call_of, Restart, Session, System, Turn}
 use Rattle.zone_cases.specs.declared.events.Subject.{Subject}
 use Rattle.zone_cases.specs.declared.events.Subject.TheVariants.{Zone, Global, Whole}
+
+-- what a session does that is in z
+pub doing_at : (z : Name) (d : Doing) → doing z (At z d) ≡ Some d
+doing_at z d = simp (same_self z) refl
 
 module _ (P : World → Type 0) (keeps : (z : Name) (w : World) (e : Event) (g : Grant) → P w → P (acts_world (session_number e) (act_of (decide (view_of z w) e) g) w))
     (declares : (w : World) (d : Declared) → P w → P (record w { declared = d })) (restarts : (w : World) → P w → P (restarted_world w)) where

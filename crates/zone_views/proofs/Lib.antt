@@ -13,3 +13,6 @@ pub mod Numbered
 pub mod Whole
 pub mod Claiming
 mod Edits
+mod Logins
+mod Consoles
+mod Waiting

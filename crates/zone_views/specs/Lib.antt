@@ -2,3 +2,4 @@ pub mod Storable
 pub mod Numbers
 pub mod Whole
 pub mod Edits
+pub mod Tickets

@@ -1,5 +1,5 @@
 //! The laws, over every state or every history.
-ghost use Rattle.std.specs.Prelude.{◌≡◌, ◌⊎◌, Bool, List, None, Some, false, true, ℕ};
+ghost use Rattle.std.specs.Prelude.{◌≡◌, ◌≢◌, ◌⊎◌, Bool, List, None, Option, Some, false, is_some, true, ℕ};
 ghost use Rattle.std.specs.List.{list_all};
 ghost use Rattle.zn_base.specs.Moves.{may_move};
 ghost use Rattle.zn_base.specs.Names.{Name};
@@ -10,14 +10,18 @@ ghost use Rattle.zone_machine.specs.Machine.Local.{is_local, job_has_record};
 ghost use Rattle.zone_machine.specs.Machine.Histories.{after, any_grant, asked, concerns, history, is_history, is_legal, only, replay, replies, run};
 ghost use Rattle.zone_machine.specs.Machine.{need, one, opening, subject};
 ghost use Rattle.zone_machine.specs.Machine.Pools.{allowed, fits};
-ghost use Rattle.zone_cases.specs.State.{Idle, State, stored, zone_state};
+ghost use Rattle.zone_cases.specs.State.{At, At_console, Awaiting, Idle, Logged_in, State, stored, zone_state};
+ghost use Rattle.zone_cases.specs.State.Decisions.{says};
 ghost use Rattle.zone_cases.specs.State.Worlds.{objects_of, world};
 ghost use Rattle.zoneadmd_steps.specs.Objects.{kernel_of};
+ghost use Rattle.zoneadmd_steps.specs.declared.requests.TurnReply.TheVariants.{Idle as No_work};
 ghost use Rattle.kernel_objects.specs.Kernel.{within_limit};
+ghost use Rattle.kernel_objects.specs.Processes.{with_pid};
 ghost use Rattle.zone_cases.specs.declared.events.Entry.{Entry};
 ghost use Rattle.zone_cases.specs.declared.events.Event.{Event};
-ghost use Rattle.zone_cases.specs.declared.events.Event.TheVariants.{Restart};
+ghost use Rattle.zone_cases.specs.declared.events.Event.TheVariants.{Restart, Turn};
 ghost use Rattle.zone_cases.specs.declared.events.Subject.TheVariants.{Whole, Zone};
+ghost use Rattle.zone_cases.specs.declared.replies.Head.TheVariants.{Turned};
 ghost use Rattle.datalink_table.specs.Claims.{holds};
 ghost use Rattle.datalink_table.specs.declared.claims.Claim.{Claim};
 ghost use Rattle.brand_hooks.specs.Brands.{Tabled};
@@ -25,6 +29,7 @@ ghost use Rattle.commit_journal.specs.declared.records.Commit.{Commit};
 ghost use Rattle.zone_views.specs.Edits.{EditsDenoted};
 ghost use Rattle.zone_views.specs.Numbers.{AllDiffer, pids, zids};
 ghost use Rattle.zone_views.specs.Storable.{are_storable, ends_with_a_restart};
+ghost use Rattle.zone_views.specs.Tickets.{is_open};
 ghost use Rattle.zone_views.specs.Whole.{is_whole, whole_replies};
 
 /// An event that belongs neither to the zone nor to the whole system leaves the zone's world as it was.
@@ -146,6 +151,35 @@ pub fn sets_lie_within_limits()
 pub fn sessions_edit_what_was_said()
     ensures { (z : Name) (brands : List Tabled) (commits : List Commit) (h : List Entry) (n : ℕ)
         → EditsDenoted ((world z (after (opening brands commits) h)).sessions n) }
+{}
+
+/// After any history, whatever was granted, a session that is logged in to a zone has its process there (zlogin(1)).
+pub fn logins_have_their_process()
+    ensures { (z : Name) (brands : List Tabled) (commits : List Commit) (h : List Entry) (n pid : ℕ) (escape : Option ℕ)
+        → let S = after (opening brands commits) h in
+        S.sessions n ≡ At z (Logged_in pid escape) → is_some (with_pid pid (world z S).processes) ≡ true }
+{}
+
+/// After any history the holder of a zone's console is a session at that console, and a session at a zone's console is
+/// its holder. So one session at most is at a zone's console (zlogin(1)).
+pub fn consoles_are_held_by_who_is_there()
+    ensures holder { (z : Name) (brands : List Tabled) (commits : List Commit) (h : List Entry) (n : ℕ)
+        → let S = after (opening brands commits) h in
+        (S.consoles z).holder ≡ Some n → (escape : Option ℕ) × (S.sessions n ≡ At z (At_console escape)) }
+    ensures there { (z : Name) (brands : List Tabled) (commits : List Commit) (h : List Entry) (n : ℕ) (escape : Option ℕ)
+        → let S = after (opening brands commits) h in
+        S.sessions n ≡ At z (At_console escape) → (S.consoles z).holder ≡ Some n }
+{}
+
+/// After any history a session that waits for a ticket waits for one that its zone's daemon still has to answer
+/// (zoneadmd(8)), and no turn of that daemon is idle.
+pub fn no_turn_is_idle_while_a_session_waits()
+    ensures waits { (z : Name) (brands : List Tabled) (commits : List Commit) (h : List Entry) (n ticket : ℕ)
+        → let S = after (opening brands commits) h in
+        S.sessions n ≡ At z (Awaiting ticket) → is_open ticket (S.desks z) ≡ true }
+    ensures awake { (z : Name) (brands : List Tabled) (commits : List Commit) (h : List Entry) (n ticket : ℕ) (g : Grant)
+        → let S = after (opening brands commits) h in
+        S.sessions n ≡ At z (Awaiting ticket) → (one S (Turn z) g).reply ≢ says (Turned No_work) }
 {}
 
 /// After any history that begins with storable records, a request under way is of a stored zone.

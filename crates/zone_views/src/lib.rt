@@ -9,8 +9,9 @@
 mod laws;
 
 pub use laws::{
-    allowed_grants_fit, declarations_are_common, each_item_has_one_holder,
-    local_turns_leave_what_is_common, numbers_are_held_once, others_change_nothing,
+    allowed_grants_fit, consoles_are_held_by_who_is_there, declarations_are_common,
+    each_item_has_one_holder, local_turns_leave_what_is_common, logins_have_their_process,
+    no_turn_is_idle_while_a_session_waits, numbers_are_held_once, others_change_nothing,
     own_world_decides, purging_keeps_replies, requests_are_of_stored_zones, runs_are_histories,
     sessions_edit_what_was_said, sets_lie_within_limits, states_move_along_the_table,
     subjects_agree, worlds_are_replayed, zones_share_no_process_number,
