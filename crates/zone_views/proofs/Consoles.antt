@@ -1,7 +1,7 @@
 -- A zone's console is held by the session that is at it, after any history.
-use Rattle.std.proofs.Common.{◌≡◌, ◌+◌, ◌∷◌, [], ◌∙◌, ℕ, List, Bool, Option, Some, None, true, false, ap, nat_eq, refl, subst, sym}
+use Rattle.std.proofs.Common.{◌≡◌, ◌+◌, ◌∙◌, ℕ, List, Bool, Option, Some, None, true, false, ap, nat_eq, refl, subst, sym}
 use Rattle.std.specs.Prelude.{bytes_eq, if◌then◌else◌}
-use Rattle.std.proofs.lemmas.Bool.{eq-eqb, eqb-true, false≢true, true≢false}
+use Rattle.std.proofs.lemmas.Bool.{eq-eqb, eqb-true, false≢true}
 use Rattle.zn_base.specs.Names.{Name}
 use Rattle.brand_hooks.specs.Brands.{Tabled}
 use Rattle.commit_journal.specs.declared.records.Commit.{Commit}

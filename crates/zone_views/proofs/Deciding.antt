@@ -1,7 +1,7 @@
 -- What an event of a zone leaves of the zone's world.
-use Rattle.std.specs.Prelude.{is_some, ◌&&◌, ◌||◌, ◌==◌, nat_eq, Result, Ok as Right, Err, if◌then◌else◌}
+use Rattle.std.specs.Prelude.{is_some, ◌&&◌, ◌||◌, ◌==◌, Result, Ok as Right, Err, if◌then◌else◌}
 use Rattle.kernel_objects.specs.Kernel.{at_limit, entered, fork_set, forked, fs_allowed_of}
-use Rattle.kernel_objects.specs.Processes.{Process, at_pid, below, dropping, ends, may_exec, may_mount, renamed, with_pid, without_pid}
+use Rattle.kernel_objects.specs.Processes.{Process, at_pid, dropping, ends, may_exec, may_mount, renamed, with_pid}
 use Rattle.kernel_objects.specs.declared.faults.Errno.{Errno}
 use Rattle.kernel_objects.specs.declared.faults.Errno.TheVariants.{EAGAIN}
 use Rattle.kernel_objects.specs.declared.objects.Signal.{Signal}

@@ -1,12 +1,11 @@
 -- What a session edits is what subcommands denote over its base, after any history.
-use Rattle.std.proofs.Common.{◌≡◌, ◌+◌, ◌∷◌, ◌++◌, [], ◌∙◌, ℕ, List, Bool, Option, Some, None, Result, Ok, Err, true, false, cond, map, refl, ap, sym, subst}
+use Rattle.std.proofs.Common.{◌≡◌, ◌+◌, ◌∷◌, [], ◌∙◌, ℕ, List, Bool, Option, Some, None, Result, Ok, Err, true, false, cond, refl, ap, sym, subst}
 use Rattle.std.specs.Prelude.{nat_eq, if◌then◌else◌}
 use Rattle.zn_base.specs.Names.{Name}
 use Rattle.brand_hooks.specs.Brands.{Tabled, tabled_names}
 use Rattle.commit_journal.specs.declared.records.Commit.{Commit as Commit_of}
 use Rattle.config_verify.specs.declared.flaw.Flaw.{Flaw}
 use Rattle.zone_config.specs.declared.terms.Contents.{Contents}
-use Rattle.zone_pools.specs.Decisions as decisions
 use Rattle.zone_pools.specs.declared.grant.Grant.{Grant}
 use Rattle.zonecfg_lex.specs.Subcommands.{subcommands_of}
 use Rattle.zonecfg_lex.specs.declared.fault.LexFault.{LexFault}
@@ -16,7 +15,7 @@ use Rattle.zonecfg_scopes.specs.declared.command.Command.TheVariants.{Commit, Re
 use Rattle.zonecfg_scopes.specs.declared.fault.EditFault.{EditFault}
 use Rattle.zonecfg_scopes.specs.Denotes.{based as denotes_base}
 use Rattle.zonecfg_scopes.specs.Edited as edited
-use Rattle.zonecfg_scopes.specs.Edited.{Edited, IsAfter, after_command, or_stay, opened_on, reply_of}
+use Rattle.zonecfg_scopes.specs.Edited.{Edited, after_command, or_stay, opened_on, reply_of}
 use Rattle.zonecfg_scopes.specs.Forms.{command_of}
 use Rattle.zonecfg_scopes.specs.Open.{Open, Nothing as Closed, Whole, Inside}
 use Rattle.zonecfg_scopes.specs.OpenOf.{config_of}
@@ -28,18 +27,15 @@ use Rattle.zonecfg_lines.specs.declared.refusal.LineRefusal.{LineRefusal}
 use Rattle.zonecfg_lines.specs.declared.refusal.LineRefusal.TheVariants.{Usage}
 use Rattle.zonecfg_lines.specs.declared.reply.Ending.{Ending}
 use Rattle.zonecfg_lines.specs.declared.reply.Ending.TheVariants as ending
-use Rattle.zoneadmd_steps.specs.Arrivals.{Arrival, New_claim, New_id, New_process, New_record, No_new_thing}
-use Rattle.zoneadmd_steps.specs.Desks.{Desk}
+use Rattle.zoneadmd_steps.specs.Arrivals.{Arrival, New_record}
 use Rattle.zoneadmd_steps.specs.Objects.{Object_edit, Process_goes, Processes_go}
-use Rattle.zoneadmd_steps.specs.Turns.{Turned}
 use Rattle.zone_machine.proofs.Turned_laws.{turn_act}
-use Rattle.zone_machine.specs.Code.Works.{turned_act}
 use Rattle.zone_machine.specs.Machine.{decide, opening, session_number}
 use Rattle.zone_machine.specs.Machine.Histories.{after}
 use Rattle.zone_cases.specs.Session.Commits.{base_now, based, committed_record, said_to}
 use Rattle.zone_cases.specs.State.{At_console, Awaiting, Doing, Editing, Logged_in}
-use Rattle.zone_cases.specs.State.Decisions.{act_of, acts_world, after_came_world, sweeps, ticket_ended}
-use Rattle.zone_cases.specs.State.Edits.{Edit, Of_objects, Set_desk, at_session, comes_world, console_gone_world, console_left, edit_world, edits_world, keeps_console, login_ended, logins_ended, swept_doing}
+use Rattle.zone_cases.specs.State.Decisions.{act_of, acts_world, after_came_world, ticket_ended}
+use Rattle.zone_cases.specs.State.Edits.{Edit, Of_objects, at_session, comes_world, console_gone_world, console_left, edit_world, edits_world, keeps_console, login_ended, logins_ended, swept_doing}
 use Rattle.zone_cases.specs.State.Worlds.{World, view_of, world}
 use Rattle.zone_cases.specs.declared.events.Entry.{Entry}
 use Rattle.zone_cases.specs.declared.events.Event.{Event}

@@ -26,7 +26,7 @@ use Rattle.commit_journal.specs.Bodies.{body_text, padded, record_text}
 use Rattle.uuid.specs.Text.{by_index}
 use Rattle.zone_pools.specs.Pools.{first_free}
 use Rattle.zone_machine.specs.Machine.Same.{same_reply, same_subject}
-use Rattle.zone_cases.specs.State.{State, zone_state}
+use Rattle.zone_cases.specs.State.{At, At_console, Awaiting, Idle as Away, Logged_in, Session as SessionState, State, zone_state}
 use Rattle.zoneadmd_steps.specs.Turns.{local_turn, turn}
 use Rattle.zone_cases.specs.Session.Typed.{typed}
 use Rattle.zone_cases.specs.State.Worlds.{view}
@@ -220,6 +220,21 @@ states_on_the_way : goes_through both (asks_a (codes "detach") 5 ++ asks_a (code
     ≡ replicate 4 (Some Installed) ++ replicate 6 (Some Configured) ++ replicate 6 (Some Installed) ++ replicate 5 (Some Incomplete) ++ replicate 2 (Some Configured)
 unfolding line_of typed turn local_turn view decide subject one first_free record_text body_text padded by_index allowed edit comes with_property setting_named obeys setting export_text flaws limit_of judged set_of_words words_from rule_of named default_set all_of both_of has set_of union without is_of privileges
 states_on_the_way = refl
+
+-- one session is logged in to a, one is at its console, and one waits for its daemon. A restart ends all that
+abbrev sitting : List Event
+sitting = replicate 3 (Turn (codes "a")) ++ Session 3 (codes "zlogin a") ∷ Session 4 (codes "zlogin -C a") ∷ Session 5 (codes "zoneadm -z a halt") ∷ []
+
+abbrev sat : List Event → List SessionState
+sat es = let S = after booted (history booted es) in map S.sessions (3 ∷ 4 ∷ 5 ∷ [])
+
+who_sits : sat sitting ≡ At (codes "a") (Logged_in 4 (Some 126)) ∷ At (codes "a") (At_console (Some 126)) ∷ At (codes "a") (Awaiting 2) ∷ []
+unfolding line_of typed turn local_turn view decide subject one first_free record_text body_text padded by_index allowed edit comes with_property setting_named obeys setting export_text flaws limit_of judged set_of_words words_from rule_of named default_set all_of both_of has set_of union without is_of privileges
+who_sits = refl
+
+nobody_sits : sat (sitting ++ Restart ∷ []) ≡ Away ∷ Away ∷ Away ∷ []
+unfolding line_of typed turn local_turn view decide subject one first_free record_text body_text padded by_index allowed edit comes with_property setting_named obeys setting export_text flaws limit_of judged set_of_words words_from rule_of named default_set all_of both_of has set_of union without is_of privileges
+nobody_sits = refl
 
 -- a restart ends what runs: both zones are installed, no process is left, and numbers and tickets begin anew
 restarted_states : map (λ zone. zone_state zone (after booted (history booted (Restart ∷ [])))) (codes "a" ∷ codes "b" ∷ codes "c" ∷ []) ≡ Some Installed ∷ Some Installed ∷ None ∷ []

@@ -1,5 +1,5 @@
 -- Each session that is logged in has its process, after any history.
-use Rattle.std.proofs.Common.{◌≡◌, ◌&&◌, ◌||◌, ◌+◌, ◌∷◌, [], ◌∙◌, ℕ, List, Bool, Option, Some, None, true, false, not, ap, map, nat_eq, refl, subst, sym}
+use Rattle.std.proofs.Common.{◌≡◌, ◌||◌, ◌+◌, ◌∷◌, [], ◌∙◌, ℕ, List, Bool, Option, Some, None, true, false, ap, map, nat_eq, refl, subst, sym}
 use Rattle.std.specs.Prelude.{is_some, if◌then◌else◌}
 use Rattle.std.specs.List.{list_any}
 use Rattle.std.proofs.lemmas.Bool.{eq-eqb, false≢true}
@@ -10,7 +10,7 @@ use Rattle.commit_journal.specs.declared.records.Record.{Record}
 use Rattle.kernel_objects.proofs.Kept.{holds-change, holds-put, holds-without}
 use Rattle.kernel_objects.specs.Kernel.{entered, forked}
 use Rattle.kernel_objects.specs.Processes.{Process, at_pid, below, dropping, has_pid, renamed, with_pid, without_pid}
-use Rattle.zone_pools.specs.Owned_lists.{Change, Go, edited, put}
+use Rattle.zone_pools.specs.Owned_lists.{Go, edited, put}
 use Rattle.zone_pools.specs.declared.grant.Grant.{Grant}
 use Rattle.zoneadmd_steps.specs.Arrivals.{Arrival, New_process, New_record}
 use Rattle.zoneadmd_steps.specs.Objects.{Object_edit, Process_goes, Processes_change, Processes_go, keeping_pid, kernel_of}

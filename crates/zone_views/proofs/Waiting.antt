@@ -1,11 +1,10 @@
 -- A session that waits for a ticket waits for one that its zone's daemon still has to answer, after any history; and a request is of
 -- a zone that is stored.
-use Rattle.std.proofs.Common.{◌≡◌, ◌≢◌, ◌&&◌, ◌||◌, ◌⊎◌, ◌+◌, ◌∷◌, ◌++◌, [], ◌∙◌, ℕ, List, Bool, Option, Some, None, Result, Ok as Right, Err, true, false, not, ap, inl, inr, map, nat_eq, refl, subst, sym}
-use Rattle.std.specs.Prelude.{is_ok, is_some, unwrap_or, if◌then◌else◌}
+use Rattle.std.proofs.Common.{◌≡◌, ◌≢◌, ◌||◌, ◌⊎◌, ◌+◌, ◌∷◌, ◌++◌, [], ◌∙◌, ℕ, List, Bool, Option, Some, None, Result, Ok as Right, Err, true, false, ap, inl, inr, map, nat_eq, refl, subst, sym}
+use Rattle.std.specs.Prelude.{is_some, unwrap_or, if◌then◌else◌}
 use Rattle.std.specs.List.{list_any}
-use Rattle.std.proofs.lemmas.Bool.{and_from, eq-eqb, eqb-true, false≢true, true≢false}
+use Rattle.std.proofs.lemmas.Bool.{and_from, eq-eqb, eqb-true, false≢true}
 use Rattle.zn_base.specs.Names.{Name}
-use Rattle.zn_base.specs.declared.state.ZoneState.{ZoneState}
 use Rattle.brand_hooks.specs.Brands.{Tabled, answer_of}
 use Rattle.brand_hooks.specs.declared.table.HookAnswer.{HookAnswer}
 use Rattle.brand_hooks.specs.declared.table.HookAnswer.TheVariants.{Proceed, Refuse}
@@ -16,7 +15,6 @@ use Rattle.loopback_mounts.specs.Mounts.{is_at, is_held, mount_at}
 use Rattle.zone_config.specs.declared.terms.Contents.{Contents}
 use Rattle.zone_pools.specs.Decisions as decisions
 use Rattle.zone_pools.specs.Decisions.{Just}
-use Rattle.zone_pools.specs.Firsts.{is_nil}
 use Rattle.zone_pools.specs.Owned_lists.{Go}
 use Rattle.zone_pools.specs.declared.grant.Grant.{Grant}
 use Rattle.zoneadmd_steps.specs.Arrivals.{Arrival, New_record}
@@ -26,6 +24,7 @@ use Rattle.zoneadmd_steps.specs.Objects.{Object_edit, Objects, Of_mounts, Proces
 use Rattle.zoneadmd_steps.specs.Plans.{kind_of, refusal}
 use Rattle.zoneadmd_steps.specs.Turns.{A_claim_left, A_mount, A_step, Next, Nothing_left, Seen, Turn_decision, Turned, begin, finish, hooked, local_job, local_next, local_stage, local_step, local_turn, local_undo, new_path, next, next_request, or_shared, over, record_config, shared_next, shared_stage, shared_step, shared_turn, started, stuck, turn, undo_edits, undone}
 use Rattle.zoneadmd_steps.specs.declared.requests.Outcome.{Outcome}
+use Rattle.zoneadmd_steps.specs.declared.requests.Outcome.TheVariants.{Done}
 use Rattle.zoneadmd_steps.specs.declared.requests.Request.{Request}
 use Rattle.zoneadmd_steps.specs.declared.requests.Request.TheVariants as request
 use Rattle.zoneadmd_steps.specs.declared.requests.Step.{Step}
@@ -47,12 +46,19 @@ use Rattle.zone_machine.specs.Machine.{decide, one, opening, session_number}
 use Rattle.zone_machine.specs.Machine.Histories.{after}
 use Rattle.zone_views.proofs.Deciding.{Attaches, Called, Calls, Consoled, Consoles, Detaches, Does, Drops, Edits, Enters, Forks, Goes, Is_seated, Leaves_off, Opens as Opens_editor, Puts, Records, Remounts, Removes, Renames, Says, Seat, Seated, Stores, Takes, Tells, Unseated, Writes, of_any, of_turned}
 use Rattle.zone_views.proofs.Keeping.{doing_at, kept-after}
-use Rattle.zone_views.specs.Tickets.{is_of, is_open}
+use Rattle.zone_views.specs.Tickets.{is_open, is_under_way}
 
--- what a turn keeps: each open ticket stays open, or ends; and a request is of a stored zone
-record Answers (row : Option Record) (d : Desk) (c : Option Arrival) (t : Turned) : Type 0 where
-  tickets : (u : ℕ) → is_open u d ≡ true → (is_open u t.desk ≡ true) ⊎ (t.ended ≡ Some u)
-  stored : has_request t.desk ≡ true → is_some (stored_after c row) ≡ true
+-- each ticket that was open stays so, or ends
+abbrev StaysOpen : (d e : Desk) → (ended : Option ℕ) → Type 0
+StaysOpen d e ended = (u : ℕ) → is_open u d ≡ true → (is_open u e ≡ true) ⊎ (ended ≡ Some u)
+
+-- a request is of a stored zone
+abbrev OfStored : Desk → Option Record → Type 0
+OfStored d row = has_request d ≡ true → is_some row ≡ true
+
+-- what a turn keeps
+abbrev Answers : Option Record → Desk → Option Arrival → Turned → Type 0
+Answers row d c t = StaysOpen d t.desk t.ended × OfStored t.desk (stored_after c row)
 
 abbrev AnswersIn : Option Record → Desk → Turn_decision → Type 0
 AnswersIn row d decision = In (Answers row d) decision
@@ -78,12 +84,12 @@ module _ (o : Objects) (declared : List (List ℕ)) (brands : List Tabled) (row 
 
   -- nothing changes on the desk
   still : Answered (stuck d)
-  still = record { tickets = λ u h. inl h; stored = λ h. refl }
+  still = (λ u h. inl h, λ h. refl)
 
   -- the ticket of a request, and those that wait then, are all that were open
   module _ (waiting : List (ℕ × Request)) (t : ℕ) (all : (u : ℕ) → is_open u d ≡ true → (nat_eq u t || waits u waiting) ≡ true) where
     answers_finish : (outcome : Outcome) → Answered (finish (record d { waiting = waiting }) t outcome)
-    answers_finish outcome = record { tickets = λ u h. at_ticket u (nat_eq u t) refl (all u h); stored = λ h. refl }
+    answers_finish outcome = (λ u h. at_ticket u (nat_eq u t) refl (all u h), λ h. refl)
       where
         at_ticket : (u : ℕ) (b : Bool) → nat_eq u t ≡ b → (b || waits u waiting) ≡ true → (waits u waiting ≡ true) ⊎ (Some t ≡ Some u)
         at_ticket u true e h = inr (ap Some (sym (eqb-true u t e)))
@@ -93,56 +99,60 @@ module _ (o : Objects) (declared : List (List ℕ)) (brands : List Tabled) (row 
     answers_begin r = at_outcome (refusal brands (kind_of r) (unwrap_or d.active row.state) row.config)
       where
         at_outcome : (outcome : Option Outcome) → Answered (started brands (record d { waiting = waiting }) t r (unwrap_or d.active row.state) row outcome)
-        at_outcome None = record { tickets = λ u h. inl (all u h); stored = λ h. refl }
+        at_outcome None = (λ u h. inl (all u h), λ h. refl)
         at_outcome (Some outcome) = answers_finish outcome
 
   -- a request under way
   module _ (j : Job) (is : d.job ≡ Some j) where
-    on : (u : ℕ) → is_open u d ≡ true → (nat_eq u j.ticket || waits u d.waiting) ≡ true
-    on u h = subst (λ (job : Option Job). (is_of u job || waits u d.waiting) ≡ true) is h
+    its : (u : ℕ) → is_open u d ≡ true → (nat_eq u j.ticket || waits u d.waiting) ≡ true
+    its u h = subst (λ (job : Option Job). (is_under_way u job || waits u d.waiting) ≡ true) is h
+
+    -- it goes on
+    on : (u : ℕ) → is_open u d ≡ true → ((nat_eq u j.ticket || waits u d.waiting) ≡ true) ⊎ (None ≡ Some u)
+    on u h = inl (its u h)
 
     answers_config : (rest : List Step) (path : List ℕ) (r : Result Contents ConfigFault) → AnswersIn (Some row) d (record_config d j rest path row r)
-    answers_config rest path (Err fault) = record { tickets = λ u h. inl (on u h); stored = λ h. refl }
-    answers_config rest path (Right config) = (λ pool. record { tickets = λ u h. inl (on u h); stored = λ h. refl }, λ n. record { tickets = λ u h. inl (on u h); stored = λ h. refl })
+    answers_config rest path (Err fault) = (on, λ h. refl)
+    answers_config rest path (Right config) = (λ pool. (on, λ h. refl), λ n. (on, λ h. refl))
 
     answers_step : (rest : List Step) (s : Step) → AnswersBoth (shared_step v j rest s) (local_step brands o d j rest s)
     answers_step rest (Hook change) = at_answer (answer_of brands j.brand change)
       where
         at_answer : (answer : HookAnswer) → Answered (hooked d j rest change answer)
-        at_answer Proceed = record { tickets = λ u h. inl (on u h); stored = λ h. refl }
-        at_answer (Refuse code) = record { tickets = λ u h. inl (on u h); stored = λ h. refl }
-    answers_step rest (Record_step s) = (λ pool. record { tickets = λ u h. inl (on u h); stored = λ h. refl }, λ n. record { tickets = λ u h. inl (on u h); stored = λ h. refl })
+        at_answer Proceed = (on, λ h. refl)
+        at_answer (Refuse code) = (on, λ h. refl)
+    answers_step rest (Record_step s) = (λ pool. (on, λ h. refl), λ n. (on, λ h. refl))
     answers_step rest Moved = answers_config rest (new_path j.request) (with_zonepath (new_path j.request) row.config)
-    answers_step rest (Source z) = (λ pool. record { tickets = λ u h. inl (on u h); stored = λ h. refl }, λ n. record { tickets = λ u h. inl (on u h); stored = λ h. refl })
-    answers_step rest (Zid id) = (λ pool. record { tickets = λ u h. inl (on u h); stored = λ h. refl }, λ n. record { tickets = λ u h. inl (on u h); stored = λ h. refl })
-    answers_step rest (Claimed c) = (λ pool. record { tickets = λ u h. inl (on u h); stored = λ h. refl }, λ n. record { tickets = λ u h. inl (on u h); stored = λ h. refl })
-    answers_step rest (Init pid) = (λ pool. record { tickets = λ u h. inl (on u h); stored = λ h. refl }, λ n. record { tickets = λ u h. inl (on u h); stored = λ h. refl })
-    answers_step rest _ = record { tickets = λ u h. inl (on u h); stored = λ h. refl }
+    answers_step rest (Source z) = (λ pool. (on, λ h. refl), λ n. (on, λ h. refl))
+    answers_step rest (Zid id) = (λ pool. (on, λ h. refl), λ n. (on, λ h. refl))
+    answers_step rest (Claimed c) = (λ pool. (on, λ h. refl), λ n. (on, λ h. refl))
+    answers_step rest (Init pid) = (λ pool. (on, λ h. refl), λ n. (on, λ h. refl))
+    answers_step rest _ = (on, λ h. refl)
 
     answers_over : (r : Request) → AnswersIn (Some row) d (over brands d j (Some row) r)
-    answers_over (request.Reboot args) = answers_begin d.waiting j.ticket on (request.Boot args)
-    answers_over _ = answers_finish d.waiting j.ticket on _
+    answers_over (request.Reboot args) = answers_begin d.waiting j.ticket its (request.Boot args)
+    answers_over _ = answers_finish d.waiting j.ticket its Done
 
     answers_next : (n : Next) → AnswersBoth (shared_next v j n) (local_next brands o d j n)
     answers_next Nothing_left = answers_over j.request
     answers_next (A_step s rest) = answers_step rest s
-    answers_next (A_mount m left) = answers_if m.held (stuck d) _ still (record { tickets = λ u h. inl (on u h); stored = λ h. refl })
-    answers_next (A_claim_left c left) = record { tickets = λ u h. inl (on u h); stored = λ h. refl }
+    answers_next (A_mount m left) = answers_if m.held (stuck d) _ still ((on, λ h. refl))
+    answers_next (A_claim_left c left) = (on, λ h. refl)
 
     -- a step back
     answers_undo : (outcome : Outcome) (rest : List Step) (s : Step) → AnswersBoth (Just (undone d j outcome rest (undo_edits s) s)) (local_undo o d j outcome rest s)
-    answers_undo outcome rest Root = answers_if (is_held (mount_at root_dir o.mounts)) (stuck d) (undone d j outcome rest (Of_mounts (Go (is_at root_dir)) ∷ []) Root) still (record { tickets = λ u h. inl (on u h); stored = λ h. refl })
-    answers_undo outcome rest (Mounted dir) = answers_if (is_held (mount_at dir o.mounts)) (stuck d) (undone d j outcome rest (Of_mounts (Go (is_at dir)) ∷ []) (Mounted dir)) still (record { tickets = λ u h. inl (on u h); stored = λ h. refl })
-    answers_undo outcome rest _ = record { tickets = λ u h. inl (on u h); stored = λ h. refl }
+    answers_undo outcome rest Root = answers_if (is_held (mount_at root_dir o.mounts)) (stuck d) (undone d j outcome rest (Of_mounts (Go (is_at root_dir)) ∷ []) Root) still ((on, λ h. refl))
+    answers_undo outcome rest (Mounted dir) = answers_if (is_held (mount_at dir o.mounts)) (stuck d) (undone d j outcome rest (Of_mounts (Go (is_at dir)) ∷ []) (Mounted dir)) still ((on, λ h. refl))
+    answers_undo outcome rest _ = (on, λ h. refl)
 
     answers_stage : (stage : Stage) → AnswersBoth (shared_stage v j stage) (local_stage brands o d j stage)
     answers_stage (Goes_on left) = answers_next (next o left)
-    answers_stage (Fails outcome []) = answers_finish d.waiting j.ticket on outcome
+    answers_stage (Fails outcome []) = answers_finish d.waiting j.ticket its outcome
     answers_stage (Fails outcome (s ∷ rest)) = answers_undo outcome rest s
 
   answers_request : d.job ≡ None → (waiting : List (ℕ × Request)) → d.waiting ≡ waiting → AnswersIn (Some row) d (next_request brands d waiting (Some row))
-  answers_request none [] is = record { tickets = λ u h. inl h; stored = λ h. refl }
-  answers_request none (r ∷ rs) is = answers_begin rs r.0 (λ u h. subst (λ ws. waits u ws ≡ true) is (subst (λ (job : Option Job). (is_of u job || waits u d.waiting) ≡ true) none h)) r.1
+  answers_request none [] is = (λ u h. inl h, λ h. refl)
+  answers_request none (r ∷ rs) is = answers_begin rs r.0 (λ u h. subst (λ ws. waits u ws ≡ true) is (subst (λ (job : Option Job). (is_under_way u job || waits u d.waiting) ≡ true) none h)) r.1
 
   answers_job : (job : Option Job) → d.job ≡ job → AnswersBoth (shared_turn v job) (local_job brands o d job)
   answers_job None is = answers_request is d.waiting refl
@@ -153,18 +163,18 @@ module _ (o : Objects) (declared : List (List ℕ)) (brands : List Tabled) (row 
   answers_stored = answers_job d.job refl
 
 -- a zone that isn't stored has no request, so nothing changes
-answers_nothing : (o : Objects) (declared : List (List ℕ)) (brands : List Tabled) (d : Desk) → (has_request d ≡ true → false ≡ true)
+answers_nothing : (o : Objects) (declared : List (List ℕ)) (brands : List Tabled) (d : Desk) → OfStored d None
     → AnswersIn None d (turn (record { desk = d; objects = o; stored = None; declared = declared; brands = brands }))
 unfolding turn local_turn
 answers_nothing o declared brands d h = at_job d.job d.waiting h
   where
-    at_job : (job : Option Job) (waiting : List (ℕ × Request)) → (let e = record d { job = job; waiting = waiting } in (has_request e ≡ true → false ≡ true)
+    at_job : (job : Option Job) (waiting : List (ℕ × Request)) → (let e = record d { job = job; waiting = waiting } in OfStored e None
         → AnswersIn None e (or_shared (shared_turn (record { desk = e; objects = o; stored = None; declared = declared; brands = brands }) job) (local_job brands o e job)))
     at_job (Some j) waiting h = absurd (false≢true (h refl))
     at_job None (r ∷ rs) h = absurd (false≢true (h refl))
-    at_job None [] h = record { tickets = λ u h. inl h; stored = h }
+    at_job None [] h = (λ u h. inl h, h)
 
-answers_turn : (o : Objects) (declared : List (List ℕ)) (brands : List Tabled) (row : Option Record) (d : Desk) → (has_request d ≡ true → is_some row ≡ true)
+answers_turn : (o : Objects) (declared : List (List ℕ)) (brands : List Tabled) (row : Option Record) (d : Desk) → OfStored d row
     → AnswersIn row d (turn (record { desk = d; objects = o; stored = row; declared = declared; brands = brands }))
 answers_turn o declared brands None d h = answers_nothing o declared brands d h
 answers_turn o declared brands (Some row) d h = answers_stored o declared brands row d
@@ -178,7 +188,7 @@ IsOpen d (Some (Logged_in pid escape)) = Unit {0}
 IsOpen d (Some (At_console escape)) = Unit {0}
 
 record Served (w : World) : Type 0 where
-  stored : has_request w.desk ≡ true → is_some w.stored ≡ true
+  stored : OfStored w.desk w.stored
   tickets : (k : ℕ) → IsOpen w.desk (w.sessions k)
 
 -- logins and sessions at the console wait for none
@@ -217,10 +227,7 @@ comes_open e c w h = h
 
 -- a turn that leaves this desk: who waits for a ticket that ended is idle again
 module _ (d e : Desk) where
-  abbrev Opens : Option ℕ → Type 0
-  Opens ended = (u : ℕ) → is_open u d ≡ true → (is_open u e ≡ true) ⊎ (ended ≡ Some u)
-
-  none_ended : Opens None → (o : Option Doing) → IsOpen d o → IsOpen e o
+  none_ended : StaysOpen d e None → (o : Option Doing) → IsOpen d o → IsOpen e o
   none_ended all None h = tt
   none_ended all (Some (Awaiting u)) h = at_open (all u h)
     where
@@ -231,7 +238,7 @@ module _ (d e : Desk) where
   none_ended all (Some (Logged_in p escape)) h = tt
   none_ended all (Some (At_console escape)) h = tt
 
-  one_ended : (t : ℕ) → Opens (Some t) → (o : Option Doing) → IsOpen d o → IsOpen e (swept_doing (ticket_ended t) o)
+  one_ended : (t : ℕ) → StaysOpen d e (Some t) → (o : Option Doing) → IsOpen d o → IsOpen e (swept_doing (ticket_ended t) o)
   one_ended t all None h = tt
   one_ended t all (Some (Awaiting u)) h = at_ticket (nat_eq t u) refl (all u h)
     where
@@ -243,14 +250,14 @@ module _ (d e : Desk) where
   one_ended t all (Some (Logged_in p escape)) h = tt
   one_ended t all (Some (At_console escape)) h = tt
 
-  edits_open : (es : List Object_edit) (ended : Option ℕ) → Opens ended → (w : World) → ((k : ℕ) → IsOpen d (w.sessions k)) → (k : ℕ) → IsOpen e ((edits_world None (map Of_objects es ++ Set_desk e ∷ sweeps ended) w).sessions k)
+  edits_open : (es : List Object_edit) (ended : Option ℕ) → StaysOpen d e ended → (w : World) → ((k : ℕ) → IsOpen d (w.sessions k)) → (k : ℕ) → IsOpen e ((edits_world None (map Of_objects es ++ Set_desk e ∷ sweeps ended) w).sessions k)
   edits_open [] None all w h k = none_ended all (w.sessions k) (h k)
   edits_open [] (Some t) all w h k = one_ended t all (w.sessions k) (h k)
   edits_open (Processes_go p ∷ es) ended all w h k = edits_open es ended all (edit_world None (Of_objects (Processes_go p)) w) (λ k. logins_open d (w.sessions k) (h k)) k
   edits_open (Process_goes pid ∷ es) ended all w h k = edits_open es ended all (edit_world None (Of_objects (Process_goes pid)) w) (λ k. login_open pid d (w.sessions k) (h k)) k
   edits_open (x ∷ es) ended all w h k = edits_open es ended all (edit_world None (Of_objects x) w) h k
 
-turned_open : (a : decisions.Act Arrival Turned) (w : World) → Opens w.desk a.effect.desk a.effect.ended → ((k : ℕ) → IsOpen w.desk (w.sessions k))
+turned_open : (a : decisions.Act Arrival Turned) (w : World) → StaysOpen w.desk a.effect.desk a.effect.ended → ((k : ℕ) → IsOpen w.desk (w.sessions k))
     → (k : ℕ) → IsOpen a.effect.desk ((acts_world None (turned_act a) w).sessions k)
 turned_open a w all h = at_came a.came
   where
@@ -262,8 +269,8 @@ turn_served : (w : World) (g : Grant) → Served w → Served (acts_world None (
 turn_served w g h =
     let answers = in-act (Answers w.stored w.desk) (turn (seen_of w)) g (answers_turn (objects_of w) w.declared.devices w.brands w.stored w.desk h.stored) in
     let v = acts_world None (turned_act (turn_act w g)) w in record {
-      stored = of_turned (λ row ms d. has_request d ≡ true → is_some row ≡ true) w g answers.stored;
-      tickets = of_turned (λ row ms d. (k : ℕ) → IsOpen d (v.sessions k)) w g (turned_open (turn_act w g) w answers.tickets h.tickets);
+      stored = of_turned (λ row ms d. OfStored d row) w g answers.1;
+      tickets = of_turned (λ row ms d. (k : ℕ) → IsOpen d (v.sessions k)) w g (turned_open (turn_act w g) w answers.0 h.tickets);
     }
 
 -- the session k does this from now on
@@ -286,7 +293,7 @@ waits_more u (x ∷ waiting) r h = at_head (waits_more u waiting r) (nat_eq u x.
 
 put_open : (d : Desk) (r : Request) (o : Option Doing) → IsOpen d o → IsOpen (with_request d r) o
 put_open d r None h = tt
-put_open d r (Some (Awaiting u)) h = at_job (is_of u d.job) h
+put_open d r (Some (Awaiting u)) h = at_job (is_under_way u d.job) h
   where
     at_job : (b : Bool) → (b || waits u d.waiting) ≡ true → (b || waits u (d.waiting ++ (d.last + 1, r) ∷ [])) ≡ true
     at_job true h = refl
@@ -296,7 +303,7 @@ put_open d r (Some (Logged_in p escape)) h = tt
 put_open d r (Some (At_console escape)) h = tt
 
 new_open : (d : Desk) (r : Request) → is_open (d.last + 1) (with_request d r) ≡ true
-new_open d r = at_job (is_of (d.last + 1) d.job)
+new_open d r = at_job (is_under_way (d.last + 1) d.job)
   where
     at_job : (b : Bool) → (b || waits (d.last + 1) (d.waiting ++ (d.last + 1, r) ∷ [])) ≡ true
     at_job true = refl
@@ -366,7 +373,7 @@ open-history z brands commits h n ticket is =
 has_open : (t : ℕ) (d : Desk) → is_open t d ≡ true → has_request d ≡ true
 has_open t d h = at_job d.job d.waiting h
   where
-    at_job : (job : Option Job) (waiting : List (ℕ × Request)) → (is_of t job || waits t waiting) ≡ true → has_request (record d { job = job; waiting = waiting }) ≡ true
+    at_job : (job : Option Job) (waiting : List (ℕ × Request)) → (is_under_way t job || waits t waiting) ≡ true → has_request (record d { job = job; waiting = waiting }) ≡ true
     at_job (Some j) waiting h = refl
     at_job None (r ∷ rs) h = refl
     at_job None [] h = absurd (false≢true h)

@@ -1,9 +1,10 @@
 //! What a zone learns of the others: the laws of the zone machine's definitions. Removing all other zones'
 //! entries, grants kept, changes no reply of a zone and none of the whole system; what is declared changes by
 //! declarations alone; from records that a store may hold, zones move only along the transition table; each
-//! process's privileges lie within its zone's limit set; and where the grants fit, those that the pools give fit
-//! too, each process and zone number is held once, and no item is claimed by two zones. Each law is the contract
-//! of a function that does nothing.
+//! process's privileges lie within its zone's limit set; a session that is logged in has its process, one at a
+//! console holds it, and no turn is idle of a daemon that a session waits for; and where the grants fit, those that
+//! the pools give fit too, each process and zone number is held once, and no item is claimed by two zones. Each law
+//! is the contract of a function that does nothing.
 #![tactic(auto)]
 
 mod laws;
