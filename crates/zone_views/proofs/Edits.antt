@@ -1,6 +1,6 @@
 -- What a session edits is what subcommands denote over its base, after any history.
 use Rattle.std.proofs.Common.{◌≡◌, ◌+◌, ◌∷◌, [], ◌∙◌, ℕ, List, Bool, Option, Some, None, Result, Ok, Err, true, false, cond, refl, ap, sym, subst}
-use Rattle.std.specs.Prelude.{nat_eq, if◌then◌else◌}
+use Rattle.std.specs.Prelude.{if◌then◌else◌}
 use Rattle.zn_base.specs.Names.{Name}
 use Rattle.brand_hooks.specs.Brands.{Tabled, tabled_names}
 use Rattle.commit_journal.specs.declared.records.Commit.{Commit as Commit_of}
@@ -33,14 +33,15 @@ use Rattle.zone_machine.proofs.Turned_laws.{turn_act}
 use Rattle.zone_machine.specs.Machine.{decide, opening, session_number}
 use Rattle.zone_machine.specs.Machine.Histories.{after}
 use Rattle.zone_cases.specs.Session.Commits.{base_now, based, committed_record, said_to}
-use Rattle.zone_cases.specs.State.{At_console, Awaiting, Doing, Editing, Logged_in}
+use Rattle.zone_cases.specs.State.{At_console, Awaiting, Doing, Logged_in}
 use Rattle.zone_cases.specs.State.Decisions.{act_of, acts_world, after_came_world, ticket_ended}
-use Rattle.zone_cases.specs.State.Edits.{Edit, Of_objects, at_session, comes_world, console_gone_world, console_left, edit_world, edits_world, keeps_console, login_ended, logins_ended, swept_doing}
+use Rattle.zone_cases.specs.State.Edits.{Edit, Of_objects, comes_world, console_gone_world, edit_world, edits_world, keeps_console, login_ended, logins_ended}
 use Rattle.zone_cases.specs.State.Worlds.{World, view_of, world}
 use Rattle.zone_cases.specs.declared.events.Entry.{Entry}
 use Rattle.zone_cases.specs.declared.events.Event.{Event}
 use Rattle.zone_views.proofs.Deciding.{Attaches, Called, Calls, Consoled, Consoles, Detaches, Does, Drops, Edits, Enters, Forks, Goes, Is_seated, Leaves_off, Opens, Puts, Records, Remounts, Removes, Renames, Says, Seat, Seated, Stores, Takes, Tells, Unseated, Writes, kept_turn, of_any}
 use Rattle.zone_views.proofs.Keeping.{kept-after}
+use Rattle.zone_views.proofs.Seating.{kept-gone, kept-here, kept-sweep, login-ends, logins-end, ticket-ends}
 use Rattle.zone_views.specs.Edits.{EditsDenoted, IsDenoted}
 
 -- an editor of a base to which nothing was said
@@ -145,14 +146,6 @@ stored_denoted config k e (Whole c) is h shown =
     let same : c ≡ config = cc in
     subst (λ o. IsDenoted (record (based config k e) { opened = o })) (sym (is ∙ ap Whole same)) (record { said = []; denotes = denotes_base })
 
--- the session k does this from now on, and the others do what they did
-here_denoted : (k : ℕ) (d : Option Doing) (sessions : ℕ → Option Doing) → EditsDenoted d → ((j : ℕ) → EditsDenoted (sessions j)) → (j : ℕ) → EditsDenoted (at_session (Some k) j d (sessions j))
-here_denoted k d sessions s h j = at_here (nat_eq k j)
-  where
-    at_here : (b : Bool) → EditsDenoted (if b then d else sessions j)
-    at_here true = s
-    at_here false = h j
-
 module _ (z : Name) (w : World) (k : ℕ) (h : EditsDenoted (w.sessions k)) where
   seat_denoted : (d : Option Doing) → Seat z w k d → EditsDenoted d
   seat_denoted _ (Leaves_off e there) = tt
@@ -161,87 +154,50 @@ module _ (z : Name) (w : World) (k : ℕ) (h : EditsDenoted (w.sessions k)) wher
   seat_denoted _ (Stores old text config m there ends shown) =
       stored_denoted config m (said_to (view_of z w) old text).edited _ refl (line_whole (base_now (view_of z w)) (tabled_names (view_of z w).world.brands) text old ends) shown
 
--- a turn leaves who edits
-at_test : (b : Bool) (d : Doing) → EditsDenoted (Some d) → EditsDenoted (if b then None else Some d)
-at_test true d h = tt
-at_test false d h = h
-
-ticket_denoted : (t : ℕ) (d : Doing) → EditsDenoted (Some d) → EditsDenoted (ticket_ended t d)
-ticket_denoted t (Editing e) h = h
-ticket_denoted t (Awaiting u) h = at_test (nat_eq t u) (Awaiting u) h
-ticket_denoted t (Logged_in pid escape) h = h
-ticket_denoted t (At_console escape) h = h
-
-logins_denoted : (d : Doing) → EditsDenoted (Some d) → EditsDenoted (logins_ended d)
-logins_denoted (Editing e) h = h
-logins_denoted (Awaiting u) h = h
-logins_denoted (Logged_in pid escape) h = tt
-logins_denoted (At_console escape) h = h
-
-login_denoted : (pid : ℕ) (d : Doing) → EditsDenoted (Some d) → EditsDenoted (login_ended pid d)
-login_denoted pid (Editing e) h = h
-login_denoted pid (Awaiting u) h = h
-login_denoted pid (Logged_in p escape) h = at_test (nat_eq pid p) (Logged_in p escape) h
-login_denoted pid (At_console escape) h = h
-
-console_denoted : (d : Doing) → EditsDenoted (Some d) → EditsDenoted (console_left d)
-console_denoted (Editing e) h = h
-console_denoted (Awaiting u) h = h
-console_denoted (Logged_in pid escape) h = h
-console_denoted (At_console escape) h = tt
-
-all_denoted : (f : Doing → Option Doing) → ((d : Doing) → EditsDenoted (Some d) → EditsDenoted (f d)) → (o : Option Doing) → EditsDenoted o → EditsDenoted (swept_doing f o)
-all_denoted f one None h = tt
-all_denoted f one (Some d) h = one d h
-
-gone_denoted : (keeps : Bool) (w : World) → ((k : ℕ) → EditsDenoted (w.sessions k)) → (k : ℕ) → EditsDenoted ((console_gone_world keeps w).sessions k)
-gone_denoted true w h k = h k
-gone_denoted false w h k = all_denoted console_left console_denoted (w.sessions k) (h k)
-
 abbrev AllDenoted : World → Type 0
 AllDenoted w = (n : ℕ) → EditsDenoted (w.sessions n)
 
 objects_denoted : (e : Object_edit) (w : World) → AllDenoted w → AllDenoted (edit_world None (Of_objects e) w)
-objects_denoted (Processes_go p) w h = λ k. all_denoted logins_ended logins_denoted (w.sessions k) (h k)
-objects_denoted (Process_goes pid) w h = λ k. all_denoted (login_ended pid) (login_denoted pid) (w.sessions k) (h k)
+objects_denoted (Processes_go p) w h = kept-sweep EditsDenoted tt logins_ended logins-end w.sessions h
+objects_denoted (Process_goes pid) w h = kept-sweep EditsDenoted tt (login_ended pid) (login-ends pid) w.sessions h
 objects_denoted e w h = h
 
 comes_denoted : (c : Arrival) (w : World) → AllDenoted w → AllDenoted (comes_world c w)
-comes_denoted (New_record row) w h = gone_denoted (keeps_console row) (record w { stored = row }) h
+comes_denoted (New_record row) w h = kept-gone EditsDenoted tt (keeps_console row) (record w { stored = row }) h
 comes_denoted c w h = h
 
 -- any other event
 module _ (z : Name) (w : World) (h : AllDenoted w) where
   seated_denoted : (k : ℕ) (es : List Edit) → Seated z w k es → (v : World) → AllDenoted v → AllDenoted (edits_world (Some k) es v)
   seated_denoted k _ Unseated v is = is
-  seated_denoted k _ (Is_seated d s) v is = here_denoted k d v.sessions (seat_denoted z w k (h k) d s) is
+  seated_denoted k _ (Is_seated d s) v is = kept-here EditsDenoted k d v.sessions (seat_denoted z w k (h k) d s) is
 
   called_denoted : (n : Option ℕ) (c : Option Arrival) (es : List Edit) → Called w n c es → AllDenoted (edits_world n es (after_came_world c w))
   called_denoted _ _ _ (Forks n parent pid p name is) = h
-  called_denoted _ _ _ (Enters k pid name escape running idle) = here_denoted k (Some (Logged_in pid escape)) w.sessions tt h
-  called_denoted _ _ _ (Goes n pid) = λ j. all_denoted (login_ended pid) (login_denoted pid) (w.sessions j) (h j)
+  called_denoted _ _ _ (Enters k pid name escape running idle) = kept-here EditsDenoted k (Some (Logged_in pid escape)) w.sessions tt h
+  called_denoted _ _ _ (Goes n pid) = kept-sweep EditsDenoted tt (login_ended pid) (login-ends pid) w.sessions h
   called_denoted _ _ _ (Renames n pid name) = h
   called_denoted _ _ _ (Drops n pid number) = h
 
   consoled_denoted : (n : Option ℕ) (es : List Edit) → Consoled w n es → AllDenoted (edits_world n es w)
   consoled_denoted _ _ (Writes n text) = h
   consoled_denoted _ _ (Takes n) = h
-  consoled_denoted _ _ (Attaches k escape idle free) = here_denoted k (Some (At_console escape)) w.sessions tt h
-  consoled_denoted _ _ (Detaches k escape there) = here_denoted k None w.sessions tt h
+  consoled_denoted _ _ (Attaches k escape idle free) = kept-here EditsDenoted k (Some (At_console escape)) w.sessions tt h
+  consoled_denoted _ _ (Detaches k escape there) = kept-here EditsDenoted k None w.sessions tt h
 
   does_denoted : (n : Option ℕ) (c : Option Arrival) (es : List Edit) → Does z w n c es → AllDenoted (edits_world n es (after_came_world c w))
   does_denoted _ _ _ (Tells n) = h
   does_denoted _ _ _ (Edits k es s) = seated_denoted k es s w h
   does_denoted _ _ _ (Records k stored config m es is s) =
-      let row = Some (committed_record z stored config m) in seated_denoted k es s (console_gone_world (keeps_console row) (record w { stored = row })) (gone_denoted (keeps_console row) (record w { stored = row }) h)
-  does_denoted _ _ _ (Removes k row es is c r s) = seated_denoted k es s (console_gone_world false (record w { stored = None })) (gone_denoted false (record w { stored = None }) h)
-  does_denoted _ _ _ (Puts k r row is idle) = here_denoted k (Some (Awaiting (w.desk.last + 1))) w.sessions tt h
+      let row = Some (committed_record z stored config m) in seated_denoted k es s (console_gone_world (keeps_console row) (record w { stored = row })) (kept-gone EditsDenoted tt (keeps_console row) (record w { stored = row }) h)
+  does_denoted _ _ _ (Removes k row es is c r s) = seated_denoted k es s (console_gone_world false (record w { stored = None })) (kept-gone EditsDenoted tt false (record w { stored = None }) h)
+  does_denoted _ _ _ (Puts k r row is idle) = kept-here EditsDenoted k (Some (Awaiting (w.desk.last + 1))) w.sessions tt h
   does_denoted _ _ _ (Calls n c es called) = called_denoted n c es called
   does_denoted _ _ _ (Remounts n e mounted) = h
   does_denoted _ _ _ (Consoles n es consoled) = consoled_denoted n es consoled
 
 denoted-event : (z : Name) (w : World) (e : Event) (g : Grant) → AllDenoted w → AllDenoted (acts_world (session_number e) (act_of (decide (view_of z w) e) g) w)
-denoted-event z w e g h = of_any z w AllDenoted (does_denoted z w h) g (kept_turn AllDenoted objects_denoted (λ d w h. h) (λ t w h k. all_denoted (ticket_ended t) (ticket_denoted t) (w.sessions k) (h k)) comes_denoted (turn_act w g) w h) e
+denoted-event z w e g h = of_any z w AllDenoted (does_denoted z w h) g (kept_turn AllDenoted objects_denoted (λ d w h. h) (λ t w h. kept-sweep EditsDenoted tt (ticket_ended t) (ticket-ends t) w.sessions h) comes_denoted (turn_act w g) w h) e
 
 pub denoted-history : (z : Name) (brands : List Tabled) (commits : List Commit_of) (h : List Entry) (n : ℕ) → EditsDenoted ((world z (after (opening brands commits) h)).sessions n)
 denoted-history z brands commits h = kept-after AllDenoted denoted-event (λ w d h. h) (λ w h n. tt) (opening brands commits) h (λ z n. tt) z

@@ -3,6 +3,7 @@ pub mod Purge
 pub mod Runs
 pub mod Deciding
 pub mod Keeping
+pub mod Seating
 pub mod Nexts
 pub mod Steady
 pub mod Under_way

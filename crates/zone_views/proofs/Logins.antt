@@ -1,12 +1,11 @@
 -- Each session that is logged in has its process, after any history.
-use Rattle.std.proofs.Common.{◌≡◌, ◌||◌, ◌+◌, ◌∷◌, [], ◌∙◌, ℕ, List, Bool, Option, Some, None, true, false, ap, map, nat_eq, refl, subst, sym}
+use Rattle.std.proofs.Common.{◌≡◌, ◌||◌, ◌+◌, ◌∷◌, [], ◌∙◌, ℕ, List, Bool, Option, Some, None, true, false, ap, map, nat_eq, refl, subst}
 use Rattle.std.specs.Prelude.{is_some, if◌then◌else◌}
 use Rattle.std.specs.List.{list_any}
 use Rattle.std.proofs.lemmas.Bool.{eq-eqb, false≢true}
 use Rattle.zn_base.specs.Names.{Name}
 use Rattle.brand_hooks.specs.Brands.{Tabled}
 use Rattle.commit_journal.specs.declared.records.Commit.{Commit}
-use Rattle.commit_journal.specs.declared.records.Record.{Record}
 use Rattle.kernel_objects.proofs.Kept.{holds-change, holds-put, holds-without}
 use Rattle.kernel_objects.specs.Kernel.{entered, forked}
 use Rattle.kernel_objects.specs.Processes.{Process, at_pid, below, dropping, has_pid, renamed, with_pid, without_pid}
@@ -16,7 +15,7 @@ use Rattle.zoneadmd_steps.specs.Arrivals.{Arrival, New_process, New_record}
 use Rattle.zoneadmd_steps.specs.Objects.{Object_edit, Process_goes, Processes_change, Processes_go, keeping_pid, kernel_of}
 use Rattle.zone_cases.specs.State.{At, At_console, Awaiting, Doing, Editing, Logged_in}
 use Rattle.zone_cases.specs.State.Decisions.{act_of, acts_world, after_came_world, ticket_ended}
-use Rattle.zone_cases.specs.State.Edits.{Edit, Of_objects, at_session, comes_world, console_gone_world, console_left, edit_world, edits_world, keeps_console, login_ended, logins_ended, swept_doing}
+use Rattle.zone_cases.specs.State.Edits.{Edit, Of_objects, comes_world, console_gone_world, edit_world, edits_world, keeps_console, login_ended, logins_ended, swept_doing}
 use Rattle.zone_cases.specs.State.Worlds.{World, doing, objects_of, view_of, world}
 use Rattle.zone_cases.specs.Session.Commits.{committed_record}
 use Rattle.zone_cases.specs.declared.events.Entry.{Entry}
@@ -26,6 +25,7 @@ use Rattle.zone_machine.specs.Machine.{decide, opening, session_number}
 use Rattle.zone_machine.specs.Machine.Histories.{after}
 use Rattle.zone_views.proofs.Deciding.{Attaches, Called, Calls, Consoled, Consoles, Detaches, Does, Drops, Edits, Enters, Forks, Goes, Is_seated, Leaves_off, Opens, Puts, Records, Remounts, Removes, Renames, Says, Seat, Seated, Stores, Takes, Tells, Unseated, Writes, kept_turn, of_any}
 use Rattle.zone_views.proofs.Keeping.{doing_at, kept-after}
+use Rattle.zone_views.proofs.Seating.{kept-gone, kept-here, kept-sweep, ticket-ends}
 
 -- a session's process is among these, where it is logged in
 abbrev HasLogin : List Process → Option Doing → Type 0
@@ -56,28 +56,10 @@ come_among p ps o h = among ps (put (below p.pid) p ps) (λ n e. holds-put n p p
 change_among : (f : Process → Process) → ((p : Process) → (f p).pid ≡ p.pid) → (ps : List Process) (o : Option Doing) → HasLogin ps o → HasLogin (map f ps) o
 change_among f keeps ps o h = among ps (map f ps) (λ n e. holds-change n f keeps ps ∙ e) o h
 
--- a ticket that ends and a console that is left end no login
-at_test : (ps : List Process) (b : Bool) (d : Doing) → HasLogin ps (Some d) → HasLogin ps (if b then None else Some d)
-at_test ps true d h = tt
-at_test ps false d h = h
-
-ticket_left : (t : ℕ) (ps : List Process) (o : Option Doing) → HasLogin ps o → HasLogin ps (swept_doing (ticket_ended t) o)
-ticket_left t ps None h = tt
-ticket_left t ps (Some (Awaiting u)) h = at_test ps (nat_eq t u) (Awaiting u) h
-ticket_left t ps (Some (Editing e)) h = tt
-ticket_left t ps (Some (Logged_in pid escape)) h = h
-ticket_left t ps (Some (At_console escape)) h = tt
-
-consoles_left : (ps : List Process) (o : Option Doing) → HasLogin ps o → HasLogin ps (swept_doing console_left o)
-consoles_left ps None h = tt
-consoles_left ps (Some (Awaiting u)) h = tt
-consoles_left ps (Some (Editing e)) h = tt
-consoles_left ps (Some (Logged_in pid escape)) h = h
-consoles_left ps (Some (At_console escape)) h = tt
-
+-- a console that is no more leaves who is logged in
 gone_left : (keeps : Bool) (w : World) → HaveLogins w → HaveLogins (console_gone_world keeps w)
 gone_left true w h = h
-gone_left false w h = λ k. consoles_left w.processes (w.sessions k) (h k)
+gone_left false w h = kept-gone (HasLogin w.processes) tt false w h
 
 -- a process that goes ends its login, and where all go no session is logged in
 login_left : (pid : ℕ) (ps : List Process) (o : Option Doing) → HasLogin ps o → HasLogin (without_pid pid ps) (swept_doing (login_ended pid) o)
@@ -110,31 +92,23 @@ comes_left (New_process p) w h = λ k. come_among p w.processes (w.sessions k) (
 comes_left (New_record row) w h = gone_left (keeps_console row) (record w { stored = row }) h
 comes_left c w h = h
 
--- the session k does this from now on
-here_left : (k : ℕ) (d : Option Doing) (ps : List Process) (sessions : ℕ → Option Doing) → HasLogin ps d → ((j : ℕ) → HasLogin ps (sessions j)) → (j : ℕ) → HasLogin ps (at_session (Some k) j d (sessions j))
-here_left k d ps sessions s h j = at_here (nat_eq k j)
-  where
-    at_here : (b : Bool) → HasLogin ps (if b then d else sessions j)
-    at_here true = s
-    at_here false = h j
-
 -- any other event
 module _ (z : Name) (w : World) (h : HaveLogins w) where
-  seat_left : (k : ℕ) (d : Option Doing) → Seat z w k d → HasLogin w.processes d
-  seat_left k _ (Opens base idle) = tt
-  seat_left k _ (Leaves_off e there) = tt
-  seat_left k _ (Says e text there) = tt
-  seat_left k _ (Stores e text config m there ends shown) = tt
+  seat_left : (ps : List Process) (k : ℕ) (d : Option Doing) → Seat z w k d → HasLogin ps d
+  seat_left ps k _ (Opens base idle) = tt
+  seat_left ps k _ (Leaves_off e there) = tt
+  seat_left ps k _ (Says e text there) = tt
+  seat_left ps k _ (Stores e text config m there ends shown) = tt
 
-  seated_left : (k : ℕ) (es : List Edit) → Seated z w k es → (v : World) → v.processes ≡ w.processes → HaveLogins v → HaveLogins (edits_world (Some k) es v)
-  seated_left k _ Unseated v same is = is
-  seated_left k _ (Is_seated d s) v same is = here_left k d v.processes v.sessions (subst (λ ps. HasLogin ps d) (sym same) (seat_left k d s)) is
+  seated_left : (k : ℕ) (es : List Edit) → Seated z w k es → (v : World) → HaveLogins v → HaveLogins (edits_world (Some k) es v)
+  seated_left k _ Unseated v is = is
+  seated_left k _ (Is_seated d s) v is = kept-here (HasLogin v.processes) k d v.sessions (seat_left v.processes k d s) is
 
   called_left : (n : Option ℕ) (c : Option Arrival) (es : List Edit) → Called w n c es → HaveLogins (edits_world n es (after_came_world c w))
   called_left _ _ _ (Forks n parent pid p name is) = comes_left (New_process (forked p name pid)) w h
   called_left _ _ _ (Enters k pid name escape running idle) =
       let p = entered (kernel_of (objects_of w)) name false pid in
-      here_left k (Some (Logged_in pid escape)) (put (below pid) p w.processes) w.sessions (holds-put pid p w.processes ∙ rw (eq-eqb pid pid refl) refl) (comes_left (New_process p) w h)
+      kept-here (HasLogin (put (below pid) p w.processes)) k (Some (Logged_in pid escape)) w.sessions (holds-put pid p w.processes ∙ rw (eq-eqb pid pid refl) refl) (comes_left (New_process p) w h)
   called_left _ _ _ (Goes n pid) = objects_left (Process_goes pid) w h
   called_left _ _ _ (Renames n pid name) = objects_left (Processes_change (at_pid pid (renamed name))) w h
   called_left _ _ _ (Drops n pid number) = objects_left (Processes_change (at_pid pid (dropping number))) w h
@@ -142,26 +116,24 @@ module _ (z : Name) (w : World) (h : HaveLogins w) where
   consoled_left : (n : Option ℕ) (es : List Edit) → Consoled w n es → HaveLogins (edits_world n es w)
   consoled_left _ _ (Writes n text) = h
   consoled_left _ _ (Takes n) = h
-  consoled_left _ _ (Attaches k escape idle free) = here_left k (Some (At_console escape)) w.processes w.sessions tt h
-  consoled_left _ _ (Detaches k escape there) = here_left k None w.processes w.sessions tt h
+  consoled_left _ _ (Attaches k escape idle free) = kept-here (HasLogin w.processes) k (Some (At_console escape)) w.sessions tt h
+  consoled_left _ _ (Detaches k escape there) = kept-here (HasLogin w.processes) k None w.sessions tt h
 
   does_left : (n : Option ℕ) (c : Option Arrival) (es : List Edit) → Does z w n c es → HaveLogins (edits_world n es (after_came_world c w))
   does_left _ _ _ (Tells n) = h
-  does_left _ _ _ (Edits k es s) = seated_left k es s w refl h
-  does_left _ _ _ (Records k stored config m es is s) = let row = Some (committed_record z stored config m) in at_keeps row (keeps_console row)
-    where
-      at_keeps : (row : Option Record) (keeps : Bool) → HaveLogins (edits_world (Some k) es (console_gone_world keeps (record w { stored = row })))
-      at_keeps row true = seated_left k es s (record w { stored = row }) refl h
-      at_keeps row false = seated_left k es s (console_gone_world false (record w { stored = row })) refl (gone_left false (record w { stored = row }) h)
-  does_left _ _ _ (Removes k row es is c r s) = seated_left k es s (console_gone_world false (record w { stored = None })) refl (gone_left false (record w { stored = None }) h)
-  does_left _ _ _ (Puts k r row is idle) = here_left k (Some (Awaiting (w.desk.last + 1))) w.processes w.sessions tt h
+  does_left _ _ _ (Edits k es s) = seated_left k es s w h
+  does_left _ _ _ (Records k stored config m es is s) =
+      let row = Some (committed_record z stored config m) in let keeps = keeps_console row in
+      seated_left k es s (console_gone_world keeps (record w { stored = row })) (gone_left keeps (record w { stored = row }) h)
+  does_left _ _ _ (Removes k row es is c r s) = seated_left k es s (console_gone_world false (record w { stored = None })) (gone_left false (record w { stored = None }) h)
+  does_left _ _ _ (Puts k r row is idle) = kept-here (HasLogin w.processes) k (Some (Awaiting (w.desk.last + 1))) w.sessions tt h
   does_left _ _ _ (Calls n c es called) = called_left n c es called
   does_left _ _ _ (Remounts n e mounted) = h
   does_left _ _ _ (Consoles n es consoled) = consoled_left n es consoled
 
 there-event : (z : Name) (w : World) (e : Event) (g : Grant) → HaveLogins w → HaveLogins (acts_world (session_number e) (act_of (decide (view_of z w) e) g) w)
 there-event z w e g h =
-    of_any z w HaveLogins (does_left z w h) g (kept_turn HaveLogins objects_left (λ d w h. h) (λ t w h k. ticket_left t w.processes (w.sessions k) (h k)) comes_left (turn_act w g) w h) e
+    of_any z w HaveLogins (does_left z w h) g (kept_turn HaveLogins objects_left (λ d w h. h) (λ t w h. kept-sweep (HasLogin w.processes) tt (ticket_ended t) (ticket-ends t) w.sessions h) comes_left (turn_act w g) w h) e
 
 have_logins : (z : Name) (brands : List Tabled) (commits : List Commit) (h : List Entry) → HaveLogins (world z (after (opening brands commits) h))
 have_logins z brands commits h = kept-after HaveLogins there-event (λ w d h. h) (λ w h n. tt) (opening brands commits) h (λ z n. tt) z

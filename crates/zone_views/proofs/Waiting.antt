@@ -32,7 +32,7 @@ use Rattle.zoneadmd_steps.specs.declared.requests.Step.TheVariants.{Hook, Record
 use Rattle.zoneadmd_steps.specs.declared.requests.TurnReply.TheVariants.{Idle as No_work}
 use Rattle.zone_cases.specs.State.{At, At_console, Awaiting, Doing, Editing, Logged_in}
 use Rattle.zone_cases.specs.State.Decisions.{act_of, acts_world, after_came_world, says, sweeps, ticket_ended}
-use Rattle.zone_cases.specs.State.Edits.{Edit, Of_objects, Set_desk, at_session, comes_world, console_gone_world, console_left, edit_world, edits_world, keeps_console, login_ended, logins_ended, swept_doing}
+use Rattle.zone_cases.specs.State.Edits.{Edit, Of_objects, Set_desk, comes_world, console_gone_world, edit_world, edits_world, keeps_console, login_ended, logins_ended, swept_doing}
 use Rattle.zone_cases.specs.State.Worlds.{World, doing, objects_of, seen_of, view_of, world}
 use Rattle.zone_cases.specs.Session.Commits.{committed_record}
 use Rattle.zone_cases.specs.declared.events.Entry.{Entry}
@@ -46,6 +46,7 @@ use Rattle.zone_machine.specs.Machine.{decide, one, opening, session_number}
 use Rattle.zone_machine.specs.Machine.Histories.{after}
 use Rattle.zone_views.proofs.Deciding.{Attaches, Called, Calls, Consoled, Consoles, Detaches, Does, Drops, Edits, Enters, Forks, Goes, Is_seated, Leaves_off, Opens as Opens_editor, Puts, Records, Remounts, Removes, Renames, Says, Seat, Seated, Stores, Takes, Tells, Unseated, Writes, of_any, of_turned}
 use Rattle.zone_views.proofs.Keeping.{doing_at, kept-after}
+use Rattle.zone_views.proofs.Seating.{kept-gone, kept-here, kept-sweep, login-ends, logins-end}
 use Rattle.zone_views.specs.Tickets.{is_open, is_under_way}
 
 -- each ticket that was open stays so, or ends
@@ -191,38 +192,8 @@ record Served (w : World) : Type 0 where
   stored : OfStored w.desk w.stored
   tickets : (k : ℕ) → IsOpen w.desk (w.sessions k)
 
--- logins and sessions at the console wait for none
-at_end : (e : Desk) (b : Bool) (d : Doing) → IsOpen e (Some d) → IsOpen e (if b then None else Some d)
-at_end e true d h = tt
-at_end e false d h = h
-
-login_open : (pid : ℕ) (e : Desk) (o : Option Doing) → IsOpen e o → IsOpen e (swept_doing (login_ended pid) o)
-login_open pid e None h = tt
-login_open pid e (Some (Awaiting t)) h = h
-login_open pid e (Some (Editing c)) h = tt
-login_open pid e (Some (Logged_in p escape)) h = at_end e (nat_eq pid p) (Logged_in p escape) tt
-login_open pid e (Some (At_console escape)) h = tt
-
-logins_open : (e : Desk) (o : Option Doing) → IsOpen e o → IsOpen e (swept_doing logins_ended o)
-logins_open e None h = tt
-logins_open e (Some (Awaiting t)) h = h
-logins_open e (Some (Editing c)) h = tt
-logins_open e (Some (Logged_in p escape)) h = tt
-logins_open e (Some (At_console escape)) h = tt
-
-console_open : (e : Desk) (o : Option Doing) → IsOpen e o → IsOpen e (swept_doing console_left o)
-console_open e None h = tt
-console_open e (Some (Awaiting t)) h = h
-console_open e (Some (Editing c)) h = tt
-console_open e (Some (Logged_in p escape)) h = tt
-console_open e (Some (At_console escape)) h = tt
-
-gone_open : (e : Desk) (keeps : Bool) (w : World) → ((k : ℕ) → IsOpen e (w.sessions k)) → (k : ℕ) → IsOpen e ((console_gone_world keeps w).sessions k)
-gone_open e true w h k = h k
-gone_open e false w h k = console_open e (w.sessions k) (h k)
-
 comes_open : (e : Desk) (c : Arrival) (w : World) → ((k : ℕ) → IsOpen e (w.sessions k)) → (k : ℕ) → IsOpen e ((comes_world c w).sessions k)
-comes_open e (New_record row) w h = gone_open e (keeps_console row) (record w { stored = row }) h
+comes_open e (New_record row) w h = kept-gone (IsOpen e) tt (keeps_console row) (record w { stored = row }) h
 comes_open e c w h = h
 
 -- a turn that leaves this desk: who waits for a ticket that ended is idle again
@@ -253,8 +224,8 @@ module _ (d e : Desk) where
   edits_open : (es : List Object_edit) (ended : Option ℕ) → StaysOpen d e ended → (w : World) → ((k : ℕ) → IsOpen d (w.sessions k)) → (k : ℕ) → IsOpen e ((edits_world None (map Of_objects es ++ Set_desk e ∷ sweeps ended) w).sessions k)
   edits_open [] None all w h k = none_ended all (w.sessions k) (h k)
   edits_open [] (Some t) all w h k = one_ended t all (w.sessions k) (h k)
-  edits_open (Processes_go p ∷ es) ended all w h k = edits_open es ended all (edit_world None (Of_objects (Processes_go p)) w) (λ k. logins_open d (w.sessions k) (h k)) k
-  edits_open (Process_goes pid ∷ es) ended all w h k = edits_open es ended all (edit_world None (Of_objects (Process_goes pid)) w) (λ k. login_open pid d (w.sessions k) (h k)) k
+  edits_open (Processes_go p ∷ es) ended all w h k = edits_open es ended all (edit_world None (Of_objects (Processes_go p)) w) (kept-sweep (IsOpen d) tt logins_ended logins-end w.sessions h) k
+  edits_open (Process_goes pid ∷ es) ended all w h k = edits_open es ended all (edit_world None (Of_objects (Process_goes pid)) w) (kept-sweep (IsOpen d) tt (login_ended pid) (login-ends pid) w.sessions h) k
   edits_open (x ∷ es) ended all w h k = edits_open es ended all (edit_world None (Of_objects x) w) h k
 
 turned_open : (a : decisions.Act Arrival Turned) (w : World) → StaysOpen w.desk a.effect.desk a.effect.ended → ((k : ℕ) → IsOpen w.desk (w.sessions k))
@@ -272,14 +243,6 @@ turn_served w g h =
       stored = of_turned (λ row ms d. OfStored d row) w g answers.1;
       tickets = of_turned (λ row ms d. (k : ℕ) → IsOpen d (v.sessions k)) w g (turned_open (turn_act w g) w answers.0 h.tickets);
     }
-
--- the session k does this from now on
-here_open : (k : ℕ) (d : Option Doing) (e : Desk) (sessions : ℕ → Option Doing) → IsOpen e d → ((j : ℕ) → IsOpen e (sessions j)) → (j : ℕ) → IsOpen e (at_session (Some k) j d (sessions j))
-here_open k d e sessions s h j = at_here (nat_eq k j)
-  where
-    at_here : (b : Bool) → IsOpen e (if b then d else sessions j)
-    at_here true = s
-    at_here false = h j
 
 -- a request that waits leaves open what is open, and its own ticket is open
 waits_more : (u : ℕ) (waiting : List (ℕ × Request)) (r : ℕ × Request) → (waits u waiting ≡ true) ⊎ (u ≡ r.0) → waits u (waiting ++ r ∷ []) ≡ true
@@ -319,27 +282,27 @@ module _ (z : Name) (w : World) (h : Served w) where
 
   seated_served : (k : ℕ) (es : List Edit) → Seated z w k es → (v : World) → Served v → Served (edits_world (Some k) es v)
   seated_served k _ Unseated v is = is
-  seated_served k _ (Is_seated d s) v is = record { stored = is.stored; tickets = here_open k d v.desk v.sessions (seat_open k v.desk d s) is.tickets }
+  seated_served k _ (Is_seated d s) v is = record { stored = is.stored; tickets = kept-here (IsOpen v.desk) k d v.sessions (seat_open k v.desk d s) is.tickets }
 
   called_served : (n : Option ℕ) (c : Option Arrival) (es : List Edit) → Called w n c es → Served (edits_world n es (after_came_world c w))
   called_served _ _ _ (Forks n parent pid p name is) = record { stored = h.stored; tickets = h.tickets }
-  called_served _ _ _ (Enters k pid name escape running idle) = record { stored = h.stored; tickets = here_open k (Some (Logged_in pid escape)) w.desk w.sessions tt h.tickets }
-  called_served _ _ _ (Goes n pid) = record { stored = h.stored; tickets = λ k. login_open pid w.desk (w.sessions k) (h.tickets k) }
+  called_served _ _ _ (Enters k pid name escape running idle) = record { stored = h.stored; tickets = kept-here (IsOpen w.desk) k (Some (Logged_in pid escape)) w.sessions tt h.tickets }
+  called_served _ _ _ (Goes n pid) = record { stored = h.stored; tickets = kept-sweep (IsOpen w.desk) tt (login_ended pid) (login-ends pid) w.sessions h.tickets }
   called_served _ _ _ (Renames n pid name) = record { stored = h.stored; tickets = h.tickets }
   called_served _ _ _ (Drops n pid number) = record { stored = h.stored; tickets = h.tickets }
 
   consoled_served : (n : Option ℕ) (es : List Edit) → Consoled w n es → Served (edits_world n es w)
   consoled_served _ _ (Writes n text) = record { stored = h.stored; tickets = h.tickets }
   consoled_served _ _ (Takes n) = record { stored = h.stored; tickets = h.tickets }
-  consoled_served _ _ (Attaches k escape idle free) = record { stored = h.stored; tickets = here_open k (Some (At_console escape)) w.desk w.sessions tt h.tickets }
-  consoled_served _ _ (Detaches k escape there) = record { stored = h.stored; tickets = here_open k None w.desk w.sessions tt h.tickets }
+  consoled_served _ _ (Attaches k escape idle free) = record { stored = h.stored; tickets = kept-here (IsOpen w.desk) k (Some (At_console escape)) w.sessions tt h.tickets }
+  consoled_served _ _ (Detaches k escape there) = record { stored = h.stored; tickets = kept-here (IsOpen w.desk) k None w.sessions tt h.tickets }
 
   recorded_served : (row : Record) (keeps : Bool) → Served (console_gone_world keeps (record w { stored = Some row }))
   recorded_served row true = record { stored = λ r. refl; tickets = h.tickets }
-  recorded_served row false = record { stored = λ r. refl; tickets = gone_open w.desk false w h.tickets }
+  recorded_served row false = record { stored = λ r. refl; tickets = kept-gone (IsOpen w.desk) tt false w h.tickets }
 
   removed_served : has_request w.desk ≡ false → Served (console_gone_world false (record w { stored = None }))
-  removed_served none = record { stored = λ r. absurd (false≢true (sym none ∙ r)); tickets = gone_open w.desk false w h.tickets }
+  removed_served none = record { stored = λ r. absurd (false≢true (sym none ∙ r)); tickets = kept-gone (IsOpen w.desk) tt false w h.tickets }
 
   does_served : (n : Option ℕ) (c : Option Arrival) (es : List Edit) → Does z w n c es → Served (edits_world n es (after_came_world c w))
   does_served _ _ _ (Tells n) = h
@@ -350,7 +313,7 @@ module _ (z : Name) (w : World) (h : Served w) where
   does_served _ _ _ (Removes k row es is c none s) = seated_served k es s (console_gone_world false (record w { stored = None })) (removed_served none)
   does_served _ _ _ (Puts k r row is idle) = record {
     stored = λ q. ap is_some is;
-    tickets = here_open k (Some (Awaiting (w.desk.last + 1))) (with_request w.desk r) w.sessions (new_open w.desk r) (λ j. put_open w.desk r (w.sessions j) (h.tickets j));
+    tickets = kept-here (IsOpen (with_request w.desk r)) k (Some (Awaiting (w.desk.last + 1))) w.sessions (new_open w.desk r) (λ j. put_open w.desk r (w.sessions j) (h.tickets j));
   }
   does_served _ _ _ (Calls n c es called) = called_served n c es called
   does_served _ _ _ (Remounts n e mounted) = record { stored = h.stored; tickets = h.tickets }
