@@ -23,6 +23,7 @@ class Row:
     after: str = None
     run: str = "trace"
     disk: str = None
+    left: str = None
     status: str = "0"
     error: str = ""
     lines: list = dataclasses.field(default_factory=list)

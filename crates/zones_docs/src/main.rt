@@ -10,7 +10,7 @@
 //! - `== NAME` begins a row;
 //! - `= after NAME` stands first in a row, and puts the lines and the replies of an earlier row before its own;
 //! - `= run COMMAND` and `= disk FILE` name the command, where it isn't `trace`, and what is on the disk before, where
-//!   something is;
+//!   something is, and `= left FILE` what is on it afterwards;
 //! - `> LINE` is a line of the input, and `>13 LINE` stands for thirteen of them;
 //! - `= status N` and `= error LINE` are the status and the line on standard error, where they aren't 0 and nothing;
 //! - every other line is one of the replies, which stand below the line that they answer, and together are all that

@@ -17,6 +17,7 @@ const FILES: &[(&str, &str)] = &[
     ("requests", "rows/requests.rows"),
     ("listings", "rows/listings.rows"),
     ("stored", "rows/stored.rows"),
+    ("stores", "rows/stores.rows"),
     ("processes", "rows/processes.rows"),
     ("mounts", "rows/mounts.rows"),
     ("holds", "rows/holds.rows"),
@@ -58,6 +59,15 @@ fn disk_of(rt: &(impl Files + AllocGlobal), row: &Row) -> io::Result<Vec<u8>> {
     }
 }
 
+// Whether the disk has what is written that a row leaves, where that is said; it prints where that differs.
+fn is_left(rt: &(impl Files + Print + AllocGlobal), row: &Row, store: &[u8]) -> io::Result<bool> {
+    if row.left.is_empty() || fs::read(rt, row.left.as_str())?.as_slice() == store {
+        return Ok(true);
+    }
+    println!(rt; "{} is written, and the disk has something else", row.left)?;
+    Ok(false)
+}
+
 // Whether a row ends as it is written; it prints what differs.
 fn is_kept(rt: &(impl Files + Print + AllocGlobal), row: &Row) -> io::Result<bool> {
     let disk = disk_of(rt, row)?;
@@ -70,13 +80,14 @@ fn is_kept(rt: &(impl Files + Print + AllocGlobal), row: &Row) -> io::Result<boo
         row.replies.as_str(),
     )?;
     let err = is_same(rt, "standard error", ended.err.bytes(), row.error.as_str())?;
+    let left = is_left(rt, row, &ended.store)?;
     if ended.status != row.status {
         println!(rt;
             "status {} is written, and {} came",
             row.status, ended.status
         )?;
     }
-    Ok(out && err && ended.status == row.status)
+    Ok(out && err && left && ended.status == row.status)
 }
 
 // Runs the rows after those of other files.

@@ -9,6 +9,8 @@ pub struct Row {
     command: String,
     /// The file of what is on the disk before; empty: there is nothing.
     pub disk: String,
+    /// The file of what is on the disk afterwards; empty: that isn't said.
+    pub left: String,
     pub lines: String,
     pub replies: String,
     pub status: u8,
@@ -29,7 +31,7 @@ pub enum RowFault {
     LateRow,
     #[error("not a number")]
     NoNumber,
-    #[error("not one of after, run, disk, status and error")]
+    #[error("not one of after, run, disk, left, status and error")]
     UnknownWord,
 }
 
@@ -65,6 +67,7 @@ impl Row {
             name: String::from_str(alloc, name)?,
             command: String::new(alloc),
             disk: String::new(alloc),
+            left: String::new(alloc),
             lines: String::new(alloc),
             replies: String::new(alloc),
             status: 0,
@@ -109,6 +112,7 @@ impl Row {
             "after" => self.go_on_from(find(earlier, value)?)?,
             "run" => self.command.push_str(value)?,
             "disk" => self.disk.push_str(value)?,
+            "left" => self.left.push_str(value)?,
             "status" => self.status = value.parse::<u8>().map_err(|_| RowFault::NoNumber)?,
             "error" => push_line(&mut self.error, value)?,
             _ => return Err(RowFault::UnknownWord),
