@@ -1,71 +1,19 @@
 //! Each call on a zone's cell and on what zones share once, where memory is there.
-ghost use Rattle.std.specs.Prelude.{◌≡◌, IfOk, IsOk, OnOk};
+ghost use Rattle.std.specs.Prelude.{◌≡◌, IfOk, OnOk};
 ghost use Rattle.zn_io.specs.MemoryDisk.{view_of};
 ghost use Rattle.zone_machine.specs.Code.Records.{IsReady};
 
 use crate::brands::{Hook, make_brands, proceeds, refuses_clones};
+use crate::entries::{Told, came_to, event_of, was_told};
 use crate::runs::empty_disk;
 use brand_hooks::{BrandFault, BrandTables, HookAnswer};
-use std::alloc::{AllocError, Global};
-use std::process::Abort;
+use std::alloc::Global;
 use std::test::Fail;
-use zn_base::{Text, TextFault, ZoneName};
+use zn_base::ZoneName;
 use zn_io::MemDisk;
-use zone_cases::{Cell, Entry, Event, Head};
 use zone_disk::Bank;
-use zone_machine::{Shared, StepFault, cell_step, cell_step_given, local_turn};
+use zone_machine::{Cell, Shared, StepFault, cell_step, cell_step_given, local_turn};
 use zone_pools::Grant;
-use zoneadmd_steps::{RequestKind, Step, TurnReply};
-
-// What is done to the zone, or looked at.
-#[derive(Clone, Copy)]
-enum Deed {
-    Make,
-    Install,
-    Turn,
-    TurnAlone,
-    // Whether the cell has nothing.
-    Look,
-}
-
-// What it came to.
-#[derive(Clone, Copy, PartialEq, Eq)]
-enum Came {
-    Done(Grant),
-    Ticket(u32),
-    BeganInstall(u32),
-    Hook,
-    NotLocal,
-    IsEmpty(bool),
-    Else,
-}
-
-// What is done goes through helpers without contracts, so that no test's proof follows what the cell holds.
-fn told(entry: &Entry) -> Came {
-    match &entry.reply.head {
-        Head::Ok => Came::Done(entry.grant),
-        Head::Ticket(ticket) => Came::Ticket(*ticket),
-        Head::Turned(TurnReply::Began(ticket, RequestKind::Install)) => Came::BeganInstall(*ticket),
-        Head::Turned(TurnReply::Stepped(Step::Hook(_))) => Came::Hook,
-        _ => Came::Else,
-    }
-}
-
-fn answered(answer: Result<Entry, StepFault>) -> Result<Came, StepFault>
-    ensures { OnOk result (IsOk answer) }
-{
-    let entry = answer?;
-    Ok(told(&entry))
-}
-
-const MAKING: &[u8] = b"zonecfg -z a create -b; set zonepath=/zones/a; set brand=ipkg";
-
-const INSTALLING: &[u8] = b"zoneadm -z a install";
-
-fn typed(alloc: Global, line: &[u8]) -> Result<Event, TextFault> {
-    let text = Text::read(alloc, line)?;
-    Ok(Event::Session { number: 1, text })
-}
 
 // The zone `a` with its cell, and what zones share once.
 struct Zone {
@@ -105,47 +53,62 @@ fn opened(alloc: Global) -> Result<(Bank<MemDisk>, Shared), Fail>
 }
 
 impl Zone {
-    fn new(alloc: Global) -> Result<Box<Zone>, Fail>
-        ensures { IfOk result (λ zone. IsReady (view_of zone.value.bank.disk) zone.value.bank zone.value.shared) }
+    fn new(alloc: Global) -> Result<Zone, Fail>
+        ensures { IfOk result (λ zone. IsReady (view_of zone.bank.disk) zone.bank zone.shared) }
     {
-        let (bank, shared) = opened(alloc)?;
-        let zone = Zone {
-            name: ZoneName::read(alloc, b"a")?,
-            cell: Cell::new(alloc),
-            shared,
-            bank,
-        };
-        Ok(Box::new(alloc, zone)?)
+        let name = ZoneName::read(alloc, b"a")?;
+        match opened(alloc) {
+            Ok((bank, shared)) => Ok(Zone {
+                name,
+                cell: Cell::new(alloc),
+                shared,
+                bank,
+            }),
+            Err(fault) => Err(fault),
+        }
     }
 
-    // An event, of which no brand is asked.
-    fn step(&mut self, alloc: Global, event: Event) -> Result<Came, StepFault>
+    // The event of a line, of which no brand is asked.
+    fn steps(&mut self, alloc: Global, line: &[u8], told: &Told) -> Result<bool, Fail>
         requires { IsReady (view_of self.old.bank.disk) self.old.bank self.old.shared }
         ensures { OnOk result (IsReady (view_of self.new.bank.disk) self.new.bank self.new.shared) }
     {
         if self.cell.next_hook().is_some() {
-            return Ok(Came::Else);
+            return Ok(false);
         }
-        let hook = HookAnswer::Proceed;
-        answered(cell_step(
+        let Some(event) = event_of(alloc, line)? else {
+            return Ok(false);
+        };
+        let came = cell_step(
             alloc,
             &self.name,
             &mut self.cell,
             &mut self.shared,
             &mut self.bank,
             event,
-            hook,
-        ))
+            HookAnswer::Proceed,
+        );
+        came_to(alloc, came, told)
     }
 
-    fn step_given(&mut self, alloc: Global, event: Event, grant: Grant) -> Result<Came, StepFault>
+    // The same under a stated grant.
+    fn steps_given(
+        &mut self,
+        alloc: Global,
+        line: &[u8],
+        grant: Grant,
+        told: &Told,
+    ) -> Result<bool, Fail>
         requires { IsReady (view_of self.old.bank.disk) self.old.bank self.old.shared }
         ensures { OnOk result (IsReady (view_of self.new.bank.disk) self.new.bank self.new.shared) }
     {
         if self.cell.next_hook().is_some() {
-            return Ok(Came::Else);
+            return Ok(false);
         }
-        answered(cell_step_given(
+        let Some(event) = event_of(alloc, line)? else {
+            return Ok(false);
+        };
+        let came = cell_step_given(
             alloc,
             &self.name,
             &mut self.cell,
@@ -154,89 +117,72 @@ impl Zone {
             event,
             grant,
             HookAnswer::Proceed,
-        ))
+        );
+        came_to(alloc, came, told)
     }
 
-    // The next turn, where it is local.
-    fn turn_alone(&mut self, alloc: Global) -> Result<Came, AllocError>
+    // The next turn, where it is local; where it isn't, it would be told to record.
+    fn turns_alone(&mut self, alloc: Global, told: &Told) -> Result<bool, Fail>
         ensures bank { self.new.bank ≡ self.old.bank }
         ensures shared { self.new.shared ≡ self.old.shared }
     {
-        Ok(
-            match local_turn(alloc, &self.name, &mut self.cell, HookAnswer::Proceed)? {
-                Some(entry) => told(&entry),
-                None => Came::NotLocal,
-            },
-        )
-    }
-
-    fn turn(&self, alloc: Global) -> Result<Event, AllocError> {
-        Ok(Event::Turn {
-            zone: self.name.copy(alloc)?,
-        })
-    }
-
-    fn does(&mut self, alloc: Global, deed: Deed) -> Result<Came, Fail>
-        requires { IsReady (view_of self.old.bank.disk) self.old.bank self.old.shared }
-        ensures { OnOk result (IsReady (view_of self.new.bank.disk) self.new.bank self.new.shared) }
-    {
-        Ok(match deed {
-            Deed::Make => self.step(alloc, typed(alloc, MAKING)?)?,
-            Deed::Install => self.step_given(alloc, typed(alloc, INSTALLING)?, Grant::Nothing)?,
-            Deed::Turn => {
-                let event = self.turn(alloc)?;
-                self.step(alloc, event)?
-            }
-            Deed::TurnAlone => self.turn_alone(alloc)?,
-            Deed::Look => Came::IsEmpty(self.cell.is_empty()),
-        })
+        match local_turn(alloc, &self.name, &mut self.cell, HookAnswer::Proceed) {
+            Ok(Some(entry)) => was_told(alloc, entry, told),
+            Ok(None) => Ok(matches!(told, Err(StepFault::WouldRecord))),
+            Err(fault) => Err(fault.into()),
+        }
     }
 }
 
-// The zone is borrowed, so that no exit drops what it owns.
-fn check<R: Abort + AllocGlobal>(
-    rt: &R,
-    zone: &mut Zone,
-    deed: Deed,
-    wanted: Came,
-) -> Result<(), Fail>
+const MAKING: &[u8] = b"S 1 zonecfg -z a create -b; set zonepath=/zones/a; set brand=ipkg";
+
+const MADE: Told = Ok((Grant::Number(1), b"a ok\n"));
+
+const INSTALLING: &[u8] = b"S 1 zoneadm -z a install";
+
+const ASKED: Told = Ok((Grant::Nothing, b"a ticket 1\n"));
+
+const SHARED: Told = Err(StepFault::WouldRecord);
+
+const BEGAN: Told = Ok((Grant::Nothing, b"a began 1 install\n"));
+
+const HOOK: Told = Ok((Grant::Nothing, b"a step hook before install\n"));
+
+// An event of a zone needs its cell alone. The zone is borrowed, so that no exit drops what it owns.
+fn is_asked(alloc: Global, zone: &mut Zone) -> Result<bool, Fail>
     requires { IsReady (view_of zone.old.bank.disk) zone.old.bank zone.old.shared }
     ensures { OnOk result (IsReady (view_of zone.new.bank.disk) zone.new.bank zone.new.shared) }
 {
-    let came = zone.does(rt.alloc(), deed)?;
-    assert!(rt; came == wanted);
-    Ok(())
+    Ok(
+        zone.steps(alloc, MAKING, &MADE)?
+            && zone.cell.is_empty()
+            && zone.steps_given(alloc, INSTALLING, Grant::Nothing, &ASKED)?
+            && !zone.cell.is_empty(),
+    )
 }
 
-fn check_events<R: Abort + AllocGlobal>(rt: &R, zone: &mut Zone) -> Result<(), Fail>
+// A local turn needs nothing shared. A request begins with what is stored, and a new state is stored: neither is local.
+fn begins(alloc: Global, zone: &mut Zone) -> Result<bool, Fail>
     requires { IsReady (view_of zone.old.bank.disk) zone.old.bank zone.old.shared }
 {
-    check(rt, zone, Deed::Make, Came::Done(Grant::Number(1)))?;
-    check(rt, zone, Deed::Look, Came::IsEmpty(true))?;
-    check(rt, zone, Deed::Install, Came::Ticket(1))?;
-    check(rt, zone, Deed::Look, Came::IsEmpty(false))
+    Ok(
+        zone.turns_alone(alloc, &SHARED)?
+            && zone.steps(alloc, b"D a", &BEGAN)?
+            && zone.turns_alone(alloc, &HOOK)?
+            && zone.turns_alone(alloc, &SHARED)?,
+    )
 }
 
 #[test]
-fn an_event_of_a_zone_needs_its_cell_alone(rt: HostRuntime) -> Result<(), Fail> {
-    let mut zone = Zone::new(rt.alloc())?;
-    check_events(&rt, &mut zone)
-}
-
-// A request begins with what is stored, and a new state is stored: neither is local.
-fn check_turns<R: Abort + AllocGlobal>(rt: &R, zone: &mut Zone) -> Result<(), Fail>
-    requires { IsReady (view_of zone.old.bank.disk) zone.old.bank zone.old.shared }
-{
-    check(rt, zone, Deed::Make, Came::Done(Grant::Number(1)))?;
-    check(rt, zone, Deed::Install, Came::Ticket(1))?;
-    check(rt, zone, Deed::TurnAlone, Came::NotLocal)?;
-    check(rt, zone, Deed::Turn, Came::BeganInstall(1))?;
-    check(rt, zone, Deed::TurnAlone, Came::Hook)?;
-    check(rt, zone, Deed::TurnAlone, Came::NotLocal)
-}
-
-#[test]
-fn a_local_turn_needs_nothing_shared(rt: HostRuntime) -> Result<(), Fail> {
-    let mut zone = Zone::new(rt.alloc())?;
-    check_turns(&rt, &mut zone)
+fn an_event_of_a_zone_needs_its_cell_and_a_local_turn_nothing_shared(
+    rt: HostRuntime,
+) -> Result<(), Fail> {
+    match Zone::new(rt.alloc()) {
+        Ok(mut zone) => {
+            assert!(rt; is_asked(rt.alloc(), &mut zone)?);
+            assert!(rt; begins(rt.alloc(), &mut zone)?);
+            Ok(())
+        }
+        Err(fault) => Err(fault),
+    }
 }

@@ -1,10 +1,10 @@
 //! Runs of a trace that end within a call of the disk, a read or a write: what each crash leaves, as the next run finds it.
 ghost use Rattle.std.specs.Prelude.{◌<◌};
 
-use crate::runs::{Ended, Given, empty_disk, run_on};
-use crate::stores::{disk_of, run_over};
+use crate::checks::{check, is_same};
+use crate::runs::{Ended, Given, run};
 use crate::traces::TRACED;
-use std::process::Abort;
+use std::alloc::Global;
 use std::test::Fail;
 use zn_io::{Fill, MemDisk};
 
@@ -24,7 +24,7 @@ P b 3 fork y
 P b 3 ps
 ";
 
-const RUN: Given = Given {
+const RUN: Given<'static> = Given {
     input: LINES,
     ..TRACED
 };
@@ -108,7 +108,7 @@ b ok
 ";
 
 // A halt begins in no state that is stored, so what it is answered tells the state.
-const ASKING: Given = Given {
+const ASKING: Given<'static> = Given {
     input: b"S 1 zoneadm -z a halt\nD a\nS 2 zoneadm -z b halt\nD b\n",
     ..TRACED
 };
@@ -164,81 +164,107 @@ const FILLS: [Fill; 5] = [
 fn answered(text: &[u8]) -> (usize, &[u8]) {
     let mut rest = text;
     for (number, (before, reply)) in CHANGES.iter().enumerate() {
-        match after_both(rest, before, reply) {
-            Some(more) => rest = more,
-            None => return (number, rest),
-        }
+        let Some(after) = rest.strip_prefix(*before) else {
+            return (number, rest);
+        };
+        let Some(after) = after.strip_prefix(*reply) else {
+            return (number, rest);
+        };
+        rest = after;
     }
     (CHANGES.len(), rest)
 }
 
-fn after_both<'a>(text: &'a [u8], first: &[u8], second: &[u8]) -> Option<&'a [u8]> {
-    text.strip_prefix(first)?.strip_prefix(second)
+// Whether a run is told of the zones after so many of the changes.
+fn is_told(text: &[u8], number: usize) -> bool {
+    number < TOLD.len() && is_same(text, TOLD[number])
 }
 
-// The next run finds the zones as so many changes leave them, or as one more does that was under way.
-fn check_image<R: Abort + AllocGlobal>(
-    rt: &R,
-    image: &[u8],
-    number: usize,
-    under_way: bool,
-) -> Result<(), Fail> {
-    let ended = run_over(rt, &ASKING, image)?;
+// The next run after a crash finds the zones as so many changes leave them, or as so many others do.
+fn finds(
+    alloc: Global,
+    disk: &MemDisk,
+    fill: Fill,
+    stored: usize,
+    may_be: usize,
+) -> Result<bool, Fail> {
+    let image = disk.after_crash(alloc, fill)?;
+    let given = Given {
+        disk: &image,
+        ..ASKING
+    };
+    let ended = run(alloc, &given, 64)?;
     let text = ended.out.bytes();
-    assert!(rt; number < 7);
-    assert!(rt; text == TOLD[number] || (under_way && number < 6 && text == TOLD[number + 1]));
-    assert_eq!(rt; ended.status, 1);
-    Ok(())
+    Ok(ended.status == 1 && (is_told(text, stored) || is_told(text, may_be)))
 }
 
 // Whatever a crash leaves at the end of a run.
-fn check_left<R: Abort + AllocGlobal>(
-    rt: &R,
-    disk: &MemDisk,
-    number: usize,
-    under_way: bool,
-) -> Result<(), Fail> {
+fn finds_any(alloc: Global, disk: &MemDisk, stored: usize, may_be: usize) -> Result<bool, Fail> {
     for fill in FILLS {
-        let image = disk.after_crash(rt.alloc(), fill)?;
-        check_image(rt, &image, number, under_way)?;
+        if !finds(alloc, disk, fill, stored, may_be)? {
+            return Ok(false);
+        }
     }
-    Ok(())
+    Ok(true)
 }
 
-// A run that is answered to its end.
-fn check_whole<R: Abort + AllocGlobal>(rt: &R, ended: &Ended) -> Result<(), Fail> {
-    let (number, rest) = answered(ended.out.bytes());
-    assert_eq!(rt; rest, REST);
-    assert_eq!(rt; ended.err.bytes(), b"".as_slice());
-    check_left(rt, &ended.disk, number, false)
+// Whether a run ended with this status and this text, and left the zones as so many changes do, or as so many others.
+fn leaves(
+    alloc: Global,
+    ended: &Ended,
+    status: u8,
+    err_text: &[u8],
+    stored: usize,
+    may_be: usize,
+) -> Result<bool, Fail> {
+    Ok(
+        ended.status == status
+            && is_same(ended.err.bytes(), err_text)
+            && finds_any(alloc, &ended.disk, stored, may_be)?,
+    )
 }
 
-// A run over a disk that fails. The replies to all events before the one under way are written.
-fn check_disk<R: Abort + AllocGlobal>(
-    rt: &R,
-    failing: &[u64],
-    stop: Option<u64>,
-) -> Result<u8, Fail> {
-    let disk = disk_of(rt, rt.alloc(), b"", failing, stop)?;
-    let ended = run_on(rt.alloc(), &RUN, LINES, 64, disk)?;
-    if ended.status == 0 {
-        check_whole(rt, &ended)?;
-        return Ok(0);
-    }
+// A run was answered to its end; or its disk failed, and the replies to all events before the one under way are written.
+fn is_answered(alloc: Global, ended: &Ended) -> Result<bool, Fail> {
     let (number, rest) = answered(ended.out.bytes());
-    assert!(rt; number < CHANGES.len());
-    assert_eq!(rt; rest, CHANGES[number].0);
-    assert_eq!(rt; ended.err.bytes(), b"disk fault\n".as_slice());
-    check_left(rt, &ended.disk, number, true)?;
-    Ok(ended.status)
+    if number < CHANGES.len() {
+        Ok(
+            is_same(rest, CHANGES[number].0)
+                && leaves(alloc, ended, 6, b"disk fault\n", number, number + 1)?,
+        )
+    } else {
+        Ok(is_same(rest, REST) && leaves(alloc, ended, 0, b"", number, number)?)
+    }
+}
+
+fn ends(alloc: Global, given: &Given, status: u8) -> Result<bool, Fail> {
+    let ended = run(alloc, given, 64)?;
+    Ok(ended.status == status && is_answered(alloc, &ended)?)
+}
+
+// Whether runs end with a status over a disk that fails from a call on, and over one that fails at this call alone.
+fn both_end(alloc: Global, call: u64, status: u8) -> Result<bool, Fail> {
+    let calls = [call];
+    let stopped = Given {
+        stop: Some(call),
+        ..RUN
+    };
+    let failed = Given {
+        calls: &calls,
+        ..RUN
+    };
+    Ok(ends(alloc, &stopped, status)? && ends(alloc, &failed, status)?)
 }
 
 // How many calls of the disk a run makes.
-fn calls_of<R: Abort + AllocGlobal>(rt: &R, input: &[u8]) -> Result<u64, Fail> {
+fn calls_of(alloc: Global, input: &[u8]) -> Result<u64, Fail> {
     for call in 1..64 {
-        let disk = disk_of(rt, rt.alloc(), b"", &[], Some(call))?;
-        let ended = run_on(rt.alloc(), &RUN, input, 64, disk)?;
-        if ended.status == 0 {
+        let given = Given {
+            input,
+            stop: Some(call),
+            ..RUN
+        };
+        if run(alloc, &given, 64)?.status == 0 {
             return Ok(call - 1);
         }
     }
@@ -247,44 +273,41 @@ fn calls_of<R: Abort + AllocGlobal>(rt: &R, input: &[u8]) -> Result<u64, Fail> {
 
 #[test]
 fn a_record_costs_four_calls_of_the_disk(rt: HostRuntime) -> Result<(), Fail> {
-    let opening = calls_of(&rt, b"")?;
-    assert!(rt; opening < 64);
-    assert_eq!(rt; calls_of(&rt, LINES)?, opening + 24);
+    let opening = calls_of(rt.alloc(), b"")?;
+    let whole = calls_of(rt.alloc(), LINES)?;
+    assert!(rt; opening < 64 && whole == opening + 24);
     Ok(())
 }
 
 #[test]
 fn a_disk_that_stops_or_fails_once_has_what_was_answered(rt: HostRuntime) -> Result<(), Fail> {
-    let calls = calls_of(&rt, LINES)?;
+    let calls = calls_of(rt.alloc(), LINES)?;
     for call in 1..64 {
         let status = if call <= calls { 6 } else { 0 };
-        assert_eq!(rt; check_disk(&rt, &[], Some(call))?, status);
-        assert_eq!(rt; check_disk(&rt, &[call], None)?, status);
+        assert!(rt; both_end(rt.alloc(), call, status)?, "{call}");
     }
     Ok(())
 }
 
-// A run whose source or standard output fails: how many changes are answered in what was written, and how many are stored.
-fn check_stream<R: Abort + AllocGlobal>(
-    rt: &R,
-    given: Given,
+// Whether so many changes are answered in what a run writes that ends with this status and this text, and so many stored.
+fn is_cut_off(
+    alloc: Global,
+    given: &Given,
     piece: usize,
-    disk: MemDisk,
+    status: u8,
     err_text: &[u8],
-    numbers: (usize, usize),
-) -> Result<u8, Fail>
+    told: usize,
+    stored: usize,
+) -> Result<bool, Fail>
     requires { 0 < piece }
 {
-    let ended = run_on(rt.alloc(), &given, LINES, piece, disk)?;
+    let ended = run(alloc, given, piece)?;
     let (number, _rest) = answered(ended.out.bytes());
-    assert_eq!(rt; number, numbers.0);
-    assert_eq!(rt; ended.err.bytes(), err_text);
-    check_left(rt, &ended.disk, numbers.1, false)?;
-    Ok(ended.status)
+    Ok(number == told && leaves(alloc, &ended, status, err_text, stored, stored)?)
 }
 
 // Which read of 64 bytes fails, and how many changes are asked for before.
-const READS: [(&[u64], usize); 8] = [
+const READS: &[(&[u64], usize)] = &[
     (&[1], 0),
     (&[2], 0),
     (&[3], 1),
@@ -295,21 +318,20 @@ const READS: [(&[u64], usize); 8] = [
     (&[8], 6),
 ];
 
+fn stops_reading(alloc: Global, row: &(&[u64], usize)) -> Result<bool, Fail> {
+    let (reads, number) = row;
+    let given = Given { reads, ..RUN };
+    is_cut_off(alloc, &given, 64, 4, b"read fault\n", *number, *number)
+}
+
 #[test]
 fn a_read_that_fails_loses_nothing(rt: HostRuntime) -> Result<(), Fail> {
-    for (reads, number) in READS {
-        let given = Given { reads, ..RUN };
-        let disk = empty_disk(rt.alloc())?;
-        let numbers = (number, number);
-        let status = check_stream(&rt, given, 64, disk, b"read fault\n", numbers)?;
-        assert_eq!(rt; status, 4);
-    }
-    Ok(())
+    check(&rt, READS, stops_reading)
 }
 
 // Which write fails, where all lines are there at once, and how many changes are answered before it, and stored. What waits
 // is written before a record is stored: the disk, which then would fail too, isn't called. What is stored is told at once.
-const WRITES: [(&[u64], usize, usize); 11] = [
+const WRITES: &[(&[u64], usize, usize)] = &[
     (&[1], 0, 1),
     (&[2], 1, 2),
     (&[3], 2, 2),
@@ -323,18 +345,21 @@ const WRITES: [(&[u64], usize, usize); 11] = [
     (&[11], 6, 6),
 ];
 
+fn stops_writing(alloc: Global, row: &(&[u64], usize, usize)) -> Result<bool, Fail> {
+    let (outs, told, stored) = row;
+    let opening = calls_of(alloc, b"")?;
+    if opening >= 64 || *stored >= 7 {
+        return Ok(false);
+    }
+    let given = Given {
+        outs,
+        stop: Some(opening + 4 * *stored as u64 + 1),
+        ..RUN
+    };
+    is_cut_off(alloc, &given, 4096, 5, b"write fault\n", *told, *stored)
+}
+
 #[test]
 fn replies_are_written_before_a_record_is_stored(rt: HostRuntime) -> Result<(), Fail> {
-    let opening = calls_of(&rt, b"")?;
-    assert!(rt; opening < 64);
-    for (outs, told, stored) in WRITES {
-        let given = Given { outs, ..RUN };
-        assert!(rt; stored < 7);
-        let stop = opening + 4 * stored as u64 + 1;
-        let disk = disk_of(&rt, rt.alloc(), b"", &[], Some(stop))?;
-        let numbers = (told, stored);
-        let status = check_stream(&rt, given, 4096, disk, b"write fault\n", numbers)?;
-        assert_eq!(rt; status, 5);
-    }
-    Ok(())
+    check(&rt, WRITES, stops_writing)
 }

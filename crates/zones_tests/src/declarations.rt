@@ -1,5 +1,5 @@
 //! How many links, addresses, datasets and devices can be declared, in a run of `trace`.
-use crate::runs::{Given, compare, run};
+use crate::runs::{Given, ends};
 use crate::traces::TRACED;
 use std::alloc::{AllocError, Global};
 use std::test::Fail;
@@ -32,11 +32,10 @@ fn declaring_all(alloc: Global) -> Result<Vec<u8>, AllocError> {
 }
 
 fn declared_all(alloc: Global) -> Result<Vec<u8>, AllocError> {
+    let declared = b"* ok\n".repeat(alloc, 1024)?;
     let mut replies = Vec::new(alloc);
     for _ in KINDS {
-        for _ in 0..1024 {
-            replies.extend_from_slice(b"* ok\n")?;
-        }
+        replies.extend_from_slice(&declared)?;
         replies.extend_from_slice(b"* err 27 TooMany 1024\n* err 24 Duplicate\n")?;
     }
     Ok(replies)
@@ -47,10 +46,11 @@ fn of_a_kind_1024_are_declared_at_most(rt: HostRuntime) -> Result<(), Fail> {
     let lines = declaring_all(rt.alloc())?;
     let replies = declared_all(rt.alloc())?;
     let given = Given {
+        input: &lines,
         room: 32_768,
         ..TRACED
     };
-    let ended = run(rt.alloc(), &given, &lines, 64)?;
-    compare(&rt, &ended, 1, &replies, b"first refused line: 1025\n");
+    let err_text = b"first refused line: 1025\n";
+    assert!(rt; ends(rt.alloc(), &given, 64, 1, &replies, err_text)?);
     Ok(())
 }

@@ -1,5 +1,6 @@
 //! Runs of `export`.
-use crate::runs::{EXPORT, Given, Row, WEB_TEXT, check, check_all, check_built};
+use crate::checks::{check, check_below};
+use crate::runs::{EXPORT, Given, Row, WEB_TEXT, ends, is_row};
 use std::alloc::{AllocError, Global};
 use std::test::Fail;
 use zn_base::push_numbered;
@@ -46,25 +47,23 @@ const SCRIPTS: &[Row] = &[
 
 #[test]
 fn scripts_have_all_bytes(rt: HostRuntime) -> Result<(), Fail> {
-    check_all(&rt, SCRIPTS)
+    check(&rt, SCRIPTS, is_row)
 }
+
+// What stands before and behind the number of each of the resources of an input, how many `x` follow, how many resources
+// there are, and what is told of them.
+type Many = (&'static [u8], &'static [u8], usize, u32, &'static [u8]);
 
 // `create -b`, and then resources, one a line: each with a number between two texts, from 10 on, and so many `x`
 // after them.
-fn resources(
-    alloc: Global,
-    before: &[u8],
-    behind: &[u8],
-    letters: usize,
-    count: u32,
-) -> Result<Vec<u8>, AllocError> {
+fn resources(alloc: Global, many: &Many) -> Result<Vec<u8>, AllocError> {
+    let (before, behind, letters, count, _) = many;
+    let letters = b"x".repeat(alloc, *letters)?;
     let mut input = b"create -b\n".to_vec(alloc)?;
-    for number in 0..count {
+    for number in 0..*count {
         push_numbered(&mut input, before, number as u64 + 10)?;
         input.extend_from_slice(behind)?;
-        for _ in 0..letters {
-            input.push(b'x')?;
-        }
+        input.extend_from_slice(&letters)?;
         input.extend_from_slice(b"; end\n")?;
     }
     Ok(input)
@@ -75,7 +74,7 @@ const LONG: &[u8] = b"; set value=";
 const NO_PATH: &[u8] = b"end: 41 NoZonepath\n";
 
 // The text of `create -b` alone has 10 + 19 + 19 bytes, and that of each of the attrs 9 + 12 + 1011 + 4.
-const MANY: &[(&[u8], &[u8], usize, u32, &[u8])] = &[
+const MANY: &[Many] = &[
     (b"add attr; set name=", LONG, 1000, 31, NO_PATH),
     (
         b"add attr; set name=",
@@ -102,40 +101,106 @@ const MANY: &[(&[u8], &[u8], usize, u32, &[u8])] = &[
     ),
 ];
 
-#[test]
-fn no_room_is_told(rt: HostRuntime) -> Result<(), Fail> {
-    for (before, behind, letters, count, err_text) in MANY {
-        let input = resources(rt.alloc(), before, behind, *letters, *count)?;
-        check_built(&rt, EXPORT, &input, 1, err_text)?;
-    }
-    Ok(())
+fn tells_room(alloc: Global, many: &Many) -> Result<bool, Fail> {
+    let input = resources(alloc, many)?;
+    let given = Given {
+        input: &input,
+        ..EXPORT
+    };
+    ends(alloc, &given, 10_000, 1, b"", many.4)
 }
 
-const READS: &[&[u64]] = &[&[1], &[2], &[3], &[4], &[5], &[6], &[7], &[8]];
-
 #[test]
-fn each_read_may_fail(rt: HostRuntime) -> Result<(), Fail> {
-    for reads in READS {
-        check(&rt, Given { reads, ..EXPORT }, 4, b"", b"read fault\n")?;
+fn no_room_is_told(rt: HostRuntime) -> Result<(), Fail> {
+    check(&rt, MANY, tells_room)
+}
+
+fn fills_sink(alloc: Global, room: usize) -> Result<bool, Fail> {
+    if room > WEB_TEXT.len() {
+        return Ok(false);
     }
-    Ok(())
+    let given = Given { room, ..EXPORT };
+    ends(alloc, &given, 7, 5, &WEB_TEXT[..room], b"write fault\n")
 }
 
 #[test]
 fn a_sink_may_be_full(rt: HostRuntime) -> Result<(), Fail> {
-    for room in 0..WEB_TEXT.len() {
-        check(
-            &rt,
-            Given { room, ..EXPORT },
-            5,
-            &WEB_TEXT[..room],
-            b"write fault\n",
-        )?;
-    }
-    Ok(())
+    check_below(&rt, WEB_TEXT.len(), fills_sink)
 }
 
 const FAILING: &[Row] = &[
+    (
+        Given {
+            reads: &[1],
+            ..EXPORT
+        },
+        4,
+        b"",
+        b"read fault\n",
+    ),
+    (
+        Given {
+            reads: &[2],
+            ..EXPORT
+        },
+        4,
+        b"",
+        b"read fault\n",
+    ),
+    (
+        Given {
+            reads: &[3],
+            ..EXPORT
+        },
+        4,
+        b"",
+        b"read fault\n",
+    ),
+    (
+        Given {
+            reads: &[4],
+            ..EXPORT
+        },
+        4,
+        b"",
+        b"read fault\n",
+    ),
+    (
+        Given {
+            reads: &[5],
+            ..EXPORT
+        },
+        4,
+        b"",
+        b"read fault\n",
+    ),
+    (
+        Given {
+            reads: &[6],
+            ..EXPORT
+        },
+        4,
+        b"",
+        b"read fault\n",
+    ),
+    (
+        Given {
+            reads: &[7],
+            ..EXPORT
+        },
+        4,
+        b"",
+        b"read fault\n",
+    ),
+    (
+        Given {
+            reads: &[8],
+            ..EXPORT
+        },
+        4,
+        b"",
+        b"read fault\n",
+    ),
     (
         Given {
             reads: &[9],
@@ -197,6 +262,6 @@ const FAILING: &[Row] = &[
 ];
 
 #[test]
-fn each_write_may_fail(rt: HostRuntime) -> Result<(), Fail> {
-    check_all(&rt, FAILING)
+fn each_read_and_write_may_fail(rt: HostRuntime) -> Result<(), Fail> {
+    check(&rt, FAILING, is_row)
 }

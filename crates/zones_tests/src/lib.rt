@@ -8,21 +8,23 @@ mod brands;
 #[cfg(test)]
 mod cells;
 #[cfg(test)]
+mod checks;
+#[cfg(test)]
 mod crashes;
 #[cfg(test)]
 mod declarations;
 #[cfg(test)]
+mod entries;
+#[cfg(test)]
 mod exports;
+#[cfg(test)]
+mod kept;
 #[cfg(test)]
 mod limits;
 #[cfg(test)]
 mod machine;
 #[cfg(test)]
-mod refusals;
-#[cfg(test)]
 mod replies;
-#[cfg(test)]
-mod reply_bodies;
 #[cfg(test)]
 mod restarts;
 #[cfg(test)]

@@ -1,5 +1,5 @@
 use Rattle.zone_machine.specs.Code.Decided.{AsksBrands, MayGoOn}
-use Rattle.zones_tests.proofs.restarts.answer_lines.Given as goal
+use Rattle.zones_tests.proofs.machine.check_rows.Given as goal
 
 -- the machine goes on
 abbrev pub invariant-loop-at : goal.invariant-loop-at
