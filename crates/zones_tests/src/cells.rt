@@ -5,6 +5,7 @@ ghost use Rattle.zone_machine.specs.Code.Records.{IsReady};
 
 use crate::brands::{Hook, make_brands, proceeds, refuses_clones};
 use crate::entries::{Told, came_to, event_of, was_told};
+use crate::kept::Kept;
 use crate::runs::empty_disk;
 use brand_hooks::{BrandFault, BrandTables, HookAnswer};
 use std::alloc::Global;
@@ -16,22 +17,12 @@ use zone_machine::{Cell, Shared, StepFault, cell_step, cell_step_given, local_tu
 use zone_pools::Grant;
 
 // The zone `a` with its cell, and what zones share once.
+#[derive(Drop)]
 struct Zone {
     name: ZoneName,
     cell: Cell,
     shared: Shared,
     bank: Bank<MemDisk>,
-}
-
-impl Drop for Zone {
-    fn drop(self) {
-        let Zone {
-            name: _name,
-            cell: _cell,
-            shared: _shared,
-            bank: _bank,
-        } = self;
-    }
 }
 
 fn tables(alloc: Global) -> Result<BrandTables, BrandFault> {
@@ -178,9 +169,10 @@ fn an_event_of_a_zone_needs_its_cell_and_a_local_turn_nothing_shared(
     rt: HostRuntime,
 ) -> Result<(), Fail> {
     match Zone::new(rt.alloc()) {
-        Ok(mut zone) => {
-            assert!(rt; is_asked(rt.alloc(), &mut zone)?);
-            assert!(rt; begins(rt.alloc(), &mut zone)?);
+        Ok(zone) => {
+            let mut zone = Kept(zone);
+            assert!(rt; is_asked(rt.alloc(), &mut zone.0)?);
+            assert!(rt; begins(rt.alloc(), &mut zone.0)?);
             Ok(())
         }
         Err(fault) => Err(fault),

@@ -1,8 +1,8 @@
 //! Runs of a trace that end within a call of the disk, a read or a write: what each crash leaves, as the next run finds it.
 ghost use Rattle.std.specs.Prelude.{◌<◌};
 
-use crate::checks::{check, is_same};
 use crate::runs::{Ended, Given, run};
+use crate::texts::is_same;
 use crate::traces::TRACED;
 use std::alloc::Global;
 use std::test::Fail;
@@ -318,15 +318,17 @@ const READS: &[(&[u64], usize)] = &[
     (&[8], 6),
 ];
 
-fn stops_reading(alloc: Global, row: &(&[u64], usize)) -> Result<bool, Fail> {
-    let (reads, number) = row;
-    let given = Given { reads, ..RUN };
-    is_cut_off(alloc, &given, 64, 4, b"read fault\n", *number, *number)
-}
-
 #[test]
 fn a_read_that_fails_loses_nothing(rt: HostRuntime) -> Result<(), Fail> {
-    check(&rt, READS, stops_reading)
+    for (reads, number) in READS {
+        let given = Given { reads, ..RUN };
+        let fault = b"read fault\n";
+        assert!(rt;
+            is_cut_off(rt.alloc(), &given, 64, 4, fault, *number, *number)?,
+            "{number}"
+        );
+    }
+    Ok(())
 }
 
 // Which write fails, where all lines are there at once, and how many changes are answered before it, and stored. What waits
@@ -345,21 +347,22 @@ const WRITES: &[(&[u64], usize, usize)] = &[
     (&[11], 6, 6),
 ];
 
-fn stops_writing(alloc: Global, row: &(&[u64], usize, usize)) -> Result<bool, Fail> {
-    let (outs, told, stored) = row;
-    let opening = calls_of(alloc, b"")?;
-    if opening >= 64 || *stored >= 7 {
-        return Ok(false);
-    }
-    let given = Given {
-        outs,
-        stop: Some(opening + 4 * *stored as u64 + 1),
-        ..RUN
-    };
-    is_cut_off(alloc, &given, 4096, 5, b"write fault\n", *told, *stored)
-}
-
 #[test]
 fn replies_are_written_before_a_record_is_stored(rt: HostRuntime) -> Result<(), Fail> {
-    check(&rt, WRITES, stops_writing)
+    let opening = calls_of(rt.alloc(), b"")?;
+    assert!(rt; opening < 64);
+    for (outs, told, stored) in WRITES {
+        assert!(rt; *stored < 7);
+        let given = Given {
+            outs,
+            stop: Some(opening + 4 * *stored as u64 + 1),
+            ..RUN
+        };
+        let fault = b"write fault\n";
+        assert!(rt;
+            is_cut_off(rt.alloc(), &given, 4096, 5, fault, *told, *stored)?,
+            "{told}"
+        );
+    }
+    Ok(())
 }

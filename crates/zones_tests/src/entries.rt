@@ -1,8 +1,8 @@
 //! What events come to: what the pools give them, and the text of the replies.
 ghost use Rattle.std.specs.Prelude.{IsOk, OnOk};
 
-use crate::checks::is_same;
 use crate::kept::Kept;
+use crate::texts::is_same;
 use std::alloc::Global;
 use std::test::Fail;
 use trace_text::{LineFault, print_reply, push_answer, read_line};
@@ -28,11 +28,16 @@ pub fn is_told(grant: Grant, text: &[u8], told: &Told) -> bool {
     }
 }
 
+// The same of an entry.
+fn is_entry(alloc: Global, entry: &Entry, told: &Told) -> Result<bool, Fail> {
+    let text = print_reply(alloc, &entry.subject, &entry.reply)?;
+    Ok(is_told(entry.grant, &text, told))
+}
+
 /// The same of an entry that is let go.
 pub fn was_told(alloc: Global, entry: Entry, told: &Told) -> Result<bool, Fail> {
     let entry = Kept(entry);
-    let text = print_reply(alloc, &entry.0.subject, &entry.0.reply)?;
-    Ok(is_told(entry.0.grant, &text, told))
+    is_entry(alloc, &entry.0, told)
 }
 
 /// The same of an event that was to be answered.

@@ -1,6 +1,5 @@
 //! Runs of `export`.
-use crate::checks::{check, check_below};
-use crate::runs::{EXPORT, Given, Row, WEB_TEXT, ends, is_row};
+use crate::runs::{EXPORT, Given, Row, WEB_TEXT, check, ends};
 use std::alloc::{AllocError, Global};
 use std::test::Fail;
 use zn_base::push_numbered;
@@ -47,7 +46,7 @@ const SCRIPTS: &[Row] = &[
 
 #[test]
 fn scripts_have_all_bytes(rt: HostRuntime) -> Result<(), Fail> {
-    check(&rt, SCRIPTS, is_row)
+    check(&rt, SCRIPTS)
 }
 
 // What stands before and behind the number of each of the resources of an input, how many `x` follow, how many resources
@@ -112,20 +111,23 @@ fn tells_room(alloc: Global, many: &Many) -> Result<bool, Fail> {
 
 #[test]
 fn no_room_is_told(rt: HostRuntime) -> Result<(), Fail> {
-    check(&rt, MANY, tells_room)
-}
-
-fn fills_sink(alloc: Global, room: usize) -> Result<bool, Fail> {
-    if room > WEB_TEXT.len() {
-        return Ok(false);
+    for many in MANY {
+        assert!(rt; tells_room(rt.alloc(), many)?);
     }
-    let given = Given { room, ..EXPORT };
-    ends(alloc, &given, 7, 5, &WEB_TEXT[..room], b"write fault\n")
+    Ok(())
 }
 
 #[test]
 fn a_sink_may_be_full(rt: HostRuntime) -> Result<(), Fail> {
-    check_below(&rt, WEB_TEXT.len(), fills_sink)
+    for room in 0..WEB_TEXT.len() {
+        let given = Given { room, ..EXPORT };
+        let out_text = &WEB_TEXT[..room];
+        assert!(rt;
+            ends(rt.alloc(), &given, 7, 5, out_text, b"write fault\n")?,
+            "{room}"
+        );
+    }
+    Ok(())
 }
 
 const FAILING: &[Row] = &[
@@ -263,5 +265,5 @@ const FAILING: &[Row] = &[
 
 #[test]
 fn each_read_and_write_may_fail(rt: HostRuntime) -> Result<(), Fail> {
-    check(&rt, FAILING, is_row)
+    check(&rt, FAILING)
 }

@@ -8,8 +8,6 @@ mod brands;
 #[cfg(test)]
 mod cells;
 #[cfg(test)]
-mod checks;
-#[cfg(test)]
 mod crashes;
 #[cfg(test)]
 mod declarations;
@@ -31,6 +29,8 @@ mod restarts;
 mod runs;
 #[cfg(test)]
 mod stores;
+#[cfg(test)]
+mod texts;
 #[cfg(test)]
 mod trace_lines;
 #[cfg(test)]

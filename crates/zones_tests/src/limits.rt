@@ -1,5 +1,4 @@
 //! The limits of lines.
-use crate::checks::check;
 use crate::runs::{EXPORT, Given, ends};
 use crate::traces::TRACED;
 use std::alloc::{AllocError, Global};
@@ -59,5 +58,8 @@ fn is_limited(alloc: Global, limit: &Limit) -> Result<bool, Fail> {
 
 #[test]
 fn lines_have_limits(rt: HostRuntime) -> Result<(), Fail> {
-    check(&rt, LIMITS, is_limited)
+    for limit in LIMITS {
+        assert!(rt; is_limited(rt.alloc(), limit)?);
+    }
+    Ok(())
 }

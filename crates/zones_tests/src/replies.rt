@@ -1,12 +1,13 @@
 //! How replies are printed that no trace of a few lines is answered: what is refused and what fails, each with its code, and
 //! bodies of a text that is empty, and of links beside addresses.
-use crate::checks::{check, is_same};
 use crate::kept::Kept;
+use crate::texts::is_same;
 use config_terms::Kind;
 use config_verify::Flaw;
 use kernel_objects::Errno;
 use priv_sets::PrivFault;
 use std::alloc::Global;
+use std::process::Abort;
 use std::test::Fail;
 use trace_text::print_reply;
 use zn_base::{Bytes, Listing, NameFault, Text, TextFault, ZoneState};
@@ -70,9 +71,12 @@ fn is_printed(alloc: Global, head: Head, body: Body, wanted: &str) -> Result<boo
     Ok(is_same(&text, wanted.as_bytes()))
 }
 
-fn is_row(alloc: Global, row: &Row) -> Result<bool, Fail> {
-    let (told, wanted) = row;
-    is_printed(alloc, head(alloc, told)?, Body::Nothing, wanted)
+fn check(rt: &impl Abort, alloc: Global, rows: &[Row]) -> Result<(), Fail> {
+    for (told, wanted) in rows {
+        let head = head(alloc, told)?;
+        assert!(rt; is_printed(alloc, head, Body::Nothing, wanted)?, "{wanted}");
+    }
+    Ok(())
 }
 
 const REFUSALS: &[Row] = &[
@@ -97,7 +101,7 @@ const REFUSALS: &[Row] = &[
 
 #[test]
 fn refusals(rt: HostRuntime) -> Result<(), Fail> {
-    check(&rt, REFUSALS, is_row)
+    check(&rt, rt.alloc(), REFUSALS)
 }
 
 const FAILURES: &[Row] = &[
@@ -133,7 +137,7 @@ const FAILURES: &[Row] = &[
 
 #[test]
 fn failures(rt: HostRuntime) -> Result<(), Fail> {
-    check(&rt, FAILURES, is_row)
+    check(&rt, rt.alloc(), FAILURES)
 }
 
 fn lines(alloc: Global, rows: &[&[u8]]) -> Result<Listing<Bytes>, Fail> {

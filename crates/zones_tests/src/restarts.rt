@@ -42,12 +42,18 @@ fn restarted_over(alloc: Global, call: u64) -> Result<Option<(bool, bool)>, Fail
     let brands = make_brands(alloc, ipkg, lx)?;
     let disk = disk_of(alloc, &given)?;
     match Machine::open(alloc, disk, &brands) {
-        Ok(machine) => {
-            let mut machine = Kept(machine);
-            Ok(Some(restarted(alloc, &mut machine.0)?))
+        Ok(mut machine) => {
+            let told = restarted(alloc, &mut machine);
+            let _disk = Kept(machine.into_disk());
+            Ok(Some(told?))
         }
-        Err((StoreFault::DiskFault, _disk)) => Ok(None),
-        Err((fault, _disk)) => Err(fault.into()),
+        Err((fault, disk)) => {
+            let _disk = Kept(disk);
+            match fault {
+                StoreFault::DiskFault => Ok(None),
+                _ => Err(fault.into()),
+            }
+        }
     }
 }
 

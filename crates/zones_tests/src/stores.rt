@@ -1,7 +1,7 @@
 //! Runs over a store that isn't whole, over what is no store, and over a disk that fails at once. What runs leave in a store,
 //! and find in it, is said by the rows that zones_docs runs.
-use crate::checks::{check, check_below, is_same};
 use crate::runs::{EXPORT, Given, ends, is_ended, run};
+use crate::texts::is_same;
 use crate::traces::TRACED;
 use std::alloc::Global;
 use std::test::Fail;
@@ -62,7 +62,10 @@ fn is_wrong(alloc: Global, wrong: &Wrong) -> Result<bool, Fail> {
 
 #[test]
 fn a_wrong_byte_of_a_store_is_told(rt: HostRuntime) -> Result<(), Fail> {
-    check(&rt, WRONG, is_wrong)
+    for wrong in WRONG {
+        assert!(rt; is_wrong(rt.alloc(), wrong)?, "{}", wrong.0);
+    }
+    Ok(())
 }
 
 // From 2 to 16 bytes on, the header isn't whole.
@@ -85,12 +88,9 @@ const SHORT: [&[u8]; 15] = [
 ];
 
 // The first bytes of web's store.
-fn is_front_told(alloc: Global, size: usize) -> Result<bool, Fail> {
-    if size > WEB.len() {
-        return Ok(false);
-    }
-    let front = &WEB[..size];
-    if size < 2 || size == WEB.len() {
+fn is_front_told(alloc: Global, front: &[u8]) -> Result<bool, Fail> {
+    let size = front.len();
+    if size < 2 {
         let given = Given {
             disk: front,
             ..TRACED
@@ -106,7 +106,10 @@ fn is_front_told(alloc: Global, size: usize) -> Result<bool, Fail> {
 #[test]
 fn each_front_of_a_store_is_told(rt: HostRuntime) -> Result<(), Fail> {
     assert!(rt; WEB.len() == 197);
-    check_below(&rt, WEB.len() + 1, is_front_told)
+    for size in 0..WEB.len() {
+        assert!(rt; is_front_told(rt.alloc(), &WEB[..size])?, "{size}");
+    }
+    Ok(())
 }
 
 // Which words open no store, and what they are answered.
@@ -161,22 +164,24 @@ fn opens_none(alloc: Global, other: &(Given<'static>, u8)) -> Result<bool, Fail>
 
 #[test]
 fn other_commands_open_no_store(rt: HostRuntime) -> Result<(), Fail> {
-    check(&rt, OTHERS, opens_none)
+    for other in OTHERS {
+        assert!(rt; opens_none(rt.alloc(), other)?);
+    }
+    Ok(())
 }
 
 // What is on a disk whose first call fails.
 const FAILING: &[&[u8]] = &[b"", NOTHING, WEB, b"xxxxxxxxxxxxxxxxxxxx"];
 
-fn fails_at_once(alloc: Global, disk: &&[u8]) -> Result<bool, Fail> {
-    let given = Given {
-        disk: *disk,
-        calls: &[1],
-        ..MAKE_WEB
-    };
-    is_left(alloc, &given, 6, b"disk fault\n")
-}
-
 #[test]
 fn a_disk_that_fails_at_once_is_told(rt: HostRuntime) -> Result<(), Fail> {
-    check(&rt, FAILING, fails_at_once)
+    for disk in FAILING {
+        let given = Given {
+            disk,
+            calls: &[1],
+            ..MAKE_WEB
+        };
+        assert!(rt; is_left(rt.alloc(), &given, 6, b"disk fault\n")?);
+    }
+    Ok(())
 }
