@@ -12,8 +12,9 @@ use std::alloc::Global;
 use std::test::Fail;
 use zn_base::ZoneName;
 use zn_io::MemDisk;
+use zone_cases::Cell;
 use zone_disk::Bank;
-use zone_machine::{Cell, Shared, StepFault, cell_step, cell_step_given, local_turn};
+use zone_machine::{Shared, StepFault, cell_step, cell_step_given, local_turn};
 use zone_pools::Grant;
 
 // The zone `a` with its cell, and what zones share once.

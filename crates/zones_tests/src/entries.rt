@@ -6,7 +6,8 @@ use crate::texts::is_same;
 use std::alloc::Global;
 use std::test::Fail;
 use trace_text::{LineFault, print_reply, push_answer, read_line};
-use zone_machine::{Answer, Entry, Event, StepFault, Whose};
+use zone_cases::{Answer, Entry, Event, Whose};
+use zone_machine::StepFault;
 use zone_pools::Grant;
 
 /// What an event is to come to: what the pools give it and the text of its reply, or why it isn't answered.

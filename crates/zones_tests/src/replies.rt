@@ -11,7 +11,7 @@ use std::process::Abort;
 use std::test::Fail;
 use trace_text::print_reply;
 use zn_base::{Bytes, Listing, NameFault, Text, TextFault, ZoneState};
-use zone_machine::{Body, Head, Refusal, Reply, Subject};
+use zone_cases::{Body, Head, Refusal, Reply, Subject};
 use zone_pools::Pool;
 use zoneadmd_steps::{Outcome, TurnReply};
 use zonecfg_lex::LexFault;
