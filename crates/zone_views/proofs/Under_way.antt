@@ -1,44 +1,25 @@
--- A request under way is of a stored zone, and comes after an event.
-use Rattle.std.proofs.Common.{◌≡◌, ◌∷◌, [], ◌∙◌, ◌||◌, Bool, List, Option, None, Some, true, false, not, ap, refl, sym}
-use Rattle.std.proofs.lemmas.Bool.{and_parts, false≢true}
+-- A request under way comes after an event.
+use Rattle.std.proofs.Common.{◌≡◌, ◌∷◌, [], ◌∙◌, ◌||◌, Bool, List, Option, None, Some, true, false, ap, refl, sym}
+use Rattle.std.proofs.lemmas.Bool.{false≢true}
 use Rattle.std.specs.Option.{is_none}
-use Rattle.std.specs.Prelude.{is_some}
 use Rattle.zn_base.specs.Names.{Name}
 use Rattle.zone_pools.specs.declared.grant.Grant.{Grant}
 use Rattle.brand_hooks.specs.Brands.{Tabled}
 use Rattle.commit_journal.specs.declared.records.Commit.{Commit}
-use Rattle.commit_journal.specs.declared.records.Record.{Record}
 use Rattle.zone_machine.proofs.Local_laws.{local-common, not-local}
 use Rattle.zoneadmd_steps.proofs.Of_turns.{none-under-way}
-use Rattle.zoneadmd_steps.specs.Desks.{Desk, Job}
+use Rattle.zoneadmd_steps.specs.Desks.{Job}
 use Rattle.zone_machine.specs.Machine.Common.{common}
 use Rattle.zone_machine.specs.Machine.Histories.{after, after_entry}
-use Rattle.zone_machine.specs.Machine.Local.{is_local, job_has_record}
+use Rattle.zone_machine.specs.Machine.Local.{is_local}
 use Rattle.zone_machine.specs.Machine.{one, one_of, opening, subject, whole}
-use Rattle.zone_cases.specs.State.{State, stored}
+use Rattle.zone_cases.specs.State.{State}
 use Rattle.zone_cases.specs.State.Worlds.{objects_of, world}
 use Rattle.zone_cases.specs.declared.events.Entry.{Entry}
 use Rattle.zone_cases.specs.declared.events.Event.{Event}
 use Rattle.zone_cases.specs.declared.events.Event.TheVariants.{Process as Call_of, Restart, Session, System, Turn}
 use Rattle.zone_cases.specs.declared.events.Subject.{Subject}
 use Rattle.zone_cases.specs.declared.events.Subject.TheVariants.{Global, Whole, Zone}
-use Rattle.zone_views.proofs.Steady.{steady, steady-history}
-use Rattle.zone_views.specs.Storable.{are_storable}
-
-served : (row : Option Record) (d : Desk) → steady row d ≡ true → (not (is_some d.job) || is_some row) ≡ true
-served (Some row) d h = at_job (is_some d.job)
-  where
-    at_job : (b : Bool) → (not b || true) ≡ true
-    at_job true = refl
-    at_job false = refl
-served None d h = at_job d.job (and_parts (is_none d.active) (is_none d.job) h).1
-  where
-    at_job : (job : Option Job) → is_none job ≡ true → (not (is_some job) || false) ≡ true
-    at_job None h = refl
-    at_job (Some j) h = absurd (false≢true h)
-
-pub served-history : (z : Name) (brands : List Tabled) (commits : List Commit) (h : List Entry) → are_storable commits ≡ true → job_has_record (world z (after (opening brands commits) h)) ≡ true
-served-history z brands commits h all = let S = after (opening brands commits) h in served (stored z S.commits) (S.desks z) (steady-history brands commits h all z)
 
 -- where a request of z is under way, an event has come
 abbrev has_begun : Name → State → Bool

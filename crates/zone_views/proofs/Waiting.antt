@@ -1,6 +1,6 @@
 -- A session that waits for a ticket waits for one that its zone's daemon still has to answer, after any history; and a request is of
 -- a zone that is stored.
-use Rattle.std.proofs.Common.{◌≡◌, ◌≢◌, ◌||◌, ◌⊎◌, ◌+◌, ◌∷◌, ◌++◌, [], ◌∙◌, ℕ, List, Bool, Option, Some, None, Result, Ok as Right, Err, true, false, ap, inl, inr, map, nat_eq, refl, subst, sym}
+use Rattle.std.proofs.Common.{◌≡◌, ◌≢◌, ◌||◌, ◌⊎◌, ◌+◌, ◌∷◌, ◌++◌, [], ◌∙◌, ℕ, List, Bool, Option, Some, None, Result, Ok as Right, Err, true, false, ap, inl, inr, map, nat_eq, not, refl, subst, sym}
 use Rattle.std.specs.Prelude.{is_some, unwrap_or, if◌then◌else◌}
 use Rattle.std.specs.List.{list_any}
 use Rattle.std.proofs.lemmas.Bool.{and_from, eq-eqb, eqb-true, false≢true}
@@ -14,6 +14,7 @@ use Rattle.config_terms.specs.declared.fault.ConfigFault.{ConfigFault}
 use Rattle.loopback_mounts.specs.Mounts.{is_at, is_held, mount_at}
 use Rattle.zone_config.specs.declared.terms.Contents.{Contents}
 use Rattle.zone_pools.specs.Decisions as decisions
+use Rattle.zone_pools.specs.Firsts.{is_nil}
 use Rattle.zone_pools.specs.Decisions.{Just}
 use Rattle.zone_pools.specs.Owned_lists.{Go}
 use Rattle.zone_pools.specs.declared.grant.Grant.{Grant}
@@ -44,6 +45,7 @@ use Rattle.zone_machine.proofs.Turned_laws.{In, in-act, stored_after, turn_act}
 use Rattle.zone_machine.specs.Code.Works.{turned_act}
 use Rattle.zone_machine.specs.Machine.{decide, one, opening, session_number}
 use Rattle.zone_machine.specs.Machine.Histories.{after}
+use Rattle.zone_machine.specs.Machine.Local.{job_has_record}
 use Rattle.zone_views.proofs.Deciding.{Attaches, Called, Calls, Consoled, Consoles, Detaches, Does, Drops, Edits, Enters, Forks, Goes, Is_seated, Leaves_off, Opens as Opens_editor, Puts, Records, Remounts, Removes, Renames, Says, Seat, Seated, Stores, Takes, Tells, Unseated, Writes, of_any, of_turned}
 use Rattle.zone_views.proofs.Keeping.{doing_at, kept-after}
 use Rattle.zone_views.proofs.Seating.{kept-gone, kept-here, kept-sweep, login-ends, logins-end}
@@ -326,6 +328,15 @@ served : (z : Name) (brands : List Tabled) (commits : List Commit) (h : List Ent
 served z brands commits h =
     kept-after Served served-event (λ w d h. record { stored = h.stored; tickets = h.tickets }) (λ w h. record { stored = λ r. absurd (false≢true r); tickets = λ k. tt })
     (opening brands commits) h (λ z. record { stored = λ r. absurd (false≢true r); tickets = λ k. tt }) z
+
+record-if : (under waits row : Bool) → ((under || waits) ≡ true → row ≡ true) → (not under || row) ≡ true
+record-if true waits row f = f refl
+record-if false waits row f = refl
+
+-- a request under way is of a stored zone
+pub record-history : (z : Name) (brands : List Tabled) (commits : List Commit) (h : List Entry) → job_has_record (world z (after (opening brands commits) h)) ≡ true
+record-history z brands commits h =
+    let w = world z (after (opening brands commits) h) in record-if (is_some w.desk.job) (not (is_nil w.desk.waiting)) (is_some w.stored) (served z brands commits h).stored
 
 pub open-history : (z : Name) (brands : List Tabled) (commits : List Commit) (h : List Entry) (n ticket : ℕ)
     → (let S = after (opening brands commits) h in S.sessions n ≡ At z (Awaiting ticket) → is_open ticket (S.desks z) ≡ true)

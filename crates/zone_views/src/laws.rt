@@ -182,9 +182,9 @@ pub fn no_turn_is_idle_while_a_session_waits()
         S.sessions n ≡ At z (Awaiting ticket) → (one S (Turn z) g).reply ≢ says (Turned No_work) }
 {}
 
-/// After any history that begins with storable records, a request under way is of a stored zone.
+/// After any history a request under way is of a stored zone.
 pub fn requests_are_of_stored_zones()
-    ensures { (z : Name) (brands : List Tabled) (commits : List Commit) (h : List Entry) → are_storable commits ≡ true
+    ensures { (z : Name) (brands : List Tabled) (commits : List Commit) (h : List Entry)
         → job_has_record (world z (after (opening brands commits) h)) ≡ true }
 {}
 
