@@ -1,4 +1,5 @@
-"""The rows of crates/zones_docs/data/rows, with which the models of the commands are compared.
+"""The rows of crates/zones_docs/data/rows, with which the models of the commands are compared, and those of
+calls_alone.rows, which stand there once the program knows such lines.
 
 fault() gives what a model answers otherwise than a row has it, or None; tools/fuzz_trace.py --self-test does this. The
 form of the files is told in their README.md.
@@ -10,9 +11,10 @@ import pathlib
 import export_model
 import index_model
 import trace_model
-from trace_lines import ALL_LINES
+from trace_lines import ALL_LINES, KINDS_OF_LINES
 
 DATA = pathlib.Path(__file__).resolve().parent.parent / "crates/zones_docs/data"
+AHEAD = pathlib.Path(__file__).resolve().with_name("calls_alone.rows")
 
 
 @dataclasses.dataclass
@@ -60,21 +62,21 @@ def before(row, here, elsewhere):
     return before(earlier, here, elsewhere) + [row]
 
 
-def told(row, data):
-    """The status and both texts that a model gives for the input of a row."""
+def told(row, data, kinds):
+    """The status and both texts that a model gives for the input of a row, by the kinds of lines that it knows."""
     image = (DATA / row.disk).read_bytes() if row.disk else b""
     if row.run == "index":
         return index_model.run(image)
     if row.run == "export":
         return export_model.run(data)
-    return index_model.opened(image, lambda store: trace_model.run(data, store, ALL_LINES, row.run))
+    return index_model.opened(image, lambda store: trace_model.run(data, store, kinds, row.run))
 
 
-def row_fault(row, chain):
+def row_fault(row, chain, kinds):
     """What a model answers otherwise to a row, which ends a chain of rows, or None."""
     lines, replies = ([line for it in chain for line in getattr(it, what)] for what in ("lines", "replies"))
     data, want = ("".join(line + "\n" for line in it).encode("latin-1") for it in (lines, replies))
-    status, out, err = told(row, data)
+    status, out, err = told(row, data, kinds)
     error = (row.error + "\n").encode() if row.error else b""
     if (status, out, err) == (int(row.status), want, error):
         return None
@@ -87,9 +89,10 @@ def fault():
     """What a model answers otherwise than a row has it, or None."""
     files = {file.name: rows_of(file) for file in sorted((DATA / "rows").glob("*.rows"))}
     everywhere = {name: row for rows in files.values() for name, row in rows.items()}
-    for file, rows in files.items():
+    for file, rows in {**files, AHEAD.name: rows_of(AHEAD)}.items():
+        kinds = frozenset(KINDS_OF_LINES) if file == AHEAD.name else ALL_LINES
         for row in rows.values():
-            found = row_fault(row, before(row, rows, everywhere))
+            found = row_fault(row, before(row, rows, everywhere), kinds)
             if found is not None:
                 return "%s: %s" % (file, found)
     return None
