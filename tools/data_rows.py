@@ -1,5 +1,4 @@
-"""The rows of crates/zones_docs/data/rows, with which the models of the commands are compared, and those of
-calls_alone.rows, which stand there once the program knows such lines.
+"""The rows of crates/zones_docs/data/rows, with which the models of the commands are compared.
 
 fault() gives what a model answers otherwise than a row has it, or None; tools/fuzz_trace.py --self-test does this. The
 form of the files is told in their README.md.
@@ -11,10 +10,9 @@ import pathlib
 import export_model
 import index_model
 import trace_model
-from trace_lines import ALL_LINES, KINDS_OF_LINES
+from trace_lines import ALL_LINES
 
 DATA = pathlib.Path(__file__).resolve().parent.parent / "crates/zones_docs/data"
-AHEAD = pathlib.Path(__file__).resolve().with_name("calls_alone.rows")
 
 
 @dataclasses.dataclass
@@ -62,21 +60,21 @@ def before(row, here, elsewhere):
     return before(earlier, here, elsewhere) + [row]
 
 
-def told(row, data, kinds):
-    """The status and both texts that a model gives for the input of a row, by the kinds of lines that it knows."""
+def told(row, data):
+    """The status and both texts that a model gives for the input of a row."""
     image = (DATA / row.disk).read_bytes() if row.disk else b""
     if row.run == "index":
         return index_model.run(image)
     if row.run == "export":
         return export_model.run(data)
-    return index_model.opened(image, lambda store: trace_model.run(data, store, kinds, row.run))
+    return index_model.opened(image, lambda store: trace_model.run(data, store, ALL_LINES, row.run))
 
 
-def row_fault(row, chain, kinds):
+def row_fault(row, chain):
     """What a model answers otherwise to a row, which ends a chain of rows, or None."""
     lines, replies = ([line for it in chain for line in getattr(it, what)] for what in ("lines", "replies"))
     data, want = ("".join(line + "\n" for line in it).encode("latin-1") for it in (lines, replies))
-    status, out, err = told(row, data, kinds)
+    status, out, err = told(row, data)
     error = (row.error + "\n").encode() if row.error else b""
     if (status, out, err) == (int(row.status), want, error):
         return None
@@ -89,10 +87,9 @@ def fault():
     """What a model answers otherwise than a row has it, or None."""
     files = {file.name: rows_of(file) for file in sorted((DATA / "rows").glob("*.rows"))}
     everywhere = {name: row for rows in files.values() for name, row in rows.items()}
-    for file, rows in {**files, AHEAD.name: rows_of(AHEAD)}.items():
-        kinds = frozenset(KINDS_OF_LINES) if file == AHEAD.name else ALL_LINES
+    for file, rows in files.items():
         for row in rows.values():
-            found = row_fault(row, before(row, rows, everywhere), kinds)
+            found = row_fault(row, before(row, rows, everywhere))
             if found is not None:
                 return "%s: %s" % (file, found)
     return None

@@ -15,9 +15,8 @@ gate.
 
 `--lines` names kinds of lines that the program answers beside the older ones, with commas between them: zonecfg (a line
 of subcommands that makes, edits or deletes a zone), edit (sessions that edit), list, verify, help, restart, zlogin
-(logins, with `bootargs`), console (with `cons`) and enter (calls alone). `all` stands for all of them that the program
-knows, which `enter` isn't among until trace_lines.HAS_ENTER says so. Most of the traces then have such lines
-(zonecfg_maker.py, login_maker.py), and without it none has.
+(logins, with `bootargs`), console (with `cons`) and enter (calls alone). `all` stands for all of them. Most of the traces
+then have such lines (zonecfg_maker.py, login_maker.py), and without it none has.
 
 `--self-test` compares the model with replies that are known, and looks at what holds of it in random systems
 (data_rows.py, trace_rows.py, object_rows.py, request_rows.py, zonecfg_rows.py, call_rows.py, index_rows.py,

@@ -14,9 +14,7 @@ from export_model import Refused
 # help: these of zoneadm(8); restart: the line `R`; zlogin: `zlogin ZONE` and the call `bootargs`; console: `zlogin -C
 # ZONE` and the call `cons`; enter: `zlogin ZONE CALL`. Without zonecfg one line makes a zone, and no other edits one.
 KINDS_OF_LINES = ("zonecfg", "edit", "list", "verify", "help", "restart", "zlogin", "console", "enter")
-# Whether the program knows the lines of `enter`. As long as it doesn't, all of its lines are those of the other kinds.
-HAS_ENTER = False
-ALL_LINES = frozenset(kind for kind in KINDS_OF_LINES if HAS_ENTER or kind != "enter")
+ALL_LINES = frozenset(KINDS_OF_LINES)
 OLD_LINES = frozenset()
 
 LAST_NUMBER = 4294967295

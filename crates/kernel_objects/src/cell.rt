@@ -198,8 +198,9 @@ impl KernelCell {
         }
     }
 
-    // What a process that enters may have.
-    pub(crate) fn limit(&self) -> PrivSet
+    /// The zone's limit set, by limitpriv of zonecfg(8), which a process has that enters. A zone without an id has an empty
+    /// one.
+    pub fn limit(&self) -> PrivSet
         ensures { result ≡ limit_of self.now.id }
     {
         match &self.id {

@@ -7,3 +7,4 @@ pub mod Mount_cases
 pub mod Login_cases
 pub mod Line_cases
 pub mod Gone_laws
+pub mod Newcomers

@@ -4,6 +4,7 @@ pub mod Rows
 pub mod Doings
 pub mod Consoles
 pub mod Cells
+pub mod Errands
 pub mod Cases
 pub mod Commits
 pub mod Replies

@@ -14,7 +14,8 @@ ghost use Rattle.zoneadmd_steps.specs.declared.desks.Desk as desk_types;
 pub(crate) mod mounts;
 
 use crate::calls::mounts::{
-    datasets_case, devices_case, mount_case, mounts_case, net_case, place_case, umount_case,
+    datasets_case, devices_case, is_mounter, mount_case, mounts_case, net_case, place_case,
+    umount_case,
 };
 use crate::cases::{Case, Manner};
 use crate::cell::Cell;
@@ -115,7 +116,7 @@ fn privs_case(alloc: Global, kernel: &KernelCell, pid: u32) -> Result<Case, Allo
 
 // The arguments are told with which the zone was booted.
 #[inline(never)]
-fn bootargs_case(alloc: Global, kernel: &KernelCell) -> Result<Case, AllocError>
+pub(crate) fn bootargs_case(alloc: Global, kernel: &KernelCell) -> Result<Case, AllocError>
     ensures { IfOk result (λ c. c ≡ Case.Tells (Body.Lines (unwrap_or (bootargs_of kernel.now.id) [] ∷ []))) }
 {
     let args = match kernel.bootargs_of() {
@@ -148,8 +149,14 @@ fn call_case(
         Call::Ps => ps_case(alloc, kernel),
         Call::Privs => privs_case(alloc, kernel, pid),
         Call::Drop(number) => Ok(Case::Change(ObjectEdit::GiveUp(pid, *number), Manner::Plain)),
-        Call::Mount(boxed) => mount_case(alloc, kernel, &cell.mounts, pid, boxed.mount()),
-        Call::Umount(dir) => umount_case(alloc, kernel, &cell.mounts, pid, dir),
+        Call::Mount(boxed) => mount_case(
+            alloc,
+            kernel,
+            &cell.mounts,
+            is_mounter(kernel, pid),
+            boxed.mount(),
+        ),
+        Call::Umount(dir) => umount_case(alloc, &cell.mounts, is_mounter(kernel, pid), dir),
         Call::Read(path) => place_case(alloc, &cell.mounts, path, false),
         Call::Write(path) => place_case(alloc, &cell.mounts, path, true),
         Call::Mounts => mounts_case(alloc, &cell.mounts),

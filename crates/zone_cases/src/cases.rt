@@ -10,7 +10,7 @@ use crate::replies::{Body, Head, Refusal, Reply};
 use crate::session::doings::Doing;
 use crate::session::held::{HeldConfig, HeldEditor};
 use commit_journal::Row;
-use kernel_objects::Running;
+use kernel_objects::{ProcRow, Running};
 use zn_base::{Bytes, Listing, Text, ZoneName};
 use zoneadmd_steps::{ObjectEdit, QueuedRequest, TurnCase};
 
@@ -58,6 +58,34 @@ pub struct Login {
     pub running: Running,
     pub escape: Option<u8>,
     pub owner: ZoneName,
+}
+
+/// What a call comes to of a process that enters the zone for it alone, by the number that it gets.
+#[derive(Drop)]
+pub enum Errand {
+    /// Nothing but this reply.
+    Answers(Reply),
+    /// This becomes of the zone's mounts, or of another process.
+    Does(ObjectEdit),
+    /// A line is written to the zone's console.
+    Writes(Text),
+    /// The process runs another program.
+    Renames(Text),
+    /// It exits.
+    Exits,
+    /// It gives up a privilege.
+    GivesUp(u8),
+    /// The zone's processes are listed. The last row is its own, which lacks its number yet.
+    Lists(Listing<ProcRow>),
+    /// It signals a number that no process of the zone had before, with what would end it or not: its own number, or nobody's.
+    Signals(bool, u32),
+}
+
+/// A process that enters the zone for a call, by zlogin(1), makes it, and goes.
+#[derive(Drop)]
+pub struct Entering {
+    pub running: Running,
+    pub errand: Errand,
 }
 
 /// What becomes of the zone's console, and perhaps of the event's session, and the reply.
@@ -131,6 +159,8 @@ pub enum Case {
     Write(Text, Manner),
     /// A session is logged in.
     Login(Box<Login>),
+    /// A process enters the zone, makes a call and goes.
+    Enter(Box<Entering>),
     /// A session begins at the console, is there, or leaves it.
     AtConsole(Box<AtConsole>),
     /// A configuration is committed.

@@ -14,8 +14,8 @@ mod session;
 
 pub use calls::decide_call;
 pub use cases::{
-    AtConsole, Case, Committed, Committer, ConsoleEdit, Login, Manner, Novelty, Removed, Seat,
-    Seated, Sitting,
+    AtConsole, Case, Committed, Committer, ConsoleEdit, Entering, Errand, Login, Manner, Novelty,
+    Removed, Seat, Seated, Sitting,
 };
 pub use cell::Cell;
 pub use events::{Answer, Declaration, Entry, Event, SESSION_MAX, Subject, Whose};

@@ -2,6 +2,7 @@
 pub(crate) mod commits;
 pub(crate) mod doings;
 pub(crate) mod editing;
+pub(crate) mod entering;
 pub(crate) mod held;
 pub(crate) mod judging;
 pub(crate) mod line_cases;

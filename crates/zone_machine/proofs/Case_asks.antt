@@ -130,6 +130,7 @@ asks_case d (cases.Change edit m) = tt
 asks_case d (cases.Fork p m) = (refl, tt)
 asks_case d (cases.Write line m) = tt
 asks_case d (cases.Login l) = (refl, tt)
+asks_case d (cases.Enter e) = (refl, tt)
 asks_case d (cases.AtConsole c) = tt
 asks_case d (cases.Answers reply) = tt
 asks_case d (cases.Sit s) = tt

@@ -4,7 +4,6 @@ use Rattle.commit_journal.specs.Stored.{without}
 use Rattle.std.proofs.Common.{◌≡◌, ◌∷◌, ◌++◌, [], ℕ, List, Bool, Option, Some, None, true, false, not, ◌&&◌, inl, inr, refl, ap, sym, subst, ◌∙◌, ◌+◌, map, length, arith}
 use Rattle.indexmap.specs.IndexMap.{get, get_by, insert_entry}
 use Rattle.std.specs.Prelude.{◌≢◌, bytes_eq, nat_eq, is_some, unwrap_or, if◌then◌else◌}
-use Rattle.std.specs.Cmp.{nat_eq_equiv}
 use Rattle.std.specs.Option.{option_map}
 use Rattle.std.specs.List.{list_any}
 use Rattle.std.proofs.lemmas.Bool.{eqb-true}
@@ -23,7 +22,7 @@ use Rattle.zone_cases.specs.Code.Cells.{cell_world}
 use Rattle.zoneadmd_steps.specs.Objects.{ids_of, has_zid}
 use Rattle.zone_cases.specs.Code.Consoles.{console_edits, console_in}
 use Rattle.zone_cases.specs.Code.Doings.{as_doing, ends_with, is_ended, sits, sweep_of, swept_by, unless_ended}
-use Rattle.zone_machine.specs.Code.Works.{arrival_by, with_row, work_world, Works, rest_of, work_act}
+use Rattle.zone_machine.specs.Code.Works.{Works, arrival_by, endings, rest_of, with_row, work_act, work_world}
 use Rattle.datalink_table.specs.Claims.{holds}
 use Rattle.datalink_table.specs.Shared.{holder}
 use Rattle.datalink_table.specs.declared.claims.Claim.{Claim}
@@ -39,7 +38,7 @@ use Rattle.zone_machine.specs.declared.machine.shared.Shared.{Shared}
 use Rattle.zoneadmd_steps.specs.declared.objects.changes.ObjectEdit.TheVariants.{EndIds, EndProcesses}
 use Rattle.zoneadmd_steps.specs.declared.objects.changes.ObjectEdit.TheVariants as object
 use Rattle.zoneadmd_steps.specs.Arrivals.{Arrival, New_claim, New_id, New_process, New_record, No_new_thing, in_kernel, in_store}
-use Rattle.zone_cases.specs.State.Decisions.{Act, acts_world, after_came_world, sweeps}
+use Rattle.zone_cases.specs.State.Decisions.{Act, acts_world, after_came_world}
 use Rattle.zone_machine.specs.Code.Rooms.{IsOpenTo}
 use Rattle.zone_cases.specs.declared.cases.Sitting.{Sitting}
 use Rattle.zone_cases.specs.declared.session.doings.Doing.{Doing}
@@ -291,7 +290,7 @@ sits_alone n v d es x is desk = at_sitting x ∙ ap (λ es. edits_world n es v) 
     at_sitting (Some s) = ap (λ (d : desks.Desk). record (edits_world n (sits (Some s)) v) { desk = d }) (sym desk)
 
 -- the act of some work on a world whose desk is changed already
-edits-then : (n : Option ℕ) (xs ys : List Edit) (w : World) → edits_world n (xs ++ ys) w ≡ edits_world n ys (edits_world n xs w)
+pub edits-then : (n : Option ℕ) (xs ys : List Edit) (w : World) → edits_world n (xs ++ ys) w ≡ edits_world n ys (edits_world n xs w)
 edits-then n [] ys w = refl
 edits-then n (x ∷ xs) ys w = edits-then n xs ys (edit_world n x w)
 
@@ -307,7 +306,7 @@ desk-came (Some (New_record r)) w d = at_keeps (keeps_console r)
     at_keeps false = refl
 desk-came (Some No_new_thing) w d = refl
 
-desk-objects : (n : Option ℕ) (o : ObjectEdit) (w : World) (d : desks.Desk) → edits_world n (map Of_objects (object_edits o)) (record w { desk = d }) ≡ record (edits_world n (map Of_objects (object_edits o)) w) { desk = d }
+pub desk-objects : (n : Option ℕ) (o : ObjectEdit) (w : World) (d : desks.Desk) → edits_world n (map Of_objects (object_edits o)) (record w { desk = d }) ≡ record (edits_world n (map Of_objects (object_edits o)) w) { desk = d }
 desk-objects n object.Nothing w d = refl
 desk-objects n object.EndProcesses w d = refl
 desk-objects n (object.Mount m) w d = refl
@@ -338,12 +337,12 @@ work-desk n w d work =
     let objects = map Of_objects (object_edits work.objects) in
     let after = after_came_world came w in
     let sat = edits_world n (sits work.sits) after in
-    let ends = console_edits work.console ++ sweeps work.ended in
-    ap (λ (v : World). edits_world n (sweeps work.ended) (edits_world n (console_edits work.console) v))
+    let ends = console_edits work.console ++ endings work.ended in
+    ap (λ (v : World). edits_world n (endings work.ended) (edits_world n (console_edits work.console) v))
     (ap (λ v. edits_world n objects (edits_world n (sits work.sits) v)) (desk-came came w d) ∙ (ap (edits_world n objects) (desk-sits n work.sits after d) ∙ desk-objects n work.objects sat d))
     ∙ sym (edits-then n (sits work.sits) (objects ++ (Set_desk d ∷ ends)) after
     ∙ (edits-then n objects (Set_desk d ∷ ends) sat
-    ∙ edits-then n (console_edits work.console) (sweeps work.ended) (record (edits_world n objects sat) { desk = d })))
+    ∙ edits-then n (console_edits work.console) (endings work.ended) (record (edits_world n objects sat) { desk = d })))
 
 -- so work that does what an act says does it, where the desk is changed before
 pub does_work : (z : Name) (n : Option ℕ) (a : Act) (work : Work) (c d : Cell) (desk : Desk) (s t : Shared) → Works n a (cell_world (outside_in z s) c) (as_desk desk) work

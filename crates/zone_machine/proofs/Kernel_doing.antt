@@ -27,7 +27,7 @@ use Rattle.kernel_objects.specs.Processes.{Process, at_pid, below, dropping, has
 use Rattle.kernel_objects.specs.Shared.{FreesPids, FreesZids, Shared as Kernel_shared, TakesPid, TakesZid, pid_owner, zid_owner}
 use Rattle.kernel_objects.specs.declared.objects.Id.{Id}
 use Rattle.zone_machine.specs.declared.machine.shared.Shared.{Shared}
-use Rattle.zoneadmd_steps.specs.declared.objects.changes.ObjectEdit.TheVariants.{EndIds, EndProcess, GiveUp, Rename}
+use Rattle.zoneadmd_steps.specs.declared.objects.changes.ObjectEdit.TheVariants.{EndIds, GiveUp, Rename}
 use Rattle.zoneadmd_steps.specs.Arrivals.{New_id, New_process}
 use Rattle.zoneadmd_steps.specs.Code.Cases.{object_edits}
 use Rattle.kernel_objects.proofs.Kept.{at_pid_keeps, holds-change, holds-without}

@@ -33,3 +33,4 @@ pub mod Claim_doing
 pub mod Roomy
 pub mod Acting
 pub mod Restarting
+pub mod Errand_works

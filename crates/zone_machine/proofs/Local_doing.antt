@@ -3,10 +3,12 @@ use Rattle.std.proofs.Common.{◌≡◌, ◌∷◌, ◌++◌, [], ℕ, Bool, tru
 use Rattle.std.specs.Prelude.{IsSomeAnd}
 use Rattle.zn_base.specs.Names.{Name}
 use Rattle.zone_pools.specs.Decisions as decisions
-use Rattle.zone_pools.specs.Decisions.{Ask, Just}
+use Rattle.zone_pools.specs.Decisions.{Just}
 use Rattle.zone_pools.specs.declared.grant.Grant.TheVariants.{Nothing}
 use Rattle.zone_machine.proofs.Local_laws.{Local, is-local, local-one, not-local, stays, subject-turn, world-after}
-use Rattle.zone_machine.specs.Code.Works.{arrival_by, turned_act, Works, rest_of, told_by}
+use Rattle.zone_machine.specs.Code.Works.{EndsNoProcess, Works, arrival_by, endings, rest_of, ticket_of, told_by, turned_act}
+use Rattle.zone_machine.specs.declared.machine.work.Ending.{Ending}
+use Rattle.zone_machine.specs.declared.machine.work.Ending.TheVariants.{Process, Ticket}
 use Rattle.zone_cases.specs.Code.Consoles.{console_edits}
 use Rattle.zone_cases.specs.declared.cases.ConsoleEdit.TheVariants as console
 use Rattle.zone_cases.specs.Code.Doings.{sits}
@@ -84,16 +86,21 @@ pub record Lasts (o : ObjectEdit) (t : Turned) (d : desks.Desk) (v : World) : Ty
   pub ids : ids_after (object_edits o) v.ids ≡ ids_after t.objects v.ids
   pub desk : d ≡ t.desk
 
+ticket-ends : (o : Option Ending) → EndsNoProcess o → endings o ≡ sweeps (ticket_of o)
+ticket-ends None ends = refl
+ticket-ends (Some (Ticket ticket)) ends = refl
+ticket-ends (Some (Process pid)) ends = absurd ends
+
 -- what settling a turn tells to do leaves the mounts, the ids and the desk that the turn leaves
-pub settled : (decided : Decision) (t : Turned) (d : desks.Desk) (w : Work) (v : World) → decided ≡ effects turned (Just t) → w.sits ≡ None → w.console ≡ console.Nothing → Works None (rest_of (act_of decided Nothing)) v d w
+pub settled : (decided : Decision) (t : Turned) (d : desks.Desk) (w : Work) (v : World) → decided ≡ effects turned (Just t) → w.sits ≡ None → w.console ≡ console.Nothing → EndsNoProcess w.ended → Works None (rest_of (act_of decided Nothing)) v d w
     → Lasts w.objects t d v
-settled decided t d w v is sat still works =
-    let told : decisions.Act Arrival Turned = record { came = arrival_by w.stored; effect = record { objects = object_edits w.objects; desk = d; ended = w.ended; reply = Idle } } in
+settled decided t d w v is sat still ends works =
+    let told : decisions.Act Arrival Turned = record { came = arrival_by w.stored; effect = record { objects = object_edits w.objects; desk = d; ended = ticket_of w.ended; reply = Idle } } in
     let done : decisions.Act Arrival Turned = record { came = None; effect = t } in
     let left = has-turned None told v in let right = has-turned None done v in
     let left_ids = has-ids None told v (stored_apart w.stored) in let right_ids = has-ids None done v (λ w. refl) in
     let same : acts_world None (turned_act told) v ≡ acts_world None (turned_act done) v =
-    sym (λ i. acts_world None (record { came = arrival_by w.stored; effect = record { edits = sits (sat i) ++ (map Of_objects (object_edits w.objects) ++ (Set_desk d ∷ (console_edits (still i) ++ sweeps w.ended))); reply = told_by w } }) v)
+    sym (λ i. acts_world None (record { came = arrival_by w.stored; effect = record { edits = sits (sat i) ++ (map Of_objects (object_edits w.objects) ++ (Set_desk d ∷ (console_edits (still i) ++ ticket-ends w.ended ends i))); reply = told_by w } }) v)
     ∙ (works.world ∙ ap (λ x. acts_world None (rest_of (act_of x Nothing)) v) is) in
     record {
       mounts = sym left.mounts ∙ (ap (λ (u : World). u.mounts) same ∙ right.mounts);

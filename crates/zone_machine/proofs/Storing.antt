@@ -106,6 +106,8 @@ case-stored d (cases.Fork p m) g of h = asked-store (A_process (process_of (0, p
 case-stored d (cases.Write line m) g of h = refl
 case-stored d (cases.Login l) g of h =
     asked-store (A_process (process_of (0, l.value.running))) (A_pid ∷ []) _ _ g ∙ no-record (A_process (process_of (0, l.value.running))) (λ n. refl) (number_in g)
+case-stored d (cases.Enter e) g of h =
+    asked-store (A_process (process_of (0, e.value.running))) (A_pid ∷ []) _ _ g ∙ no-record (A_process (process_of (0, e.value.running))) (λ n. refl) (number_in g)
 case-stored d (cases.AtConsole c) g of h = refl
 case-stored d (cases.Answers reply) g of h = refl
 case-stored d (cases.Sit s) g of h = refl

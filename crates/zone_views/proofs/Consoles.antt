@@ -20,7 +20,7 @@ use Rattle.zone_cases.specs.declared.events.Event.{Event}
 use Rattle.zone_machine.proofs.Turned_laws.{turn_act}
 use Rattle.zone_machine.specs.Machine.{decide, opening, session_number}
 use Rattle.zone_machine.specs.Machine.Histories.{after}
-use Rattle.zone_views.proofs.Deciding.{Attaches, Called, Calls, Consoled, Consoles, Detaches, Does, Drops, Edits, Enters, Forks, Goes, Is_seated, Leaves_off, Opens, Puts, Records, Remounts, Removes, Renames, Says, Seat, Seated, Stores, Takes, Tells, Unseated, Writes, kept_turn, of_any}
+use Rattle.zone_views.proofs.Deciding.{Attaches, Called, Calls, Comes, Consoled, Consoles, Detaches, Does, Drops, Edits, Enters, Forks, Goes, Is_seated, Leaves_off, Opens, Puts, Records, Remounts, Removes, Renames, Says, Seat, Seated, Stores, Takes, Tells, Unseated, Writes, kept_turn, of_any}
 use Rattle.zone_views.proofs.Keeping.{doing_at, kept-after}
 
 -- who is at the console, and who has it
@@ -116,6 +116,7 @@ module _ (z : Name) (w : World) (h : Held w) where
   called_held : (n : Option ℕ) (c : Option Arrival) (es : List Edit) → Called w n c es → Held (edits_world n es (after_came_world c w))
   called_held _ _ _ (Forks n parent pid p name is) = h
   called_held _ _ _ (Enters k pid name escape running idle) = here_held k (Some (Logged_in pid escape)) w refl (idle_away k idle) h
+  called_held _ _ _ (Comes k pid name running) = h
   called_held _ _ _ (Goes n pid) = objects_held (Process_goes pid) w h
   called_held _ _ _ (Renames n pid name) = h
   called_held _ _ _ (Drops n pid number) = h
@@ -153,7 +154,7 @@ module _ (z : Name) (w : World) (h : Held w) where
 
 held-event : (z : Name) (w : World) (e : Event) (g : Grant) → Held w → Held (acts_world (session_number e) (act_of (decide (view_of z w) e) g) w)
 held-event z w e g h =
-    of_any z w Held (does_held z w h) g (kept_turn Held objects_held (λ d w h. h) (λ t w h k. ticket_stays t (w.sessions k) ∙ h k) comes_held (turn_act w g) w h) e
+    of_any z w Held (λ v is. does_held z v is) h g (kept_turn Held objects_held (λ d w h. h) (λ t w h k. ticket_stays t (w.sessions k) ∙ h k) comes_held (turn_act w g) w h) e
 
 held : (z : Name) (brands : List Tabled) (commits : List Commit) (h : List Entry) → Held (world z (after (opening brands commits) h))
 held z brands commits h = kept-after Held held-event (λ w d h. h) (λ w h n. refl) (opening brands commits) h (λ z n. refl) z

@@ -41,6 +41,7 @@ use Rattle.zonecfg_lines.specs.declared.refusal.LineRefusal.{LineRefusal}
 use Rattle.zone_pools.specs.declared.grant.Grant.{Grant}
 use Rattle.zone_machine.specs.Code.Works.{turned_act}
 use Rattle.zone_machine.proofs.Turned_laws.{In, decide-turn, has-turned, in-act, stored_after, turn_act}
+use Rattle.zone_machine.proofs.Doing_laws.{edits-then}
 use Rattle.zone_pools.specs.Owned_lists.{Change, Go, List_edit, Put, edited}
 use Rattle.zoneadmd_steps.specs.Objects.{Object_edit, Of_mounts, Process_goes, Processes_change, kernel_of, mounts_after}
 use Rattle.zoneadmd_steps.specs.Arrivals.{Arrival, New_process, New_record}
@@ -48,13 +49,13 @@ use Rattle.zone_cases.specs.State.Decisions.{Act, Decision, Effect, act_of, acts
 use Rattle.zoneadmd_steps.specs.Turns.{Turned}
 use Rattle.zoneadmd_steps.specs.Desks.{Desk, has_request, is_full, state_now, with_request}
 use Rattle.zone_cases.specs.State.Edits.{Edit as Zone_edit, Here, Hold as Hold_console, Leave, Line as Line_of, Of_console, Of_objects, Set_desk, Sweep, Take, at_session, comes_world, console_gone_world, console_left, edit_console, edit_world, edits_world, keeps_console, swept_doing}
-use Rattle.zone_cases.specs.Session.Logins.{console_by, console_line, console_refusal, escapes, if_any, logged_line, login_of, logs_in, passed_as, runs, said_in, status_of, unless}
+use Rattle.zone_cases.specs.Session.Logins.{alone, call_word, entered_line, entry_refusal, enters, with_newcomer, console_by, console_line, console_refusal, escapes, if_any, logged_line, login_of, logs_in, passed_as, runs, said_in, status_of, unless}
 use Rattle.zone_cases.specs.Session.Lines.{Ask as Asks, Blank, Clone, Command, Console, Edit, Enter, Help, Hold, Kill, Line, List_one, List_zones, Login, Release, Unforced, Unknown, Verify, Zonecfg, line_of}
 use Rattle.zone_machine.specs.Machine.{decide, session_number}
 use Rattle.zone_cases.specs.State.{At_console, Awaiting, Doing, Editing, Logged_in}
 use Rattle.zone_cases.specs.Session.Commits.{A_session, Alone, Goes_on, Hearer, Leaves, Of_its_own, Typist, base_now, based, commit, commit_over, commit_unless, commits, committed_record, delete, delete_seen, edits_line, ended, goes, goes_over, is_configured, keeps_place, leaves, line_refusal, records, refuses, removes, revision_now, said_alone, said_to, telling, typist, zonecfg}
 use Rattle.zone_cases.specs.Session.Typed.{held_answer, holding_at, holds, idle_line, put_clone, put_request, typed}
-use Rattle.zone_cases.specs.State.Worlds.{World, objects_of, view_of}
+use Rattle.zone_cases.specs.State.Worlds.{View, World, objects_of, view_of}
 use Rattle.zoneadmd_steps.specs.declared.requests.Request.{Request}
 use Rattle.zoneadmd_steps.specs.declared.requests.Request.TheVariants as request
 use Rattle.brand_hooks.specs.Brands.{tabled_names}
@@ -79,6 +80,7 @@ pub data Called (w : World) : Option ℕ → Option Arrival → List Zone_edit �
   -- by zlogin(1), in a zone that runs: the session was idle
   Enters : (k pid : ℕ) (name : List ℕ) (escape : Option ℕ) → w.desk.active ≡ Some Running → w.sessions k ≡ None
       → Called w (Some k) (Some (New_process (entered (kernel_of (objects_of w)) name false pid))) (Here (Some (Logged_in pid escape)) ∷ [])
+  Comes : (k pid : ℕ) (name : List ℕ) → w.desk.active ≡ Some Running → Called w (Some k) (Some (New_process (entered (kernel_of (objects_of w)) name false pid))) []
   Goes : (n : Option ℕ) (pid : ℕ) → Called w n None (Of_objects (Process_goes pid) ∷ [])
   Renames : (n : Option ℕ) (pid : ℕ) (name : List ℕ) → Called w n None (Of_objects (Processes_change (at_pid pid (renamed name))) ∷ [])
   Drops : (n : Option ℕ) (pid number : ℕ) → Called w n None (Of_objects (Processes_change (at_pid pid (dropping number))) ∷ [])
@@ -95,6 +97,13 @@ pub data Consoled (w : World) : Option ℕ → List Zone_edit → Type 0 where
   Takes : (n : Option ℕ) → Consoled w n (Of_console Take ∷ [])
   Attaches : (k : ℕ) (escape : Option ℕ) → w.sessions k ≡ None → w.console.holder ≡ None → Consoled w (Some k) (Here (Some (At_console escape)) ∷ Of_console Hold_console ∷ [])
   Detaches : (k : ℕ) (escape : Option ℕ) → w.sessions k ≡ Some (At_console escape) → Consoled w (Some k) (Here None ∷ Of_console Leave ∷ [])
+
+-- what a call does that asks for no number
+pub data Unasked (w : World) : Option ℕ → List Zone_edit → Type 0 where
+  Says_only : (n : Option ℕ) → Unasked w n []
+  Changes : (n : Option ℕ) (es : List Zone_edit) → Called w n None es → Unasked w n es
+  Mounts_on : (n : Option ℕ) (e : List_edit MountEntry) → Mounted w.mounts e → Unasked w n (Of_objects (Of_mounts e) ∷ [])
+  Tells_console : (n : Option ℕ) (text : List ℕ) → Unasked w n (Of_console (Line_of text) ∷ [])
 
 -- what a session of z edits from now on that types a line of zonecfg(8), or that it leaves its editor
 pub data Seat (z : Name) (w : World) (k : ℕ) : Option Doing → Type 0 where
@@ -124,6 +133,96 @@ pub data Does (z : Name) (w : World) : Option ℕ → Option Arrival → List Zo
   Calls : (n : Option ℕ) (c : Option Arrival) (es : List Zone_edit) → Called w n c es → Does z w n c es
   Remounts : (n : Option ℕ) (e : List_edit MountEntry) → Mounted w.mounts e → Does z w n None (Of_objects (Of_mounts e) ∷ [])
   Consoles : (n : Option ℕ) (es : List Zone_edit) → Consoled w n es → Does z w n None es
+
+-- what an event of z does that is no turn of its daemon: one of these; or a process comes, does what a call does that asks for no
+-- number, and goes
+pub data Acts (z : Name) (w : World) : Option ℕ → Option Arrival → List Zone_edit → Type 0 where
+  Once : (n : Option ℕ) (c : Option Arrival) (es : List Zone_edit) → Does z w n c es → Acts z w n c es
+  Errand : (k pid : ℕ) (name : List ℕ) (es : List Zone_edit) → w.desk.active ≡ Some Running
+      → Unasked (comes_world (New_process (entered (kernel_of (objects_of w)) name false pid)) w) (Some k) es
+      → Acts z w (Some k) (Some (New_process (entered (kernel_of (objects_of w)) name false pid))) (es ++ Of_objects (Process_goes pid) ∷ [])
+
+-- what a call of a process comes to, by what the zone has and whom it finds
+module _ (z : Name) (w : World) (look : ℕ → Option Process) (n : Option ℕ) (pid : ℕ) (p : Process) where
+  abbrev v : View
+  v = record { zone = z; world = w; process = look }
+
+  abbrev Lone : Option Arrival → Effect → Type 0
+  Lone None e = Unasked w n e.edits
+  Lone (Some c) e = with_pid pid w.processes ≡ Some p → Called w n (Some c) e.edits
+
+  signalled : (inside : Bool) (signal : Signal) (target : ℕ) (q : Option Process) → In Lone (signals inside signal target q)
+  signalled inside signal target None = Says_only n
+  signalled inside signal target (Some q) = at_test (ends inside signal q)
+    where
+      at_test : (b : Bool) → Lone None (done_saying (ending b target) Ok)
+      at_test true = Changes n _ (Goes n target)
+      at_test false = Says_only n
+
+  of_fork : (name : List ℕ) (set : Result (List ℕ) Errno) → In Lone (forks p name set)
+  of_fork name (Err e) = Says_only n
+  of_fork name (Right set) = (λ pool. Says_only n, λ child is. Forks n pid child p name is)
+
+  of_exec : (name : List ℕ) → In Lone (execs pid p name)
+  of_exec name = at_test (may_exec p) refl
+    where
+      at_test : (b : Bool) → may_exec p ≡ b → In Lone (execs pid p name)
+      at_test true e = simp e (Changes n _ (Renames n pid name))
+      at_test false e = simp e (Says_only n)
+
+  of_free : (mount : Mount) (answer : Result (Unit {0}) MountFault) → mount_answer mount.dir w.mounts ≡ answer → In Lone (mounts_if_free mount answer)
+  of_free mount (Err fault) is = Says_only n
+  of_free mount (Right free) is = Mounts_on n _ (Mounts mount is)
+
+  of_special : (c : MountCall) (special : Result (List ℕ) MountFault) → In Lone (mounts_special c w.mounts special)
+  of_special c (Err fault) = Says_only n
+  of_special c (Right special) = of_free (mount_of c special) (mount_answer c.dir w.mounts) refl
+
+  of_mount : (allowed : Option (List ℕ)) (c : MountCall) → In Lone (mounts p allowed c w.mounts)
+  of_mount allowed c = at_test (may_mount p && may_mount_type allowed c.fstype) refl
+    where
+      at_test : (b : Bool) → (may_mount p && may_mount_type allowed c.fstype) ≡ b → In Lone (mounts p allowed c w.mounts)
+      at_test true e = rw e (of_special c (special_at w.mounts c.fstype c.special))
+      at_test false e = rw e (Says_only n)
+
+  of_unmount : (dir : List ℕ) → In Lone (unmounts p dir w.mounts)
+  of_unmount dir = at_test (may_mount p && is_by_process (mount_at dir w.mounts)) refl
+    where
+      at_answer : (answer : Result Mount MountFault) → In Lone (unmounts_if_free dir answer)
+      at_answer (Err fault) = Says_only n
+      at_answer (Right mount) = Mounts_on n _ (Unmounts dir)
+
+      at_test : (b : Bool) → (may_mount p && is_by_process (mount_at dir w.mounts)) ≡ b → In Lone (unmounts p dir w.mounts)
+      at_test true e = rw e (at_answer (unmount_answer dir w.mounts))
+      at_test false e = rw e (Says_only n)
+
+  of_place : (place : Result (List ℕ) MountFault) → In Lone (tells_place place)
+  of_place (Err fault) = Says_only n
+  of_place (Right place) = Says_only n
+
+  of_calls : (c : Call) → In Lone (calls v pid p c)
+  of_calls (call.Fork name) = of_fork name (fork_set (Some p) (at_limit (kernel_of (objects_of w))))
+  of_calls (call.Exec name) = of_exec name
+  of_calls call.Exit = Changes n _ (Goes n pid)
+  of_calls (call.Kill signal target) = signalled true signal target (look target)
+  of_calls (call.Drop number) = Changes n _ (Drops n pid number)
+  of_calls (call.Mount c) = of_mount (fs_allowed_of (kernel_of (objects_of w)).id) c
+  of_calls (call.Umount dir) = of_unmount dir
+  of_calls (call.Read path) = of_place (place_at w.mounts path false)
+  of_calls (call.Write path) = of_place (place_at w.mounts path true)
+  of_calls (call.Cons text) = Tells_console n text
+  of_calls _ = Says_only n
+
+  -- by one that gets no second number
+  alone_does : (d : Decision) → In Lone d → Unasked w n (alone d).edits
+  alone_does (Just e) h = h
+  alone_does (Ask c asked denied given) h = Says_only n
+
+does_alone : (z : Name) (w : World) (n : Option ℕ) (es : List Zone_edit) → Unasked w n es → Does z w n None es
+does_alone z w _ _ (Says_only n) = Tells n
+does_alone z w _ _ (Changes n es called) = Calls n None es called
+does_alone z w _ _ (Mounts_on n e mounted) = Remounts n e mounted
+does_alone z w _ _ (Tells_console n text) = Consoles n _ (Writes n text)
 
 module _ (z : Name) (w : World) where
   abbrev Did : Option ℕ → Option Arrival → Effect → Type 0
@@ -259,64 +358,17 @@ module _ (z : Name) (w : World) where
     of_hold (Some row) (Err fault) held dir = Tells n
     of_hold (Some row) (Right done) held dir = Remounts n _ (Holds dir held)
 
-    of_fork : (parent : ℕ) (p : Process) (name : List ℕ) (set : Result (List ℕ) Errno) → with_pid parent w.processes ≡ Some p → In (Did n) (forks p name set)
-    of_fork parent p name (Err e) is = Tells n
-    of_fork parent p name (Right set) is = (λ pool. Tells n, λ pid. Calls n _ _ (Forks n parent pid p name is))
+    of_lone : (pid : ℕ) (p : Process) (d : Decision) → with_pid pid w.processes ≡ Some p → In (Lone z w (λ target. with_pid target w.processes) n pid p) d → In (Did n) d
+    of_lone pid p (Just e) is h = does_alone z w n e.edits h
+    of_lone pid p (Ask c asked denied given) is h = (λ pool. does_alone z w n _ (h.0 pool), λ m. Calls n _ _ (h.1 m is))
 
-    of_exec : (pid : ℕ) (p : Process) (name : List ℕ) → In (Did n) (execs pid p name)
-    of_exec pid p name = at_test (may_exec p) refl
-      where
-        at_test : (b : Bool) → may_exec p ≡ b → In (Did n) (execs pid p name)
-        at_test true e = simp e (Calls n _ _ (Renames n pid name))
-        at_test false e = simp e (Tells n)
-
-    of_free : (mount : Mount) (answer : Result (Unit {0}) MountFault) → mount_answer mount.dir w.mounts ≡ answer → In (Did n) (mounts_if_free mount answer)
-    of_free mount (Err fault) is = Tells n
-    of_free mount (Right free) is = Remounts n _ (Mounts mount is)
-
-    of_special : (c : MountCall) (special : Result (List ℕ) MountFault) → In (Did n) (mounts_special c w.mounts special)
-    of_special c (Err fault) = Tells n
-    of_special c (Right special) = of_free (mount_of c special) (mount_answer c.dir w.mounts) refl
-
-    of_mount : (p : Process) (allowed : Option (List ℕ)) (c : MountCall) → In (Did n) (mounts p allowed c w.mounts)
-    of_mount p allowed c = at_test (may_mount p && may_mount_type allowed c.fstype) refl
-      where
-        at_test : (b : Bool) → (may_mount p && may_mount_type allowed c.fstype) ≡ b → In (Did n) (mounts p allowed c w.mounts)
-        at_test true e = rw e (of_special c (special_at w.mounts c.fstype c.special))
-        at_test false e = rw e (Tells n)
-
-    of_unmount : (p : Process) (dir : List ℕ) → In (Did n) (unmounts p dir w.mounts)
-    of_unmount p dir = at_test (may_mount p && is_by_process (mount_at dir w.mounts)) refl
-      where
-        at_answer : (answer : Result Mount MountFault) → In (Did n) (unmounts_if_free dir answer)
-        at_answer (Err fault) = Tells n
-        at_answer (Right mount) = Remounts n _ (Unmounts dir)
-
-        at_test : (b : Bool) → (may_mount p && is_by_process (mount_at dir w.mounts)) ≡ b → In (Did n) (unmounts p dir w.mounts)
-        at_test true e = rw e (at_answer (unmount_answer dir w.mounts))
-        at_test false e = rw e (Tells n)
-
-    of_place : (place : Result (List ℕ) MountFault) → In (Did n) (tells_place place)
-    of_place (Err fault) = Tells n
-    of_place (Right place) = Tells n
-
-    of_calls : (pid : ℕ) (p : Process) (c : Call) → with_pid pid w.processes ≡ Some p → In (Did n) (calls (view_of z w) pid p c)
+    of_call : (pid : ℕ) (p : Process) (c : Call) → with_pid pid w.processes ≡ Some p → In (Did n) (calls (view_of z w) pid p c)
     unfolding view_of
-    of_calls pid p (call.Fork name) is = of_fork pid p name (fork_set (Some p) (at_limit (kernel_of (objects_of w)))) is
-    of_calls pid p (call.Exec name) is = of_exec pid p name
-    of_calls pid p call.Exit is = Calls n _ _ (Goes n pid)
-    of_calls pid p (call.Kill signal target) is = of_signal true signal target (with_pid target w.processes)
-    of_calls pid p (call.Drop number) is = Calls n _ _ (Drops n pid number)
-    of_calls pid p (call.Mount c) is = of_mount p (fs_allowed_of (kernel_of (objects_of w)).id) c
-    of_calls pid p (call.Umount dir) is = of_unmount p dir
-    of_calls pid p (call.Read path) is = of_place (place_at w.mounts path false)
-    of_calls pid p (call.Write path) is = of_place (place_at w.mounts path true)
-    of_calls pid p (call.Cons text) is = Consoles n _ (Writes n text)
-    of_calls pid p _ is = Tells n
+    of_call pid p c is = of_lone pid p (calls (view_of z w) pid p c) is (of_calls z w (λ target. with_pid target w.processes) n pid p c)
 
     of_called : (pid : ℕ) (p : Option Process) (c : Call) → with_pid pid w.processes ≡ p → In (Did n) (calls_if_there (view_of z w) pid p c)
     of_called pid None c is = Tells n
-    of_called pid (Some p) c is = of_calls pid p c is
+    of_called pid (Some p) c is = of_call pid p c is
 
     -- what a call of a session comes to, as it is passed on
     of_passed : (status : ℕ) (d : Decision) → In (Did n) d → In (Did n) (passed_as status d)
@@ -368,7 +420,47 @@ module _ (z : Name) (w : World) where
   unfolding view_of
   of_console_line k escape text there = of_either (Some k) (escapes escape text) _ _ (Consoles (Some k) _ (Detaches k escape there)) (Consoles (Some k) _ (Takes (Some k)))
 
-  of_line : (k : ℕ) (command : Command) → w.sessions k ≡ None → In (Did (Some k)) (idle_line (view_of z w) command)
+  abbrev Acted : Option ℕ → Option Arrival → Effect → Type 0
+  Acted n c e = Acts z w n c e.edits
+
+  of_once : (n : Option ℕ) (d : Decision) → In (Did n) d → In (Acted n) d
+  of_once n (Just e) h = Once n None e.edits h
+  of_once n (Ask c asked denied given) h = (λ pool. Once n None _ (h.0 pool), λ m. Once n _ _ (h.1 m))
+
+  of_enters : (k : ℕ) (c : Call) → w.desk.active ≡ Some Running → In (Acted (Some k)) (enters (view_of z w) c)
+  unfolding view_of
+  of_enters k c running = (
+    λ pool. Once (Some k) None [] (Tells (Some k)),
+    λ pid.
+        let p = entered (kernel_of (objects_of w)) (call_word c) false pid in
+        let here = comes_world (New_process p) w in
+        let look = (with_newcomer p (view_of z w)).process in
+        Errand k pid (call_word c) _ running (alone_does z here look (Some k) pid p (calls (record { zone = z; world = here; process = look }) pid p c) (of_calls z here look (Some k) pid p c)),
+  )
+
+  of_entered : (k : ℕ) (said : Said) → In (Acted (Some k)) (entered_line (view_of z w) said)
+  unfolding view_of
+  of_entered k (Err fault) = Once (Some k) None [] (Tells (Some k))
+  of_entered k (Right c) = at_stored w.stored
+    where
+      at_limits : runs w.desk.active ≡ true → (b : Bool) → In (Acted (Some k)) (unless (if_any b (Of_errno EAGAIN)) (enters (view_of z w) c))
+      at_limits e true = Once (Some k) None [] (Tells (Some k))
+      at_limits e false = of_enters k c (is_running w.desk.active e)
+
+      at_runs : (row : Record) (b : Bool) → runs w.desk.active ≡ b
+          → In (Acted (Some k)) (unless (if b then if_any (at_limit (kernel_of (objects_of w))) (Of_errno EAGAIN) else Some (NotRunning (state_now row w.desk))) (enters (view_of z w) c))
+      at_runs row true e = at_limits e (at_limit (kernel_of (objects_of w)))
+      at_runs row false e = Once (Some k) None [] (Tells (Some k))
+
+      at_stored : (stored : Option Record) → In (Acted (Some k)) (unless (entry_refusal stored w.desk (kernel_of (objects_of w))) (enters (view_of z w) c))
+      at_stored None = Once (Some k) None [] (Tells (Some k))
+      at_stored (Some row) = at_runs row (runs w.desk.active) refl
+
+  abbrev Line_does : ℕ → Command → Type 0
+  Line_does k (Enter text) = In (Acted (Some k)) (entered_line (view_of z w) (call_of text))
+  Line_does k command = In (Did (Some k)) (idle_line (view_of z w) command)
+
+  of_line : (k : ℕ) (command : Command) → w.sessions k ≡ None → Line_does k command
   unfolding view_of
   of_line k Blank idle = Tells (Some k)
   of_line k Help idle = Tells (Some k)
@@ -378,7 +470,7 @@ module _ (z : Name) (w : World) where
   of_line k Unknown idle = Tells (Some k)
   of_line k (Login escape) idle = of_login k w.stored escape idle
   of_line k (Console escape) idle = of_console k escape (console_refusal w.stored w.desk w.console) refl idle
-  of_line k (Enter text) idle = Tells (Some k)
+  of_line k (Enter text) idle = of_entered k (call_of text)
   of_line k Edit idle = Edits k _ (Is_seated _ (Opens (base_now (view_of z w)) idle))
   of_line k (Zonecfg text) idle = of_alone k text
   of_line k (Asks r) idle = of_request k r w.stored refl idle
@@ -388,23 +480,42 @@ module _ (z : Name) (w : World) where
   of_line k (Hold dir) idle = of_hold (Some k) w.stored (held_answer true dir w.mounts) true dir
   of_line k (Release dir) idle = of_hold (Some k) w.stored (held_answer false dir w.mounts) false dir
 
-  of_typed : (k : ℕ) (d : Option Doing) → w.sessions k ≡ d → (line : Line) → In (Did (Some k)) (typed (view_of z w) d line)
+  of_idle : (k : ℕ) (command : Command) → w.sessions k ≡ None → In (Acted (Some k)) (idle_line (view_of z w) command)
+  of_idle k (Enter text) idle = of_line k (Enter text) idle
+  of_idle k command idle = of_once (Some k) (idle_line (view_of z w) command) (of_line k command idle)
+
+  of_typed : (k : ℕ) (d : Option Doing) → w.sessions k ≡ d → (line : Line) → In (Acted (Some k)) (typed (view_of z w) d line)
   unfolding typed view_of
-  of_typed k None there line = of_line k line.command there
-  of_typed k (Some (Awaiting t)) there line = Tells (Some k)
-  of_typed k (Some (Editing e)) there line = of_edits k e line.text there
-  of_typed k (Some (Logged_in pid escape)) there line = of_logged (Some k) pid escape line.text
-  of_typed k (Some (At_console escape)) there line = of_console_line k escape line.text there
+  of_typed k None there line = of_idle k line.command there
+  of_typed k (Some (Awaiting t)) there line = Once (Some k) None [] (Tells (Some k))
+  of_typed k (Some (Editing e)) there line = of_once (Some k) (edits_line (view_of z w) e line.text) (of_edits k e line.text there)
+  of_typed k (Some (Logged_in pid escape)) there line = of_once (Some k) (logged_line (view_of z w) pid escape line.text) (of_logged (Some k) pid escape line.text)
+  of_typed k (Some (At_console escape)) there line = of_once (Some k) (console_line (view_of z w) escape line.text) (of_console_line k escape line.text there)
+
+  -- what any of these keeps holds after each of them
+  of_acts : (P : World → Type 0) → ((v : World) → P v → (n : Option ℕ) (c : Option Arrival) (es : List Zone_edit) → Does z v n c es → P (edits_world n es (after_came_world c v)))
+      → P w → (n : Option ℕ) (c : Option Arrival) (es : List Zone_edit) → Acts z w n c es → P (edits_world n es (after_came_world c w))
+  of_acts P does h _ _ _ (Once n c es d) = does w h n c es d
+  of_acts P does h _ _ _ (Errand k pid name es running unasked) =
+      let p = entered (kernel_of (objects_of w)) name false pid in
+      let here = comes_world (New_process p) w in
+      let came : P here = does w h (Some k) (Some (New_process p)) [] (Calls (Some k) _ [] (Comes k pid name running)) in
+      let done : P (edits_world (Some k) es here) = does here came (Some k) None es (does_alone z here (Some k) es unasked) in
+      subst P (sym (edits-then (Some k) es (Of_objects (Process_goes pid) ∷ []) here)) (does (edits_world (Some k) es here) done (Some k) None _ (Calls (Some k) None _ (Goes (Some k) pid)))
 
   -- so P holds after an event under a grant, where it holds of what a turn leaves then, and of all that another event may do
-  pub of_any : (P : World → Type 0) → ((n : Option ℕ) (c : Option Arrival) (es : List Zone_edit) → Does z w n c es → P (edits_world n es (after_came_world c w)))
+  pub by_acts : (P : World → Type 0) → ((n : Option ℕ) (c : Option Arrival) (es : List Zone_edit) → Acts z w n c es → P (edits_world n es (after_came_world c w)))
       → (g : Grant) → P (acts_world None (turned_act (turn_act w g)) w) → (e : Event) → P (acts_world (session_number e) (act_of (decide (view_of z w) e) g) w)
   unfolding decide view_of called
-  of_any P does g h (Session n text) = let a = act_of (typed (view_of z w) (w.sessions n) (line_of text)) g in does (Some n) a.came a.effect.edits (in-act (Did (Some n)) (typed (view_of z w) (w.sessions n) (line_of text)) g (of_typed n (w.sessions n) refl (line_of text)))
-  of_any P does g h (Call_of y pid c) = let a = act_of (called (view_of z w) pid c) g in does None a.came a.effect.edits (in-act (Did None) (called (view_of z w) pid c) g (of_called None pid (with_pid pid w.processes) c refl))
-  of_any P does g h (System what) = does None None [] (Tells None)
-  of_any P does g h Restart = does None None [] (Tells None)
-  of_any P does g h (Turn y) = subst (λ (b : Act). P (acts_world None b w)) (sym (decide-turn z y w g)) h
+  by_acts P acts g h (Session n text) = let a = act_of (typed (view_of z w) (w.sessions n) (line_of text)) g in acts (Some n) a.came a.effect.edits (in-act (Acted (Some n)) (typed (view_of z w) (w.sessions n) (line_of text)) g (of_typed n (w.sessions n) refl (line_of text)))
+  by_acts P acts g h (Call_of y pid c) = let a = act_of (called (view_of z w) pid c) g in acts None a.came a.effect.edits (Once None _ _ (in-act (Did None) (called (view_of z w) pid c) g (of_called None pid (with_pid pid w.processes) c refl)))
+  by_acts P acts g h (System what) = acts None None [] (Once None None [] (Tells None))
+  by_acts P acts g h Restart = acts None None [] (Once None None [] (Tells None))
+  by_acts P acts g h (Turn y) = subst (λ (b : Act). P (acts_world None b w)) (sym (decide-turn z y w g)) h
+
+  pub of_any : (P : World → Type 0) → ((v : World) → P v → (n : Option ℕ) (c : Option Arrival) (es : List Zone_edit) → Does z v n c es → P (edits_world n es (after_came_world c v)))
+      → P w → (g : Grant) → P (acts_world None (turned_act (turn_act w g)) w) → (e : Event) → P (acts_world (session_number e) (act_of (decide (view_of z w) e) g) w)
+  of_any P does h g turned e = by_acts P (of_acts P does h) g turned e
 
 -- the same, by what it leaves stored, of the desk, the processes and the mounts. What becomes of the sessions and the console is left open
 module _ (P : World → Type 0) (z : Name) (w : World) (seated : (sessions : ℕ → Option Doing) (console : consoles.Console) → P (record w { sessions = sessions; console = console }))
@@ -421,7 +532,7 @@ module _ (P : World → Type 0) (z : Name) (w : World) (seated : (sessions : ℕ
   abbrev here_gone : ℕ → Option Doing → ℕ → Option Doing
   here_gone k d = λ j. at_session (Some k) j d (swept_doing console_left (w.sessions j))
 
-  of_does : (n : Option ℕ) (c : Option Arrival) (es : List Zone_edit) → Does z w n c es → P (edits_world n es (after_came_world c w))
+  pub of_does : (n : Option ℕ) (c : Option Arrival) (es : List Zone_edit) → Does z w n c es → P (edits_world n es (after_came_world c w))
   of_does _ _ _ (Tells n) = seated w.sessions w.console
   of_does _ _ _ (Edits k es s) = at_seat es s
     where
@@ -450,9 +561,6 @@ module _ (P : World → Type 0) (z : Name) (w : World) (seated : (sessions : ℕ
       at_console _ _ (Takes n) = seated w.sessions (edit_console n Take w.console)
       at_console _ _ (Attaches k escape idle free) = seated (here k (Some (At_console escape))) (edit_console (Some k) Hold_console w.console)
       at_console _ _ (Detaches k escape there) = seated (here k None) (edit_console (Some k) Leave w.console)
-
-  pub of_event : (g : Grant) → P (acts_world None (turned_act (turn_act w g)) w) → (e : Event) → P (acts_world (session_number e) (act_of (decide (view_of z w) e) g) w)
-  of_event g h e = of_any z w P of_does g h e
 
 -- what each thing that a turn does keeps holds of what the turn leaves
 module _ (P : World → Type 0) (objects : (e : Object_edit) (w : World) → P w → P (edit_world None (Of_objects e) w)) (desks : (d : Desk) (w : World) → P w → P (record w { desk = d }))

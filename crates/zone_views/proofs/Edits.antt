@@ -39,7 +39,7 @@ use Rattle.zone_cases.specs.State.Edits.{Edit, Of_objects, comes_world, console_
 use Rattle.zone_cases.specs.State.Worlds.{World, view_of, world}
 use Rattle.zone_cases.specs.declared.events.Entry.{Entry}
 use Rattle.zone_cases.specs.declared.events.Event.{Event}
-use Rattle.zone_views.proofs.Deciding.{Attaches, Called, Calls, Consoled, Consoles, Detaches, Does, Drops, Edits, Enters, Forks, Goes, Is_seated, Leaves_off, Opens, Puts, Records, Remounts, Removes, Renames, Says, Seat, Seated, Stores, Takes, Tells, Unseated, Writes, kept_turn, of_any}
+use Rattle.zone_views.proofs.Deciding.{Attaches, Called, Calls, Comes, Consoled, Consoles, Detaches, Does, Drops, Edits, Enters, Forks, Goes, Is_seated, Leaves_off, Opens, Puts, Records, Remounts, Removes, Renames, Says, Seat, Seated, Stores, Takes, Tells, Unseated, Writes, kept_turn, of_any}
 use Rattle.zone_views.proofs.Keeping.{kept-after}
 use Rattle.zone_views.proofs.Seating.{kept-gone, kept-here, kept-sweep, login-ends, logins-end, ticket-ends}
 use Rattle.zone_views.specs.Edits.{EditsDenoted, IsDenoted}
@@ -175,6 +175,7 @@ module _ (z : Name) (w : World) (h : AllDenoted w) where
   called_denoted : (n : Option ℕ) (c : Option Arrival) (es : List Edit) → Called w n c es → AllDenoted (edits_world n es (after_came_world c w))
   called_denoted _ _ _ (Forks n parent pid p name is) = h
   called_denoted _ _ _ (Enters k pid name escape running idle) = kept-here EditsDenoted k (Some (Logged_in pid escape)) w.sessions tt h
+  called_denoted _ _ _ (Comes k pid name running) = h
   called_denoted _ _ _ (Goes n pid) = kept-sweep EditsDenoted tt (login_ended pid) (login-ends pid) w.sessions h
   called_denoted _ _ _ (Renames n pid name) = h
   called_denoted _ _ _ (Drops n pid number) = h
@@ -197,7 +198,7 @@ module _ (z : Name) (w : World) (h : AllDenoted w) where
   does_denoted _ _ _ (Consoles n es consoled) = consoled_denoted n es consoled
 
 denoted-event : (z : Name) (w : World) (e : Event) (g : Grant) → AllDenoted w → AllDenoted (acts_world (session_number e) (act_of (decide (view_of z w) e) g) w)
-denoted-event z w e g h = of_any z w AllDenoted (does_denoted z w h) g (kept_turn AllDenoted objects_denoted (λ d w h. h) (λ t w h. kept-sweep EditsDenoted tt (ticket_ended t) (ticket-ends t) w.sessions h) comes_denoted (turn_act w g) w h) e
+denoted-event z w e g h = of_any z w AllDenoted (λ v is. does_denoted z v is) h g (kept_turn AllDenoted objects_denoted (λ d w h. h) (λ t w h. kept-sweep EditsDenoted tt (ticket_ended t) (ticket-ends t) w.sessions h) comes_denoted (turn_act w g) w h) e
 
 pub denoted-history : (z : Name) (brands : List Tabled) (commits : List Commit_of) (h : List Entry) (n : ℕ) → EditsDenoted ((world z (after (opening brands commits) h)).sessions n)
 denoted-history z brands commits h = kept-after AllDenoted denoted-event (λ w d h. h) (λ w h n. tt) (opening brands commits) h (λ z n. tt) z

@@ -44,7 +44,7 @@ use Rattle.zone_cases.specs.declared.events.Entry.{Entry}
 use Rattle.zone_cases.specs.declared.events.Event.{Event}
 use Rattle.commit_journal.specs.declared.records.Commit.{Commit}
 use Rattle.commit_journal.specs.declared.records.Record.{Record}
-use Rattle.zone_views.proofs.Deciding.{Called, Drops, Enters, Forks, Goes, Renames, of_event}
+use Rattle.zone_views.proofs.Deciding.{Called, Comes, Does, Drops, Enters, Forks, Goes, Renames, of_any, of_does}
 use Rattle.zone_views.proofs.Keeping.{kept-after}
 use Rattle.zone_views.proofs.Nexts.{Holds_next, begins, holds-next}
 
@@ -344,15 +344,21 @@ module _ (w : World) (may : Bool) (none : may ≡ false → w.processes ≡ []) 
       nobody e = let none : None ≡ Some p = sym (ap (with_pid parent) (none e)) ∙ is in cc
   limited_called _ _ _ (Enters k pid name escape running idle) h =
       record { may = may; none = λ e. absurd (false≢true (rw (e, running) at runs)); within = within-entered (kernel_of (objects_of w)) name false pid within; runs = runs; desk = h }
+  limited_called _ _ _ (Comes k pid name running) h =
+      record { may = may; none = λ e. absurd (false≢true (rw (e, running) at runs)); within = within-entered (kernel_of (objects_of w)) name false pid within; runs = runs; desk = h }
   limited_called _ _ _ (Goes n pid) h = record { may = may; none = λ e. ap (without_pid pid) (none e); within = within-gone (kernel_of (objects_of w)) pid within; runs = runs; desk = h }
   limited_called _ _ _ (Renames n pid name) h = limited_change pid (renamed name) (λ p. refl) (within-renamed (kernel_of (objects_of w)) pid name within) h
   limited_called _ _ _ (Drops n pid number) h = limited_change pid (dropping number) (λ p. refl) (within-dropped (kernel_of (objects_of w)) pid number within) h
 
+limited-does : (z : Name) (w : World) → Limited w → (n : Option ℕ) (c : Option Arrival) (es : List Edit) → Does z w n c es → Limited (edits_world n es (after_came_world c w))
+limited-does z w is =
+    of_does Limited z w (λ sessions console. is) (λ stored config k sessions console same. is) (λ row sessions console same configured idle. is) (λ r sessions. is)
+    (λ n c es called. limited_called w is.may is.none is.within is.runs n c es called is.desk) (λ ms. record { may = is.may; none = is.none; within = is.within; runs = is.runs; desk = is.desk })
+
 limited-event : (z : Name) (w : World) (e : Event) (g : Grant) → Limited w → Limited (acts_world (session_number e) (act_of (decide (view_of z w) e) g) w)
 limited-event z w e g is =
     let turned = in-act (Leaves w is.may is.none is.within is.runs) (turn (seen_of w)) g (limited_turn w is.may is.none is.within is.runs is.desk) in
-    of_event Limited z w (λ sessions console. is) (λ stored config k sessions console same. is) (λ row sessions console same configured idle. is) (λ r sessions. is)
-    (λ n c es called. limited_called w is.may is.none is.within is.runs n c es called is.desk) (λ ms. record { may = is.may; none = is.none; within = is.within; runs = is.runs; desk = is.desk }) g turned e
+    of_any z w Limited (λ v h. limited-does z v h) is g turned e
 
 pub within-history : (z : Name) (brands : List Tabled) (commits : List Commit) (h : List Entry) → within_limit (kernel_of (objects_of (world z (after (opening brands commits) h)))) ≡ true
 within-history z brands commits h = (kept-after Limited limited-event (λ w d is. record { may = is.may; none = is.none; within = is.within; runs = is.runs; desk = is.desk }) (λ w is. record { may = false; none = λ e. refl; within = refl; runs = refl; desk = refl }) (opening brands commits) h (λ z. record { may = false; none = λ e. refl; within = refl; runs = refl; desk = refl }) z).within

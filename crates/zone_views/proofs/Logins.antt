@@ -23,7 +23,7 @@ use Rattle.zone_cases.specs.declared.events.Event.{Event}
 use Rattle.zone_machine.proofs.Turned_laws.{turn_act}
 use Rattle.zone_machine.specs.Machine.{decide, opening, session_number}
 use Rattle.zone_machine.specs.Machine.Histories.{after}
-use Rattle.zone_views.proofs.Deciding.{Attaches, Called, Calls, Consoled, Consoles, Detaches, Does, Drops, Edits, Enters, Forks, Goes, Is_seated, Leaves_off, Opens, Puts, Records, Remounts, Removes, Renames, Says, Seat, Seated, Stores, Takes, Tells, Unseated, Writes, kept_turn, of_any}
+use Rattle.zone_views.proofs.Deciding.{Attaches, Called, Calls, Comes, Consoled, Consoles, Detaches, Does, Drops, Edits, Enters, Forks, Goes, Is_seated, Leaves_off, Opens, Puts, Records, Remounts, Removes, Renames, Says, Seat, Seated, Stores, Takes, Tells, Unseated, Writes, kept_turn, of_any}
 use Rattle.zone_views.proofs.Keeping.{doing_at, kept-after}
 use Rattle.zone_views.proofs.Seating.{kept-gone, kept-here, kept-sweep, ticket-ends}
 
@@ -109,6 +109,7 @@ module _ (z : Name) (w : World) (h : HaveLogins w) where
   called_left _ _ _ (Enters k pid name escape running idle) =
       let p = entered (kernel_of (objects_of w)) name false pid in
       kept-here (HasLogin (put (below pid) p w.processes)) k (Some (Logged_in pid escape)) w.sessions (holds-put pid p w.processes ∙ rw (eq-eqb pid pid refl) refl) (comes_left (New_process p) w h)
+  called_left _ _ _ (Comes k pid name running) = comes_left (New_process (entered (kernel_of (objects_of w)) name false pid)) w h
   called_left _ _ _ (Goes n pid) = objects_left (Process_goes pid) w h
   called_left _ _ _ (Renames n pid name) = objects_left (Processes_change (at_pid pid (renamed name))) w h
   called_left _ _ _ (Drops n pid number) = objects_left (Processes_change (at_pid pid (dropping number))) w h
@@ -133,7 +134,7 @@ module _ (z : Name) (w : World) (h : HaveLogins w) where
 
 there-event : (z : Name) (w : World) (e : Event) (g : Grant) → HaveLogins w → HaveLogins (acts_world (session_number e) (act_of (decide (view_of z w) e) g) w)
 there-event z w e g h =
-    of_any z w HaveLogins (does_left z w h) g (kept_turn HaveLogins objects_left (λ d w h. h) (λ t w h. kept-sweep (HasLogin w.processes) tt (ticket_ended t) (ticket-ends t) w.sessions h) comes_left (turn_act w g) w h) e
+    of_any z w HaveLogins (λ v is. does_left z v is) h g (kept_turn HaveLogins objects_left (λ d w h. h) (λ t w h. kept-sweep (HasLogin w.processes) tt (ticket_ended t) (ticket-ends t) w.sessions h) comes_left (turn_act w g) w h) e
 
 have_logins : (z : Name) (brands : List Tabled) (commits : List Commit) (h : List Entry) → HaveLogins (world z (after (opening brands commits) h))
 have_logins z brands commits h = kept-after HaveLogins there-event (λ w d h. h) (λ w h n. tt) (opening brands commits) h (λ z n. tt) z

@@ -23,7 +23,11 @@ use Rattle.zone_pools.proofs.Owned_laws.{same_true}
 use Rattle.zone_machine.proofs.Own_worlds.{world-one}
 use Rattle.zone_machine.proofs.Turned_laws.{In, in-act, stored_after, turn_act}
 use Rattle.zone_cases.specs.State.Decisions.{act_of, acts_world, after_came_world}
-use Rattle.zone_cases.specs.State.Edits.{Edit, edits_world}
+use Rattle.kernel_objects.specs.Kernel.{entered}
+use Rattle.kernel_objects.specs.Processes as processes
+use Rattle.zoneadmd_steps.specs.Arrivals.{New_process}
+use Rattle.zoneadmd_steps.specs.Objects.{Process_goes, kernel_of}
+use Rattle.zone_cases.specs.State.Edits.{Edit, Of_objects, comes_world, edits_world}
 use Rattle.zoneadmd_steps.specs.Arrivals.{Arrival}
 use Rattle.zoneadmd_steps.specs.Configs.{claims_of, fs_dirs, root_dir, with_zonepath}
 use Rattle.zoneadmd_steps.specs.Desks.{Desk, Fails, Goes as Goes_on, Job, Stage, empty_desk, has_request, state_now, state_of, with_request}
@@ -49,7 +53,7 @@ use Rattle.zone_cases.specs.declared.events.Subject.{Subject}
 use Rattle.zone_cases.specs.declared.events.Subject.TheVariants.{Zone, Global, Whole}
 use Rattle.commit_journal.specs.declared.records.Commit.{Commit}
 use Rattle.commit_journal.specs.declared.records.Record.{Record}
-use Rattle.zone_views.proofs.Deciding.{Called, Drops, Enters, Forks, Goes as Goes_away, Renames, of_event, of_turned}
+use Rattle.zone_views.proofs.Deciding.{Acts, Called, Changes, Comes, Drops, Enters, Errand, Forks, Goes as Goes_away, Mounts_on, Once, Renames, Says_only, Tells_console, Unasked, by_acts, of_does, of_turned}
 use Rattle.zone_views.proofs.Keeping.{kept-after}
 use Rattle.zone_views.proofs.Nexts.{Holds_next, begins, holds-next}
 use Rattle.zone_views.specs.Storable.{are_storable, ends_with_a_restart, is_storable}
@@ -301,12 +305,14 @@ keeps-asked : (row : Option Record) (d : Desk) (r : Request) → steady row d �
 keeps-asked None d r h = record { steady = h; moves = inl refl }
 keeps-asked (Some row) d r h = record { steady = h; moves = inl refl }
 
+abbrev KeepsFrom : World → World → Type 0
+KeepsFrom w v = Keeps w.stored w.desk v.stored v.desk
+
 -- an event of a zone
 keeps-event : (z : Name) (w : World) (e : Event) (g : Grant) → steady w.stored w.desk ≡ true
     → let v = acts_world (session_number e) (act_of (decide (view_of z w) e) g) w in Keeps w.stored w.desk v.stored v.desk
 keeps-event z w e g h =
-    of_event (λ v. Keeps w.stored w.desk v.stored v.desk) z w (λ sessions console. stays) (λ stored config k sessions console is. subst (λ o. Keeps w.stored w.desk (Some (committed_record z o config k)) w.desk) is (keeps-recorded w.stored w.desk z config k h)) (λ row sessions console is c r. subst (λ o. Keeps o w.desk None w.desk) (sym is) (keeps-removed row w.desk (subst (λ o. steady o w.desk ≡ true) is h) c r)) (λ r sessions. keeps-asked w.stored w.desk r h) others (λ ms. stays) g
-    (of_turned (λ row ms d. Keeps w.stored w.desk row d) w g turned) e
+    by_acts z w (KeepsFrom w) acts g (of_turned (λ row ms d. Keeps w.stored w.desk row d) w g turned) e
   where
     stays : Keeps w.stored w.desk w.stored w.desk
     stays = record { steady = h; moves = inl refl }
@@ -314,9 +320,27 @@ keeps-event z w e g h =
     others : (n : Option ℕ) (c : Option Arrival) (es : List Edit) → Called w n c es → let v = edits_world n es (after_came_world c w) in Keeps w.stored w.desk v.stored v.desk
     others _ _ _ (Forks n parent pid p name is) = stays
     others _ _ _ (Enters k pid name escape running idle) = stays
+    others _ _ _ (Comes k pid name running) = stays
     others _ _ _ (Goes_away n pid) = stays
     others _ _ _ (Renames n pid name) = stays
     others _ _ _ (Drops n pid number) = stays
+
+    -- a call that asks for no number leaves what is stored and the desk, and so does a process that comes and goes
+    called_alone : (p : processes.Process) (pid : ℕ) (n : Option ℕ) (es : List Edit) → Called (comes_world (New_process p) w) n None es → KeepsFrom w (edits_world n (es ++ Of_objects (Process_goes pid) ∷ []) (comes_world (New_process p) w))
+    called_alone p pid _ _ (Goes_away n other) = stays
+    called_alone p pid _ _ (Renames n other name) = stays
+    called_alone p pid _ _ (Drops n other number) = stays
+
+    unasked : (p : processes.Process) (pid : ℕ) (n : Option ℕ) (es : List Edit) → Unasked (comes_world (New_process p) w) n es → KeepsFrom w (edits_world n (es ++ Of_objects (Process_goes pid) ∷ []) (comes_world (New_process p) w))
+    unasked p pid _ _ (Says_only n) = stays
+    unasked p pid _ _ (Changes n es called) = called_alone p pid n es called
+    unasked p pid _ _ (Mounts_on n e mounted) = stays
+    unasked p pid _ _ (Tells_console n text) = stays
+
+    acts : (n : Option ℕ) (c : Option Arrival) (es : List Edit) → Acts z w n c es → KeepsFrom w (edits_world n es (after_came_world c w))
+    acts _ _ _ (Once n c es does) =
+        of_does (KeepsFrom w) z w (λ sessions console. stays) (λ stored config k sessions console is. subst (λ o. Keeps w.stored w.desk (Some (committed_record z o config k)) w.desk) is (keeps-recorded w.stored w.desk z config k h)) (λ row sessions console is c r. subst (λ o. Keeps o w.desk None w.desk) (sym is) (keeps-removed row w.desk (subst (λ o. steady o w.desk ≡ true) is h) c r)) (λ r sessions. keeps-asked w.stored w.desk r h) others (λ ms. stays) n c es does
+    acts _ _ _ (Errand k pid name es running does) = unasked (entered (kernel_of (objects_of w)) name false pid) pid (Some k) es does
 
     turned : let a = turn_act w g in Keeps w.stored w.desk (stored_after a.came w.stored) a.effect.desk
     turned = in-act (λ c (t : Turned). Keeps w.stored w.desk (stored_after c w.stored) t.desk) (turn (seen_of w)) g (keeps_turn (objects_of w) w.declared.devices w.brands w.stored w.desk h)

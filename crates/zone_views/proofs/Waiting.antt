@@ -46,7 +46,7 @@ use Rattle.zone_machine.specs.Code.Works.{turned_act}
 use Rattle.zone_machine.specs.Machine.{decide, one, opening, session_number}
 use Rattle.zone_machine.specs.Machine.Histories.{after}
 use Rattle.zone_machine.specs.Machine.Local.{job_has_record}
-use Rattle.zone_views.proofs.Deciding.{Attaches, Called, Calls, Consoled, Consoles, Detaches, Does, Drops, Edits, Enters, Forks, Goes, Is_seated, Leaves_off, Opens as Opens_editor, Puts, Records, Remounts, Removes, Renames, Says, Seat, Seated, Stores, Takes, Tells, Unseated, Writes, of_any, of_turned}
+use Rattle.zone_views.proofs.Deciding.{Attaches, Called, Calls, Comes, Consoled, Consoles, Detaches, Does, Drops, Edits, Enters, Forks, Goes, Is_seated, Leaves_off, Opens as Opens_editor, Puts, Records, Remounts, Removes, Renames, Says, Seat, Seated, Stores, Takes, Tells, Unseated, Writes, of_any, of_turned}
 use Rattle.zone_views.proofs.Keeping.{doing_at, kept-after}
 use Rattle.zone_views.proofs.Seating.{kept-gone, kept-here, kept-sweep, login-ends, logins-end}
 use Rattle.zone_views.specs.Tickets.{is_open, is_under_way}
@@ -289,6 +289,7 @@ module _ (z : Name) (w : World) (h : Served w) where
   called_served : (n : Option ℕ) (c : Option Arrival) (es : List Edit) → Called w n c es → Served (edits_world n es (after_came_world c w))
   called_served _ _ _ (Forks n parent pid p name is) = record { stored = h.stored; tickets = h.tickets }
   called_served _ _ _ (Enters k pid name escape running idle) = record { stored = h.stored; tickets = kept-here (IsOpen w.desk) k (Some (Logged_in pid escape)) w.sessions tt h.tickets }
+  called_served _ _ _ (Comes k pid name running) = record { stored = h.stored; tickets = h.tickets }
   called_served _ _ _ (Goes n pid) = record { stored = h.stored; tickets = kept-sweep (IsOpen w.desk) tt (login_ended pid) (login-ends pid) w.sessions h.tickets }
   called_served _ _ _ (Renames n pid name) = record { stored = h.stored; tickets = h.tickets }
   called_served _ _ _ (Drops n pid number) = record { stored = h.stored; tickets = h.tickets }
@@ -322,7 +323,7 @@ module _ (z : Name) (w : World) (h : Served w) where
   does_served _ _ _ (Consoles n es consoled) = consoled_served n es consoled
 
 served-event : (z : Name) (w : World) (e : Event) (g : Grant) → Served w → Served (acts_world (session_number e) (act_of (decide (view_of z w) e) g) w)
-served-event z w e g h = of_any z w Served (does_served z w h) g (turn_served w g h) e
+served-event z w e g h = of_any z w Served (λ v is. does_served z v is) h g (turn_served w g h) e
 
 served : (z : Name) (brands : List Tabled) (commits : List Commit) (h : List Entry) → Served (world z (after (opening brands commits) h))
 served z brands commits h =

@@ -26,6 +26,7 @@ const FILES: &[(&str, &str)] = &[
     ("restarts", "rows/restarts.rows"),
     ("scripts", "rows/scripts.rows"),
     ("indexes", "rows/indexes.rows"),
+    ("calls_alone", "rows/calls_alone.rows"),
 ];
 
 // The first line in which two texts differ, as each of them has it; a text that ends before has nothing.

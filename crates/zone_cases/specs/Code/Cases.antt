@@ -18,13 +18,17 @@ use Rattle.zone_cases.specs.declared.cases.Case.{Case}
 use Rattle.zone_config.specs.declared.terms.Contents.{Contents}
 use Rattle.zone_cases.specs.declared.cases.Committer.{Committer}
 use Rattle.zone_cases.specs.declared.cases.Committer.TheVariants.{Alone, GoesOn, Leaves}
-use Rattle.zone_cases.specs.declared.cases.Case.TheVariants.{Answers, AtConsole, Change, Commit, Fork, Login, Says, Put, Remove, Sit, Tells, Turn, Write}
+use Rattle.zone_cases.specs.declared.cases.Case.TheVariants.{Answers, AtConsole, Change, Commit, Enter, Fork, Login, Says, Put, Remove, Sit, Tells, Turn, Write}
 use Rattle.zone_cases.specs.declared.cases.Manner.{Manner}
 use Rattle.zone_cases.specs.declared.cases.Manner.TheVariants.{Plain, Status}
 use Rattle.zone_cases.specs.declared.cases.Novelty.{Novelty}
 use Rattle.zone_cases.specs.declared.cases.Novelty.TheVariants as novelty
 use Rattle.zone_cases.specs.Session.Commits.{Alone as Alone_line, Goes_on, Leaves as Leaves_then, Typist, goes_over, places_for, refuses, removes, telling}
 use Rattle.zone_cases.specs.Code.Consoles.{console_edits}
+use Rattle.zone_cases.specs.Code.Errands.{errand_effect}
+use Rattle.zone_cases.specs.Session.Logins.{goes_after}
+use Rattle.zone_cases.specs.declared.cases.Errand.{Errand}
+use Rattle.zone_cases.specs.declared.cases.Errand.TheVariants.{Does, Writes}
 use Rattle.zone_cases.specs.Code.Doings.{sits}
 use Rattle.zn_base.specs.declared.state.ZoneState.{ZoneState}
 use Rattle.zoneadmd_steps.specs.declared.desks.Desk.{Desk}
@@ -95,6 +99,8 @@ decision_of d (Fork p m) =
 decision_of d (Write line m) = decisions.Just (done_saying (Of_console (edits.Line line) ∷ []) (done_head m))
 decision_of d (Login l) =
     decisions.Ask (A_process (process_of (0, l.value.running))) (A_pid ∷ []) (λ pool. refused (Denied pool)) (λ n. done_saying (Here (Some (Logged_in n l.value.escape)) ∷ []) Ok)
+decision_of d (Enter e) =
+    decisions.Ask (A_process (process_of (0, e.value.running))) (A_pid ∷ []) (λ pool. refused (Denied pool)) (λ n. goes_after n (errand_effect n e.value.errand))
 decision_of d (AtConsole c) = decisions.Just (record { edits = sits c.value.sitting ++ console_edits c.value.edit; reply = c.value.reply })
 decision_of d (Answers reply) = decisions.Just (record { edits = []; reply = reply.value })
 decision_of d (Sit s) = decisions.Just (record { edits = sits (Some s.value.sitting); reply = s.value.reply })
@@ -139,10 +145,15 @@ abbrev pub case_active : Case → Option ZoneState → Option ZoneState
 case_active (Turn c) active = turn_active c active
 case_active _ active = active
 
+abbrev pub errand_objects : Errand → ObjectEdit
+errand_objects (Does objects) = objects
+errand_objects _ = Nothing
+
 -- what becomes of the zone's objects
 abbrev pub objects_of : Case → ObjectEdit
 objects_of (Turn c) = turn_objects c
 objects_of (Change edit m) = edit
+objects_of (Enter e) = errand_objects e.value.errand
 objects_of _ = Nothing
 
 -- a case that mounts nothing, or what nothing refuses, and by which nothing goes as the last that isn't
@@ -174,8 +185,13 @@ seats (Commit c) = seats_committer c.value.committer
 seats (Remove r) = seats_committer r.value.committer
 seats _ = false
 
+abbrev pub errand_console : Errand → ConsoleEdit
+errand_console (Writes line) = Line line
+errand_console _ = No_edit
+
 -- what becomes of the console
 abbrev pub console_of_case : Case → ConsoleEdit
 console_of_case (Write line m) = Line line
 console_of_case (AtConsole c) = c.value.edit
+console_of_case (Enter e) = errand_console e.value.errand
 console_of_case _ = No_edit

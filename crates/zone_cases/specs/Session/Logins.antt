@@ -1,8 +1,10 @@
 -- What zlogin(1) does: a session is logged in to a zone, with a process of its own there, or has the zone's console; a line of such
--- a session is a call of that process, or goes to the console.
-use Rattle.std.specs.Prelude.{ℕ, List, [], ◌∷◌, Bool, true, false, ◌&&◌, ◌==◌, Option, Some, None, Ok as Right, Err, codes, if◌then◌else◌, is_some}
+-- a session is a call of that process, or goes to the console. Or a process enters the zone for one call.
+use Rattle.std.specs.Prelude.{ℕ, List, [], ◌∷◌, ◌++◌, Bool, true, false, ◌&&◌, ◌==◌, Option, Some, None, Ok as Right, Err, codes, if◌then◌else◌, is_some, nat_eq}
+use Rattle.std.specs.Option.{option_or}
 use Rattle.console_link.specs.Consoles.{Console, typed as typed_at}
 use Rattle.kernel_objects.specs.Kernel.{Kernel, at_limit, entered}
+use Rattle.kernel_objects.specs.Processes.{Process, below}
 use Rattle.kernel_objects.specs.declared.faults.Errno.TheVariants.{EAGAIN}
 use Rattle.zn_base.specs.Lines.{lines_of}
 use Rattle.zn_base.specs.declared.state.ZoneState.{ZoneState}
@@ -10,22 +12,24 @@ use Rattle.zn_base.specs.declared.state.ZoneState.TheVariants.{Configured, Incom
 use Rattle.process_calls.specs.Calls.{Said, call_of}
 use Rattle.process_calls.specs.declared.call.Call.{Call}
 use Rattle.process_calls.specs.declared.call.Call.TheVariants.{False}
+use Rattle.process_calls.specs.declared.call.Call.TheVariants as call
 use Rattle.commit_journal.specs.declared.records.Record.{Record}
 use Rattle.zone_pools.specs.Asked.{A_pid}
 use Rattle.zone_pools.specs.Decisions.{Ask, Just}
+use Rattle.zone_pools.specs.Owned_lists.{Put, edited}
 use Rattle.zone_pools.specs.Firsts.{is_nil}
 use Rattle.zoneadmd_steps.specs.Arrivals.{A_process}
 use Rattle.zoneadmd_steps.specs.Desks.{Desk, state_now}
-use Rattle.zoneadmd_steps.specs.Objects.{Process_goes}
-use Rattle.zone_cases.specs.Calls.{calls_if_there}
+use Rattle.zoneadmd_steps.specs.Objects.{Process_goes, kernel_of}
+use Rattle.zone_cases.specs.Calls.{calls, calls_if_there}
 use Rattle.zone_cases.specs.State.{At_console, Logged_in}
 use Rattle.zone_cases.specs.State.Decisions.{Decision, Effect, done_saying, effects, refused, told}
 use Rattle.zone_cases.specs.State.Edits.{Here, Hold, Leave, Of_console, Of_objects, Take}
-use Rattle.zone_cases.specs.State.Worlds.{View}
+use Rattle.zone_cases.specs.State.Worlds.{View, objects_of}
 use Rattle.zone_cases.specs.declared.replies.Body.TheVariants.{Lines, Why}
 use Rattle.zone_cases.specs.declared.replies.Head.TheVariants.{Ok, Refused, Status}
 use Rattle.zone_cases.specs.declared.replies.Refusal.{Refusal}
-use Rattle.zone_cases.specs.declared.replies.Refusal.TheVariants.{Denied, Errno as Of_errno, NoZone, NotRunning, Taken}
+use Rattle.zone_cases.specs.declared.replies.Refusal.TheVariants.{Denied, Errno as Of_errno, NoZone, NotRunning, Taken, Usage}
 use Rattle.zone_cases.specs.declared.replies.Reply.{Reply}
 
 -- nothing is done where something is refused
@@ -111,3 +115,55 @@ abbrev pub console_line : View → Option ℕ → List ℕ → Decision
 console_line v escape text =
     if escapes escape text then Just (done_saying (Here None ∷ Of_console Leave ∷ []) (Status 0))
     else Just (record { edits = Of_console Take ∷ []; reply = told (Lines (lines_of (typed_at text v.world.console).output)) })
+
+-- `zlogin Z CALL`: a process enters the zone, makes the call and goes. It is named by the first word of the call
+abbrev pub call_word : Call → List ℕ
+call_word (call.Fork name) = codes "fork"
+call_word (call.Exec name) = codes "exec"
+call_word call.Exit = codes "exit"
+call_word (call.Kill signal target) = codes "kill"
+call_word call.Ps = codes "ps"
+call_word call.Privs = codes "privs"
+call_word (call.Drop number) = codes "drop"
+call_word (call.Mount m) = codes "mount"
+call_word (call.Umount dir) = codes "umount"
+call_word (call.Read path) = codes "read"
+call_word (call.Write path) = codes "write"
+call_word call.Mounts = codes "mounts"
+call_word call.Links = codes "links"
+call_word call.Datasets = codes "datasets"
+call_word call.Devices = codes "devices"
+call_word call.Zonename = codes "zonename"
+call_word call.Bootargs = codes "bootargs"
+call_word (call.Cons text) = codes "cons"
+call_word call.True = codes "true"
+call_word call.False = codes "false"
+
+-- what a zone sees once a process has come
+abbrev pub with_newcomer : Process → View → View
+with_newcomer p v = record v {
+  world = record v.world { processes = edited (Put (below p.pid) p) v.world.processes };
+  process = λ n. option_or (v.process n) (if nat_eq n p.pid then Some p else None);
+}
+
+-- a call that makes no other process, as there is no second number for one
+abbrev pub alone : Decision → Effect
+alone (Just e) = e
+alone (Ask c asked denied given) = refused (Of_errno EAGAIN)
+
+abbrev pub goes_after : ℕ → Effect → Effect
+goes_after n e = record e { edits = e.edits ++ Of_objects (Process_goes n) ∷ [] }
+
+-- the process makes the call, whose outcome zlogin(1) passes on, and goes
+abbrev pub errand : View → Process → Call → Effect
+errand v p c = with_status (status_of c) (alone (calls (with_newcomer p v) p.pid p c))
+
+abbrev pub enters : View → Call → Decision
+enters v c =
+    let p = entered (kernel_of (objects_of v.world)) (call_word c) false 0 in
+    Ask (A_process p) (A_pid ∷ []) (λ pool. refused (Denied pool)) (λ n. goes_after n (errand v (record p { pid = n }) c))
+
+-- a text that is no call is no line of zlogin(1)
+abbrev pub entered_line : View → Said → Decision
+entered_line v (Err fault) = Just (refused Usage)
+entered_line v (Right c) = unless (entry_refusal v.world.stored v.world.desk (kernel_of (objects_of v.world))) (enters v c)

@@ -15,7 +15,8 @@ use Rattle.zoneadmd_steps.specs.Objects.{Object_edit, Of_mounts, kernel_of}
 use Rattle.zone_cases.specs.Calls.{changes, signals}
 use Rattle.kernel_objects.specs.declared.faults.Errno.TheVariants.{ESRCH}
 use Rattle.zn_base.specs.declared.name.NameFault.{NameFault}
-use Rattle.zone_cases.specs.Session.Logins.{console_line, holds_console, logged_line, logs_in}
+use Rattle.zone_cases.specs.Session.Logins.{console_line, entered_line, holds_console, logged_line, logs_in}
+use Rattle.process_calls.specs.Calls.{Said, call_of}
 use Rattle.zone_cases.specs.Session.Lines.{Ask as Asks, Blank, Clone, Command, Console, Edit, Enter, Help, Hold, Kill, Line, List_one, List_zones, Login, Release, Unforced, Unknown, Verify, Zonecfg}
 use Rattle.zone_cases.specs.Session.Listed.{help_line, list_one_reply, list_zones_reply, verify_reply}
 use Rattle.zone_cases.specs.State.{At_console, Awaiting, Doing, Editing, Logged_in, State}
@@ -75,7 +76,7 @@ idle_line v (Hold dir) = holds v.world.stored (held_answer true dir v.world.moun
 idle_line v (Release dir) = holds v.world.stored (held_answer false dir v.world.mounts) (holding_at false dir)
 idle_line v (Login escape) = logs_in escape v.world.stored v.world.desk (kernel_of (objects_of v.world))
 idle_line v (Console escape) = holds_console escape v.world.stored v.world.desk v.world.console
-idle_line v (Enter text) = Just (refused Usage)
+idle_line v (Enter text) = entered_line v (call_of text)
 idle_line v Help = Just (tells (Lines (help_line ∷ [])))
 idle_line v Verify = Just (answers (verify_reply v.world.brands v.world.stored))
 idle_line v (List_one form) = Just (answers (list_one_reply v.zone form v.world.stored v.world.desk v.world.ids))
@@ -105,6 +106,11 @@ abbrev pub global_help : Option (List ℕ) → Reply
 global_help None = told (Lines (help_line ∷ []))
 global_help (Some word) = says (Refused (badly_named (Some word)))
 
+-- what is no call is no line, whatever the name
+abbrev pub badly_entered : Said → Option (List ℕ) → Refusal
+badly_entered (Err fault) word = Usage
+badly_entered (Right c) word = badly_named word
+
 -- what such a line is answered
 abbrev pub global_line : State → Line → Reply
 global_line S line = elim line.command as (λ c. Reply) [
@@ -112,7 +118,7 @@ global_line S line = elim line.command as (λ c. Reply) [
   | Help ↦ global_help line.zone
   | List_zones options ↦ list_zones_reply options S
   | Unknown ↦ says (Refused Usage)
-  | Enter text ↦ says (Refused Usage)
+  | Enter text ↦ says (Refused (badly_entered (call_of text) line.zone))
   | Kill signal pid ↦ says (Refused (Of_errno ESRCH))
   | _ ↦ says (Refused (badly_named line.zone))
 ]

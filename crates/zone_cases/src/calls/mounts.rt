@@ -1,5 +1,5 @@
 //! What the calls come to that ask for the zone's mounts, claims and devices.
-ghost use Rattle.std.specs.Prelude.{◌≡◌, ◌≢◌, ◌&&◌, IfErr, IfOk, List, Ok, Some};
+ghost use Rattle.std.specs.Prelude.{◌&&◌, ◌≡◌, ◌≢◌, IfOk, List, Ok, Some};
 ghost use Rattle.datalink_table.specs.Claims.{items_of};
 ghost use Rattle.datalink_table.specs.declared.claims.Claim as claim_types;
 ghost use Rattle.datalink_table.specs.declared.claims.ClaimKind.TheVariants as claim_kinds;
@@ -64,29 +64,36 @@ fn mount_special(
     Ok(Case::Change(ObjectEdit::Mount(mount), Manner::Plain))
 }
 
-// Whether a process may mount a type of file system.
-fn may_mount(kernel: &KernelCell, pid: u32, fstype: &Text) -> bool
-    ensures { (p : Process) → with_pid pid kernel.now.processes ≡ Some p → result ≡ (may_mount p && may_mount_type (fs_allowed_of kernel.now.id) fstype.now) }
+/// Whether a process that the zone has may mount and unmount.
+pub(crate) fn is_mounter(kernel: &KernelCell, pid: u32) -> bool
+    ensures { (p : Process) → with_pid pid kernel.now.processes ≡ Some p → result ≡ may_mount p }
 {
-    kernel.check_mounter(pid).is_ok() && may_mount_type(kernel.fs_allowed_of(), fstype)
+    kernel.check_mounter(pid).is_ok()
 }
 
-/// A process mounts something, by mount(2).
+// Whether one that may mount at all, or not, may mount a type of file system.
+fn may_mount(kernel: &KernelCell, mounter: bool, fstype: &Text) -> bool
+    ensures { (p : Process) → mounter ≡ may_mount p → result ≡ (may_mount p && may_mount_type (fs_allowed_of kernel.now.id) fstype.now) }
+{
+    mounter && may_mount_type(kernel.fs_allowed_of(), fstype)
+}
+
+/// A process mounts something, by mount(2). `mounter` is whether it may mount at all.
 #[inline(never)]
 pub(crate) fn mount_case(
     alloc: Global,
     kernel: &KernelCell,
     mounts: &MountCell,
-    pid: u32,
+    mounter: bool,
     call: &MountCall,
 ) -> Result<Case, AllocError>
-    ensures decides { IfOk result (λ c. (d : desk_types.Desk) (p : Process) → with_pid pid kernel.now.processes ≡ Some p → calls.mounts p (fs_allowed_of kernel.now.id) call.now mounts.now.list ≡ decision_of d c) }
+    ensures decides { IfOk result (λ c. (d : desk_types.Desk) (p : Process) → mounter ≡ may_mount p → calls.mounts p (fs_allowed_of kernel.now.id) call.now mounts.now.list ≡ decision_of d c) }
     ensures of { IfOk result (λ c. (d : desk_types.Desk) → IsCaseOf d c) }
     ensures named { IfOk result (λ c. (z : Name) → IsNamedCase z c) }
     ensures free { IfOk result (λ c. (cs : List claim_types.Claim) → IsFreeCase c mounts.now.list cs) }
     ensures call { IfOk result IsCallCase }
 {
-    if !may_mount(kernel, pid, &call.fstype) {
+    if !may_mount(kernel, mounter, &call.fstype) {
         return Ok(refused_by(Errno::EPERM));
     }
     match mounts.special(alloc, &call.fstype, &call.special) {
@@ -105,22 +112,21 @@ fn is_by_process(mounts: &MountCell, dir: &AbsPath) -> bool
     }
 }
 
-/// A process takes a mount away, by umount(2).
+/// A process takes a mount away, by umount(2). `mounter` is whether it may mount and unmount at all.
 #[inline(never)]
 pub(crate) fn umount_case(
     alloc: Global,
-    kernel: &KernelCell,
     mounts: &MountCell,
-    pid: u32,
+    mounter: bool,
     dir: &AbsPath,
 ) -> Result<Case, AllocError>
-    ensures decides { IfOk result (λ c. (d : desk_types.Desk) (p : Process) → with_pid pid kernel.now.processes ≡ Some p → unmounts p dir.now mounts.now.list ≡ decision_of d c) }
+    ensures decides { IfOk result (λ c. (d : desk_types.Desk) (p : Process) → mounter ≡ may_mount p → unmounts p dir.now mounts.now.list ≡ decision_of d c) }
     ensures of { IfOk result (λ c. (d : desk_types.Desk) → IsCaseOf d c) }
     ensures named { IfOk result (λ c. (z : Name) → IsNamedCase z c) }
     ensures free { IfOk result (λ c. (cs : List claim_types.Claim) → IsFreeCase c mounts.now.list cs) }
     ensures call { IfOk result IsCallCase }
 {
-    if kernel.check_mounter(pid).is_err() || !is_by_process(mounts, dir) {
+    if !(mounter && is_by_process(mounts, dir)) {
         return Ok(refused_by(Errno::EPERM));
     }
     match mounts.check_unmount(dir) {

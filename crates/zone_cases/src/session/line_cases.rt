@@ -27,6 +27,7 @@ use crate::cell::Cell;
 use crate::replies::{Head, Refusal};
 use crate::session::doings::Doing;
 use crate::session::editing::{edit_case, open_case, zonecfg_case};
+use crate::session::entering::entered_case;
 use crate::session::lines::{Command, Line};
 use crate::session::logins::{console_case, hold_console_case, logged_case, login_case};
 use crate::session::telling_cases::{help_case, list_case, verify_case};
@@ -271,7 +272,7 @@ fn idle_case(
         Command::Release(word) => hold_case(alloc, &cell.mounts, row, word, false),
         Command::Login(escape) => login_case(alloc, zone, cell, row, escape),
         Command::Console(escape) => hold_console_case(alloc, zone, cell, row, escape),
-        Command::Enter(_) => Ok(refused(Refusal::Usage)),
+        Command::Enter(text) => entered_case(alloc, zone, cell, row, text),
         Command::Help => help_case(alloc),
         Command::Verify => verify_case(alloc, brands, row),
         Command::ListOne(form) => list_case(alloc, zone, cell, row, form),

@@ -36,8 +36,8 @@ fn runs(desk: &Desk) -> bool
     matches!(desk.active(), Some(ZoneState::Running))
 }
 
-// Why no process may enter a zone, where none may.
-fn entry_refusal(row: Option<&Row>, desk: &Desk, kernel: &KernelCell) -> Option<Refusal>
+/// Why no process may enter a zone, where none may.
+pub(crate) fn entry_refusal(row: Option<&Row>, desk: &Desk, kernel: &KernelCell) -> Option<Refusal>
     ensures { result ≡ entry_refusal (option_map (λ r. r.now) row.entry) (as_desk desk.now) kernel.now }
 {
     match row {

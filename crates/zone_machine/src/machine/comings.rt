@@ -86,6 +86,7 @@ fn case_newcomer(case: &Case) -> Newcomer<'_>
     match case {
         Case::Fork(running, _) => Newcomer::Process(running),
         Case::Login(login) => Newcomer::Process(&login.running),
+        Case::Enter(entering) => Newcomer::Process(&entering.running),
         Case::Turn(case) => turn_newcomer(case),
         Case::Says(_)
         | Case::Tells(_)

@@ -20,10 +20,10 @@ ghost use Rattle.zone_cases.specs.Code.Consoles.{HasConsole};
 ghost use Rattle.zone_machine.specs.Code.Rooms.{HasRoom, HasRoomOf, HasRoomToChange, HasRoomToSit, IsFreeOf, IsOpenTo};
 
 use crate::machine::consoles::change_console;
-use crate::machine::objects::change_objects;
+use crate::machine::objects::{change_objects, end_last};
 use crate::machine::settling::settle;
 use crate::machine::shared::Shared;
-use crate::machine::sitting::{end_ticket, sit_down};
+use crate::machine::sitting::sit_down;
 use crate::machine::storing::store_some;
 use crate::machine::ups::mark;
 use crate::machine::work::Work;
@@ -57,7 +57,7 @@ fn carry_out(
     sit_down(cell, shared, number, work.sits);
     let gone = change_objects(alloc, cell, shared, work.objects);
     change_console(cell, number, work.console);
-    end_ticket(cell, shared, work.ended);
+    end_last(cell, shared, work.ended);
     work.reply.with_gone(gone)
 }
 

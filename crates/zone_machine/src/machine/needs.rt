@@ -138,7 +138,7 @@ pub(crate) fn need_of(case: &Case) -> Need<'_>
         | Case::Change(_, _)
         | Case::Write(_, _)
         | Case::AtConsole(_) => Need::Nothing,
-        Case::Fork(_, _) | Case::Login(_) => Need::Pid,
+        Case::Fork(_, _) | Case::Login(_) | Case::Enter(_) => Need::Pid,
         Case::Commit(committed) => commit_need(committed),
         Case::Remove(_) => removal_need(),
         Case::Put(_, _) => Need::Nothing,

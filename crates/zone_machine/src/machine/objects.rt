@@ -7,6 +7,7 @@ ghost use Rattle.zoneadmd_steps.specs.Code.Works.{gone_by};
 ghost use Rattle.zoneadmd_steps.specs.Code.Cases.{is_last};
 ghost use Rattle.loopback_mounts.specs.Mounts.{last_of};
 ghost use Rattle.std.specs.Option.{option_map};
+ghost use Rattle.zone_machine.specs.Code.Works.{endings};
 ghost use Rattle.zone_cases.specs.declared.cases.ConsoleEdit as case_types;
 ghost use Rattle.zone_machine.specs.declared.machine.shared.Shared as shared_types;
 ghost use Rattle.zone_machine.specs.Code.Cells.{Does, kept};
@@ -15,7 +16,8 @@ ghost use Rattle.zone_cases.specs.State.Edits.{Of_objects, edits_world};
 ghost use Rattle.zone_machine.specs.Code.Rooms.{HasRoomToChange};
 
 use crate::machine::shared::Shared;
-use crate::machine::sitting::end;
+use crate::machine::sitting::{end, end_ticket};
+use crate::machine::work::Ending;
 use datalink_table::Claim;
 use loopback_mounts::Mount;
 use std::alloc::Global;
@@ -323,5 +325,21 @@ pub(crate) fn change_objects(
             edit_objects(alloc, cell, shared, edit);
             Gone::Nothing
         }
+    }
+}
+
+/// What ends last with an event ends: a ticket, for whoever waits for it, or a process.
+pub(crate) fn end_last(cell: &mut Cell, shared: &mut Shared, ended: Option<Ending>)
+    ensures does { (z : Name) (n : Option ℕ) → Does z (edits_world n (endings ended)) kept cell.old shared.old cell.new shared.new }
+    ensures ups { shared.new.ups ≡ shared.old.ups }
+    ensures brands { shared.new.brands ≡ shared.old.brands }
+    ensures rows { shared.new.rows ≡ shared.old.rows }
+    ensures used { shared.new.used ≡ shared.old.used }
+    ensures desk { cell.new.desk ≡ cell.old.desk }
+{
+    match ended {
+        None => {}
+        Some(Ending::Ticket(ticket)) => end_ticket(cell, shared, ticket),
+        Some(Ending::Process(pid)) => end_process(cell, shared, pid),
     }
 }

@@ -3,11 +3,12 @@ ghost use Rattle.std.specs.Prelude.{◌≡◌, IfOk, None, Some, Option};
 ghost use Rattle.zone_machine.specs.Code.Reads.{IsRightRead, decide_read, global_read, held_subject, idle_subject, is_turn, is_turn_read, number_read, subject_in, subject_read};
 ghost use Rattle.kernel_objects.specs.Shared.{pid_owner};
 ghost use Rattle.zone_machine.specs.Code.Cells.{Stands};
+ghost use Rattle.process_calls.specs.Calls.{call_of};
 ghost use Rattle.zone_cases.specs.State.Decisions.{says, told};
 ghost use Rattle.zone_cases.specs.Code.Lines.{as_line, as_word};
 ghost use Rattle.zone_machine.specs.Machine.{decide, global_reply, named_subject, session_number};
 ghost use Rattle.zone_cases.specs.State.{State};
-ghost use Rattle.zone_cases.specs.Session.Typed.{badly_named, global_help, global_line};
+ghost use Rattle.zone_cases.specs.Session.Typed.{badly_entered, badly_named, global_help, global_line};
 ghost use Rattle.zone_cases.specs.State.Worlds.{View};
 ghost use Rattle.zone_cases.specs.declared.events.Subject.TheVariants.{Zone};
 ghost use Rattle.zone_machine.specs.declared.machine.shared.Shared as shared_types;
@@ -15,7 +16,7 @@ ghost use Rattle.zone_machine.specs.declared.machine.shared.Shared as shared_typ
 use crate::machine::parts::Parts;
 use crate::machine::shared::Shared;
 use kernel_objects::{Errno, KernelShared};
-use process_calls::Call;
+use process_calls::{Call, CallFault, read_call};
 use std::alloc::{AllocError, Global};
 use zn_base::{Bytes, Listing, NameFault, ZoneName};
 use zone_cases::{
@@ -163,6 +164,17 @@ fn told(lines: Listing<Bytes>) -> Reply
     }
 }
 
+// Why a call by zlogin(1) is refused that belongs to no zone: it is no call, or the name is at fault.
+fn badly_entered(alloc: Global, text: &[u8], word: Option<&[u8]>) -> Result<Refusal, AllocError>
+    ensures { IfOk result (λ r. r ≡ badly_entered (call_of text.now) (as_word word.entry)) }
+{
+    match read_call(alloc, text) {
+        Ok(_) => badly_named(alloc, word),
+        Err(CallFault::Memory) => Err(AllocError),
+        Err(CallFault::BadWord(_)) => Ok(Refusal::Usage),
+    }
+}
+
 // What a line is answered that asks for help and belongs to no zone.
 fn global_help(alloc: Global, word: Option<&[u8]>) -> Result<Reply, AllocError>
     ensures { IfOk result (λ reply. reply ≡ global_help (as_word word.entry)) }
@@ -181,8 +193,8 @@ fn global_line(alloc: Global, parts: &Parts, line: Line<'_>) -> Result<Reply, Al
         Command::Blank => Ok(says(Head::Ok)),
         Command::Help => global_help(alloc, line.zone),
         Command::ListZones(options) => Ok(told(parts.list_zones(alloc, options)?)),
+        Command::Enter(text) => Ok(refused(badly_entered(alloc, text, line.zone)?)),
         Command::Unknown
-        | Command::Enter(_)
         | Command::Request(
             RequestKind::Clone | RequestKind::Boot | RequestKind::Reboot | RequestKind::Move,
         ) => Ok(refused(Refusal::Usage)),

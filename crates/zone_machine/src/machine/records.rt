@@ -96,6 +96,7 @@ fn stores_of(case: &Case) -> ToStore<'_>
         | Case::Fork(_, _)
         | Case::Write(_, _)
         | Case::Login(_)
+        | Case::Enter(_)
         | Case::AtConsole(_)
         | Case::Put(_, _) => ToStore::Nothing,
     }

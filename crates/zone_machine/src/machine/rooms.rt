@@ -1,7 +1,7 @@
 //! Room for what a case puts into its cell and into the shared part, taken before anything is changed.
 ghost use Rattle.std.specs.Prelude.{◌≡◌, OnOk, Option, false};
 ghost use Rattle.zoneadmd_steps.specs.Code.Desks.{as_desk};
-ghost use Rattle.zone_cases.specs.Code.Cases.{IsCaseOf, decision_of, console_of_case, objects_of, seats, seats_committer, case_active};
+ghost use Rattle.zone_cases.specs.Code.Cases.{IsCaseOf, decision_of, console_of_case, errand_objects, objects_of, seats, seats_committer, case_active};
 ghost use Rattle.zone_cases.specs.Code.Consoles.{HasConsole, wants_console};
 ghost use Rattle.zone_machine.specs.Code.Rooms.{HasRoomFor, Alike, HasRoom, HasRoomIfSits, HasRoomToChange, HasRoomToRise, HasRoomToStore};
 ghost use Rattle.zoneadmd_steps.specs.Code.Cases.{IsFreeFor, active_with, job_active, turn_active, turn_objects};
@@ -17,7 +17,7 @@ use crate::machine::ups::make_place;
 use console_link::Console;
 use std::alloc::{AllocError, Global};
 use zn_base::ZoneName;
-use zone_cases::{Case, Cell, Committer, ConsoleEdit};
+use zone_cases::{Case, Cell, Committer, ConsoleEdit, Errand};
 use zoneadmd_steps::{Desk, JobCase, ObjectEdit, Step, TurnCase};
 
 /// Room for what the case puts on the desk: a request that waits, or a step that a failure undoes.
@@ -38,6 +38,7 @@ pub(crate) fn room_on_desk(desk: &mut Desk, case: &Case) -> Result<(), AllocErro
         | Case::Fork(_, _)
         | Case::Write(_, _)
         | Case::Login(_)
+        | Case::Enter(_)
         | Case::AtConsole(_)
         | Case::Commit(_)
         | Case::Remove(_) => Ok(()),
@@ -83,6 +84,19 @@ fn room_to_turn(cell: &mut Cell, case: &TurnCase) -> Result<(), AllocError>
     }
 }
 
+// Room for what the call of a process that enters for it does to the zone's objects.
+fn room_for_errand(cell: &mut Cell, errand: &Errand) -> Result<(), AllocError>
+    requires { IsFreeFor (errand_objects errand.now) cell.old.mounts.list cell.old.claims.claims }
+    ensures mounts { cell.new.mounts.list ≡ cell.old.mounts.list }
+    ensures same { cell.new ≡ record cell.old { mounts = cell.new.mounts } }
+    ensures room { OnOk result (HasRoomToChange (errand_objects errand.now) cell.new) }
+{
+    match errand {
+        Errand::Does(edit) => room_to_change(cell, edit),
+        _ => Ok(()),
+    }
+}
+
 /// Room for what a case does to the zone's objects.
 pub(crate) fn room_for_objects(cell: &mut Cell, case: &Case) -> Result<(), AllocError>
     requires { IsFreeFor (objects_of case.now) cell.old.mounts.list cell.old.claims.claims }
@@ -93,6 +107,7 @@ pub(crate) fn room_for_objects(cell: &mut Cell, case: &Case) -> Result<(), Alloc
     match case {
         Case::Turn(case) => room_to_turn(cell, case),
         Case::Change(edit, _) => room_to_change(cell, edit),
+        Case::Enter(entering) => room_for_errand(cell, &entering.errand),
         _ => Ok(()),
     }
 }
@@ -121,6 +136,7 @@ fn seats(case: &Case) -> bool
         | Case::Change(_, _)
         | Case::Fork(_, _)
         | Case::Write(_, _)
+        | Case::Enter(_)
         | Case::Turn(_) => false,
     }
 }
@@ -144,6 +160,7 @@ fn wants_console(case: &Case) -> bool
 {
     match case {
         Case::Write(_, _) => true,
+        Case::Enter(entering) => matches!(entering.errand, Errand::Writes(_)),
         Case::AtConsole(at) => matches!(at.edit, ConsoleEdit::Hold | ConsoleEdit::Line(_)),
         _ => false,
     }

@@ -99,15 +99,13 @@ pub(crate) fn sit_down(
 }
 
 /// Whoever waits for a ticket that ended is idle again.
-pub(crate) fn end_ticket(cell: &mut Cell, shared: &mut Shared, ended: Option<u32>)
-    ensures does { (z : Name) (n : Option ℕ) → Does z (edits_world n (sweeps ended)) kept cell.old shared.old cell.new shared.new }
+pub(crate) fn end_ticket(cell: &mut Cell, shared: &mut Shared, ticket: u32)
+    ensures does { (z : Name) (n : Option ℕ) → Does z (edits_world n (sweeps (Some ticket))) kept cell.old shared.old cell.new shared.new }
     ensures ups { shared.new.ups ≡ shared.old.ups }
     ensures brands { shared.new.brands ≡ shared.old.brands }
     ensures rows { shared.new.rows ≡ shared.old.rows }
     ensures used { shared.new.used ≡ shared.old.used }
     ensures desk { cell.new.desk ≡ cell.old.desk }
 {
-    if let Some(ticket) = ended {
-        end(cell, shared, Ended::Ticket(ticket));
-    }
+    end(cell, shared, Ended::Ticket(ticket));
 }

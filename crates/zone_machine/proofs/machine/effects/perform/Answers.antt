@@ -1,12 +1,11 @@
 use Rattle.std.proofs.Common.{◌≡◌, None, ap, is_some, refl, subst, sym, ◌∙◌}
 use Rattle.std.specs.Prelude.{bytes_eq, if◌then◌else◌}
 use Rattle.zoneadmd_steps.specs.declared.desks.Desk.{Desk}
-use Rattle.zone_cases.specs.Code.Cases.{objects_of, seats, decision_of}
+use Rattle.zone_cases.specs.Code.Cases.{seats, decision_of}
 use Rattle.zone_machine.specs.Code.Works.{rest_of}
 use Rattle.zone_machine.proofs.Doing_laws.{acts_up, does_work}
 use Rattle.zone_machine.proofs.Case_asks.{asks-rightly, asks_case}
-use Rattle.zone_machine.proofs.Roomy.{free_owner, room_change, room_to_sit, roomy}
-use Rattle.zone_cases.specs.Code.Consoles.{HasConsole}
+use Rattle.zone_machine.proofs.Roomy.{free_owner, room_to_sit, roomy}
 use Rattle.zone_cases.specs.Code.Cells.{cell_world}
 use Rattle.zone_machine.specs.Code.Cells.{is_up_in, outside_in}
 use Rattle.zone_machine.specs.Code.Needs.{pools_in}
@@ -31,12 +30,10 @@ pub carry_out-reply-requires-clause-sits : goal.carry_out-reply-requires-clause-
 carry_out-reply-requires-clause-sits c = room_to_sit (seats c.args.case) c.args.cell.now c.args.shared.now c.settle-work.result.sits c.settle-work.ensures.sits c.requires.room.sits
 
 pub carry_out-reply-requires-clause-console : goal.carry_out-reply-requires-clause-console
-carry_out-reply-requires-clause-console c = subst (λ e. HasConsole e c.args.cell.now.console) (sym c.settle-work.ensures.console) c.requires.room.console
+carry_out-reply-requires-clause-console c = c.settle-work.ensures.console c.args.cell.now.console c.requires.room.console
 
 pub carry_out-reply-requires-clause-objects : goal.carry_out-reply-requires-clause-objects
-carry_out-reply-requires-clause-objects c =
-    let cell = c.args.cell.now in let now = record cell { desk = c.settle-work.new.desk } in
-    room_change (objects_of c.args.case) c.settle-work.result.objects cell c.settle-work.new.desk c.settle-work.ensures.objects c.requires.room.objects
+carry_out-reply-requires-clause-objects c = c.settle-work.ensures.objects (record c.args.cell.now { desk = c.settle-work.new.desk }) c.requires.room.objects
 
 pub returns-clause-reply : goal.returns-clause-reply
 returns-clause-reply c =

@@ -17,4 +17,7 @@ returns-clause-reply c = c.with_gone.ensures ∙ (ap (λ g. reply_with g c.settl
 pub returns-clause-done : goal.returns-clause-done
 returns-clause-done c = λ t is out.
     after out c.args.cell.now c.room_for.new.cell c.change_own-gone.new.cell c.settle-work.new.desk c.settle-work.result.objects t (c.room_for.ensures.same out) c.change_own-gone.ensures.same c.change_own-gone.ensures.processes c.change_own-gone.ensures.devices c.change_own-gone.ensures.mounts c.change_own-gone.ensures.ids
-    (settled (decision_of c.room_for.new.cell.desk (Turn c.args.case)) t (as_desk c.settle-work.new.desk) c.settle-work.result (cell_world out c.room_for.new.cell) (c.room_for.ensures.seen ∙ is) (c.settle-work.ensures.sits refl) c.settle-work.ensures.console (c.settle-work.ensures.works None (cell_world out c.room_for.new.cell) refl))
+    (settled (decision_of c.room_for.new.cell.desk (Turn c.args.case)) t (as_desk c.settle-work.new.desk) c.settle-work.result (cell_world out c.room_for.new.cell) (c.room_for.ensures.seen ∙ is) (c.settle-work.ensures.sits refl) (c.settle-work.ensures.turn c.args.case refl).1.0 (c.settle-work.ensures.turn c.args.case refl).1.1 (c.settle-work.ensures.works None (cell_world out c.room_for.new.cell) refl))
+
+pub change_own-gone-requires-clause-own : goal.change_own-gone-requires-clause-own
+change_own-gone-requires-clause-own c = c.settle-work.ensures.own c.args.case refl c.requires.own

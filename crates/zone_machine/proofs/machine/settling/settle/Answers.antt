@@ -36,3 +36,6 @@ returns-in-Turn-clause-named c = λ z h. record { stored = c.of_turn.ensures.sto
 
 pub returns-in-Login-clause-works : goal.returns-in-Login-clause-works
 returns-in-Login-clause-works c = λ n v desk. rw c.in-Login.is (c.log_in.ensures.works n v c.args.desk.now (as_desk c.args.desk.now) desk)
+
+pub returns-in-Enter-clause-works : goal.returns-in-Enter-clause-works
+returns-in-Enter-clause-works c = λ n v desk. rw c.in-Enter.is (c.run_errand.ensures.works n v c.args.desk.now (as_desk c.args.desk.now) desk)
