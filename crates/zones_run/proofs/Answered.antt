@@ -35,6 +35,7 @@ use Rattle.zones_run.specs.Answering.{Fails, FailsLine, IsAnswered, Steps}
 use Rattle.zones_run.specs.Scripting.{state_after}
 use Rattle.zones_run.specs.Recording.{GoesSurely}
 use Rattle.zones_run.specs.Tracing.{entry_text}
+use Rattle.zones_run.specs.declared.words.Mode.{Mode}
 use Rattle.zones_run.specs.declared.fault.RunFault.{RunFault}
 use Rattle.zones_run.specs.declared.fault.RunFault.TheVariants.{Memory}
 use Rattle.zones_run.proofs.Fronts.{after_known-append}
@@ -138,13 +139,13 @@ pub stands_on : {D F : Type 0} (S : State) (old new : Machine D F) → AsItWas o
 stands_on S old new was bank stands = record { parts = (was S).0 stands.parts; bodies = stands.bodies ∙ sym (ap (λ b. b.records) bank) }
 
 -- the reply waits after what waited
-pub is_answered : (S : State) (e : Event) (a : Answer) (now_stands : State → Type 0) (v w : View) (old new : List ℕ) (holds between now : Option (List ℕ)) → Steps S e a now_stands v w → after_known between old ≡ holds → new ≡ old ++ reply_text (subject_by e a.whose) a.reply
-    → now ≡ between → IsAnswered S e a now_stands v w holds (after_known now new)
-is_answered S e a now_stands v w old new holds between now steps same text stays = record {
+pub is_answered : (mode : Mode) (S : State) (e : Event) (a : Answer) (now_stands : State → Type 0) (v w : View) (old new : List ℕ) (holds between now : Option (List ℕ)) → Steps S e a now_stands v w → after_known between old ≡ holds → new ≡ old ++ entry_text mode (entry_by e a)
+    → now ≡ between → IsAnswered mode S e a now_stands v w holds (after_known now new)
+is_answered mode S e a now_stands v w old new holds between now steps same text stays = record {
   told = steps.told;
   stands = steps.stands;
-  text = ap (λ known. after_known known new) stays ∙ ap (after_known between) text ∙ sym (after_known-append between old (reply_text (subject_by e a.whose) a.reply))
-      ∙ ap (λ known. after_known known (reply_text (subject_by e a.whose) a.reply)) same ∙ ap (λ (entry : Entry). after_known holds (entry_text entry)) steps.told;
+  text = ap (λ known. after_known known new) stays ∙ ap (after_known between) text ∙ sym (after_known-append between old (entry_text mode (entry_by e a)))
+      ∙ ap (λ known. after_known known (entry_text mode (entry_by e a))) same ∙ ap (λ (entry : Entry). after_known holds (entry_text mode entry)) steps.told;
   goes = steps.goes;
 }
 

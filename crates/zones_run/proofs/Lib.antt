@@ -28,3 +28,4 @@ pub mod Obeying
 pub mod Turning
 pub mod Ending
 pub mod ExportRuns
+pub mod Purging

@@ -29,7 +29,7 @@ use Rattle.zones_run.specs.Tracing.{run_of}
 use Rattle.zones_run.specs.declared.fault.RunFault.{RunFault}
 use Rattle.zones_run.specs.declared.words.Task.{Task}
 use Rattle.zones_run.specs.declared.words.Task.TheVariants.{Index, Run}
-use Rattle.zones_run.specs.declared.words.Turns.{Turns}
+use Rattle.zones_run.specs.declared.words.Mode.{Mode}
 use Rattle.zones_run.specs.declared.outcome.Complaint.TheVariants.{NotAStore}
 use Rattle.zones_run.proofs.Answered.{ready_holds}
 use Rattle.zones_run.proofs.Fronts.{after_known-nil}
@@ -62,8 +62,8 @@ front_any : (brands : List Tabled) (R : List Commit) (h : List Entry) (image : L
 front_any brands R h image holds = record { front = []; rest = changes (opening brands R) h; whole = refl; holds = subst (λ (l : List Commit). Holds l image) (sym (append-nil R)) holds }
 
 -- what a trace has recorded since the disk was opened
-pub ran_later : (turns : Turns) (brands : List Tabled) (R : List Commit) (status : ℕ) (input held holds : Option (List ℕ)) (u v w : View) → Leaves u v (Holds R) → RanBy turns brands R status input held holds v w → RanBy turns brands R status input held holds u w
-ran_later turns brands R status input held holds u v w past ran =
+pub ran_later : (mode : Mode) (brands : List Tabled) (R : List Commit) (status : ℕ) (input held holds : Option (List ℕ)) (u v w : View) → Leaves u v (Holds R) → RanBy mode brands R status input held holds v w → RanBy mode brands R status input held holds u w
+ran_later mode brands R status input held holds u v w past ran =
     let h = ran.answered ++ ran.under_way in
     record {
       answered = ran.answered;
@@ -82,8 +82,8 @@ ran_later turns brands R status input held holds u v w past ran =
     }
 
 -- where the store was not opened nothing was recorded
-pub ran_nothing : (turns : Turns) (brands : List Tabled) (R : List Commit) (status : ℕ) (input held : Option (List ℕ)) (v w : View) → IsSound w → Leaves v w (Holds R) → (IsWhole status → ⊥) → RanBy turns brands R status input held held v w
-ran_nothing turns brands R status input held v w sound past not =
+pub ran_nothing : (mode : Mode) (brands : List Tabled) (R : List Commit) (status : ℕ) (input held : Option (List ℕ)) (v w : View) → IsSound w → Leaves v w (Holds R) → (IsWhole status → ⊥) → RanBy mode brands R status input held held v w
+ran_nothing mode brands R status input held v w sound past not =
     let nothing : held ≡ after_known held [] = sym (after_known-nil held) in
     record {
       answered = [];
@@ -91,24 +91,24 @@ ran_nothing turns brands R status input held v w sound past not =
       records = record {
         few = omega arith;
         legal = refl;
-        begins = if_some _ (option_map (λ bs. (run_of turns brands R bs).entries) input) (λ all. record { rest = all; whole = refl });
+        begins = if_some _ (option_map (λ bs. (run_of mode brands R bs).entries) input) (λ all. record { rest = all; whole = refl });
         any_moment = weaker v w (Holds R) (HoldsFront (opening brands R) []) (front-none brands R) past;
         now = λ image now. inl (subst (λ (l : List Commit). Holds l image) (sym (append-nil R)) (past.each image (sound.counts_now v.moment image past.later now)));
       };
       settled = λ clear. refl;
       all = λ whole. absurd (not whole);
       replies = λ t. nothing;
-      nearly = λ t. nearly_all [] held held nothing;
+      nearly = λ t. nearly_all mode [] held held nothing;
     }
 
 -- nothing was recorded of whatever was to be done
 pub records_nothing : (task : Task) (brands : List Tabled) (R : List Commit) (status : ℕ) (input held : Option (List ℕ)) (v w : View) → IsSound w → Leaves v w (Holds R) → (IsWhole status → ⊥) → RecordsOver task brands R status input held held v w
-records_nothing (Run turns) brands R status input held v w sound past not = ran_nothing turns brands R status input held v w sound past not
+records_nothing (Run mode) brands R status input held v w sound past not = ran_nothing mode brands R status input held v w sound past not
 records_nothing Index brands R status input held v w sound past not = record { any_moment = past; now = λ image now. past.each image (sound.counts_now v.moment image past.later now) }
 
 -- and what was is recorded since the disk was opened
 pub records_later : (task : Task) (brands : List Tabled) (R : List Commit) (status : ℕ) (input held holds : Option (List ℕ)) (u v w : View) → Leaves u v (Holds R) → RecordsOver task brands R status input held holds v w → RecordsOver task brands R status input held holds u w
-records_later (Run turns) brands R status input held holds u v w past ran = ran_later turns brands R status input held holds u v w past ran
+records_later (Run mode) brands R status input held holds u v w past ran = ran_later mode brands R status input held holds u v w past ran
 records_later Index brands R status input held holds u v w past kept = record { any_moment = joined u v w (Holds R) past kept.any_moment; now = kept.now }
 
 -- a store that was only read
@@ -124,11 +124,11 @@ keeps_store R v sound is = record {
 
 -- and nothing was taken or written
 answers_none : (task : Task) (brands : List Tabled) (R : List Commit) (status : ℕ) (input held : Option (List ℕ)) → AnswersOver task brands R status input input held held
-answers_none (Run turns) brands R status input held = record {
-  taken = runs_none turns brands R held input;
-  some = λ s. no_replies turns brands R held input;
-  failed = λ f. no_some turns brands R held input;
-  read = λ r. no_read turns brands R held input;
+answers_none (Run mode) brands R status input held = record {
+  taken = runs_none mode brands R held input;
+  some = λ s. no_replies mode brands R held input;
+  failed = λ f. no_some mode brands R held input;
+  read = λ r. no_read mode brands R held input;
 }
 answers_none Index brands R status input held = record { taken = refl; nothing = λ f. refl }
 

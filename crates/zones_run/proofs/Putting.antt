@@ -1,6 +1,7 @@
 -- The turns that are put in: they count, they restart nothing, and none follows a line that isn't answered by a ticket.
-use Rattle.std.proofs.Common.{◌≡◌, ◌++◌, ◌||◌, ℕ, zero, suc, Bool, true, false, cond, List, [], ◌∷◌, map, All, Option, Some, None, refl, ap, sym, subst, ◌∙◌}
+use Rattle.std.proofs.Common.{◌≡◌, ◌⊎◌, inl, inr, ◌++◌, ◌||◌, ℕ, zero, suc, Bool, true, false, cond, List, [], ◌∷◌, map, All, Option, Some, None, refl, ap, sym, subst, ◌∙◌}
 use Rattle.std.proofs.Math.Bool.{or-true}
+use Rattle.std.proofs.lemmas.Bool.{true≢false}
 use Rattle.std.proofs.lemmas.List.Elements.{All-cons, All-nil}
 use Rattle.std.specs.List.{list_any}
 use Rattle.zone_cases.specs.Events.{is_restart}
@@ -11,6 +12,7 @@ use Rattle.zone_cases.specs.declared.events.Entry.{Entry}
 use Rattle.zone_cases.specs.declared.events.Event.{Event}
 use Rattle.zone_cases.specs.declared.events.Event.TheVariants.{Process as Call_of, Restart, Session, System, Turn}
 use Rattle.zn_base.specs.Names.{Name}
+use Rattle.zn_base.specs.declared.name.ZoneName.{ZoneName}
 use Rattle.std.proofs.lemmas.List.{append-nil}
 use Rattle.zone_machine.specs.Code.Decided.{entry_by, subject_by}
 use Rattle.zone_cases.specs.declared.events.Answer.{Answer}
@@ -21,11 +23,11 @@ use Rattle.zone_cases.specs.declared.events.Whose.TheVariants.{Found, Own}
 use Rattle.zone_cases.specs.declared.replies.Head.{Head}
 use Rattle.zone_cases.specs.declared.replies.Head.TheVariants.{Ok as Accepted, Refused, Status, Ticket, Turned}
 use Rattle.zones_run.specs.Midway.{puts_until}
-use Rattle.zones_run.specs.Scripting.{both_parts, entry_in, is_last, is_turn, numbered, opened, opened_by, put_in, state_after, state_past, ticket_by, turns_after, turns_until, zone_by}
+use Rattle.zones_run.specs.Scripting.{both_parts, entry_in, is_last, is_turn, numbered, opened, opened_by, put_in, puts_in, state_after, state_past, ticket_by, turns_after, turns_until, zone_by}
 use Rattle.zones_run.specs.Tracing.{counts_event}
 use Rattle.zones_run.specs.declared.turns.Opened.{Opened}
-use Rattle.zones_run.specs.declared.words.Turns.{Turns}
-use Rattle.zones_run.specs.declared.words.Turns.TheVariants.{OfInput, PutIn}
+use Rattle.zones_run.specs.declared.words.Mode.{Mode}
+use Rattle.zones_run.specs.declared.words.Mode.TheVariants.{Purged, Replies, WithTurns}
 use Rattle.zones_run.proofs.Starting.{started_after}
 
 pub unnumbered : (n : ℕ) (es : List Event) → map (λ (x : ℕ × Event). x.1) (numbered n es) ≡ es
@@ -33,9 +35,10 @@ unnumbered n [] = refl
 unnumbered n (e ∷ es) = ap (λ l. e ∷ l) (unnumbered n es)
 
 -- no ticket, no turns
-pub none_after : (turns : Turns) (S : State) → turns_after turns None S ≡ []
-none_after OfInput S = refl
-none_after PutIn S = refl
+pub none_after : (mode : Mode) (S : State) → turns_after mode None S ≡ []
+none_after Replies S = refl
+none_after (Purged zone) S = refl
+none_after WithTurns S = refl
 
 -- a line that is answered by a ticket counts, and so does each turn
 opened_counts : (e : Event) (s : Subject) (h : Head) (o : Opened) → opened_by e s h ≡ Some o → counts_event e ≡ true
@@ -59,15 +62,16 @@ started_until (suc more) o S is =
       | false ↦ started_until more o T begun
     ]
 
-by_ticket : (turns : Turns) (said : Option Opened) (S : State) → ((o : Opened) → said ≡ Some o → S.started ≡ true) → (state_past S (turns_after turns said S)).started ≡ S.started
-by_ticket OfInput said S begun = refl
-by_ticket PutIn None S begun = refl
-by_ticket PutIn (Some o) S begun = started_until 10000000 o S (begun o refl) ∙ sym (begun o refl)
+by_ticket : (mode : Mode) (said : Option Opened) (S : State) → ((o : Opened) → said ≡ Some o → S.started ≡ true) → (state_past S (turns_after mode said S)).started ≡ S.started
+by_ticket Replies said S begun = refl
+by_ticket (Purged zone) said S begun = refl
+by_ticket WithTurns None S begun = refl
+by_ticket WithTurns (Some o) S begun = started_until 10000000 o S (begun o refl) ∙ sym (begun o refl)
 
 -- what the lines after the turns say depends on the line before them alone
-pub started_past : (turns : Turns) (S : State) (e : Event) → (state_past (state_after S e) (turns_after turns (opened (entry_in S e)) (state_after S e))).started ≡ (S.started || counts_event e)
-started_past turns S e =
-    by_ticket turns (opened (entry_in S e)) (state_after S e) (λ o is. turn_counts S e (opened_counts e (entry_in S e).subject (entry_in S e).reply.head o is)) ∙ started_after S e (allowed S e)
+pub started_past : (mode : Mode) (S : State) (e : Event) → (state_past (state_after S e) (turns_after mode (opened (entry_in S e)) (state_after S e))).started ≡ (S.started || counts_event e)
+started_past mode S e =
+    by_ticket mode (opened (entry_in S e)) (state_after S e) (λ o is. turn_counts S e (opened_counts e (entry_in S e).subject (entry_in S e).reply.head o is)) ∙ started_after S e (allowed S e)
 
 -- they are turns
 abbrev AreTurns : List Entry → Type 0
@@ -91,10 +95,11 @@ until_rests (suc more) o S =
     let T = state_after S (Turn o.zone) in
     elim (is_last o.ticket (entry_in S (Turn o.zone)).reply.head) as (λ b. list_any is_restart (cond b [] (turns_until more o T)) ≡ false) [ true ↦ refl | false ↦ until_rests more o T ]
 
-after_rests : (turns : Turns) (said : Option Opened) (S : State) → list_any is_restart (turns_after turns said S) ≡ false
-after_rests OfInput said S = refl
-after_rests PutIn None S = refl
-after_rests PutIn (Some o) S = until_rests 10000000 o S
+after_rests : (mode : Mode) (said : Option Opened) (S : State) → list_any is_restart (turns_after mode said S) ≡ false
+after_rests Replies said S = refl
+after_rests (Purged zone) said S = refl
+after_rests WithTurns None S = refl
+after_rests WithTurns (Some o) S = until_rests 10000000 o S
 
 or_rest : (a b : Bool) → (a || b) ≡ false → b ≡ false
 or_rest false b h = h
@@ -110,17 +115,29 @@ numbered_rests n (e ∷ es) events h =
     ap (λ b. is_restart e || b) (numbered_rests n es events (or_rest (is_restart e) (list_any is_restart es) h))
     ∙ first_rests (is_restart e) (list_any is_restart es) (list_any (λ (x : ℕ × Event). is_restart x.1) events) h
 
-pub put_rests : (turns : Turns) (S : State) (events : List (ℕ × Event)) → list_any (λ (x : ℕ × Event). is_restart x.1) (put_in turns S events) ≡ list_any (λ (x : ℕ × Event). is_restart x.1) events
-put_rests turns S [] = refl
-put_rests turns S (e ∷ events) =
+pub put_rests : (mode : Mode) (S : State) (events : List (ℕ × Event)) → list_any (λ (x : ℕ × Event). is_restart x.1) (put_in mode S events) ≡ list_any (λ (x : ℕ × Event). is_restart x.1) events
+put_rests mode S [] = refl
+put_rests mode S (e ∷ events) =
     let T = state_after S e.1 in
-    let more = turns_after turns (opened (entry_in S e.1)) T in
-    ap (λ b. is_restart e.1 || b) (numbered_rests e.0 more (put_in turns (state_past T more) events) (after_rests turns (opened (entry_in S e.1)) T) ∙ put_rests turns (state_past T more) events)
+    let more = turns_after mode (opened (entry_in S e.1)) T in
+    ap (λ b. is_restart e.1 || b) (numbered_rests e.0 more (put_in mode (state_past T more) events) (after_rests mode (opened (entry_in S e.1)) T) ∙ put_rests mode (state_past T more) events)
 
--- `trace` puts none in
-pub nothing_put : (S : State) (events : List (ℕ × Event)) → put_in OfInput S events ≡ events
-nothing_put S [] = refl
-nothing_put S (e ∷ events) = ap (λ l. e ∷ l) (nothing_put (state_after S e.1) events)
+-- only `script` puts any in
+none_of : (mode : Mode) (said : Option Opened) (S : State) → puts_in mode ≡ false → turns_after mode said S ≡ []
+none_of Replies said S h = refl
+none_of (Purged zone) said S h = refl
+none_of WithTurns said S h = absurd (true≢false h)
+
+pub puts_none : (mode : Mode) → (mode ≡ Replies) ⊎ ((zone : ZoneName) × (mode ≡ Purged zone)) → puts_in mode ≡ false
+puts_none mode (inl is) = ap puts_in is
+puts_none mode (inr is) = ap puts_in is.1
+
+pub nothing_put : (mode : Mode) (S : State) (events : List (ℕ × Event)) → puts_in mode ≡ false → put_in mode S events ≡ events
+nothing_put mode S [] h = refl
+nothing_put mode S (e ∷ events) h =
+    let T = state_after S e.1 in
+    ap (λ more. e ∷ (numbered e.0 more ++ put_in mode (state_past T more) events)) (none_of mode (opened (entry_in S e.1)) T h)
+    ∙ ap (λ l. e ∷ l) (nothing_put mode T events h)
 
 -- of a turn and those after it
 pub next_put : (more : ℕ) (o : Opened) (m : ℕ) (S : State) → puts_until (suc more) o m S ≡ (m, Turn o.zone) ∷ numbered m (cond (is_last o.ticket (entry_in S (Turn o.zone)).reply.head) [] (turns_until more o (state_after S (Turn o.zone))))

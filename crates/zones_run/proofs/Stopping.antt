@@ -24,7 +24,7 @@ use Rattle.zones_run.specs.declared.lines.ReadFault.{ReadFault}
 use Rattle.zones_run.specs.declared.lines.ReadFault.TheVariants.{Failed, Memory as No_memory}
 use Rattle.zones_run.specs.declared.outcome.Complaint.{Complaint}
 use Rattle.zones_run.specs.declared.outcome.Complaint.TheVariants.{Grammar as Bad_line}
-use Rattle.zones_run.specs.declared.words.Turns.{Turns}
+use Rattle.zones_run.specs.declared.words.Mode.{Mode}
 use Rattle.zones_run.specs.declared.trace.Stop.{Stop}
 use Rattle.zones_run.specs.declared.trace.Stop.TheVariants.{Fault, Grammar, NoStore}
 use Rattle.zones_run.proofs.TraceEnds.{answers_lines, at_fault, ends_failed, fails_with, tells_fault}
@@ -56,29 +56,29 @@ pub never_reads : (stop : Stop) (number : ℕ) (holds now : Option (List ℕ)) (
 never_reads stop number holds now waiting left text is = subst (λ s. StopsText s holds now waiting left) (stopped_by stop number Read is) text
 
 -- how the trace ends
-pub ends_stopped : (turns : Turns) (brands : List Tabled) (R : List Commit) (stands : State → Type 0) (stop : Stop) (refused : Option ℕ) (n : ℕ) (held holds now old left input : Option (List ℕ)) (waiting now_waiting : List ℕ) (line : List ℕ) (new : Option (List (List ℕ))) (same : Type 0) (v w : View)
-    → RunsOn turns none_put brands R stands refused n held (after_known holds waiting) old input → HasWritten held holds → StopsText stop holds now waiting now_waiting → TakesPiece old left → option_map lines_of old ≡ option_map (λ ls. line ∷ ls) new → n ≤ 200000 → length line ≤ 4096
-    → ((S : State) → stands S → Stops stop same S (event_of S.started line) v w) → MayStop stop v → ((run : RunsOn turns none_put brands R stands refused n held (after_known holds waiting) old input) → RestartsWell (event_of run.state.started line) v) → EndsAs turns brands R (ended_by stop n) input left held now (after_known now now_waiting)
-ends_stopped turns brands R stands (Fault fault) refused n held holds now old left input waiting now_waiting line new same v w run written text piece is h k stops may well =
-    ends_failed turns brands R stands fault refused n held holds now old left input waiting now_waiting run written text piece
-ends_stopped turns brands R stands (NoStore fault) refused n held holds now old left input waiting now_waiting line new same v w run written text piece is h k stops may well = absurd (may (well run (stops run.state run.stood)))
-ends_stopped turns brands R stands (Grammar fault) refused n held holds now old left input waiting now_waiting line new same v w run written text piece is h k stops may well =
-    let told = runs_told turns none_put brands R stands refused n held (after_known holds waiting) (after_known now now_waiting) old input text run in
-    (tells_fault turns brands R stands refused n held (after_known now now_waiting) line fault old new input told is h k (λ S stood. (stops S stood).0), answers_lines turns brands R stands refused n held (after_known now now_waiting) old left input told piece)
+pub ends_stopped : (mode : Mode) (brands : List Tabled) (R : List Commit) (stands : State → Type 0) (stop : Stop) (refused : Option ℕ) (n : ℕ) (held holds now old left input : Option (List ℕ)) (waiting now_waiting : List ℕ) (line : List ℕ) (new : Option (List (List ℕ))) (same : Type 0) (v w : View)
+    → RunsOn mode none_put brands R stands refused n held (after_known holds waiting) old input → HasWritten held holds → StopsText stop holds now waiting now_waiting → TakesPiece old left → option_map lines_of old ≡ option_map (λ ls. line ∷ ls) new → n ≤ 200000 → length line ≤ 4096
+    → ((S : State) → stands S → Stops stop same S (event_of S.started line) v w) → MayStop stop v → ((run : RunsOn mode none_put brands R stands refused n held (after_known holds waiting) old input) → RestartsWell (event_of run.state.started line) v) → EndsAs mode brands R (ended_by stop n) input left held now (after_known now now_waiting)
+ends_stopped mode brands R stands (Fault fault) refused n held holds now old left input waiting now_waiting line new same v w run written text piece is h k stops may well =
+    ends_failed mode brands R stands fault refused n held holds now old left input waiting now_waiting run written text piece
+ends_stopped mode brands R stands (NoStore fault) refused n held holds now old left input waiting now_waiting line new same v w run written text piece is h k stops may well = absurd (may (well run (stops run.state run.stood)))
+ends_stopped mode brands R stands (Grammar fault) refused n held holds now old left input waiting now_waiting line new same v w run written text piece is h k stops may well =
+    let told = runs_told mode none_put brands R stands refused n held (after_known holds waiting) (after_known now now_waiting) old input text run in
+    (tells_fault mode brands R stands refused n held (after_known now now_waiting) line fault old new input told is h k (λ S stood. (stops S stood).0), answers_lines mode brands R stands refused n held (after_known now now_waiting) old left input told piece)
 
 -- and what it has recorded
-pub ran_stopped : (turns : Turns) (brands : List Tabled) (R : List Commit) (stands : State → Type 0) (v0 v w : View) (stop : Stop) (refused : Option ℕ) (n : ℕ) (held holds now old new input : Option (List ℕ)) (waiting left : List ℕ) (line : List ℕ) (lines : Option (List (List ℕ))) (same : Type 0)
-    → Follows turns none_put brands R stands (Left brands R v0 v) refused n held (after_known holds waiting) old input → IsStoreOf v0 R → StopsText stop holds now waiting left → TakesLine line old new → option_map lines_of old ≡ option_map (λ ls. line ∷ ls) lines → n ≤ 200000 → length line ≤ 4096
-    → ((S : State) → stands S → Stops stop same S (event_of S.started line) v w) → MayStop stop v → (same → (P : View → Type 0) → P v → P w) → RanAs turns brands R (ended_by stop n) input held (after_known now left) v0 w
-ran_stopped turns brands R stands v0 v w (NoStore fault) refused n held holds now old new input waiting left line lines same f is text took eq h k stops may stay = absurd (may (f.kept is).keeps)
-ran_stopped turns brands R stands v0 v w (Fault fault) refused n held holds now old new input waiting left line lines same f is text took eq h k stops may stay =
-    ran_left turns brands R fault input held holds now waiting left v0 w text
-    (ran_failed turns brands R stands v0 v refused n held (after_known holds waiting) old input f is fault same w line new (event_of f.run.state.started line) took h k refl (stops f.run.state f.run.stood) stay)
-ran_stopped turns brands R stands v0 v w (Grammar fault) refused n held holds now old new input waiting left line lines same f is text took eq h k stops may stay =
+pub ran_stopped : (mode : Mode) (brands : List Tabled) (R : List Commit) (stands : State → Type 0) (v0 v w : View) (stop : Stop) (refused : Option ℕ) (n : ℕ) (held holds now old new input : Option (List ℕ)) (waiting left : List ℕ) (line : List ℕ) (lines : Option (List (List ℕ))) (same : Type 0)
+    → Follows mode none_put brands R stands (Left brands R v0 v) refused n held (after_known holds waiting) old input → IsStoreOf v0 R → StopsText stop holds now waiting left → TakesLine line old new → option_map lines_of old ≡ option_map (λ ls. line ∷ ls) lines → n ≤ 200000 → length line ≤ 4096
+    → ((S : State) → stands S → Stops stop same S (event_of S.started line) v w) → MayStop stop v → (same → (P : View → Type 0) → P v → P w) → RanAs mode brands R (ended_by stop n) input held (after_known now left) v0 w
+ran_stopped mode brands R stands v0 v w (NoStore fault) refused n held holds now old new input waiting left line lines same f is text took eq h k stops may stay = absurd (may (f.kept is).keeps)
+ran_stopped mode brands R stands v0 v w (Fault fault) refused n held holds now old new input waiting left line lines same f is text took eq h k stops may stay =
+    ran_left mode brands R fault input held holds now waiting left v0 w text
+    (ran_failed mode brands R stands v0 v refused n held (after_known holds waiting) old input f is fault same w line new (event_of f.run.state.started line) took h k refl (stops f.run.state f.run.stood) stay)
+ran_stopped mode brands R stands v0 v w (Grammar fault) refused n held holds now old new input waiting left line lines same f is text took eq h k stops may stay =
     let outside = stops f.run.state f.run.stood in
-    ran_same turns brands R (Ok (Some (Bad_line n fault))) input held (after_known now left) v0 v w same outside.1 stay
-    (ran_written turns brands R (Ok (Some (Bad_line n fault))) input held (after_known holds waiting) (after_known now left) v0 v text
-    (ran_whole turns brands R stands v0 v refused n held (after_known holds waiting) old input f is _ _ _ _ (At_fault n fault) (at_fault f.run.state.started n line fault old lines eq h k outside.0)))
+    ran_same mode brands R (Ok (Some (Bad_line n fault))) input held (after_known now left) v0 v w same outside.1 stay
+    (ran_written mode brands R (Ok (Some (Bad_line n fault))) input held (after_known holds waiting) (after_known now left) v0 v text
+    (ran_whole mode brands R stands v0 v refused n held (after_known holds waiting) old input f is _ _ _ _ (At_fault n fault) (at_fault f.run.state.started n line fault old lines eq h k outside.0)))
 
 -- a fault of reading that ends a trace is the source's or memory's
 pub only_reading : (r : Result (Option Complaint) RunFault) (fault : ReadFault) → IsErrAnd r (λ e. e ≡ run_fault_of fault) → IsErrOf r Write ⊎ IsErrOf r Disk → ⊥

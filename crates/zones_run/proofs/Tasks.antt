@@ -12,20 +12,20 @@ use Rattle.zones_run.specs.Recording.{KeepsStore, RanBy}
 use Rattle.zones_run.specs.Tracing.{traced}
 use Rattle.zones_run.specs.declared.words.Task.{Task}
 use Rattle.zones_run.specs.declared.words.Task.TheVariants.{Index, Run}
-use Rattle.zones_run.specs.declared.words.Turns.{Turns}
+use Rattle.zones_run.specs.declared.words.Mode.{Mode}
 use Rattle.zones_run.proofs.Commands.{if_mapped}
 
-module _ (task : Task) (turns : Turns) (is : task ≡ Run turns) (brands : List Tabled) (R : List Commit) (status : ℕ) (input left held holds : Option (List ℕ)) where
+module _ (task : Task) (mode : Mode) (is : task ≡ Run mode) (brands : List Tabled) (R : List Commit) (status : ℕ) (input left held holds : Option (List ℕ)) where
   pub run_finds : (v : View) → FindsStore task v input → FindsAlways v input
   run_finds v finds = subst (λ (t : Task). FindsStore t v input) is finds
 
-  pub run_done : (P : Output → Type 0) → IfSome input (λ bytes. P (traced turns brands R bytes)) → IfSome (done_over task brands R input) P
-  run_done P holds = subst (λ (t : Task). IfSome (done_over t brands R input) P) (sym is) (if_mapped (traced turns brands R) P input holds)
+  pub run_done : (P : Output → Type 0) → IfSome input (λ bytes. P (traced mode brands R bytes)) → IfSome (done_over task brands R input) P
+  run_done P holds = subst (λ (t : Task). IfSome (done_over t brands R input) P) (sym is) (if_mapped (traced mode brands R) P input holds)
 
-  pub run_answers : AnswersTrace turns brands R status input left held holds → AnswersOver task brands R status input left held holds
+  pub run_answers : AnswersTrace mode brands R status input left held holds → AnswersOver task brands R status input left held holds
   run_answers answers = subst (λ (t : Task). AnswersOver t brands R status input left held holds) (sym is) answers
 
-  pub run_records : (v w : View) → RanBy turns brands R status input held holds v w → RecordsOver task brands R status input held holds v w
+  pub run_records : (v w : View) → RanBy mode brands R status input held holds v w → RecordsOver task brands R status input held holds v w
   run_records v w ran = subst (λ (t : Task). RecordsOver t brands R status input held holds v w) (sym is) ran
 
 module _ (task : Task) (is : task ≡ Index) (brands : List Tabled) (R : List Commit) (status : ℕ) (input left held holds : Option (List ℕ)) where

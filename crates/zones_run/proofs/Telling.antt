@@ -14,7 +14,7 @@ use Rattle.zones_run.specs.Run.{HasFront, IsDecided, IsWhole, TakesFronts, Tells
 use Rattle.zones_run.specs.Statuses.{status_disk_fault, status_no_memory, status_not_a_store, status_read_fault, status_refused, status_write_fault}
 use Rattle.zones_run.specs.Tracing.{EndsAs, Tells, left_to_tell, traced}
 use Rattle.zones_run.specs.declared.fault.RunFault.{RunFault}
-use Rattle.zones_run.specs.declared.words.Turns.{Turns}
+use Rattle.zones_run.specs.declared.words.Mode.{Mode}
 use Rattle.zones_run.specs.declared.fault.RunFault.TheVariants.{Disk, Memory, Read, Write}
 use Rattle.zones_run.specs.declared.outcome.Complaint.{Complaint}
 use Rattle.zones_run.specs.declared.outcome.Complaint.TheVariants.{End, FirstRefused, Grammar, Limit, Line, NotAStore}
@@ -129,62 +129,62 @@ if_some P None all = tt
 if_some P (Some a) all = all a
 
 -- the text of a trace that came to an end
-pub text_told : (turns : Turns) (brands : List Tabled) (R : List Commit) (complaint : Option Complaint) (status : ℕ) (held holds input : Option (List ℕ)) → (IsDecided status → status ≡ (left_to_tell complaint).status) → IfSome input (λ bytes. Tells complaint held holds (traced turns brands R bytes))
-    → IfSome input (λ bytes. TellsText (traced turns brands R bytes) status held holds)
-text_told turns brands R complaint status held holds None is tells = tt
-text_told turns brands R complaint status held holds (Some bytes) is tells = record {
+pub text_told : (mode : Mode) (brands : List Tabled) (R : List Commit) (complaint : Option Complaint) (status : ℕ) (held holds input : Option (List ℕ)) → (IsDecided status → status ≡ (left_to_tell complaint).status) → IfSome input (λ bytes. Tells complaint held holds (traced mode brands R bytes))
+    → IfSome input (λ bytes. TellsText (traced mode brands R bytes) status held holds)
+text_told mode brands R complaint status held holds None is tells = tt
+text_told mode brands R complaint status held holds (Some bytes) is tells = record {
   decided = λ d. record { status_is = is d ∙ ap (λ (o : Output). o.status) tells.rest; taken = tells.taken };
-  front = λ f. whole_front turns brands R complaint held holds (Some bytes) tells;
+  front = λ f. whole_front mode brands R complaint held holds (Some bytes) tells;
 }
 
-pub line_told : (turns : Turns) (brands : List Tabled) (R : List Commit) (complaint : Option Complaint) (status : ℕ) (held holds input err_held err_holds : Option (List ℕ)) (before now : ℕ) → TellsLine (left_to_tell complaint).err status err_held err_holds before now → IfSome input (λ bytes. Tells complaint held holds (traced turns brands R bytes))
-    → IfSome input (λ bytes. TellsLine (traced turns brands R bytes).err status err_held err_holds before now)
-line_told turns brands R complaint status held holds None err_held err_holds before now line tells = tt
-line_told turns brands R complaint status held holds (Some bytes) err_held err_holds before now line tells = subst (λ text. TellsLine text status err_held err_holds before now) (ap (λ (o : Output). o.err) tells.rest) line
+pub line_told : (mode : Mode) (brands : List Tabled) (R : List Commit) (complaint : Option Complaint) (status : ℕ) (held holds input err_held err_holds : Option (List ℕ)) (before now : ℕ) → TellsLine (left_to_tell complaint).err status err_held err_holds before now → IfSome input (λ bytes. Tells complaint held holds (traced mode brands R bytes))
+    → IfSome input (λ bytes. TellsLine (traced mode brands R bytes).err status err_held err_holds before now)
+line_told mode brands R complaint status held holds None err_held err_holds before now line tells = tt
+line_told mode brands R complaint status held holds (Some bytes) err_held err_holds before now line tells = subst (λ text. TellsLine text status err_held err_holds before now) (ap (λ (o : Output). o.err) tells.rest) line
 
 -- the text of one that a fault ended
-ends_front : (turns : Turns) (brands : List Tabled) (R : List Commit) (fault : RunFault) (status : ℕ) (held holds told left input : Option (List ℕ)) → status ≡ fault_status fault → EndsAs turns brands R (Err fault) input left held holds told → status ≡ status_write_fault → IfSome input (λ bytes. HasFront held holds (traced turns brands R bytes).out)
-ends_front turns brands R Write status held holds told left input is ends f = ends.0
-ends_front turns brands R Memory status held holds told left input is ends f = absurd (omega (arith, is, f))
-ends_front turns brands R Read status held holds told left input is ends f = absurd (omega (arith, is, f))
-ends_front turns brands R Disk status held holds told left input is ends f = absurd (omega (arith, is, f))
+ends_front : (mode : Mode) (brands : List Tabled) (R : List Commit) (fault : RunFault) (status : ℕ) (held holds told left input : Option (List ℕ)) → status ≡ fault_status fault → EndsAs mode brands R (Err fault) input left held holds told → status ≡ status_write_fault → IfSome input (λ bytes. HasFront held holds (traced mode brands R bytes).out)
+ends_front mode brands R Write status held holds told left input is ends f = ends.0
+ends_front mode brands R Memory status held holds told left input is ends f = absurd (omega (arith, is, f))
+ends_front mode brands R Read status held holds told left input is ends f = absurd (omega (arith, is, f))
+ends_front mode brands R Disk status held holds told left input is ends f = absurd (omega (arith, is, f))
 
-pub text_ended : (turns : Turns) (brands : List Tabled) (R : List Commit) (fault : RunFault) (status : ℕ) (held holds told left input : Option (List ℕ)) → status ≡ fault_status fault → EndsAs turns brands R (Err fault) input left held holds told → IfSome input (λ bytes. TellsText (traced turns brands R bytes) status held holds)
-text_ended turns brands R fault status held holds told left None is ends = tt
-text_ended turns brands R fault status held holds told left (Some bytes) is ends = text_failed (traced turns brands R bytes) fault status held holds is (ends_front turns brands R fault status held holds told left (Some bytes) is ends)
+pub text_ended : (mode : Mode) (brands : List Tabled) (R : List Commit) (fault : RunFault) (status : ℕ) (held holds told left input : Option (List ℕ)) → status ≡ fault_status fault → EndsAs mode brands R (Err fault) input left held holds told → IfSome input (λ bytes. TellsText (traced mode brands R bytes) status held holds)
+text_ended mode brands R fault status held holds told left None is ends = tt
+text_ended mode brands R fault status held holds told left (Some bytes) is ends = text_failed (traced mode brands R bytes) fault status held holds is (ends_front mode brands R fault status held holds told left (Some bytes) is ends)
 
 -- what a trace has taken and answered
-pub answers_told : (turns : Turns) (brands : List Tabled) (R : List Commit) (complaint : Option Complaint) (status : ℕ) (held holds left input : Option (List ℕ)) → (status ≡ status_read_fault → ⊥) → EndsAs turns brands R (Ok complaint) input left held holds holds → AnswersTrace turns brands R status input left held holds
-answers_told turns brands R complaint status held holds left input never ends = record {
-  taken = ends_run turns brands R (Ok complaint) held holds holds left input ends;
-  some = λ s. whole_replies turns brands R complaint held holds input ends.0;
-  failed = λ f. lines_some turns brands R held holds left input ends.1;
+pub answers_told : (mode : Mode) (brands : List Tabled) (R : List Commit) (complaint : Option Complaint) (status : ℕ) (held holds left input : Option (List ℕ)) → (status ≡ status_read_fault → ⊥) → EndsAs mode brands R (Ok complaint) input left held holds holds → AnswersTrace mode brands R status input left held holds
+answers_told mode brands R complaint status held holds left input never ends = record {
+  taken = ends_run mode brands R (Ok complaint) held holds holds left input ends;
+  some = λ s. whole_replies mode brands R complaint held holds input ends.0;
+  failed = λ f. lines_some mode brands R held holds left input ends.1;
   read = λ r. absurd (never r);
 }
 
-pub answers_failed : (turns : Turns) (brands : List Tabled) (R : List Commit) (fault : RunFault) (status : ℕ) (held holds left input : Option (List ℕ)) → status ≡ fault_status fault → EndsAs turns brands R (Err fault) input left held holds holds → AnswersTrace turns brands R status input left held holds
-answers_failed turns brands R Memory status held holds left input is ends =
-    record { taken = ends_run turns brands R (Err Memory) held holds holds left input ends; some = λ s. ends.0; failed = λ f. ends.1; read = λ r. absurd (omega (arith, is, r)) }
-answers_failed turns brands R Disk status held holds left input is ends =
-    record { taken = ends_run turns brands R (Err Disk) held holds holds left input ends; some = λ s. ends.0; failed = λ f. ends.1; read = λ r. absurd (omega (arith, is, r)) }
-answers_failed turns brands R Read status held holds left input is ends =
-    record { taken = ends_run turns brands R (Err Read) held holds holds left input ends; some = λ s. ends.0; failed = λ f. absurd (grind (arith, is, f)); read = λ r. ends.1 }
-answers_failed turns brands R Write status held holds left input is ends =
-    record { taken = ends_run turns brands R (Err Write) held holds holds left input ends; some = λ s. absurd (grind (arith, is, s)); failed = λ f. absurd (grind (arith, is, f)); read = λ r. absurd (omega (arith, is, r)) }
+pub answers_failed : (mode : Mode) (brands : List Tabled) (R : List Commit) (fault : RunFault) (status : ℕ) (held holds left input : Option (List ℕ)) → status ≡ fault_status fault → EndsAs mode brands R (Err fault) input left held holds holds → AnswersTrace mode brands R status input left held holds
+answers_failed mode brands R Memory status held holds left input is ends =
+    record { taken = ends_run mode brands R (Err Memory) held holds holds left input ends; some = λ s. ends.0; failed = λ f. ends.1; read = λ r. absurd (omega (arith, is, r)) }
+answers_failed mode brands R Disk status held holds left input is ends =
+    record { taken = ends_run mode brands R (Err Disk) held holds holds left input ends; some = λ s. ends.0; failed = λ f. ends.1; read = λ r. absurd (omega (arith, is, r)) }
+answers_failed mode brands R Read status held holds left input is ends =
+    record { taken = ends_run mode brands R (Err Read) held holds holds left input ends; some = λ s. ends.0; failed = λ f. absurd (grind (arith, is, f)); read = λ r. ends.1 }
+answers_failed mode brands R Write status held holds left input is ends =
+    record { taken = ends_run mode brands R (Err Write) held holds holds left input ends; some = λ s. absurd (grind (arith, is, s)); failed = λ f. absurd (grind (arith, is, f)); read = λ r. absurd (omega (arith, is, r)) }
 
 -- what it has recorded
-pub ran_told : (turns : Turns) (brands : List Tabled) (R : List Commit) (complaint : Option Complaint) (status : ℕ) (input held holds : Option (List ℕ)) (v w : View) → RanAs turns brands R (Ok complaint) input held holds v w → RanBy turns brands R status input held holds v w
-ran_told turns brands R complaint status input held holds v w ran = record {
+pub ran_told : (mode : Mode) (brands : List Tabled) (R : List Commit) (complaint : Option Complaint) (status : ℕ) (input held holds : Option (List ℕ)) (v w : View) → RanAs mode brands R (Ok complaint) input held holds v w → RanBy mode brands R status input held holds v w
+ran_told mode brands R complaint status input held holds v w ran = record {
   answered = ran.answered;
   under_way = ran.under_way;
   records = ran.records;
   settled = λ clear. ran.settled (λ h. cc);
   all = λ w. ran.all refl;
   replies = λ t. ran.replies (inr (inr refl));
-  nearly = λ t. nearly_all ran.answered held holds (ran.replies (inr (inr refl)));
+  nearly = λ t. nearly_all mode ran.answered held holds (ran.replies (inr (inr refl)));
 }
 
-module _ (turns : Turns) (brands : List Tabled) (R : List Commit) (input held holds : Option (List ℕ)) (v w : View) where
+module _ (mode : Mode) (brands : List Tabled) (R : List Commit) (input held holds : Option (List ℕ)) (v w : View) where
   no_whole : (fault : RunFault) (status : ℕ) → status ≡ fault_status fault → IsWhole status → ⊥
   no_whole Disk status is whole = grind (arith, is, whole)
   no_whole Memory status is whole = grind (arith, is, whole)
@@ -215,7 +215,7 @@ module _ (turns : Turns) (brands : List Tabled) (R : List Commit) (input held ho
   memory_fault Read status is m = absurd (omega (arith, is, m))
   memory_fault Write status is m = absurd (omega (arith, is, m))
 
-  pub ran_failed : (fault : RunFault) (status : ℕ) → status ≡ fault_status fault → RanAs turns brands R (Err fault) input held holds v w → RanBy turns brands R status input held holds v w
+  pub ran_failed : (fault : RunFault) (status : ℕ) → status ≡ fault_status fault → RanAs mode brands R (Err fault) input held holds v w → RanBy mode brands R status input held holds v w
   ran_failed fault status is ran = record {
     answered = ran.answered;
     under_way = ran.under_way;

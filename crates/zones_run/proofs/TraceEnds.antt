@@ -24,11 +24,11 @@ use Rattle.zones_run.specs.Reading.{FirstIsLong}
 use Rattle.zones_run.specs.Taking.{BeginsLine, TakesPiece}
 use Rattle.zones_run.specs.Run.{HasFront, run_fault_of}
 use Rattle.zones_run.specs.Answering.{LeavesText}
-use Rattle.zones_run.specs.Tracing.{AnswersLines, AnswersRead, AnswersSome, At_end, At_fault, Ending, EndsAs, HasReplies, HasWritten, Past_limit, Run, RunsLines, Tells, ends, entry_text, left_to_tell, replies_text, run_of, script_from, told, told_refusal, traced, with_turns}
+use Rattle.zones_run.specs.Tracing.{AnswersLines, AnswersRead, AnswersSome, At_end, At_fault, Ending, EndsAs, HasReplies, HasWritten, Past_limit, Run, RunsLines, Tells, ends, entry_text, left_to_tell, entries_text, run_of, script_from, told, told_refusal, traced, with_turns}
 use Rattle.zones_run.specs.Midway.{Knows, RunsOn, none_put, run_on, run_onto, with_script}
 use Rattle.zones_run.specs.Scripting.{is_turn}
-use Rattle.zones_run.specs.declared.words.Turns.{Turns}
-use Rattle.zones_run.specs.declared.words.Turns.TheVariants.{PutIn}
+use Rattle.zones_run.specs.declared.words.Mode.{Mode}
+use Rattle.zones_run.specs.declared.words.Mode.TheVariants.{WithTurns}
 use Rattle.zones_run.specs.declared.outcome.Complaint.{Complaint}
 use Rattle.zones_run.specs.declared.outcome.Complaint.TheVariants.{Grammar as Bad_line, Limit}
 use Rattle.zones_run.specs.declared.fault.RunFault.TheVariants.{Disk, Memory, Read, Write}
@@ -48,43 +48,43 @@ abbrev ended_run : List Entry → Option ℕ → Ending → Run
 ended_run done refused ending = record { entries = done; refused = refused; ending = ending }
 
 -- with no event to come the run is what it has come to
-no_more : (turns : Turns) (done : List Entry) (refused : Option ℕ) (n : ℕ) (S : State) (lines : List (List ℕ)) (ending : Ending) → script_from S.started n lines ≡ ends ending → run_on turns done refused n S lines ≡ ended_run done refused ending
-no_more turns done refused n S lines ending is =
-    ap (λ script. with_script done refused S (with_turns turns S script)) is ∙ ap (λ entries. ended_run entries (or_else refused None) ending) (append-nil done) ∙ ap (λ first. ended_run done first ending) (or_else-None refused)
+no_more : (mode : Mode) (done : List Entry) (refused : Option ℕ) (n : ℕ) (S : State) (lines : List (List ℕ)) (ending : Ending) → script_from S.started n lines ≡ ends ending → run_on mode done refused n S lines ≡ ended_run done refused ending
+no_more mode done refused n S lines ending is =
+    ap (λ script. with_script done refused S (with_turns mode S script)) is ∙ ap (λ entries. ended_run entries (or_else refused None) ending) (append-nil done) ∙ ap (λ first. ended_run done first ending) (or_else-None refused)
 
 -- every ending has the text of its entries
-told-out : (done : List Entry) (refused : Option ℕ) (ending : Ending) → (told (ended_run done refused ending)).out ≡ replies_text done
-told-out done None At_end = refl
-told-out done (Some n) At_end = refl
-told-out done refused (At_fault n fault) = refl
-told-out done refused (Past_limit n) = refl
+told-out : (mode : Mode) (done : List Entry) (refused : Option ℕ) (ending : Ending) → (told mode (ended_run done refused ending)).out ≡ entries_text mode done
+told-out mode done None At_end = refl
+told-out mode done (Some n) At_end = refl
+told-out mode done refused (At_fault n fault) = refl
+told-out mode done refused (Past_limit n) = refl
 
 -- the lines of the bytes to come end so, before any event
 abbrev pub EndsSo : (started : Bool) → ℕ → Ending → Option (List ℕ) → Type 0
 EndsSo started n ending bytes = IfSome bytes (λ bs. script_from started n (lines_of bs) ≡ ends ending)
 
 -- the run has ended so
-pub tells_ending : (turns : Turns) (brands : List Tabled) (R : List Commit) (stands : State → Type 0) (refused : Option ℕ) (n : ℕ) (held holds bytes input : Option (List ℕ)) (ending : Ending) (complaint : Option Complaint)
-    → RunsOn turns none_put brands R stands refused n held holds bytes input → ((S : State) → stands S → EndsSo S.started n ending bytes) → ((done : List Entry) → left_to_tell complaint ≡ record (told (ended_run done refused ending)) { out = [] })
-    → IfSome input (λ bs. Tells complaint held holds (traced turns brands R bs))
-tells_ending turns brands R stands refused n held holds bytes None ending complaint run ended is = tt
-tells_ending turns brands R stands refused n held holds bytes (Some input) ending complaint run ended is =
+pub tells_ending : (mode : Mode) (brands : List Tabled) (R : List Commit) (stands : State → Type 0) (refused : Option ℕ) (n : ℕ) (held holds bytes input : Option (List ℕ)) (ending : Ending) (complaint : Option Complaint)
+    → RunsOn mode none_put brands R stands refused n held holds bytes input → ((S : State) → stands S → EndsSo S.started n ending bytes) → ((done : List Entry) → left_to_tell complaint ≡ record (told mode (ended_run done refused ending)) { out = [] })
+    → IfSome input (λ bs. Tells complaint held holds (traced mode brands R bs))
+tells_ending mode brands R stands refused n held holds bytes None ending complaint run ended is = tt
+tells_ending mode brands R stands refused n held holds bytes (Some input) ending complaint run ended is =
     let known = run.known in
     let here : script_from run.state.started n (lines_of known.to_come) ≡ ends ending = subst (EndsSo run.state.started n ending) known.here (ended run.state run.stood) in
-    let whole : run_of turns brands R input ≡ ended_run run.done refused ending = known_run turns brands R refused [] n run.state run.done bytes input known ∙ no_more turns run.done refused n run.state (lines_of known.to_come) ending here in
-    subst (λ r. Tells complaint held holds (told r)) (sym whole) (record {
+    let whole : run_of mode brands R input ≡ ended_run run.done refused ending = known_run mode brands R refused [] n run.state run.done bytes input known ∙ no_more mode run.done refused n run.state (lines_of known.to_come) ending here in
+    subst (λ r. Tells complaint held holds (told mode r)) (sym whole) (record {
       rest = is run.done;
-      taken = run.text ∙ ap (after_known held) (sym (told-out run.done refused ending));
+      taken = run.text ∙ ap (after_known held) (sym (told-out mode run.done refused ending));
     })
 
 -- so all entries are those that it has answered
-pub all_entries : (turns : Turns) (brands : List Tabled) (R : List Commit) (stands : State → Type 0) (refused : Option ℕ) (n : ℕ) (held holds bytes input : Option (List ℕ)) (ending : Ending) (run : RunsOn turns none_put brands R stands refused n held holds bytes input) → EndsSo run.state.started n ending bytes
-    → IfSome input (λ bs. run.done ≡ (run_of turns brands R bs).entries)
-all_entries turns brands R stands refused n held holds bytes None ending run ended = tt
-all_entries turns brands R stands refused n held holds bytes (Some input) ending run ended =
+pub all_entries : (mode : Mode) (brands : List Tabled) (R : List Commit) (stands : State → Type 0) (refused : Option ℕ) (n : ℕ) (held holds bytes input : Option (List ℕ)) (ending : Ending) (run : RunsOn mode none_put brands R stands refused n held holds bytes input) → EndsSo run.state.started n ending bytes
+    → IfSome input (λ bs. run.done ≡ (run_of mode brands R bs).entries)
+all_entries mode brands R stands refused n held holds bytes None ending run ended = tt
+all_entries mode brands R stands refused n held holds bytes (Some input) ending run ended =
     let known = run.known in
     let here : script_from run.state.started n (lines_of known.to_come) ≡ ends ending = subst (EndsSo run.state.started n ending) known.here ended in
-    sym (ap (λ (r : Run). r.entries) (known_run turns brands R refused [] n run.state run.done bytes input known ∙ no_more turns run.done refused n run.state (lines_of known.to_come) ending here))
+    sym (ap (λ (r : Run). r.entries) (known_run mode brands R refused [] n run.state run.done bytes input known ∙ no_more mode run.done refused n run.state (lines_of known.to_come) ending here))
 
 -- the four ways in which lines end
 pub at_end : (started : Bool) (n : ℕ) (bytes : Option (List ℕ)) → IfSome (option_map lines_of bytes) (λ ls. ls ≡ []) → EndsSo started n At_end bytes
@@ -125,117 +125,117 @@ at_last started (b ∷ ahead) None some = tt
 at_last started (b ∷ ahead) (Some left) some = past_last started b (ahead ++ left)
 
 -- before the input has ended, some whole replies were written
-pub has_replies : (turns : Turns) (to_put : State → List (ℕ × Event)) (brands : List Tabled) (R : List Commit) (stands : State → Type 0) (refused : Option ℕ) (n : ℕ) (held holds bytes input : Option (List ℕ)) → RunsOn turns to_put brands R stands refused n held holds bytes input → IfSome input (λ bs. HasReplies held holds (run_of turns brands R bs))
-has_replies turns to_put brands R stands refused n held holds bytes None run = tt
-has_replies turns to_put brands R stands refused n held holds bytes (Some input) run =
-    let is = known_run turns brands R refused (to_put run.state) n run.state run.done bytes input run.known in
-    subst (HasReplies held holds) (sym is) (record {
+pub has_replies : (mode : Mode) (to_put : State → List (ℕ × Event)) (brands : List Tabled) (R : List Commit) (stands : State → Type 0) (refused : Option ℕ) (n : ℕ) (held holds bytes input : Option (List ℕ)) → RunsOn mode to_put brands R stands refused n held holds bytes input → IfSome input (λ bs. HasReplies mode held holds (run_of mode brands R bs))
+has_replies mode to_put brands R stands refused n held holds bytes None run = tt
+has_replies mode to_put brands R stands refused n held holds bytes (Some input) run =
+    let is = known_run mode brands R refused (to_put run.state) n run.state run.done bytes input run.known in
+    subst (HasReplies mode held holds) (sym is) (record {
       count = length run.done;
-      taken = run.text ∙ ap (λ entries. after_known held (replies_text entries)) (sym (take-append_seam run.done _));
+      taken = run.text ∙ ap (λ entries. after_known held (entries_text mode entries)) (sym (take-append_seam run.done _));
     })
 
 -- the run over the lines taken has come to its entries, and goes on
-so_far : (turns : Turns) (brands : List Tabled) (R : List Commit) (refused : Option ℕ) (to_put : List (ℕ × Event)) (n : ℕ) (S : State) (done : List Entry) (bytes : Option (List ℕ)) (input : List ℕ) (known : Knows turns brands R refused to_put n S done bytes input) → run_of turns brands R known.past ≡ run_onto turns done refused to_put n S []
-so_far turns brands R refused to_put n S done bytes input known =
-    from_first_line turns brands R known.past ∙ ap (run_on turns [] None 1 (opening brands R)) (sym (append-nil (lines_of known.past))) ∙ known.leads []
+so_far : (mode : Mode) (brands : List Tabled) (R : List Commit) (refused : Option ℕ) (to_put : List (ℕ × Event)) (n : ℕ) (S : State) (done : List Entry) (bytes : Option (List ℕ)) (input : List ℕ) (known : Knows mode brands R refused to_put n S done bytes input) → run_of mode brands R known.past ≡ run_onto mode done refused to_put n S []
+so_far mode brands R refused to_put n S done bytes input known =
+    from_first_line mode brands R known.past ∙ ap (run_on mode [] None 1 (opening brands R)) (sym (append-nil (lines_of known.past))) ∙ known.leads []
 
 -- lines were taken, the beginning of one more, and a piece
-abbrev takes : (turns : Turns) (brands : List Tabled) (R : List Commit) (refused : Option ℕ) (to_put : List (ℕ × Event)) (n : ℕ) (S : State) (done : List Entry) (bytes left : Option (List ℕ)) (input : List ℕ) → Knows turns brands R refused to_put n S done bytes input → TakesPiece bytes left → RunsLines (Some input) left
-takes turns brands R refused to_put n S done bytes left input known piece = record {
+abbrev takes : (mode : Mode) (brands : List Tabled) (R : List Commit) (refused : Option ℕ) (to_put : List (ℕ × Event)) (n : ℕ) (S : State) (done : List Entry) (bytes left : Option (List ℕ)) (input : List ℕ) → Knows mode brands R refused to_put n S done bytes input → TakesPiece bytes left → RunsLines (Some input) left
+takes mode brands R refused to_put n S done bytes left input known piece = record {
   lines = known.past;
   to_come = known.to_come;
   whole = known.fresh;
-  going = ap (λ r. r.ending) (so_far turns brands R refused to_put n S done bytes input known);
+  going = ap (λ r. r.ending) (so_far mode brands R refused to_put n S done bytes input known);
   all = ap Some known.all;
   taken = takes_known bytes left known.to_come known.here piece;
 }
 
-pub runs_lines : (turns : Turns) (to_put : State → List (ℕ × Event)) (brands : List Tabled) (R : List Commit) (stands : State → Type 0) (refused : Option ℕ) (n : ℕ) (held holds bytes left input : Option (List ℕ)) → RunsOn turns to_put brands R stands refused n held holds bytes input → TakesPiece bytes left → IfSome input (λ _. RunsLines input left)
-runs_lines turns to_put brands R stands refused n held holds bytes left None run piece = tt
-runs_lines turns to_put brands R stands refused n held holds bytes left (Some input) run piece = takes turns brands R refused (to_put run.state) n run.state run.done bytes left input run.known piece
+pub runs_lines : (mode : Mode) (to_put : State → List (ℕ × Event)) (brands : List Tabled) (R : List Commit) (stands : State → Type 0) (refused : Option ℕ) (n : ℕ) (held holds bytes left input : Option (List ℕ)) → RunsOn mode to_put brands R stands refused n held holds bytes input → TakesPiece bytes left → IfSome input (λ _. RunsLines input left)
+runs_lines mode to_put brands R stands refused n held holds bytes left None run piece = tt
+runs_lines mode to_put brands R stands refused n held holds bytes left (Some input) run piece = takes mode brands R refused (to_put run.state) n run.state run.done bytes left input run.known piece
 
 -- and the lines were answered
-abbrev answers : (turns : Turns) (brands : List Tabled) (R : List Commit) (stands : State → Type 0) (refused : Option ℕ) (n : ℕ) (held holds bytes left : Option (List ℕ)) (input : List ℕ) → RunsOn turns none_put brands R stands refused n held holds bytes (Some input) → TakesPiece bytes left → AnswersLines turns brands R (Some input) left held holds
-answers turns brands R stands refused n held holds bytes left input run piece =
+abbrev answers : (mode : Mode) (brands : List Tabled) (R : List Commit) (stands : State → Type 0) (refused : Option ℕ) (n : ℕ) (held holds bytes left : Option (List ℕ)) (input : List ℕ) → RunsOn mode none_put brands R stands refused n held holds bytes (Some input) → TakesPiece bytes left → AnswersLines mode brands R (Some input) left held holds
+answers mode brands R stands refused n held holds bytes left input run piece =
     let known = run.known in
-    let entries : (run_of turns brands R known.past).entries ≡ run.done = ap (λ r. r.entries) (so_far turns brands R refused [] n run.state run.done bytes input known) ∙ append-nil run.done in
+    let entries : (run_of mode brands R known.past).entries ≡ run.done = ap (λ r. r.entries) (so_far mode brands R refused [] n run.state run.done bytes input known) ∙ append-nil run.done in
     record {
-      runs = takes turns brands R refused [] n run.state run.done bytes left input known piece;
-      text = run.text ∙ ap (λ entries. after_known held (replies_text entries)) (sym entries);
+      runs = takes mode brands R refused [] n run.state run.done bytes left input known piece;
+      text = run.text ∙ ap (λ entries. after_known held (entries_text mode entries)) (sym entries);
     }
 
-pub answers_lines : (turns : Turns) (brands : List Tabled) (R : List Commit) (stands : State → Type 0) (refused : Option ℕ) (n : ℕ) (held holds bytes left input : Option (List ℕ)) → RunsOn turns none_put brands R stands refused n held holds bytes input → TakesPiece bytes left → IfSome input (λ _. AnswersLines turns brands R input left held holds)
-answers_lines turns brands R stands refused n held holds bytes left None run piece = tt
-answers_lines turns brands R stands refused n held holds bytes left (Some input) run piece = answers turns brands R stands refused n held holds bytes left input run piece
+pub answers_lines : (mode : Mode) (brands : List Tabled) (R : List Commit) (stands : State → Type 0) (refused : Option ℕ) (n : ℕ) (held holds bytes left input : Option (List ℕ)) → RunsOn mode none_put brands R stands refused n held holds bytes input → TakesPiece bytes left → IfSome input (λ _. AnswersLines mode brands R input left held holds)
+answers_lines mode brands R stands refused n held holds bytes left None run piece = tt
+answers_lines mode brands R stands refused n held holds bytes left (Some input) run piece = answers mode brands R stands refused n held holds bytes left input run piece
 
 -- where the source failed
-pub answers_read : (turns : Turns) (brands : List Tabled) (R : List Commit) (stands : State → Type 0) (refused : Option ℕ) (n : ℕ) (held holds bytes left input : Option (List ℕ)) → RunsOn turns none_put brands R stands refused n held holds bytes input → BeginsLine bytes left → IfSome input (λ _. AnswersRead turns brands R input left held holds)
-answers_read turns brands R stands refused n held holds bytes left None run begins = tt
-answers_read turns brands R stands refused n held holds bytes left (Some input) run begins =
-    (answers turns brands R stands refused n held holds bytes left input run begins.0, begins.1)
+pub answers_read : (mode : Mode) (brands : List Tabled) (R : List Commit) (stands : State → Type 0) (refused : Option ℕ) (n : ℕ) (held holds bytes left input : Option (List ℕ)) → RunsOn mode none_put brands R stands refused n held holds bytes input → BeginsLine bytes left → IfSome input (λ _. AnswersRead mode brands R input left held holds)
+answers_read mode brands R stands refused n held holds bytes left None run begins = tt
+answers_read mode brands R stands refused n held holds bytes left (Some input) run begins =
+    (answers mode brands R stands refused n held holds bytes left input run begins.0, begins.1)
 
 -- all that is told is some of it
-some_of : (turns : Turns) (brands : List Tabled) (R : List Commit) (held holds left : Option (List ℕ)) (input : Option (List ℕ)) → AnswersLines turns brands R input left held holds → AnswersSome turns brands R input left held holds
-some_of turns brands R held holds left input lines = record {
+some_of : (mode : Mode) (brands : List Tabled) (R : List Commit) (held holds left : Option (List ℕ)) (input : Option (List ℕ)) → AnswersLines mode brands R input left held holds → AnswersSome mode brands R input left held holds
+some_of mode brands R held holds left input lines = record {
   runs = lines.runs;
-  told = (run_of turns brands R lines.runs.lines).entries;
+  told = (run_of mode brands R lines.runs.lines).entries;
   untold = [];
-  whole = sym (append-nil (run_of turns brands R lines.runs.lines).entries);
+  whole = sym (append-nil (run_of mode brands R lines.runs.lines).entries);
   are_turns = All-nil (λ (x : Entry). is_turn x.event ≡ true);
   alone = λ is. refl;
   text = lines.text;
 }
 
-pub lines_some : (turns : Turns) (brands : List Tabled) (R : List Commit) (held holds left input : Option (List ℕ)) → IfSome input (λ _. AnswersLines turns brands R input left held holds) → IfSome input (λ _. AnswersSome turns brands R input left held holds)
-lines_some turns brands R held holds left None lines = tt
-lines_some turns brands R held holds left (Some input) lines = some_of turns brands R held holds left (Some input) lines
+pub lines_some : (mode : Mode) (brands : List Tabled) (R : List Commit) (held holds left input : Option (List ℕ)) → IfSome input (λ _. AnswersLines mode brands R input left held holds) → IfSome input (λ _. AnswersSome mode brands R input left held holds)
+lines_some mode brands R held holds left None lines = tt
+lines_some mode brands R held holds left (Some input) lines = some_of mode brands R held holds left (Some input) lines
 
 -- turns that were put in were answered, and others weren't
-pub answers_some : (to_put : State → List (ℕ × Event)) (brands : List Tabled) (R : List Commit) (stands : State → Type 0) (refused : Option ℕ) (n : ℕ) (held holds bytes left input : Option (List ℕ)) (run : RunsOn PutIn to_put brands R stands refused n held holds bytes input)
-    → All (λ (x : Entry). is_turn x.event ≡ true) (history run.state (map (λ (e : ℕ × Event). e.1) (to_put run.state ++ []))) → TakesPiece bytes left → IfSome input (λ _. AnswersSome PutIn brands R input left held holds)
+pub answers_some : (to_put : State → List (ℕ × Event)) (brands : List Tabled) (R : List Commit) (stands : State → Type 0) (refused : Option ℕ) (n : ℕ) (held holds bytes left input : Option (List ℕ)) (run : RunsOn WithTurns to_put brands R stands refused n held holds bytes input)
+    → All (λ (x : Entry). is_turn x.event ≡ true) (history run.state (map (λ (e : ℕ × Event). e.1) (to_put run.state ++ []))) → TakesPiece bytes left → IfSome input (λ _. AnswersSome WithTurns brands R input left held holds)
 answers_some to_put brands R stands refused n held holds bytes left None run are piece = tt
 answers_some to_put brands R stands refused n held holds bytes left (Some input) run are piece =
     let known = run.known in
     record {
-      runs = takes PutIn brands R refused (to_put run.state) n run.state run.done bytes left input known piece;
+      runs = takes WithTurns brands R refused (to_put run.state) n run.state run.done bytes left input known piece;
       told = run.done;
       untold = history run.state (map (λ (e : ℕ × Event). e.1) (to_put run.state ++ []));
-      whole = ap (λ (r : Run). r.entries) (so_far PutIn brands R refused (to_put run.state) n run.state run.done bytes input known);
+      whole = ap (λ (r : Run). r.entries) (so_far WithTurns brands R refused (to_put run.state) n run.state run.done bytes input known);
       are_turns = are;
       alone = λ is. absurd (cc);
       text = run.text;
     }
 
 -- how a trace ended, where a call before it did
-pub ends_writing : (turns : Turns) (brands : List Tabled) (R : List Commit) (r : Result (Option Complaint) RunFault) (held holds told left input : Option (List ℕ)) → r ≡ Err Write → IfSome input (λ bs. HasFront held holds (traced turns brands R bs).out) → IfSome input (λ _. RunsLines input left)
-    → EndsAs turns brands R r input left held holds told
-ends_writing turns brands R r held holds told left input is front runs = rw is (front, runs)
+pub ends_writing : (mode : Mode) (brands : List Tabled) (R : List Commit) (r : Result (Option Complaint) RunFault) (held holds told left input : Option (List ℕ)) → r ≡ Err Write → IfSome input (λ bs. HasFront held holds (traced mode brands R bs).out) → IfSome input (λ _. RunsLines input left)
+    → EndsAs mode brands R r input left held holds told
+ends_writing mode brands R r held holds told left input is front runs = rw is (front, runs)
 
-pub ends_reading : (turns : Turns) (brands : List Tabled) (R : List Commit) (r : Result (Option Complaint) RunFault) (fault : ReadFault) (held holds told left input : Option (List ℕ)) → IsErrAnd r (λ e. e ≡ run_fault_of fault) → IfSome input (λ bs. HasReplies held told (run_of turns brands R bs))
-    → IfSome input (λ _. AnswersLines turns brands R input left held told) → (fault ≡ Failed → IfSome input (λ _. AnswersRead turns brands R input left held told)) → EndsAs turns brands R r input left held holds told
-ends_reading turns brands R (Ok x) fault held holds told left input is replies lines read = absurd is
-ends_reading turns brands R (Err e) Failed held holds told left input is replies lines read = rw is (replies, read refl)
-ends_reading turns brands R (Err e) No_memory held holds told left input is replies lines read = rw is (replies, lines_some turns brands R held told left input lines)
+pub ends_reading : (mode : Mode) (brands : List Tabled) (R : List Commit) (r : Result (Option Complaint) RunFault) (fault : ReadFault) (held holds told left input : Option (List ℕ)) → IsErrAnd r (λ e. e ≡ run_fault_of fault) → IfSome input (λ bs. HasReplies mode held told (run_of mode brands R bs))
+    → IfSome input (λ _. AnswersLines mode brands R input left held told) → (fault ≡ Failed → IfSome input (λ _. AnswersRead mode brands R input left held told)) → EndsAs mode brands R r input left held holds told
+ends_reading mode brands R (Ok x) fault held holds told left input is replies lines read = absurd is
+ends_reading mode brands R (Err e) Failed held holds told left input is replies lines read = rw is (replies, read refl)
+ends_reading mode brands R (Err e) No_memory held holds told left input is replies lines read = rw is (replies, lines_some mode brands R held told left input lines)
 
 -- what was taken, however a trace ended
-pub lines_run : (turns : Turns) (brands : List Tabled) (R : List Commit) (held holds left input : Option (List ℕ)) → IfSome input (λ _. AnswersLines turns brands R input left held holds) → IfSome input (λ _. RunsLines input left)
-lines_run turns brands R held holds left None answered = tt
-lines_run turns brands R held holds left (Some input) answered = answered.runs
+pub lines_run : (mode : Mode) (brands : List Tabled) (R : List Commit) (held holds left input : Option (List ℕ)) → IfSome input (λ _. AnswersLines mode brands R input left held holds) → IfSome input (λ _. RunsLines input left)
+lines_run mode brands R held holds left None answered = tt
+lines_run mode brands R held holds left (Some input) answered = answered.runs
 
-some_run : (turns : Turns) (brands : List Tabled) (R : List Commit) (held holds left input : Option (List ℕ)) → IfSome input (λ _. AnswersSome turns brands R input left held holds) → IfSome input (λ _. RunsLines input left)
-some_run turns brands R held holds left None answered = tt
-some_run turns brands R held holds left (Some input) answered = answered.runs
+some_run : (mode : Mode) (brands : List Tabled) (R : List Commit) (held holds left input : Option (List ℕ)) → IfSome input (λ _. AnswersSome mode brands R input left held holds) → IfSome input (λ _. RunsLines input left)
+some_run mode brands R held holds left None answered = tt
+some_run mode brands R held holds left (Some input) answered = answered.runs
 
-read_run : (turns : Turns) (brands : List Tabled) (R : List Commit) (held holds left input : Option (List ℕ)) → IfSome input (λ _. AnswersRead turns brands R input left held holds) → IfSome input (λ _. RunsLines input left)
-read_run turns brands R held holds left None answered = tt
-read_run turns brands R held holds left (Some input) answered = answered.0.runs
+read_run : (mode : Mode) (brands : List Tabled) (R : List Commit) (held holds left input : Option (List ℕ)) → IfSome input (λ _. AnswersRead mode brands R input left held holds) → IfSome input (λ _. RunsLines input left)
+read_run mode brands R held holds left None answered = tt
+read_run mode brands R held holds left (Some input) answered = answered.0.runs
 
-pub ends_run : (turns : Turns) (brands : List Tabled) (R : List Commit) (r : Result (Option Complaint) RunFault) (held holds told left input : Option (List ℕ)) → EndsAs turns brands R r input left held holds told → IfSome input (λ _. RunsLines input left)
-ends_run turns brands R (Ok x) held holds told left input ended = lines_run turns brands R held told left input ended.1
-ends_run turns brands R (Err Write) held holds told left input ended = ended.1
-ends_run turns brands R (Err Read) held holds told left input ended = read_run turns brands R held told left input ended.1
-ends_run turns brands R (Err Memory) held holds told left input ended = some_run turns brands R held told left input ended.1
-ends_run turns brands R (Err Disk) held holds told left input ended = some_run turns brands R held told left input ended.1
+pub ends_run : (mode : Mode) (brands : List Tabled) (R : List Commit) (r : Result (Option Complaint) RunFault) (held holds told left input : Option (List ℕ)) → EndsAs mode brands R r input left held holds told → IfSome input (λ _. RunsLines input left)
+ends_run mode brands R (Ok x) held holds told left input ended = lines_run mode brands R held told left input ended.1
+ends_run mode brands R (Err Write) held holds told left input ended = ended.1
+ends_run mode brands R (Err Read) held holds told left input ended = read_run mode brands R held told left input ended.1
+ends_run mode brands R (Err Memory) held holds told left input ended = some_run mode brands R held told left input ended.1
+ends_run mode brands R (Err Disk) held holds told left input ended = some_run mode brands R held told left input ended.1
 
 -- a front of a text in the midst of a longer one
 front_within : (held between holds : Option (List ℕ)) (before text more : List ℕ) (count : ℕ) → between ≡ after_known held before → holds ≡ after_known between (take count text) → HasFront held holds (before ++ (text ++ more))
@@ -255,19 +255,19 @@ front_within held between holds before text more count b t =
     ] refl
 
 -- what waited was not written whole: a front of the whole text was taken
-pub flushed_front : (turns : Turns) (brands : List Tabled) (R : List Commit) (held holds now input : Option (List ℕ)) (waiting : List ℕ) → HasWritten held holds → IfSome input (λ bs. HasReplies held (after_known holds waiting) (run_of turns brands R bs)) → HasFront holds now waiting
-    → IfSome input (λ bs. HasFront held now (traced turns brands R bs).out)
-flushed_front turns brands R held holds now None waiting written replies front = tt
-flushed_front turns brands R None holds now (Some bytes) waiting written replies front =
+pub flushed_front : (mode : Mode) (brands : List Tabled) (R : List Commit) (held holds now input : Option (List ℕ)) (waiting : List ℕ) → HasWritten held holds → IfSome input (λ bs. HasReplies mode held (after_known holds waiting) (run_of mode brands R bs)) → HasFront holds now waiting
+    → IfSome input (λ bs. HasFront held now (traced mode brands R bs).out)
+flushed_front mode brands R held holds now None waiting written replies front = tt
+flushed_front mode brands R None holds now (Some bytes) waiting written replies front =
     record { count = 0; taken = front.taken ∙ ap (λ known. after_known known (take front.count waiting)) written.1 }
-flushed_front turns brands R (Some begun) holds now (Some bytes) waiting written replies front =
-    let run = run_of turns brands R bytes in
-    let more = replies_text (drop replies.count run.entries) in
-    let known : Some ((begun ++ written.0) ++ waiting) ≡ Some (begun ++ replies_text (take replies.count run.entries)) = sym (ap (λ known. after_known known waiting) written.1) ∙ replies.taken in
-    let joined : written.0 ++ waiting ≡ replies_text (take replies.count run.entries) = append_cancel_left begun _ _ (sym (append_assoc begun written.0 waiting) ∙ cc) in
-    let whole : (traced turns brands R bytes).out ≡ written.0 ++ (waiting ++ more) =
-    told-out run.entries run.refused run.ending ∙ ap replies_text (sym (take-append-drop replies.count run.entries))
-    ∙ flat_map-append entry_text (take replies.count run.entries) (drop replies.count run.entries) ∙ ap (λ text. text ++ more) (sym joined) ∙ append_assoc written.0 waiting more in
+flushed_front mode brands R (Some begun) holds now (Some bytes) waiting written replies front =
+    let run = run_of mode brands R bytes in
+    let more = entries_text mode (drop replies.count run.entries) in
+    let known : Some ((begun ++ written.0) ++ waiting) ≡ Some (begun ++ entries_text mode (take replies.count run.entries)) = sym (ap (λ known. after_known known waiting) written.1) ∙ replies.taken in
+    let joined : written.0 ++ waiting ≡ entries_text mode (take replies.count run.entries) = append_cancel_left begun _ _ (sym (append_assoc begun written.0 waiting) ∙ cc) in
+    let whole : (traced mode brands R bytes).out ≡ written.0 ++ (waiting ++ more) =
+    told-out mode run.entries run.refused run.ending ∙ ap (entries_text mode) (sym (take-append-drop replies.count run.entries))
+    ∙ flat_map-append (entry_text mode) (take replies.count run.entries) (drop replies.count run.entries) ∙ ap (λ text. text ++ more) (sym joined) ∙ append_assoc written.0 waiting more in
     subst (HasFront (Some begun) now) (sym whole) (front_within (Some begun) holds now written.0 waiting more front.count written.1 front.taken)
 
 -- more and more was written
@@ -285,47 +285,47 @@ pub nothing_waits : (known : Option (List ℕ)) (waiting : List ℕ) → waiting
 nothing_waits known waiting none = rw none (after_known-nil known)
 
 -- a byte ahead, after all the lines that there may be
-pub tells_last : (turns : Turns) (brands : List Tabled) (R : List Commit) (stands : State → Type 0) (refused : Option ℕ) (n : ℕ) (held holds bytes : Option (List ℕ)) (ahead : List ℕ) (left input : Option (List ℕ))
-    → RunsOn turns none_put brands R stands refused n held holds bytes input → n ≡ 200001 → bytes ≡ before_known ahead left → 0 < length ahead → IfSome input (λ bs. Tells (Some (Limit 200001)) held holds (traced turns brands R bs))
-tells_last turns brands R stands refused n held holds bytes ahead left input run last same some =
-    let here : RunsOn turns none_put brands R stands refused 200001 held holds bytes input = subst (λ m. RunsOn turns none_put brands R stands refused m held holds bytes input) last run in
-    tells_ending turns brands R stands refused 200001 held holds bytes input (Past_limit 200001) (Some (Limit 200001)) here
+pub tells_last : (mode : Mode) (brands : List Tabled) (R : List Commit) (stands : State → Type 0) (refused : Option ℕ) (n : ℕ) (held holds bytes : Option (List ℕ)) (ahead : List ℕ) (left input : Option (List ℕ))
+    → RunsOn mode none_put brands R stands refused n held holds bytes input → n ≡ 200001 → bytes ≡ before_known ahead left → 0 < length ahead → IfSome input (λ bs. Tells (Some (Limit 200001)) held holds (traced mode brands R bs))
+tells_last mode brands R stands refused n held holds bytes ahead left input run last same some =
+    let here : RunsOn mode none_put brands R stands refused 200001 held holds bytes input = subst (λ m. RunsOn mode none_put brands R stands refused m held holds bytes input) last run in
+    tells_ending mode brands R stands refused 200001 held holds bytes input (Past_limit 200001) (Some (Limit 200001)) here
     (λ S _. subst (EndsSo S.started 200001 (Past_limit 200001)) (sym same) (at_last S.started ahead left some)) (λ done. refl)
 
 -- at an ending all replies were written, and the whole text
-pub whole_replies : (turns : Turns) (brands : List Tabled) (R : List Commit) (complaint : Option Complaint) (held holds : Option (List ℕ)) (input : Option (List ℕ)) → IfSome input (λ bytes. Tells complaint held holds (traced turns brands R bytes)) → IfSome input (λ bytes. HasReplies held holds (run_of turns brands R bytes))
-whole_replies turns brands R complaint held holds None tells = tt
-whole_replies turns brands R complaint held holds (Some bytes) tells =
-    let run = run_of turns brands R bytes in
+pub whole_replies : (mode : Mode) (brands : List Tabled) (R : List Commit) (complaint : Option Complaint) (held holds : Option (List ℕ)) (input : Option (List ℕ)) → IfSome input (λ bytes. Tells complaint held holds (traced mode brands R bytes)) → IfSome input (λ bytes. HasReplies mode held holds (run_of mode brands R bytes))
+whole_replies mode brands R complaint held holds None tells = tt
+whole_replies mode brands R complaint held holds (Some bytes) tells =
+    let run = run_of mode brands R bytes in
     record {
       count = length run.entries;
-      taken = tells.taken ∙ ap (after_known held) (told-out run.entries run.refused run.ending) ∙ ap (λ entries. after_known held (replies_text entries)) (sym (take-length run.entries));
+      taken = tells.taken ∙ ap (after_known held) (told-out mode run.entries run.refused run.ending) ∙ ap (λ entries. after_known held (entries_text mode entries)) (sym (take-length run.entries));
     }
 
-pub whole_front : (turns : Turns) (brands : List Tabled) (R : List Commit) (complaint : Option Complaint) (held holds : Option (List ℕ)) (input : Option (List ℕ)) → IfSome input (λ bytes. Tells complaint held holds (traced turns brands R bytes)) → IfSome input (λ bytes. HasFront held holds (traced turns brands R bytes).out)
-whole_front turns brands R complaint held holds None tells = tt
-whole_front turns brands R complaint held holds (Some bytes) tells =
-    record { count = length (traced turns brands R bytes).out; taken = tells.taken ∙ ap (after_known held) (sym (take-length (traced turns brands R bytes).out)) }
+pub whole_front : (mode : Mode) (brands : List Tabled) (R : List Commit) (complaint : Option Complaint) (held holds : Option (List ℕ)) (input : Option (List ℕ)) → IfSome input (λ bytes. Tells complaint held holds (traced mode brands R bytes)) → IfSome input (λ bytes. HasFront held holds (traced mode brands R bytes).out)
+whole_front mode brands R complaint held holds None tells = tt
+whole_front mode brands R complaint held holds (Some bytes) tells =
+    record { count = length (traced mode brands R bytes).out; taken = tells.taken ∙ ap (after_known held) (sym (take-length (traced mode brands R bytes).out)) }
 
 refusal_alone : (text : List ℕ) (refused : Option ℕ) → record (told_refusal [] refused) { out = [] } ≡ record (told_refusal text refused) { out = [] }
 refusal_alone text None = refl
 refusal_alone text (Some n) = refl
 
 -- the end of the input
-pub tells_end : (turns : Turns) (brands : List Tabled) (R : List Commit) (stands : State → Type 0) (refused : Option ℕ) (n : ℕ) (held holds bytes input : Option (List ℕ)) (complaint : Option Complaint)
-    → RunsOn turns none_put brands R stands refused n held holds bytes input → IfSome (option_map lines_of bytes) (λ ls. ls ≡ []) → left_to_tell complaint ≡ record (told_refusal [] refused) { out = [] } → IfSome input (λ bs. Tells complaint held holds (traced turns brands R bs))
-tells_end turns brands R stands refused n held holds bytes input complaint run none is =
-    tells_ending turns brands R stands refused n held holds bytes input At_end complaint run (λ S _. at_end S.started n bytes none) (λ done. is ∙ refusal_alone (replies_text done) refused)
+pub tells_end : (mode : Mode) (brands : List Tabled) (R : List Commit) (stands : State → Type 0) (refused : Option ℕ) (n : ℕ) (held holds bytes input : Option (List ℕ)) (complaint : Option Complaint)
+    → RunsOn mode none_put brands R stands refused n held holds bytes input → IfSome (option_map lines_of bytes) (λ ls. ls ≡ []) → left_to_tell complaint ≡ record (told_refusal [] refused) { out = [] } → IfSome input (λ bs. Tells complaint held holds (traced mode brands R bs))
+tells_end mode brands R stands refused n held holds bytes input complaint run none is =
+    tells_ending mode brands R stands refused n held holds bytes input At_end complaint run (λ S _. at_end S.started n bytes none) (λ done. is ∙ refusal_alone (entries_text mode done) refused)
 
 nothing_ahead : (ahead : List ℕ) (left : Option (List ℕ)) → ahead ≡ [] → IsAtEnd left → IfSome (option_map lines_of (before_known ahead left)) (λ ls. ls ≡ [])
 nothing_ahead ahead None none end = tt
 nothing_ahead ahead (Some bs) none end = rw (none, end) refl
 
 -- nothing is ahead, after all the lines that there may be
-pub tells_last_end : (turns : Turns) (brands : List Tabled) (R : List Commit) (stands : State → Type 0) (refused : Option ℕ) (n : ℕ) (held holds bytes : Option (List ℕ)) (ahead : List ℕ) (left input : Option (List ℕ)) (complaint : Option Complaint)
-    → RunsOn turns none_put brands R stands refused n held holds bytes input → bytes ≡ before_known ahead left → ahead ≡ [] → IsAtEnd left → left_to_tell complaint ≡ record (told_refusal [] refused) { out = [] } → IfSome input (λ bs. Tells complaint held holds (traced turns brands R bs))
-tells_last_end turns brands R stands refused n held holds bytes ahead left input complaint run same none end is =
-    tells_end turns brands R stands refused n held holds bytes input complaint run (subst (λ known. IfSome (option_map lines_of known) (λ ls. ls ≡ [])) (sym same) (nothing_ahead ahead left none end)) is
+pub tells_last_end : (mode : Mode) (brands : List Tabled) (R : List Commit) (stands : State → Type 0) (refused : Option ℕ) (n : ℕ) (held holds bytes : Option (List ℕ)) (ahead : List ℕ) (left input : Option (List ℕ)) (complaint : Option Complaint)
+    → RunsOn mode none_put brands R stands refused n held holds bytes input → bytes ≡ before_known ahead left → ahead ≡ [] → IsAtEnd left → left_to_tell complaint ≡ record (told_refusal [] refused) { out = [] } → IfSome input (λ bs. Tells complaint held holds (traced mode brands R bs))
+tells_last_end mode brands R stands refused n held holds bytes ahead left input complaint run same none end is =
+    tells_end mode brands R stands refused n held holds bytes input complaint run (subst (λ known. IfSome (option_map lines_of known) (λ ls. ls ≡ [])) (sym same) (nothing_ahead ahead left none end)) is
 
 pub last_long : (started : Bool) (n : ℕ) (bytes : Option (List ℕ)) (ahead : List ℕ) (left : Option (List ℕ)) → n ≡ 200001 → bytes ≡ before_known ahead left → 0 < length ahead → EndsSo started n (Past_limit 200001) bytes
 last_long started n bytes ahead left last same some = subst (λ m. EndsSo started m (Past_limit 200001) bytes) (sym last) (subst (EndsSo started 200001 (Past_limit 200001)) (sym same) (at_last started ahead left some))
@@ -334,60 +334,60 @@ pub last_end : (started : Bool) (n : ℕ) (bytes : Option (List ℕ)) (ahead : L
 last_end started n bytes ahead left same none end = at_end started n bytes (subst (λ known. IfSome (option_map lines_of known) (λ ls. ls ≡ [])) (sym same) (nothing_ahead ahead left none end))
 
 -- a line that is too long
-pub tells_long : (turns : Turns) (brands : List Tabled) (R : List Commit) (stands : State → Type 0) (refused : Option ℕ) (n : ℕ) (held holds bytes input : Option (List ℕ)) → RunsOn turns none_put brands R stands refused n held holds bytes input → IfSome (option_map lines_of bytes) FirstIsLong → IfSome input (λ bs. Tells (Some (Limit n)) held holds (traced turns brands R bs))
-tells_long turns brands R stands refused n held holds bytes input run long = tells_ending turns brands R stands refused n held holds bytes input (Past_limit n) (Some (Limit n)) run (λ S _. at_long S.started n bytes long) (λ done. refl)
+pub tells_long : (mode : Mode) (brands : List Tabled) (R : List Commit) (stands : State → Type 0) (refused : Option ℕ) (n : ℕ) (held holds bytes input : Option (List ℕ)) → RunsOn mode none_put brands R stands refused n held holds bytes input → IfSome (option_map lines_of bytes) FirstIsLong → IfSome input (λ bs. Tells (Some (Limit n)) held holds (traced mode brands R bs))
+tells_long mode brands R stands refused n held holds bytes input run long = tells_ending mode brands R stands refused n held holds bytes input (Past_limit n) (Some (Limit n)) run (λ S _. at_long S.started n bytes long) (λ done. refl)
 
 -- a line outside the grammar
-pub tells_fault : (turns : Turns) (brands : List Tabled) (R : List Commit) (stands : State → Type 0) (refused : Option ℕ) (n : ℕ) (held holds : Option (List ℕ)) (line : List ℕ) (fault : LineFault) (bytes : Option (List ℕ)) (new : Option (List (List ℕ))) (input : Option (List ℕ))
-    → RunsOn turns none_put brands R stands refused n held holds bytes input → option_map lines_of bytes ≡ option_map (λ ls. line ∷ ls) new → n ≤ 200000 → length line ≤ 4096 → ((S : State) → stands S → event_of S.started line ≡ Err fault)
-    → IfSome input (λ bs. Tells (Some (Bad_line n fault)) held holds (traced turns brands R bs))
-tells_fault turns brands R stands refused n held holds line fault bytes new input run is h k says =
-    tells_ending turns brands R stands refused n held holds bytes input (At_fault n fault) (Some (Bad_line n fault)) run (λ S stood. at_fault S.started n line fault bytes new is h k (says S stood)) (λ done. refl)
+pub tells_fault : (mode : Mode) (brands : List Tabled) (R : List Commit) (stands : State → Type 0) (refused : Option ℕ) (n : ℕ) (held holds : Option (List ℕ)) (line : List ℕ) (fault : LineFault) (bytes : Option (List ℕ)) (new : Option (List (List ℕ))) (input : Option (List ℕ))
+    → RunsOn mode none_put brands R stands refused n held holds bytes input → option_map lines_of bytes ≡ option_map (λ ls. line ∷ ls) new → n ≤ 200000 → length line ≤ 4096 → ((S : State) → stands S → event_of S.started line ≡ Err fault)
+    → IfSome input (λ bs. Tells (Some (Bad_line n fault)) held holds (traced mode brands R bs))
+tells_fault mode brands R stands refused n held holds line fault bytes new input run is h k says =
+    tells_ending mode brands R stands refused n held holds bytes input (At_fault n fault) (Some (Bad_line n fault)) run (λ S stood. at_fault S.started n line fault bytes new is h k (says S stood)) (λ done. refl)
 
 -- what waited when the trace ended was written, or wasn't
-pub ends_written : (turns : Turns) (brands : List Tabled) (R : List Commit) (r : Result (Option Complaint) RunFault) (held holds now left input : Option (List ℕ)) (waiting : List ℕ) → now ≡ after_known holds waiting → (IsErrOf r Write ⊎ IsErrOf r Disk → waiting ≡ [])
-    → EndsAs turns brands R r input left held holds (after_known holds waiting) → EndsAs turns brands R r input left held now now
-ends_written turns brands R (Ok complaint) held holds now left input waiting is none ended = subst (λ told. EndsAs turns brands R (Ok complaint) input left held told told) (sym is) ended
-ends_written turns brands R (Err Read) held holds now left input waiting is none ended = subst (λ told. EndsAs turns brands R (Err Read) input left held told told) (sym is) ended
-ends_written turns brands R (Err Memory) held holds now left input waiting is none ended = subst (λ told. EndsAs turns brands R (Err Memory) input left held told told) (sym is) ended
-ends_written turns brands R (Err Disk) held holds now left input waiting is none ended = subst (λ told. EndsAs turns brands R (Err Disk) input left held told told) (sym is) ended
-ends_written turns brands R (Err Write) held holds now left input waiting is none ended =
-    subst (λ told. EndsAs turns brands R (Err Write) input left held told told) (sym (is ∙ nothing_waits holds waiting (none (inl refl)))) ended
+pub ends_written : (mode : Mode) (brands : List Tabled) (R : List Commit) (r : Result (Option Complaint) RunFault) (held holds now left input : Option (List ℕ)) (waiting : List ℕ) → now ≡ after_known holds waiting → (IsErrOf r Write ⊎ IsErrOf r Disk → waiting ≡ [])
+    → EndsAs mode brands R r input left held holds (after_known holds waiting) → EndsAs mode brands R r input left held now now
+ends_written mode brands R (Ok complaint) held holds now left input waiting is none ended = subst (λ told. EndsAs mode brands R (Ok complaint) input left held told told) (sym is) ended
+ends_written mode brands R (Err Read) held holds now left input waiting is none ended = subst (λ told. EndsAs mode brands R (Err Read) input left held told told) (sym is) ended
+ends_written mode brands R (Err Memory) held holds now left input waiting is none ended = subst (λ told. EndsAs mode brands R (Err Memory) input left held told told) (sym is) ended
+ends_written mode brands R (Err Disk) held holds now left input waiting is none ended = subst (λ told. EndsAs mode brands R (Err Disk) input left held told told) (sym is) ended
+ends_written mode brands R (Err Write) held holds now left input waiting is none ended =
+    subst (λ told. EndsAs mode brands R (Err Write) input left held told told) (sym (is ∙ nothing_waits holds waiting (none (inl refl)))) ended
 
-pub ends_unwritten : (turns : Turns) (brands : List Tabled) (R : List Commit) (r : Result (Option Complaint) RunFault) (held holds now left input : Option (List ℕ)) (waiting : List ℕ) → HasWritten held holds → HasFront holds now waiting → (waiting ≡ [] → ⊥) → (IsErrOf r Write ⊎ IsErrOf r Disk → waiting ≡ [])
-    → EndsAs turns brands R r input left held holds (after_known holds waiting) → EndsAs turns brands R (Err Write) input left held now now
-ends_unwritten turns brands R (Ok complaint) held holds now left input waiting written front some none ended =
-    (flushed_front turns brands R held holds now input waiting written (whole_replies turns brands R complaint held (after_known holds waiting) input ended.0) front, lines_run turns brands R held (after_known holds waiting) left input ended.1)
-ends_unwritten turns brands R (Err Read) held holds now left input waiting written front some none ended =
-    (flushed_front turns brands R held holds now input waiting written ended.0 front, read_run turns brands R held (after_known holds waiting) left input ended.1)
-ends_unwritten turns brands R (Err Memory) held holds now left input waiting written front some none ended =
-    (flushed_front turns brands R held holds now input waiting written ended.0 front, some_run turns brands R held (after_known holds waiting) left input ended.1)
-ends_unwritten turns brands R (Err Disk) held holds now left input waiting written front some none ended = absurd (some (none (inr refl)))
-ends_unwritten turns brands R (Err Write) held holds now left input waiting written front some none ended = absurd (some (none (inl refl)))
+pub ends_unwritten : (mode : Mode) (brands : List Tabled) (R : List Commit) (r : Result (Option Complaint) RunFault) (held holds now left input : Option (List ℕ)) (waiting : List ℕ) → HasWritten held holds → HasFront holds now waiting → (waiting ≡ [] → ⊥) → (IsErrOf r Write ⊎ IsErrOf r Disk → waiting ≡ [])
+    → EndsAs mode brands R r input left held holds (after_known holds waiting) → EndsAs mode brands R (Err Write) input left held now now
+ends_unwritten mode brands R (Ok complaint) held holds now left input waiting written front some none ended =
+    (flushed_front mode brands R held holds now input waiting written (whole_replies mode brands R complaint held (after_known holds waiting) input ended.0) front, lines_run mode brands R held (after_known holds waiting) left input ended.1)
+ends_unwritten mode brands R (Err Read) held holds now left input waiting written front some none ended =
+    (flushed_front mode brands R held holds now input waiting written ended.0 front, read_run mode brands R held (after_known holds waiting) left input ended.1)
+ends_unwritten mode brands R (Err Memory) held holds now left input waiting written front some none ended =
+    (flushed_front mode brands R held holds now input waiting written ended.0 front, some_run mode brands R held (after_known holds waiting) left input ended.1)
+ends_unwritten mode brands R (Err Disk) held holds now left input waiting written front some none ended = absurd (some (none (inr refl)))
+ends_unwritten mode brands R (Err Write) held holds now left input waiting written front some none ended = absurd (some (none (inl refl)))
 
 -- a fault of an event or of its line ended the trace
-pub ends_failed : (turns : Turns) (brands : List Tabled) (R : List Commit) (stands : State → Type 0) (fault : RunFault) (refused : Option ℕ) (n : ℕ) (held holds now old left input : Option (List ℕ)) (waiting now_waiting : List ℕ)
-    → RunsOn turns none_put brands R stands refused n held (after_known holds waiting) old input → HasWritten held holds → LeavesText fault holds now waiting now_waiting → TakesPiece old left → EndsAs turns brands R (Err fault) input left held now (after_known now now_waiting)
-ends_failed turns brands R stands Write refused n held holds now old left input waiting now_waiting run written text piece =
-    (flushed_front turns brands R held holds now input waiting written (has_replies turns none_put brands R stands refused n held (after_known holds waiting) old input run) text.0, runs_lines turns none_put brands R stands refused n held (after_known holds waiting) old left input run piece)
-ends_failed turns brands R stands Disk refused n held holds now old left input waiting now_waiting run written text piece =
-    let told = runs_told turns none_put brands R stands refused n held (after_known holds waiting) (after_known now now_waiting) old input text.0 run in
-    (has_replies turns none_put brands R stands refused n held (after_known now now_waiting) old input told, lines_some turns brands R held (after_known now now_waiting) left input (answers_lines turns brands R stands refused n held (after_known now now_waiting) old left input told piece))
-ends_failed turns brands R stands Memory refused n held holds now old left input waiting now_waiting run written text piece =
-    let told = runs_told turns none_put brands R stands refused n held (after_known holds waiting) (after_known now now_waiting) old input text run in
-    (has_replies turns none_put brands R stands refused n held (after_known now now_waiting) old input told, lines_some turns brands R held (after_known now now_waiting) left input (answers_lines turns brands R stands refused n held (after_known now now_waiting) old left input told piece))
-ends_failed turns brands R stands Read refused n held holds now old left input waiting now_waiting run written text piece = absurd text
+pub ends_failed : (mode : Mode) (brands : List Tabled) (R : List Commit) (stands : State → Type 0) (fault : RunFault) (refused : Option ℕ) (n : ℕ) (held holds now old left input : Option (List ℕ)) (waiting now_waiting : List ℕ)
+    → RunsOn mode none_put brands R stands refused n held (after_known holds waiting) old input → HasWritten held holds → LeavesText fault holds now waiting now_waiting → TakesPiece old left → EndsAs mode brands R (Err fault) input left held now (after_known now now_waiting)
+ends_failed mode brands R stands Write refused n held holds now old left input waiting now_waiting run written text piece =
+    (flushed_front mode brands R held holds now input waiting written (has_replies mode none_put brands R stands refused n held (after_known holds waiting) old input run) text.0, runs_lines mode none_put brands R stands refused n held (after_known holds waiting) old left input run piece)
+ends_failed mode brands R stands Disk refused n held holds now old left input waiting now_waiting run written text piece =
+    let told = runs_told mode none_put brands R stands refused n held (after_known holds waiting) (after_known now now_waiting) old input text.0 run in
+    (has_replies mode none_put brands R stands refused n held (after_known now now_waiting) old input told, lines_some mode brands R held (after_known now now_waiting) left input (answers_lines mode brands R stands refused n held (after_known now now_waiting) old left input told piece))
+ends_failed mode brands R stands Memory refused n held holds now old left input waiting now_waiting run written text piece =
+    let told = runs_told mode none_put brands R stands refused n held (after_known holds waiting) (after_known now now_waiting) old input text run in
+    (has_replies mode none_put brands R stands refused n held (after_known now now_waiting) old input told, lines_some mode brands R held (after_known now now_waiting) left input (answers_lines mode brands R stands refused n held (after_known now now_waiting) old left input told piece))
+ends_failed mode brands R stands Read refused n held holds now old left input waiting now_waiting run written text piece = absurd text
 
 -- or a fault of a turn that was put in
 pub ends_midway : (to_put : State → List (ℕ × Event)) (brands : List Tabled) (R : List Commit) (stands : State → Type 0) (fault : RunFault) (refused : Option ℕ) (n : ℕ) (held holds now old left input : Option (List ℕ)) (waiting now_waiting : List ℕ)
-    → (run : RunsOn PutIn to_put brands R stands refused n held (after_known holds waiting) old input) → All (λ (x : Entry). is_turn x.event ≡ true) (history run.state (map (λ (e : ℕ × Event). e.1) (to_put run.state ++ [])))
-    → HasWritten held holds → LeavesText fault holds now waiting now_waiting → TakesPiece old left → EndsAs PutIn brands R (Err fault) input left held now (after_known now now_waiting)
+    → (run : RunsOn WithTurns to_put brands R stands refused n held (after_known holds waiting) old input) → All (λ (x : Entry). is_turn x.event ≡ true) (history run.state (map (λ (e : ℕ × Event). e.1) (to_put run.state ++ [])))
+    → HasWritten held holds → LeavesText fault holds now waiting now_waiting → TakesPiece old left → EndsAs WithTurns brands R (Err fault) input left held now (after_known now now_waiting)
 ends_midway to_put brands R stands Write refused n held holds now old left input waiting now_waiting run are written text piece =
-    (flushed_front PutIn brands R held holds now input waiting written (has_replies PutIn to_put brands R stands refused n held (after_known holds waiting) old input run) text.0, runs_lines PutIn to_put brands R stands refused n held (after_known holds waiting) old left input run piece)
+    (flushed_front WithTurns brands R held holds now input waiting written (has_replies WithTurns to_put brands R stands refused n held (after_known holds waiting) old input run) text.0, runs_lines WithTurns to_put brands R stands refused n held (after_known holds waiting) old left input run piece)
 ends_midway to_put brands R stands Disk refused n held holds now old left input waiting now_waiting run are written text piece =
-    subst (λ known. IfSome input (λ bs. HasReplies held known (run_of PutIn brands R bs)) × IfSome input (λ _. AnswersSome PutIn brands R input left held known)) (sym text.0)
-    (has_replies PutIn to_put brands R stands refused n held (after_known holds waiting) old input run, answers_some to_put brands R stands refused n held (after_known holds waiting) old left input run are piece)
+    subst (λ known. IfSome input (λ bs. HasReplies WithTurns held known (run_of WithTurns brands R bs)) × IfSome input (λ _. AnswersSome WithTurns brands R input left held known)) (sym text.0)
+    (has_replies WithTurns to_put brands R stands refused n held (after_known holds waiting) old input run, answers_some to_put brands R stands refused n held (after_known holds waiting) old left input run are piece)
 ends_midway to_put brands R stands Memory refused n held holds now old left input waiting now_waiting run are written text piece =
-    subst (λ known. IfSome input (λ bs. HasReplies held known (run_of PutIn brands R bs)) × IfSome input (λ _. AnswersSome PutIn brands R input left held known)) (sym text)
-    (has_replies PutIn to_put brands R stands refused n held (after_known holds waiting) old input run, answers_some to_put brands R stands refused n held (after_known holds waiting) old left input run are piece)
+    subst (λ known. IfSome input (λ bs. HasReplies WithTurns held known (run_of WithTurns brands R bs)) × IfSome input (λ _. AnswersSome WithTurns brands R input left held known)) (sym text)
+    (has_replies WithTurns to_put brands R stands refused n held (after_known holds waiting) old input run, answers_some to_put brands R stands refused n held (after_known holds waiting) old left input run are piece)
 ends_midway to_put brands R stands Read refused n held holds now old left input waiting now_waiting run are written text piece = absurd text

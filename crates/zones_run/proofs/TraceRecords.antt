@@ -18,12 +18,12 @@ use Rattle.zones_run.specs.Midway.{Follows, Knows, Left, none_put}
 use Rattle.zones_run.specs.Scripting.{entry_in, state_after}
 use Rattle.zones_run.specs.Reading.{TakesLine}
 use Rattle.zones_run.specs.Recording.{GoesSurely, HasNearlyTold, IsFront, Ran, RanAs}
-use Rattle.zones_run.specs.Tracing.{Ending, replies_text, run_of}
+use Rattle.zones_run.specs.Tracing.{Ending, entries_text, run_of}
 use Rattle.zones_run.specs.declared.fault.RunFault.{RunFault}
 use Rattle.zones_run.specs.declared.fault.RunFault.TheVariants.{Disk, Memory, Read, Write}
 use Rattle.zones_run.specs.declared.outcome.Complaint.{Complaint}
-use Rattle.zones_run.specs.declared.words.Turns.{Turns}
-use Rattle.zones_run.specs.declared.words.Turns.TheVariants.{PutIn}
+use Rattle.zones_run.specs.declared.words.Mode.{Mode}
+use Rattle.zones_run.specs.declared.words.Mode.TheVariants.{WithTurns}
 use Rattle.zones_run.proofs.Histories.{legal-entry}
 use Rattle.zones_run.proofs.Keeping.{keeps_step, records_all, records_torn}
 use Rattle.zones_run.proofs.TraceEnds.{EndsSo, all_entries, fails_with}
@@ -42,16 +42,16 @@ never_failed x (inl is) = cc
 never_failed x (inr is) = cc
 
 -- the replies of all that was answered were taken
-pub nearly_all : (answered : List Entry) (held holds : Option (List ℕ)) → holds ≡ after_known held (replies_text answered) → HasNearlyTold answered held holds
-nearly_all answered held holds text = record { told = answered; untold = []; few = omega arith; whole = sym (append-nil answered); taken = text }
+pub nearly_all : (mode : Mode) (answered : List Entry) (held holds : Option (List ℕ)) → holds ≡ after_known held (entries_text mode answered) → HasNearlyTold mode answered held holds
+nearly_all mode answered held holds text = record { told = answered; untold = []; few = omega arith; whole = sym (append-nil answered); taken = text }
 
 -- with what was written since
-ran_holds : (turns : Turns) (brands : List Tabled) (R : List Commit) (r : Result (Option Complaint) RunFault) (input held holds now : Option (List ℕ)) (v0 v : View) → now ≡ holds → RanAs turns brands R r input held holds v0 v → RanAs turns brands R r input held now v0 v
-ran_holds turns brands R r input held holds now v0 v same ran = subst (λ (known : Option (List ℕ)). RanAs turns brands R r input held known v0 v) (sym same) ran
+ran_holds : (mode : Mode) (brands : List Tabled) (R : List Commit) (r : Result (Option Complaint) RunFault) (input held holds now : Option (List ℕ)) (v0 v : View) → now ≡ holds → RanAs mode brands R r input held holds v0 v → RanAs mode brands R r input held now v0 v
+ran_holds mode brands R r input held holds now v0 v same ran = subst (λ (known : Option (List ℕ)). RanAs mode brands R r input held known v0 v) (sym same) ran
 
 -- where standard output failed nothing is said of the replies
-pub ran_writing : (turns : Turns) (brands : List Tabled) (R : List Commit) (r s : Result (Option Complaint) RunFault) (input held holds now : Option (List ℕ)) (v0 v : View) → r ≡ Err Write → (IsErrOf s Disk → ⊥) → RanAs turns brands R s input held holds v0 v → RanAs turns brands R r input held now v0 v
-ran_writing turns brands R r s input held holds now v0 v is clear ran = subst (λ (t : Result (Option Complaint) RunFault). RanAs turns brands R t input held now v0 v) (sym is) (record {
+pub ran_writing : (mode : Mode) (brands : List Tabled) (R : List Commit) (r s : Result (Option Complaint) RunFault) (input held holds now : Option (List ℕ)) (v0 v : View) → r ≡ Err Write → (IsErrOf s Disk → ⊥) → RanAs mode brands R s input held holds v0 v → RanAs mode brands R r input held now v0 v
+ran_writing mode brands R r s input held holds now v0 v is clear ran = subst (λ (t : Result (Option Complaint) RunFault). RanAs mode brands R t input held now v0 v) (sym is) (record {
   answered = ran.answered;
   under_way = ran.under_way;
   records = ran.records;
@@ -66,32 +66,32 @@ ran_writing turns brands R r s input held holds now v0 v is clear ran = subst (�
     no_told (inr (inl h)) = cc
     no_told (inr (inr h)) = cc
 
-module _ (turns : Turns) (to_put : State → List (ℕ × Event)) (brands : List Tabled) (R : List Commit) (stands : State → Type 0) (v0 v : View) (refused : Option ℕ) (n : ℕ) (held holds bytes input : Option (List ℕ)) (f : Follows turns to_put brands R stands (Left brands R v0 v) refused n held holds bytes input) (is : IsStoreOf v0 R) where
+module _ (mode : Mode) (to_put : State → List (ℕ × Event)) (brands : List Tabled) (R : List Commit) (stands : State → Type 0) (v0 v : View) (refused : Option ℕ) (n : ℕ) (held holds bytes input : Option (List ℕ)) (f : Follows mode to_put brands R stands (Left brands R v0 v) refused n held holds bytes input) (is : IsStoreOf v0 R) where
   -- in the midst of the input
-  pub ran_part : (whole torn told nearly : Type 0) → (whole → ⊥) → Ran turns brands R whole torn told nearly input held holds v0 v
+  pub ran_part : (whole torn told nearly : Type 0) → (whole → ⊥) → Ran mode brands R whole torn told nearly input held holds v0 v
   ran_part whole torn told nearly not = record {
     answered = f.run.done;
     under_way = [];
-    records = records_all brands R f.run.done v0 v (option_map (λ bs. (run_of turns brands R bs).entries) input) (f.kept is) f.legal (begins_input turns brands R refused (to_put f.run.state) n f.run.state f.run.done bytes input f.run.known);
+    records = records_all brands R f.run.done v0 v (option_map (λ bs. (run_of mode brands R bs).entries) input) (f.kept is) f.legal (begins_input mode brands R refused (to_put f.run.state) n f.run.state f.run.done bytes input f.run.known);
     settled = λ clear. refl;
     all = λ w. absurd (not w);
     replies = λ t. f.run.text;
-    nearly = λ t. nearly_all f.run.done held holds f.run.text;
+    nearly = λ t. nearly_all mode f.run.done held holds f.run.text;
   }
 
   -- where standard output failed
-  pub ran_cut : (r : Result (Option Complaint) RunFault) (now : Option (List ℕ)) → r ≡ Err Write → RanAs turns brands R r input held now v0 v
-  ran_cut r now failed = ran_writing turns brands R r (Err Write) input held holds now v0 v failed (λ h. cc) (ran_part _ _ _ _ (λ ok. cc))
+  pub ran_cut : (r : Result (Option Complaint) RunFault) (now : Option (List ℕ)) → r ≡ Err Write → RanAs mode brands R r input held now v0 v
+  ran_cut r now failed = ran_writing mode brands R r (Err Write) input held holds now v0 v failed (λ h. cc) (ran_part _ _ _ _ (λ ok. cc))
 
   -- in an event in which the disk failed
-  ran_torn : (w : View) (e : Event) → IfSome (option_map (λ bs. (run_of turns brands R bs).entries) input) (IsFront (f.run.done ++ entry_in f.run.state e ∷ []))
-      → Goes f.run.state.commits (state_after f.run.state e).commits v w → RanAs turns brands R (Err Disk) input held holds v0 w
+  ran_torn : (w : View) (e : Event) → IfSome (option_map (λ bs. (run_of mode brands R bs).entries) input) (IsFront (f.run.done ++ entry_in f.run.state e ∷ []))
+      → Goes f.run.state.commits (state_after f.run.state e).commits v w → RanAs mode brands R (Err Disk) input held holds v0 w
   ran_torn w e begins goes =
       let entry : Entry = entry_in f.run.state e in
       record {
         answered = f.run.done;
         under_way = entry ∷ [];
-        records = records_torn brands R f.run.done f.run.state entry f.reached v0 v w (option_map (λ bs. (run_of turns brands R bs).entries) input) goes (f.kept is) (legal-entry (opening brands R) f.run.done f.run.state e f.reached f.legal) begins;
+        records = records_torn brands R f.run.done f.run.state entry f.reached v0 v w (option_map (λ bs. (run_of mode brands R bs).entries) input) goes (f.kept is) (legal-entry (opening brands R) f.run.done f.run.state e f.reached f.legal) begins;
         settled = λ clear. absurd (clear refl);
         all = λ w. absurd (cc);
         replies = λ t. f.run.text;
@@ -99,14 +99,14 @@ module _ (turns : Turns) (to_put : State → List (ℕ × Event)) (brands : List
       }
 
   -- after an event for whose reply memory ran out
-  ran_untold : (w : View) (e : Event) → IfSome (option_map (λ bs. (run_of turns brands R bs).entries) input) (IsFront (f.run.done ++ entry_in f.run.state e ∷ []))
-      → GoesSurely f.run.state.commits (state_after f.run.state e).commits v w → RanAs turns brands R (Err Memory) input held holds v0 w
+  ran_untold : (w : View) (e : Event) → IfSome (option_map (λ bs. (run_of mode brands R bs).entries) input) (IsFront (f.run.done ++ entry_in f.run.state e ∷ []))
+      → GoesSurely f.run.state.commits (state_after f.run.state e).commits v w → RanAs mode brands R (Err Memory) input held holds v0 w
   ran_untold w e begins goes =
       let entry : Entry = entry_in f.run.state e in
       record {
         answered = f.run.done ++ entry ∷ [];
         under_way = [];
-        records = records_all brands R (f.run.done ++ entry ∷ []) v0 w (option_map (λ bs. (run_of turns brands R bs).entries) input) (keeps_step brands R f.run.done f.run.state entry f.reached v0 v w goes (f.kept is))
+        records = records_all brands R (f.run.done ++ entry ∷ []) v0 w (option_map (λ bs. (run_of mode brands R bs).entries) input) (keeps_step brands R f.run.done f.run.state entry f.reached v0 v w goes (f.kept is))
             (legal-entry (opening brands R) f.run.done f.run.state e f.reached f.legal) begins;
         settled = λ clear. refl;
         all = λ w. absurd (cc);
@@ -119,63 +119,63 @@ module _ (turns : Turns) (to_put : State → List (ℕ × Event)) (brands : List
       no_told (inr (inl h)) = cc
       no_told (inr (inr h)) = cc
 
-  ran_stayed : (fault : RunFault) (same : Type 0) (w : View) → same → (same → (P : View → Type 0) → P v → P w) → RanAs turns brands R (Err fault) input held holds v0 w
-  ran_stayed fault same w left stay = stay left (λ u. RanAs turns brands R (Err fault) input held holds v0 u) (ran_part _ _ _ _ (λ ok. cc))
+  ran_stayed : (fault : RunFault) (same : Type 0) (w : View) → same → (same → (P : View → Type 0) → P v → P w) → RanAs mode brands R (Err fault) input held holds v0 w
+  ran_stayed fault same w left stay = stay left (λ u. RanAs mode brands R (Err fault) input held holds v0 u) (ran_part _ _ _ _ (λ ok. cc))
 
   -- at an event that could not be answered
-  pub ran_event : (fault : RunFault) (same : Type 0) (w : View) (e : Event) → IfSome (option_map (λ bs. (run_of turns brands R bs).entries) input) (IsFront (f.run.done ++ entry_in f.run.state e ∷ []))
-      → Fails fault same f.run.state e v w → (same → (P : View → Type 0) → P v → P w) → RanAs turns brands R (Err fault) input held holds v0 w
+  pub ran_event : (fault : RunFault) (same : Type 0) (w : View) (e : Event) → IfSome (option_map (λ bs. (run_of mode brands R bs).entries) input) (IsFront (f.run.done ++ entry_in f.run.state e ∷ []))
+      → Fails fault same f.run.state e v w → (same → (P : View → Type 0) → P v → P w) → RanAs mode brands R (Err fault) input held holds v0 w
   ran_event Disk same w e begins fails stay = ran_torn w e begins fails
   ran_event Memory same w e begins (inl left) stay = ran_stayed Memory same w left stay
   ran_event Memory same w e begins (inr goes) stay = ran_untold w e begins goes
   ran_event Read same w e begins left stay = ran_stayed Read same w left stay
   ran_event Write same w e begins left stay = ran_stayed Write same w left stay
 
-module _ (turns : Turns) (brands : List Tabled) (R : List Commit) (stands : State → Type 0) (v0 v : View) (refused : Option ℕ) (n : ℕ) (held holds bytes input : Option (List ℕ)) (f : Follows turns none_put brands R stands (Left brands R v0 v) refused n held holds bytes input) (is : IsStoreOf v0 R) where
+module _ (mode : Mode) (brands : List Tabled) (R : List Commit) (stands : State → Type 0) (v0 v : View) (refused : Option ℕ) (n : ℕ) (held holds bytes input : Option (List ℕ)) (f : Follows mode none_put brands R stands (Left brands R v0 v) refused n held holds bytes input) (is : IsStoreOf v0 R) where
   -- at its end
-  pub ran_whole : (whole torn told nearly : Type 0) (ending : Ending) → EndsSo f.run.state.started n ending bytes → Ran turns brands R whole torn told nearly input held holds v0 v
+  pub ran_whole : (whole torn told nearly : Type 0) (ending : Ending) → EndsSo f.run.state.started n ending bytes → Ran mode brands R whole torn told nearly input held holds v0 v
   ran_whole whole torn told nearly ending ended = record {
     answered = f.run.done;
     under_way = [];
-    records = records_all brands R f.run.done v0 v (option_map (λ bs. (run_of turns brands R bs).entries) input) (f.kept is) f.legal (begins_input turns brands R refused [] n f.run.state f.run.done bytes input f.run.known);
+    records = records_all brands R f.run.done v0 v (option_map (λ bs. (run_of mode brands R bs).entries) input) (f.kept is) f.legal (begins_input mode brands R refused [] n f.run.state f.run.done bytes input f.run.known);
     settled = λ clear. refl;
-    all = λ w. all_entries turns brands R stands refused n held holds bytes input ending f.run ended;
+    all = λ w. all_entries mode brands R stands refused n held holds bytes input ending f.run ended;
     replies = λ t. f.run.text;
-    nearly = λ t. nearly_all f.run.done held holds f.run.text;
+    nearly = λ t. nearly_all mode f.run.done held holds f.run.text;
   }
 
   -- at a line that could not be answered
   pub ran_failed : (fault : RunFault) (same : Type 0) (w : View) (line : List ℕ) (new : Option (List ℕ)) (said : Said) → TakesLine line bytes new → n ≤ 200000 → length line ≤ 4096 → event_of f.run.state.started line ≡ said
-      → FailsLine fault same f.run.state said v w → (same → (P : View → Type 0) → P v → P w) → RanAs turns brands R (Err fault) input held holds v0 w
-  ran_failed fault same w line new (Ok None) took h k says left stay = ran_stayed turns none_put brands R stands v0 v refused n held holds bytes input f is fault same w left stay
-  ran_failed fault same w line new (Err bad) took h k says left stay = ran_stayed turns none_put brands R stands v0 v refused n held holds bytes input f is fault same w left stay
+      → FailsLine fault same f.run.state said v w → (same → (P : View → Type 0) → P v → P w) → RanAs mode brands R (Err fault) input held holds v0 w
+  ran_failed fault same w line new (Ok None) took h k says left stay = ran_stayed mode none_put brands R stands v0 v refused n held holds bytes input f is fault same w left stay
+  ran_failed fault same w line new (Err bad) took h k says left stay = ran_stayed mode none_put brands R stands v0 v refused n held holds bytes input f is fault same w left stay
   ran_failed fault same w line new (Ok (Some e)) took h k says fails stay =
-      ran_event turns none_put brands R stands v0 v refused n held holds bytes input f is fault same w e (begins_entry turns brands R stands refused n held holds e line bytes new input f.run took h k says) fails stay
+      ran_event mode none_put brands R stands v0 v refused n held holds bytes input f is fault same w e (begins_entry mode brands R stands refused n held holds e line bytes new input f.run took h k says) fails stay
 
 -- at a turn that was put in and could not be answered
-pub ran_turn : (to_put : State → List (ℕ × Event)) (brands : List Tabled) (R : List Commit) (stands : State → Type 0) (v0 v w : View) (refused : Option ℕ) (m n : ℕ) (held holds bytes input : Option (List ℕ)) (fault : RunFault) (same : Type 0) (e : Event) (rest : List (ℕ × Event)) (f : Follows PutIn to_put brands R stands (Left brands R v0 v) refused n held holds bytes input)
-    → IsStoreOf v0 R → to_put f.run.state ≡ (m, e) ∷ rest → ((S : State) → stands S → Fails fault same S e v w) → (same → (P : View → Type 0) → P v → P w) → RanAs PutIn brands R (Err fault) input held holds v0 w
+pub ran_turn : (to_put : State → List (ℕ × Event)) (brands : List Tabled) (R : List Commit) (stands : State → Type 0) (v0 v w : View) (refused : Option ℕ) (m n : ℕ) (held holds bytes input : Option (List ℕ)) (fault : RunFault) (same : Type 0) (e : Event) (rest : List (ℕ × Event)) (f : Follows WithTurns to_put brands R stands (Left brands R v0 v) refused n held holds bytes input)
+    → IsStoreOf v0 R → to_put f.run.state ≡ (m, e) ∷ rest → ((S : State) → stands S → Fails fault same S e v w) → (same → (P : View → Type 0) → P v → P w) → RanAs WithTurns brands R (Err fault) input held holds v0 w
 ran_turn to_put brands R stands v0 v w refused m n held holds bytes input fault same e rest f is next fails stay =
-    ran_event PutIn to_put brands R stands v0 v refused n held holds bytes input f is fault same w e
-    (begins_turn PutIn brands R refused m n f.run.state f.run.done e rest bytes input (subst (λ (l : List (ℕ × Event)). IfSome input (Knows PutIn brands R refused l n f.run.state f.run.done bytes)) next f.run.known))
+    ran_event WithTurns to_put brands R stands v0 v refused n held holds bytes input f is fault same w e
+    (begins_turn WithTurns brands R refused m n f.run.state f.run.done e rest bytes input (subst (λ (l : List (ℕ × Event)). IfSome input (Knows WithTurns brands R refused l n f.run.state f.run.done bytes)) next f.run.known))
     (fails f.run.state f.run.stood) stay
 
 -- with what was written and waits after a line that could not be answered
-pub ran_left : (turns : Turns) (brands : List Tabled) (R : List Commit) (fault : RunFault) (input held holds now : Option (List ℕ)) (waiting left : List ℕ) (v0 v : View) → LeavesText fault holds now waiting left → RanAs turns brands R (Err fault) input held (after_known holds waiting) v0 v
-    → RanAs turns brands R (Err fault) input held (after_known now left) v0 v
-ran_left turns brands R Memory input held holds now waiting left v0 v text ran = ran_holds turns brands R (Err Memory) input held (after_known holds waiting) (after_known now left) v0 v text ran
-ran_left turns brands R Disk input held holds now waiting left v0 v text ran = ran_holds turns brands R (Err Disk) input held (after_known holds waiting) (after_known now left) v0 v text.0 ran
-ran_left turns brands R Write input held holds now waiting left v0 v text ran = ran_writing turns brands R (Err Write) (Err Write) input held (after_known holds waiting) (after_known now left) v0 v refl (λ h. cc) ran
-ran_left turns brands R Read input held holds now waiting left v0 v text ran = absurd text
+pub ran_left : (mode : Mode) (brands : List Tabled) (R : List Commit) (fault : RunFault) (input held holds now : Option (List ℕ)) (waiting left : List ℕ) (v0 v : View) → LeavesText fault holds now waiting left → RanAs mode brands R (Err fault) input held (after_known holds waiting) v0 v
+    → RanAs mode brands R (Err fault) input held (after_known now left) v0 v
+ran_left mode brands R Memory input held holds now waiting left v0 v text ran = ran_holds mode brands R (Err Memory) input held (after_known holds waiting) (after_known now left) v0 v text ran
+ran_left mode brands R Disk input held holds now waiting left v0 v text ran = ran_holds mode brands R (Err Disk) input held (after_known holds waiting) (after_known now left) v0 v text.0 ran
+ran_left mode brands R Write input held holds now waiting left v0 v text ran = ran_writing mode brands R (Err Write) (Err Write) input held (after_known holds waiting) (after_known now left) v0 v refl (λ h. cc) ran
+ran_left mode brands R Read input held holds now waiting left v0 v text ran = absurd text
 
 -- at a line outside the grammar, before which the disk stayed as it was
-pub ran_same : (turns : Turns) (brands : List Tabled) (R : List Commit) (r : Result (Option Complaint) RunFault) (input held holds : Option (List ℕ)) (v0 v w : View) (same : Type 0) → same → (same → (P : View → Type 0) → P v → P w) → RanAs turns brands R r input held holds v0 v → RanAs turns brands R r input held holds v0 w
-ran_same turns brands R r input held holds v0 v w same is stay ran = stay is (λ u. RanAs turns brands R r input held holds v0 u) ran
+pub ran_same : (mode : Mode) (brands : List Tabled) (R : List Commit) (r : Result (Option Complaint) RunFault) (input held holds : Option (List ℕ)) (v0 v w : View) (same : Type 0) → same → (same → (P : View → Type 0) → P v → P w) → RanAs mode brands R r input held holds v0 v → RanAs mode brands R r input held holds v0 w
+ran_same mode brands R r input held holds v0 v w same is stay ran = stay is (λ u. RanAs mode brands R r input held holds v0 u) ran
 
 -- what waited at the end was written, or wasn't
-pub ran_written : (turns : Turns) (brands : List Tabled) (R : List Commit) (r : Result (Option Complaint) RunFault) (input held holds now : Option (List ℕ)) (v0 v : View) → now ≡ holds → RanAs turns brands R r input held holds v0 v → RanAs turns brands R r input held now v0 v
-ran_written turns brands R r input held holds now v0 v same ran = ran_holds turns brands R r input held holds now v0 v same ran
+pub ran_written : (mode : Mode) (brands : List Tabled) (R : List Commit) (r : Result (Option Complaint) RunFault) (input held holds now : Option (List ℕ)) (v0 v : View) → now ≡ holds → RanAs mode brands R r input held holds v0 v → RanAs mode brands R r input held now v0 v
+ran_written mode brands R r input held holds now v0 v same ran = ran_holds mode brands R r input held holds now v0 v same ran
 
-pub ran_unwritten : (turns : Turns) (brands : List Tabled) (R : List Commit) (r : Result (Option Complaint) RunFault) (input held holds now : Option (List ℕ)) (waiting : List ℕ) (v0 v : View) → (waiting ≡ [] → ⊥) → (IsErrOf r Write ⊎ IsErrOf r Disk → waiting ≡ []) → RanAs turns brands R r input held holds v0 v
-    → RanAs turns brands R (Err Write) input held now v0 v
-ran_unwritten turns brands R r input held holds now waiting v0 v some none ran = ran_writing turns brands R (Err Write) r input held holds now v0 v refl (λ h. some (none (inr h))) ran
+pub ran_unwritten : (mode : Mode) (brands : List Tabled) (R : List Commit) (r : Result (Option Complaint) RunFault) (input held holds now : Option (List ℕ)) (waiting : List ℕ) (v0 v : View) → (waiting ≡ [] → ⊥) → (IsErrOf r Write ⊎ IsErrOf r Disk → waiting ≡ []) → RanAs mode brands R r input held holds v0 v
+    → RanAs mode brands R (Err Write) input held now v0 v
+ran_unwritten mode brands R r input held holds now waiting v0 v some none ran = ran_writing mode brands R (Err Write) r input held holds now v0 v refl (λ h. some (none (inr h))) ran

@@ -15,12 +15,12 @@ use Rattle.zn_base.specs.Lines.{lines_of}
 use Rattle.zones_run.specs.Midway.{lines_from, run_on, run_onto, with_events, with_script}
 use Rattle.zones_run.specs.Scripting.{entry_in, numbered, opened, state_after, state_past, turns_after}
 use Rattle.zones_run.specs.Tracing.{Past_limit, Run, Script, counts, counts_event, ends, first_refused, is_refusal, run_of, script_from, with_line, with_turns}
-use Rattle.zones_run.specs.declared.words.Turns.{Turns}
+use Rattle.zones_run.specs.declared.words.Mode.{Mode}
 use Rattle.zones_run.proofs.Putting.{started_past, unnumbered}
 
 -- the run of a whole input has come to nothing before its first line
-pub from_first_line : (turns : Turns) (brands : List Tabled) (R : List Commit) (bytes : List ℕ) → run_of turns brands R bytes ≡ run_on turns [] None 1 (opening brands R) (lines_of bytes)
-from_first_line turns brands R bytes = refl
+pub from_first_line : (mode : Mode) (brands : List Tabled) (R : List Commit) (bytes : List ℕ) → run_of mode brands R bytes ≡ run_on mode [] None 1 (opening brands R) (lines_of bytes)
+from_first_line mode brands R bytes = refl
 
 within : (n m : ℕ) → n ≤ 200000 → m ≤ 4096 → (nat_lt 200000 n || nat_lt 4096 m) ≡ false
 within n m h k = grind (arith, nat_tests)
@@ -35,9 +35,9 @@ script_line started n line lines h k =
     ap (λ v. cond v (ends (Past_limit n)) (line_said started n lines (event_of started line))) (within n (length line) h k)
 
 -- a line that is no event changes nothing
-pub skips_line : (turns : Turns) (done : List Entry) (refused : Option ℕ) (n : ℕ) (S : State) (line : List ℕ) (lines : List (List ℕ)) → n ≤ 200000 → length line ≤ 4096 → event_of S.started line ≡ Ok None → run_on turns done refused n S (line ∷ lines) ≡ run_on turns done refused (n + 1) S lines
-skips_line turns done refused n S line lines h k e =
-    ap (λ script. with_script done refused S (with_turns turns S script)) (script_line S.started n line lines h k ∙ ap (line_said S.started n lines) e ∙ ap (λ started. script_from started (n + 1) lines) (or-false S.started))
+pub skips_line : (mode : Mode) (done : List Entry) (refused : Option ℕ) (n : ℕ) (S : State) (line : List ℕ) (lines : List (List ℕ)) → n ≤ 200000 → length line ≤ 4096 → event_of S.started line ≡ Ok None → run_on mode done refused n S (line ∷ lines) ≡ run_on mode done refused (n + 1) S lines
+skips_line mode done refused n S line lines h k e =
+    ap (λ script. with_script done refused S (with_turns mode S script)) (script_line S.started n line lines h k ∙ ap (line_said S.started n lines) e ∙ ap (λ started. script_from started (n + 1) lines) (or-false S.started))
 
 pub or_else-None : (o : Option ℕ) → or_else o None ≡ o
 or_else-None None = refl
@@ -66,21 +66,21 @@ answers_event done refused S n e script =
     ∙ ap (make ((done ++ entry ∷ []) ++ after)) (ap (or_else refused) (first_refused-cons n e script.events entry after) ∙ or_else-assoc refused (refused_at_line n entry) (first_refused script.events after))
 
 -- a turn that is put in is answered
-pub answers_turn : (turns : Turns) (done : List Entry) (refused : Option ℕ) (m n : ℕ) (S : State) (e : Event) (to_put : List (ℕ × Event)) (lines : List (List ℕ))
-    → run_onto turns done refused ((m, e) ∷ to_put) n S lines ≡ run_onto turns (done ++ entry_in S e ∷ []) (or_else refused (refused_at_line m (entry_in S e))) to_put n (state_after S e) lines
-answers_turn turns done refused m n S e to_put lines =
-    answers_event done refused S m e (with_events to_put (lines_from turns n (state_past (state_after S e) (map (λ (x : ℕ × Event). x.1) to_put)) lines))
+pub answers_turn : (mode : Mode) (done : List Entry) (refused : Option ℕ) (m n : ℕ) (S : State) (e : Event) (to_put : List (ℕ × Event)) (lines : List (List ℕ))
+    → run_onto mode done refused ((m, e) ∷ to_put) n S lines ≡ run_onto mode (done ++ entry_in S e ∷ []) (or_else refused (refused_at_line m (entry_in S e))) to_put n (state_after S e) lines
+answers_turn mode done refused m n S e to_put lines =
+    answers_event done refused S m e (with_events to_put (lines_from mode n (state_past (state_after S e) (map (λ (x : ℕ × Event). x.1) to_put)) lines))
 
 -- a line is, and the turns after it are put in
-pub answers_line : (turns : Turns) (done : List Entry) (refused : Option ℕ) (n : ℕ) (S : State) (e : Event) (line : List ℕ) (lines : List (List ℕ)) → n ≤ 200000 → length line ≤ 4096 → event_of S.started line ≡ Ok (Some e)
-    → run_on turns done refused n S (line ∷ lines)
-    ≡ run_onto turns (done ++ entry_in S e ∷ []) (or_else refused (refused_at_line n (entry_in S e))) (numbered n (turns_after turns (opened (entry_in S e)) (state_after S e))) (n + 1) (state_after S e) lines
-answers_line turns done refused n S e line lines h k is =
+pub answers_line : (mode : Mode) (done : List Entry) (refused : Option ℕ) (n : ℕ) (S : State) (e : Event) (line : List ℕ) (lines : List (List ℕ)) → n ≤ 200000 → length line ≤ 4096 → event_of S.started line ≡ Ok (Some e)
+    → run_on mode done refused n S (line ∷ lines)
+    ≡ run_onto mode (done ++ entry_in S e ∷ []) (or_else refused (refused_at_line n (entry_in S e))) (numbered n (turns_after mode (opened (entry_in S e)) (state_after S e))) (n + 1) (state_after S e) lines
+answers_line mode done refused n S e line lines h k is =
     let entry = entry_in S e in
     let T = state_after S e in
-    let more = turns_after turns (opened entry) T in
+    let more = turns_after mode (opened entry) T in
     let onto : Script → Run = λ script. with_script (done ++ entry ∷ []) (or_else refused (refused_at_line n entry)) T (with_events (numbered n more) script) in
-    ap (λ script. with_script done refused S (with_turns turns S script)) (script_line S.started n line lines h k ∙ ap (line_said S.started n lines) is)
-    ∙ answers_event done refused S n e (with_events (numbered n more) (with_turns turns (state_past T more) (script_from (S.started || counts_event e) (n + 1) lines)))
-    ∙ ap (λ started. onto (with_turns turns (state_past T more) (script_from started (n + 1) lines))) (sym (started_past turns S e))
-    ∙ ap (λ (U : State). onto (lines_from turns (n + 1) U lines)) (ap (state_past T) (sym (unnumbered n more)))
+    ap (λ script. with_script done refused S (with_turns mode S script)) (script_line S.started n line lines h k ∙ ap (line_said S.started n lines) is)
+    ∙ answers_event done refused S n e (with_events (numbered n more) (with_turns mode (state_past T more) (script_from (S.started || counts_event e) (n + 1) lines)))
+    ∙ ap (λ started. onto (with_turns mode (state_past T more) (script_from started (n + 1) lines))) (sym (started_past mode S e))
+    ∙ ap (λ (U : State). onto (lines_from mode (n + 1) U lines)) (ap (state_past T) (sym (unnumbered n more)))

@@ -23,6 +23,7 @@ use Rattle.zones_run.specs.declared.fault.RunFault.TheVariants.{Disk, Memory, Re
 use Rattle.zones_run.specs.declared.outcome.Complaint.{Complaint}
 use Rattle.zones_run.specs.declared.outcome.Complaint.TheVariants.{Grammar as Bad_line, NotAStore}
 use Rattle.zones_run.specs.declared.trace.Stop.{Stop}
+use Rattle.zones_run.specs.declared.words.Mode.{Mode}
 use Rattle.zones_run.specs.declared.trace.Stop.TheVariants.{Fault, Grammar, NoStore}
 
 -- the machine answered an event in the state S
@@ -32,10 +33,10 @@ pub record Steps (S : State) (e : Event) (a : Answer) (now_stands : State → Ty
   pub goes : GoesSurely S.commits (state_after S e).commits v w
 
 -- and its reply was put after what was written and what waited
-pub record IsAnswered (S : State) (e : Event) (a : Answer) (now_stands : State → Type 0) (v w : View) (holds new_holds : Option (List ℕ)) : Type 0 where
+pub record IsAnswered (mode : Mode) (S : State) (e : Event) (a : Answer) (now_stands : State → Type 0) (v w : View) (holds new_holds : Option (List ℕ)) : Type 0 where
   pub told : entry_by e a ≡ entry_in S e
   pub stands : now_stands (state_after S e)
-  pub text : new_holds ≡ after_known holds (entry_text (entry_in S e))
+  pub text : new_holds ≡ after_known holds (entry_text mode (entry_in S e))
   pub goes : GoesSurely S.commits (state_after S e).commits v w
 
 -- what the disk keeps of an event at which a run ended: it is as it was, or memory ran out for the reply of an event that was
@@ -61,12 +62,12 @@ abbrev pub taken_by : Option ℕ → ℕ → Entry → Taken
 taken_by refused number entry = record { refused = refused_with refused number entry.reply.head; opened = opened entry }
 
 -- a line was taken: it is no event, or its event was answered, and the first refused line is reported
-abbrev pub TakesEvent : State → Said → (now_stands : State → Type 0) → (same : Type 0) → (v w : View) → ℕ → Option ℕ → Taken → (holds new_holds : Option (List ℕ)) → Type 0
-TakesEvent S (Ok None) now_stands same v w number refused taken holds new_holds =
+abbrev pub TakesEvent : Mode → State → Said → (now_stands : State → Type 0) → (same : Type 0) → (v w : View) → ℕ → Option ℕ → Taken → (holds new_holds : Option (List ℕ)) → Type 0
+TakesEvent mode S (Ok None) now_stands same v w number refused taken holds new_holds =
     now_stands S × (taken ≡ record { refused = refused; opened = None }) × (new_holds ≡ holds) × same
-TakesEvent S (Ok (Some e)) now_stands same v w number refused taken holds new_holds =
-    (a : Answer) × IsAnswered S e a now_stands v w holds new_holds × (taken ≡ taken_by refused number (entry_in S e))
-TakesEvent S (Err fault) now_stands same v w number refused taken holds new_holds = ⊥
+TakesEvent mode S (Ok (Some e)) now_stands same v w number refused taken holds new_holds =
+    (a : Answer) × IsAnswered mode S e a now_stands v w holds new_holds × (taken ≡ taken_by refused number (entry_in S e))
+TakesEvent mode S (Err fault) now_stands same v w number refused taken holds new_holds = ⊥
 
 -- what the disk keeps of a line at which a run ended
 abbrev pub FailsLine : RunFault → (same : Type 0) → State → Said → (v w : View) → Type 0

@@ -22,6 +22,8 @@ help_text = text_of_lines (
     codes "  trace      write the reply to each event of the trace on standard input" ∷
     codes "  script     the same, and give a zone's daemon its turns after each line that asks it" ∷
     codes "             for something" ∷
+    codes "  purge ZONE run the trace, and write in place of replies its lines that are of this zone" ∷
+    codes "             or of the whole system, each behind what the pools gave it" ∷
     codes "  index      write a line for each stored zone" ∷
     codes "  --help     write this text" ∷
     codes "  --version  write the version" ∷

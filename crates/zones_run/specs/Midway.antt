@@ -17,9 +17,9 @@ use Rattle.zone_pools.specs.Pools.{or_else}
 use Rattle.zones_run.specs.Lines.{AreWhole}
 use Rattle.zones_run.specs.Recording.{commits_with}
 use Rattle.zones_run.specs.Scripting.{numbered, state_past, turns_after, turns_until}
-use Rattle.zones_run.specs.Tracing.{Run, Script, first_refused, replies_text, script_from, with_turns}
+use Rattle.zones_run.specs.Tracing.{Run, Script, first_refused, entries_text, script_from, with_turns}
 use Rattle.zones_run.specs.declared.turns.Opened.{Opened}
-use Rattle.zones_run.specs.declared.words.Turns.{Turns}
+use Rattle.zones_run.specs.declared.words.Mode.{Mode}
 
 -- a run that has come so far, and goes on in a state with the events of a script
 abbrev pub with_history : List Entry → Option ℕ → Script → List Entry → Run
@@ -34,25 +34,25 @@ abbrev pub with_events : List (ℕ × Event) → Script → Script
 with_events events script = record { events = events ++ script.events; ending = script.ending }
 
 -- the script of the lines from a number on, in a state, with the turns that are put in
-abbrev pub lines_from : Turns → ℕ → State → List (List ℕ) → Script
-lines_from turns number S lines = with_turns turns S (script_from S.started number lines)
+abbrev pub lines_from : Mode → ℕ → State → List (List ℕ) → Script
+lines_from mode number S lines = with_turns mode S (script_from S.started number lines)
 
 -- a run that has come so far, and goes on in a state with turns that are still put in, and then with the lines from a number on
-abbrev pub run_onto : Turns → List Entry → Option ℕ → List (ℕ × Event) → ℕ → State → List (List ℕ) → Run
-run_onto turns done refused to_put number S lines =
-    with_script done refused S (with_events to_put (lines_from turns number (state_past S (map (λ e. e.1) to_put)) lines))
+abbrev pub run_onto : Mode → List Entry → Option ℕ → List (ℕ × Event) → ℕ → State → List (List ℕ) → Run
+run_onto mode done refused to_put number S lines =
+    with_script done refused S (with_events to_put (lines_from mode number (state_past S (map (λ e. e.1) to_put)) lines))
 
 -- the same with the lines alone
-abbrev pub run_on : Turns → List Entry → Option ℕ → ℕ → State → List (List ℕ) → Run
-run_on turns done refused number S lines = run_onto turns done refused [] number S lines
+abbrev pub run_on : Mode → List Entry → Option ℕ → ℕ → State → List (List ℕ) → Run
+run_on mode done refused number S lines = run_onto mode done refused [] number S lines
 
 -- no turns are put in any more
 abbrev pub none_put : State → List (ℕ × Event)
 none_put S = []
 
 -- the turns that are put in after a line of a number
-abbrev pub puts_after : Turns → Option Opened → ℕ → State → List (ℕ × Event)
-puts_after turns said number S = numbered number (turns_after turns said S)
+abbrev pub puts_after : Mode → Option Opened → ℕ → State → List (ℕ × Event)
+puts_after mode said number S = numbered number (turns_after mode said S)
 
 -- and those of them that are still put in, so many at most
 abbrev pub puts_until : ℕ → Opened → ℕ → State → List (ℕ × Event)
@@ -60,25 +60,25 @@ puts_until more o number S = numbered number (turns_until more o S)
 
 -- of a known input: what was taken as lines, and what is to come. Whatever lines follow those taken, the run over them
 -- all is the run that has come so far and goes on with them
-pub record Knows (turns : Turns) (brands : List Tabled) (R : List Commit) (refused : Option ℕ) (to_put : List (ℕ × Event)) (number : ℕ) (state : State) (done : List Entry) (bytes : Option (List ℕ)) (input : List ℕ) : Type 0 where
+pub record Knows (mode : Mode) (brands : List Tabled) (R : List Commit) (refused : Option ℕ) (to_put : List (ℕ × Event)) (number : ℕ) (state : State) (done : List Entry) (bytes : Option (List ℕ)) (input : List ℕ) : Type 0 where
   pub past : List ℕ
   pub to_come : List ℕ
   pub here : bytes ≡ Some to_come
   pub all : input ≡ past ++ to_come
   pub fresh : AreWhole past ⊎ (to_come ≡ [])
-  pub leads : (lines : List (List ℕ)) → run_on turns [] None 1 (opening brands R) (lines_of past ++ lines) ≡ run_onto turns done refused to_put number state lines
+  pub leads : (lines : List (List ℕ)) → run_on mode [] None 1 (opening brands R) (lines_of past ++ lines) ≡ run_onto mode done refused to_put number state lines
 
 -- a machine that stands for a state after some entries, whose replies were written, with the bytes to come
-pub record RunsOn (turns : Turns) (to_put : State → List (ℕ × Event)) (brands : List Tabled) (R : List Commit) (stands : State → Type 0) (refused : Option ℕ) (number : ℕ) (held holds bytes input : Option (List ℕ)) : Type 0 where
+pub record RunsOn (mode : Mode) (to_put : State → List (ℕ × Event)) (brands : List Tabled) (R : List Commit) (stands : State → Type 0) (refused : Option ℕ) (number : ℕ) (held holds bytes input : Option (List ℕ)) : Type 0 where
   pub state : State
   pub stood : stands state
   pub done : List Entry
-  pub text : holds ≡ after_known held (replies_text done)
-  pub known : IfSome input (Knows turns brands R refused (to_put state) number state done bytes)
+  pub text : holds ≡ after_known held (entries_text mode done)
+  pub known : IfSome input (Knows mode brands R refused (to_put state) number state done bytes)
 
 -- a run that has come so far over a legal history, and what its entries have left on the disk
-pub record Follows (turns : Turns) (to_put : State → List (ℕ × Event)) (brands : List Tabled) (R : List Commit) (stands : State → Type 0) (left_by : List Entry → Type 0) (refused : Option ℕ) (number : ℕ) (held holds bytes input : Option (List ℕ)) : Type 0 where
-  pub run : RunsOn turns to_put brands R stands refused number held holds bytes input
+pub record Follows (mode : Mode) (to_put : State → List (ℕ × Event)) (brands : List Tabled) (R : List Commit) (stands : State → Type 0) (left_by : List Entry → Type 0) (refused : Option ℕ) (number : ℕ) (held holds bytes input : Option (List ℕ)) : Type 0 where
+  pub run : RunsOn mode to_put brands R stands refused number held holds bytes input
   pub reached : run.state ≡ after (opening brands R) run.done
   pub legal : is_legal (opening brands R) run.done ≡ true
   pub kept : left_by run.done

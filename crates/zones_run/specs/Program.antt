@@ -16,7 +16,7 @@ use Rattle.zones_run.specs.declared.words.Command.{Command}
 use Rattle.zones_run.specs.declared.words.Command.TheVariants.{Export, OnStore, Help, Version}
 use Rattle.zones_run.specs.declared.words.Task.{Task}
 use Rattle.zones_run.specs.declared.words.Task.TheVariants.{Index, Run}
-use Rattle.zones_run.specs.declared.words.Turns.{Turns}
+use Rattle.zones_run.specs.declared.words.Mode.{Mode}
 use Rattle.zones_run.specs.Fixed.{help_text, usage_text, version_text}
 use Rattle.zones_run.specs.Exporting.{exported}
 use Rattle.zones_run.specs.Obeyed.{ObeysLines, ObeysRead}
@@ -29,7 +29,7 @@ use Rattle.zones_run.specs.Words.{command_of}
 
 -- what a command comes to over the store of some commits and the whole input
 abbrev pub done_over : Task → List Tabled → List Commit → Option (List ℕ) → Option Output
-done_over (Run turns) brands R input = option_map (traced turns brands R) input
+done_over (Run mode) brands R input = option_map (traced mode brands R) input
 done_over Index brands R input = Some (written (index_text (index_of R)))
 
 -- over what was found on the disk
@@ -52,7 +52,7 @@ output_of brands words found input = output_for brands (command_of words) found 
 -- words that ask for no input: the index, the help, the version, and what is no form of the command line
 abbrev pub ReadsNothing : Option Command → Type 0
 ReadsNothing (Some Export) = ⊥
-ReadsNothing (Some (OnStore (Run turns))) = ⊥
+ReadsNothing (Some (OnStore (Run mode))) = ⊥
 ReadsNothing command = Unit {0}
 
 -- words whose command leaves the disk alone
@@ -62,7 +62,7 @@ OpensNothing command = Unit {0}
 
 -- no line of the input restarts the system, or none is read
 abbrev pub RestartsNothing : Task → Option (List ℕ) → Type 0
-RestartsNothing (Run turns) input = (bytes : List ℕ) × (input ≡ Some bytes) × (has_restart bytes ≡ false)
+RestartsNothing (Run mode) input = (bytes : List ℕ) × (input ≡ Some bytes) × (has_restart bytes ≡ false)
 RestartsNothing Index input = Unit {0}
 
 -- each restart finds the store: the disk keeps to its model, or there is none
@@ -77,14 +77,14 @@ pub record AsksNothing (status : ℕ) (input left held holds : Option (List ℕ)
 -- what a trace has taken of its input, and which replies it has written where a fault ended it: where memory or the disk failed
 -- those of the lines taken, but for some of the last turns that are put in, and where the source failed just those, with nothing
 -- taken after the beginning of the next
-pub record AnswersTrace (turns : Turns) (brands : List Tabled) (R : List Commit) (status : ℕ) (input left held holds : Option (List ℕ)) : Type 0 where
+pub record AnswersTrace (mode : Mode) (brands : List Tabled) (R : List Commit) (status : ℕ) (input left held holds : Option (List ℕ)) : Type 0 where
   pub taken : IfSome input (λ _. RunsLines input left)
-  pub some : (status ≡ status_no_memory) ⊎ ((status ≡ status_disk_fault) ⊎ (status ≡ status_read_fault)) → IfSome input (λ bytes. HasReplies held holds (run_of turns brands R bytes))
-  pub failed : (status ≡ status_no_memory) ⊎ (status ≡ status_disk_fault) → IfSome input (λ _. AnswersSome turns brands R input left held holds)
-  pub read : status ≡ status_read_fault → IfSome input (λ _. AnswersRead turns brands R input left held holds)
+  pub some : (status ≡ status_no_memory) ⊎ ((status ≡ status_disk_fault) ⊎ (status ≡ status_read_fault)) → IfSome input (λ bytes. HasReplies mode held holds (run_of mode brands R bytes))
+  pub failed : (status ≡ status_no_memory) ⊎ (status ≡ status_disk_fault) → IfSome input (λ _. AnswersSome mode brands R input left held holds)
+  pub read : status ≡ status_read_fault → IfSome input (λ _. AnswersRead mode brands R input left held holds)
 
 abbrev pub AnswersOver : Task → List Tabled → List Commit → ℕ → (input left held holds : Option (List ℕ)) → Type 0
-AnswersOver (Run turns) brands R status input left held holds = AnswersTrace turns brands R status input left held holds
+AnswersOver (Run mode) brands R status input left held holds = AnswersTrace mode brands R status input left held holds
 AnswersOver Index brands R status input left held holds = AsksNothing status input left held holds
 
 -- where the disk is no store, a command over it takes and writes nothing
@@ -127,7 +127,7 @@ HasAnswered brands command found status input left held holds = AsksNothing stat
 
 -- what a command over a store of some commits has recorded
 abbrev pub RecordsOver : Task → List Tabled → List Commit → ℕ → (input held holds : Option (List ℕ)) → (old new : View) → Type 0
-RecordsOver (Run turns) brands R status input held holds old new = RanBy turns brands R status input held holds old new
+RecordsOver (Run mode) brands R status input held holds old new = RanBy mode brands R status input held holds old new
 RecordsOver Index brands R status input held holds old new = KeepsStore R old new
 
 abbrev pub HasRecorded : List Tabled → Option Command → List Commit → ℕ → (input held holds : Option (List ℕ)) → (old new : View) → Type 0

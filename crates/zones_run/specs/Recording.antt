@@ -12,11 +12,11 @@ use Rattle.zone_machine.specs.Machine.{opening}
 use Rattle.zone_cases.specs.declared.events.Entry.{Entry}
 use Rattle.zones_run.specs.Run.{IsWhole}
 use Rattle.zones_run.specs.Statuses.{status_disk_fault, status_no_memory, status_read_fault}
-use Rattle.zones_run.specs.Tracing.{replies_text, run_of}
+use Rattle.zones_run.specs.Tracing.{entries_text, run_of}
 use Rattle.zones_run.specs.declared.fault.RunFault.{RunFault}
 use Rattle.zones_run.specs.declared.fault.RunFault.TheVariants.{Disk, Memory, Read}
 use Rattle.zones_run.specs.declared.outcome.Complaint.{Complaint}
-use Rattle.zones_run.specs.declared.words.Turns.{Turns}
+use Rattle.zones_run.specs.declared.words.Mode.{Mode}
 
 -- a step that was answered: at any moment meanwhile a crash leaves the commits from before or those after it, and at its end
 -- those after it
@@ -46,33 +46,33 @@ pub record Records (brands : List Tabled) (R : List Commit) (answered under_way 
   pub now : (image : List ℕ) → new.Now image → HoldsEither (commits_with brands R answered) (commits_with brands R (answered ++ under_way)) image
 
 -- the replies of some entries were taken, but for the last one's perhaps
-pub record HasNearlyTold (answered : List Entry) (held holds : Option (List ℕ)) : Type 0 where
+pub record HasNearlyTold (mode : Mode) (answered : List Entry) (held holds : Option (List ℕ)) : Type 0 where
   pub told : List Entry
   pub untold : List Entry
   pub few : length untold ≤ 1
   pub whole : answered ≡ told ++ untold
-  pub taken : holds ≡ after_known held (replies_text told)
+  pub taken : holds ≡ after_known held (entries_text mode told)
 
 -- what a run has recorded: an entry is under way only where the run was torn; the answered ones are all of the input's where
 -- it is whole; their replies were taken where they are told, and nearly all of them where it was cut
-pub record Ran (turns : Turns) (brands : List Tabled) (R : List Commit) (whole torn told cut : Type 0) (input held holds : Option (List ℕ)) (old new : View) : Type 0 where
+pub record Ran (mode : Mode) (brands : List Tabled) (R : List Commit) (whole torn told cut : Type 0) (input held holds : Option (List ℕ)) (old new : View) : Type 0 where
   pub answered : List Entry
   pub under_way : List Entry
-  pub records : Records brands R answered under_way (option_map (λ bytes. (run_of turns brands R bytes).entries) input) old new
+  pub records : Records brands R answered under_way (option_map (λ bytes. (run_of mode brands R bytes).entries) input) old new
   pub settled : (torn → ⊥) → under_way ≡ []
-  pub all : whole → IfSome input (λ bytes. answered ≡ (run_of turns brands R bytes).entries)
-  pub replies : told → holds ≡ after_known held (replies_text answered)
-  pub nearly : cut → HasNearlyTold answered held holds
+  pub all : whole → IfSome input (λ bytes. answered ≡ (run_of mode brands R bytes).entries)
+  pub replies : told → holds ≡ after_known held (entries_text mode answered)
+  pub nearly : cut → HasNearlyTold mode answered held holds
 
 -- the same by how the run ended
-abbrev pub RanAs : Turns → List Tabled → List Commit → Result (Option Complaint) RunFault → (input held holds : Option (List ℕ)) → (old new : View) → Type 0
-RanAs turns brands R ended input held holds old new =
-    Ran turns brands R (IsOk ended) (IsErrOf ended Disk) (IsErrOf ended Disk ⊎ (IsErrOf ended Read ⊎ IsOk ended)) (IsErrOf ended Memory) input held holds old new
+abbrev pub RanAs : Mode → List Tabled → List Commit → Result (Option Complaint) RunFault → (input held holds : Option (List ℕ)) → (old new : View) → Type 0
+RanAs mode brands R ended input held holds old new =
+    Ran mode brands R (IsOk ended) (IsErrOf ended Disk) (IsErrOf ended Disk ⊎ (IsErrOf ended Read ⊎ IsOk ended)) (IsErrOf ended Memory) input held holds old new
 
 -- the same by the exit status
-abbrev pub RanBy : Turns → List Tabled → List Commit → ℕ → (input held holds : Option (List ℕ)) → (old new : View) → Type 0
-RanBy turns brands R status input held holds old new =
-    Ran turns brands R (IsWhole status) (status ≡ status_disk_fault) ((status ≡ status_disk_fault) ⊎ ((status ≡ status_read_fault) ⊎ IsWhole status)) (status ≡ status_no_memory) input held holds old new
+abbrev pub RanBy : Mode → List Tabled → List Commit → ℕ → (input held holds : Option (List ℕ)) → (old new : View) → Type 0
+RanBy mode brands R status input held holds old new =
+    Ran mode brands R (IsWhole status) (status ≡ status_disk_fault) ((status ≡ status_disk_fault) ⊎ ((status ≡ status_read_fault) ⊎ IsWhole status)) (status ≡ status_no_memory) input held holds old new
 
 -- a store that was only opened: a crash at any moment meanwhile, and at the end, leaves its commits
 pub record KeepsStore (R : List Commit) (old new : View) : Type 0 where

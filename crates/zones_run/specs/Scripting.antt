@@ -17,8 +17,8 @@ use Rattle.zone_cases.specs.declared.replies.Head.TheVariants.{Ticket, Turned}
 use Rattle.zoneadmd_steps.specs.declared.requests.TurnReply.{TurnReply}
 use Rattle.zoneadmd_steps.specs.declared.requests.TurnReply.TheVariants.{Finished, Idle, Stuck}
 use Rattle.zones_run.specs.declared.turns.Opened.{Opened}
-use Rattle.zones_run.specs.declared.words.Turns.{Turns}
-use Rattle.zones_run.specs.declared.words.Turns.TheVariants.{OfInput, PutIn}
+use Rattle.zones_run.specs.declared.words.Mode.{Mode}
+use Rattle.zones_run.specs.declared.words.Mode.TheVariants.{WithTurns}
 
 -- the entry of an event in a state, under the grant that the pools give it, and the state after it
 abbrev pub entry_in : State → Event → Entry
@@ -71,22 +71,25 @@ turns_until zero o S = []
 turns_until (suc more) o S = Turn o.zone ∷ (if is_last o.ticket (entry_in S (Turn o.zone)).reply.head then [] else turns_until more o (state_after S (Turn o.zone)))
 
 -- the turns that are put in after a line, in the state that it left: those for its ticket. No daemon has 10,000,000 turns left
-abbrev pub turns_after : Turns → Option Opened → State → List Event
-turns_after PutIn (Some o) S = turns_until 10000000 o S
-turns_after PutIn None S = []
-turns_after OfInput o S = []
+abbrev pub turns_after : Mode → Option Opened → State → List Event
+turns_after WithTurns (Some o) S = turns_until 10000000 o S
+turns_after mode o S = []
+
+abbrev pub puts_in : Mode → Bool
+puts_in WithTurns = true
+puts_in mode = false
 
 -- events that count for the line of a number
 abbrev pub numbered : ℕ → List Event → List (ℕ × Event)
 numbered n es = map (λ e. (n, e)) es
 
 -- the events of lines from a state on, each with its line's number, and after each the turns that are put in
-abbrev pub put_in : Turns → State → List (ℕ × Event) → List (ℕ × Event)
-put_in turns S [] = []
-put_in turns S (e ∷ events) =
+abbrev pub put_in : Mode → State → List (ℕ × Event) → List (ℕ × Event)
+put_in mode S [] = []
+put_in mode S (e ∷ events) =
     let T = state_after S e.1 in
-    let more = turns_after turns (opened (entry_in S e.1)) T in
-    e ∷ (numbered e.0 more ++ put_in turns (state_past T more) events)
+    let more = turns_after mode (opened (entry_in S e.1)) T in
+    e ∷ (numbered e.0 more ++ put_in mode (state_past T more) events)
 
 abbrev pub is_turn : Event → Bool
 is_turn (Turn z) = true

@@ -6,10 +6,10 @@ use Rattle.std.specs.List.{flat_map, list_any}
 use Rattle.zn_io.specs.Streams.{after_known}
 use Rattle.brand_hooks.specs.Brands.{Tabled}
 use Rattle.commit_journal.specs.declared.records.Commit.{Commit}
-use Rattle.trace_text.specs.Lines.{Said, event_of}
+use Rattle.trace_text.specs.Lines.{Said, event_of, given_text}
 use Rattle.trace_text.specs.Replies.{reply_text}
 use Rattle.trace_text.specs.declared.fault.LineFault.{LineFault}
-use Rattle.zone_machine.specs.Machine.Histories.{history}
+use Rattle.zone_machine.specs.Machine.Histories.{concerns, history}
 use Rattle.zone_cases.specs.Events.{is_restart}
 use Rattle.zone_machine.specs.Machine.{opening}
 use Rattle.zoneadmd_steps.specs.declared.requests.Outcome.{Outcome}
@@ -23,9 +23,9 @@ use Rattle.zone_cases.specs.declared.replies.Head.{Head}
 use Rattle.zone_cases.specs.declared.replies.Head.TheVariants.{Refused, Turned}
 use Rattle.zone_cases.specs.State.{State}
 use Rattle.zn_base.specs.Lines.{lines_of}
-use Rattle.zones_run.specs.Scripting.{is_turn, put_in}
-use Rattle.zones_run.specs.declared.words.Turns.{Turns}
-use Rattle.zones_run.specs.declared.words.Turns.TheVariants.{OfInput}
+use Rattle.zones_run.specs.Scripting.{is_turn, put_in, puts_in}
+use Rattle.zones_run.specs.declared.words.Mode.{Mode}
+use Rattle.zones_run.specs.declared.words.Mode.TheVariants.{Purged}
 use Rattle.zones_run.specs.declared.fault.RunFault.{RunFault}
 use Rattle.zones_run.specs.declared.fault.RunFault.TheVariants.{Read, Write}
 use Rattle.zones_run.specs.Taking.{TakesLines, TakesNoMore}
@@ -117,19 +117,21 @@ abbrev pub script_run : List Tabled → List Commit → Script → Run
 script_run brands R script = run_by script (history (opening brands R) (map (λ e. e.1) script.events))
 
 -- a script with the turns that are put in, from a state on
-abbrev pub with_turns : Turns → State → Script → Script
-with_turns turns S script = record { events = put_in turns S script.events; ending = script.ending }
+abbrev pub with_turns : Mode → State → Script → Script
+with_turns mode S script = record { events = put_in mode S script.events; ending = script.ending }
 
 -- the run of a whole input
-abbrev pub run_of : Turns → List Tabled → List Commit → List ℕ → Run
-run_of turns brands R bytes = script_run brands R (with_turns turns (opening brands R) (script_of bytes))
+abbrev pub run_of : Mode → List Tabled → List Commit → List ℕ → Run
+run_of mode brands R bytes = script_run brands R (with_turns mode (opening brands R) (script_of bytes))
 
--- the text of an entry's reply, and of those of several
-abbrev pub entry_text : Entry → List ℕ
-entry_text entry = reply_text entry.subject entry.reply
+-- what is told of an entry: its reply; or, where all other zones are purged, the line of an event of the zone or of the whole
+-- system, and nothing of any other
+abbrev pub entry_text : Mode → Entry → List ℕ
+entry_text (Purged zone) entry = if concerns zone entry.subject then given_text entry.grant entry.event ++ 10 ∷ [] else []
+entry_text mode entry = reply_text entry.subject entry.reply
 
-abbrev pub replies_text : List Entry → List ℕ
-replies_text entries = flat_map entry_text entries
+abbrev pub entries_text : Mode → List Entry → List ℕ
+entries_text mode entries = flat_map (entry_text mode) entries
 
 -- at the end of the input the first refusal is reported
 abbrev pub told_refusal : List ℕ → Option ℕ → Output
@@ -142,12 +144,12 @@ told_ending text refused (At_fault number fault) = record (complaint_output (Bad
 told_ending text refused (Past_limit number) = record (limit_at number) { out = text }
 
 -- the output of a run
-abbrev pub told : Run → Output
-told run = told_ending (replies_text run.entries) run.refused run.ending
+abbrev pub told : Mode → Run → Output
+told mode run = told_ending (entries_text mode run.entries) run.refused run.ending
 
 -- `trace`, and `script`, over the whole input
-abbrev pub traced : Turns → List Tabled → List Commit → List ℕ → Output
-traced turns brands R bytes = told (run_of turns brands R bytes)
+abbrev pub traced : Mode → List Tabled → List Commit → List ℕ → Output
+traced mode brands R bytes = told mode (run_of mode brands R bytes)
 
 -- what a trace still has to report at its end
 abbrev pub left_to_tell : Option Complaint → Output
@@ -160,44 +162,44 @@ pub record Tells (complaint : Option Complaint) (held holds : Option (List ℕ))
   pub taken : holds ≡ after_known held output.out
 
 -- some whole replies of a run were taken, from the first one on
-pub record HasReplies (held holds : Option (List ℕ)) (run : Run) : Type 0 where
+pub record HasReplies (mode : Mode) (held holds : Option (List ℕ)) (run : Run) : Type 0 where
   pub count : ℕ
-  pub taken : holds ≡ after_known held (replies_text (take count run.entries))
+  pub taken : holds ≡ after_known held (entries_text mode (take count run.entries))
 
 -- `trace` has taken lines that don't end it, the beginning of one more, and at most one piece
 abbrev pub RunsLines : (input left : Option (List ℕ)) → Type 0
 RunsLines input left = TakesLines (λ bytes. (script_of bytes).ending ≡ At_end) input left
 
 -- and has written the replies of just those lines
-pub record AnswersLines (turns : Turns) (brands : List Tabled) (R : List Commit) (input left held holds : Option (List ℕ)) : Type 0 where
+pub record AnswersLines (mode : Mode) (brands : List Tabled) (R : List Commit) (input left held holds : Option (List ℕ)) : Type 0 where
   pub runs : RunsLines input left
-  pub text : holds ≡ after_known held (replies_text (run_of turns brands R runs.lines).entries)
+  pub text : holds ≡ after_known held (entries_text mode (run_of mode brands R runs.lines).entries)
 
 -- or, where a fault came in a turn that was put in, but for those of the last turns that are put in after these lines
-pub record AnswersSome (turns : Turns) (brands : List Tabled) (R : List Commit) (input left held holds : Option (List ℕ)) : Type 0 where
+pub record AnswersSome (mode : Mode) (brands : List Tabled) (R : List Commit) (input left held holds : Option (List ℕ)) : Type 0 where
   pub runs : RunsLines input left
   pub told : List Entry
   pub untold : List Entry
-  pub whole : (run_of turns brands R runs.lines).entries ≡ told ++ untold
+  pub whole : (run_of mode brands R runs.lines).entries ≡ told ++ untold
   pub are_turns : All (λ (e : Entry). is_turn e.event ≡ true) untold
-  pub alone : turns ≡ OfInput → untold ≡ []
-  pub text : holds ≡ after_known held (replies_text told)
+  pub alone : puts_in mode ≡ false → untold ≡ []
+  pub text : holds ≡ after_known held (entries_text mode told)
 
 -- the same where the source failed
-abbrev pub AnswersRead : Turns → List Tabled → List Commit → (input left held holds : Option (List ℕ)) → Type 0
-AnswersRead turns brands R input left held holds = (answers : AnswersLines turns brands R input left held holds) × TakesNoMore answers.runs
+abbrev pub AnswersRead : Mode → List Tabled → List Commit → (input left held holds : Option (List ℕ)) → Type 0
+AnswersRead mode brands R input left held holds = (answers : AnswersLines mode brands R input left held holds) × TakesNoMore answers.runs
 
 -- how a trace ends, as far as its input is known: what standard output has taken of the text of the whole input, or the
 -- replies of which lines. `told` is what standard output has, and then what waits to be written
-abbrev pub EndsAs : Turns → List Tabled → List Commit → Result (Option Complaint) RunFault → (input left held holds told : Option (List ℕ)) → Type 0
-EndsAs turns brands R (Ok complaint) input left held holds told =
-    IfSome input (λ bytes. Tells complaint held told (traced turns brands R bytes)) × IfSome input (λ _. AnswersLines turns brands R input left held told)
-EndsAs turns brands R (Err Write) input left held holds told =
-    IfSome input (λ bytes. HasFront held holds (traced turns brands R bytes).out) × IfSome input (λ _. RunsLines input left)
-EndsAs turns brands R (Err Read) input left held holds told =
-    IfSome input (λ bytes. HasReplies held told (run_of turns brands R bytes)) × IfSome input (λ _. AnswersRead turns brands R input left held told)
-EndsAs turns brands R (Err fault) input left held holds told =
-    IfSome input (λ bytes. HasReplies held told (run_of turns brands R bytes)) × IfSome input (λ _. AnswersSome turns brands R input left held told)
+abbrev pub EndsAs : Mode → List Tabled → List Commit → Result (Option Complaint) RunFault → (input left held holds told : Option (List ℕ)) → Type 0
+EndsAs mode brands R (Ok complaint) input left held holds told =
+    IfSome input (λ bytes. Tells complaint held told (traced mode brands R bytes)) × IfSome input (λ _. AnswersLines mode brands R input left held told)
+EndsAs mode brands R (Err Write) input left held holds told =
+    IfSome input (λ bytes. HasFront held holds (traced mode brands R bytes).out) × IfSome input (λ _. RunsLines input left)
+EndsAs mode brands R (Err Read) input left held holds told =
+    IfSome input (λ bytes. HasReplies mode held told (run_of mode brands R bytes)) × IfSome input (λ _. AnswersRead mode brands R input left held told)
+EndsAs mode brands R (Err fault) input left held holds told =
+    IfSome input (λ bytes. HasReplies mode held told (run_of mode brands R bytes)) × IfSome input (λ _. AnswersSome mode brands R input left held told)
 
 -- nothing but more bytes was taken
 abbrev pub HasWritten : (held holds : Option (List ℕ)) → Type 0

@@ -7,23 +7,25 @@ ghost use Rattle.zone_cases.specs.Events.{is_restart};
 ghost use Rattle.zone_machine.specs.Machine.{opening};
 ghost use Rattle.zone_machine.specs.Machine.Images.{IsStoreOf};
 ghost use Rattle.zone_cases.specs.State.{State};
-ghost use Rattle.zone_machine.specs.Code.Decided.{AsksBrands, MayGoOn, subject_by};
+ghost use Rattle.zone_machine.specs.Code.Decided.{AsksBrands, MayGoOn, entry_by, own_subject, subject_by};
 ghost use Rattle.zone_machine.specs.Code.Openings.{StandsFor};
 ghost use Rattle.zone_machine.specs.Code.Records.{Passes};
 ghost use Rattle.trace_text.specs.Lines.{event_of};
-ghost use Rattle.trace_text.specs.Replies.{reply_text};
+ghost use Rattle.zone_machine.specs.Machine.Histories.{concerns};
 ghost use Rattle.zones_run.specs.Answering.{Fails, FindsAlways, IsAnswered, LeavesText, MayStop, RestartsWell, Steps, Stops, StopsText, TakesEvent, ended_by};
 ghost use Rattle.zones_run.specs.Complaints.{IsOfInput};
 ghost use Rattle.zones_run.specs.Recording.{RanAs};
 ghost use Rattle.zones_run.specs.Run.{HasFront};
-ghost use Rattle.zones_run.specs.Tracing.{EndsAs, HasWritten, is_refusal, is_refused_outcome, is_refused_turn, left_to_tell, told_refusal};
+ghost use Rattle.zones_run.specs.Tracing.{EndsAs, HasWritten, entry_text, is_refusal, is_refused_outcome, is_refused_turn, left_to_tell, told_refusal};
 
 use crate::fault::RunFault;
+use crate::words::Mode;
 use brand_hooks::{Change, HookAnswer};
 use std::alloc::{AllocError, Global};
-use trace_text::push_answer;
+use trace_text::{push_answer, push_given};
+use zn_base::ZoneName;
 use zn_io::{Disk, Sink, write_all};
-use zone_cases::{Answer, Event, Head};
+use zone_cases::{Answer, Event, Head, Subject, Whose};
 use zone_machine::{Machine, StepFault};
 use zoneadmd_steps::{Outcome, TurnReply};
 
@@ -130,24 +132,88 @@ fn answer_after_waiting<D: Disk, F: Fn(&Change) -> HookAnswer, K: Sink>(
     }
 }
 
-// Puts the reply to an event after those that wait. `text` is room for it.
-pub fn put_reply(
+// Whether what an event was found to be of is a zone or the whole system.
+fn found_concerns(zone: &ZoneName, subject: &Subject) -> bool
+    ensures { result ≡ concerns zone.now subject.now }
+{
+    match subject {
+        Subject::Zone(of) => zone == of,
+        Subject::Global => false,
+        Subject::Whole => true,
+    }
+}
+
+// The same of an event that has its zone itself.
+fn own_concerns(zone: &ZoneName, event: &Event) -> bool
+    ensures { result ≡ concerns zone.now (own_subject event.now) }
+{
+    match event {
+        Event::Turn { zone: of } | Event::Process { zone: of, .. } => zone == of,
+        Event::System(_) | Event::Restart => true,
+        Event::Session { .. } => false,
+    }
+}
+
+fn concerns(zone: &ZoneName, event: &Event, whose: &Whose) -> bool
+    ensures { result ≡ concerns zone.now (subject_by event.now whose.now) }
+{
+    match whose {
+        Whose::Own => own_concerns(zone, event),
+        Whose::Found(subject) => found_concerns(zone, subject),
+    }
+}
+
+// Where all zones but one are purged, the line of an event of that zone or of the whole system is told, behind what the event
+// was given.
+fn push_kept(
+    zone: &ZoneName,
+    event: &Event,
+    answer: &Answer,
+    text: &mut Vec<u8>,
+) -> Result<(), AllocError>
+    ensures { OnOk result (text.new.items ≡ text.old.items ++ entry_text (Mode.Purged zone.now) (entry_by event.now answer.now)) }
+{
+    if !concerns(zone, event, &answer.whose) {
+        return Ok(());
+    }
+    push_given(text, answer.grant, event)?;
+    Ok(text.push(b'\n')?)
+}
+
+fn push_told(
+    mode: &Mode,
+    event: &Event,
+    answer: &Answer,
+    text: &mut Vec<u8>,
+) -> Result<(), AllocError>
+    ensures { OnOk result (text.new.items ≡ text.old.items ++ entry_text mode.now (entry_by event.now answer.now)) }
+{
+    match mode {
+        Mode::Purged(zone) => push_kept(zone, event, answer, text),
+        Mode::Replies | Mode::WithTurns => push_answer(text, event, answer),
+    }
+}
+
+// Puts what is told of an event after what waits. `text` is room for it.
+pub fn put_told(
+    mode: &Mode,
     event: &Event,
     answer: &Answer,
     text: &mut Vec<u8>,
     waiting: &mut Vec<u8>,
 ) -> Result<(), AllocError>
-    ensures text { OnOk result (waiting.new.items ≡ waiting.old.items ++ reply_text (subject_by event.now answer.now.whose) answer.now.reply) }
+    ensures text { OnOk result (waiting.new.items ≡ waiting.old.items ++ entry_text mode.now (entry_by event.now answer.now)) }
     ensures same { OnErr result (waiting.new.items ≡ waiting.old.items) }
 {
     text.clear();
-    push_answer(text, event, answer)?;
+    push_told(mode, event, answer, text)?;
     waiting.extend_from_slice(text)
 }
 
-// One event that is no restart is answered, and its reply waits to be written. `text` is room for the reply.
+// One event that is no restart is answered, and what is told of it waits to be written. `text` is room for that.
 pub fn answer<D: Disk, F: Fn(&Change) -> HookAnswer, K: Sink>(
     alloc: Global,
+    mode: &Mode,
     machine: &mut Machine<'_, D, F>,
     event: &Event,
     text: &mut Vec<u8>,
@@ -157,7 +223,7 @@ pub fn answer<D: Disk, F: Fn(&Change) -> HookAnswer, K: Sink>(
     requires stays { is_restart event.now ≡ false }
     requires asks { AsksBrands F.Fn machine.old }
     requires ready { MayGoOn D.view machine.old }
-    ensures answered { IfOk result (λ answer. (S : State) → StandsFor S machine.old → IsAnswered S event.now answer (λ T. StandsFor T machine.new) (D.view machine.old.bank.disk) (D.view machine.new.bank.disk) (after_known (K.holds out.old) waiting.old.items) (after_known (K.holds out.new) waiting.new.items)) }
+    ensures answered { IfOk result (λ answer. (S : State) → StandsFor S machine.old → IsAnswered mode.now S event.now answer (λ T. StandsFor T machine.new) (D.view machine.old.bank.disk) (D.view machine.new.bank.disk) (after_known (K.holds out.old) waiting.old.items) (after_known (K.holds out.new) waiting.new.items)) }
     ensures kept { IfErr result (λ fault. (S : State) → StandsFor S machine.old → Fails fault (machine.new.bank ≡ machine.old.bank) S event.now (D.view machine.old.bank.disk) (D.view machine.new.bank.disk)) }
     ensures text { IfErr result (λ fault. LeavesText fault (K.holds out.old) (K.holds out.new) waiting.old.items waiting.new.items) }
     ensures written { HasWritten (K.holds out.old) (K.holds out.new) }
@@ -169,7 +235,7 @@ pub fn answer<D: Disk, F: Fn(&Change) -> HookAnswer, K: Sink>(
     ensures asks { AsksBrands F.Fn machine.new }
 {
     match answer_after_waiting(alloc, machine, event, waiting, out) {
-        Ok(answer) => match put_reply(event, &answer, text, waiting) {
+        Ok(answer) => match put_told(mode, event, &answer, text, waiting) {
             Ok(()) => Ok(answer),
             Err(AllocError) => Err(RunFault::Memory),
         },

@@ -20,7 +20,7 @@ mod words;
 
 pub use fault::RunFault;
 pub use laws::{
-    crashes_leave_stored_states, declares_first, exports_what_is_denoted,
-    refuses_at_what_is_denoted, trace_puts_nothing_in, turns_that_are_put_in_end,
+    crashes_leave_stored_states, declares_first, exports_what_is_denoted, only_script_puts_in,
+    refuses_at_what_is_denoted, turns_that_are_put_in_end,
 };
 pub use run::{fail, run_zones};

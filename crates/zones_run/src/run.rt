@@ -29,7 +29,7 @@ use crate::status::{
     DISK_FAULT, DONE, NO_MEMORY, NOT_A_STORE, READ_FAULT, REFUSED, USAGE, WRITE_FAULT,
 };
 use crate::trace::trace_all;
-use crate::words::{Command, HELP, Task, Turns, USAGE_LINE, VERSION, command_of};
+use crate::words::{Command, HELP, Mode, Task, USAGE_LINE, VERSION, command_of};
 use brand_hooks::{Brands, Change, HookAnswer};
 use commit_journal::{StoreFault, opens_store_one_way};
 use std::alloc::{AllocError, Global};
@@ -111,10 +111,10 @@ fn complain<E: Sink>(alloc: Global, err: &mut E, complaint: Complaint) -> u8
     }
 }
 
-// The commands `trace` and `script`, on a machine that is opened.
+// The commands `trace`, `script` and `purge`, on a machine that is opened.
 fn run_lines<S: Source, K: Sink, E: Sink, D: Disk, F: Fn(&Change) -> HookAnswer>(
     alloc: Global,
-    turns: Turns,
+    mode: &Mode,
     machine: &mut Machine<'_, D, F>,
     src: &mut S,
     out: &mut K,
@@ -125,10 +125,10 @@ fn run_lines<S: Source, K: Sink, E: Sink, D: Disk, F: Fn(&Change) -> HookAnswer>
     ensures statuses { IsStatus result }
     ensures usage { result ≢ USAGE }
     ensures store { (D.view machine.old.bank.disk).Keeps → result ≢ NOT_A_STORE }
-    ensures text { (brands : List Tabled) (R : List Commit) → StandsFor (opening brands R) machine.old → FindsAlways (D.view machine.old.bank.disk) (S.left src.old) → IfSome (S.left src.old) (λ bytes. TellsText (traced turns brands R bytes) result (K.holds out.old) (K.holds out.new)) }
-    ensures line { (brands : List Tabled) (R : List Commit) → StandsFor (opening brands R) machine.old → FindsAlways (D.view machine.old.bank.disk) (S.left src.old) → IfSome (S.left src.old) (λ bytes. TellsLine (traced turns brands R bytes).err result (E.holds err.old) (E.holds err.new) (E.faults err.old) (E.faults err.new)) }
-    ensures answered { (brands : List Tabled) (R : List Commit) → StandsFor (opening brands R) machine.old → FindsAlways (D.view machine.old.bank.disk) (S.left src.old) → AnswersTrace turns brands R result (S.left src.old) (S.left src.new) (K.holds out.old) (K.holds out.new) }
-    ensures recorded { (brands : List Tabled) (R : List Commit) → StandsFor (opening brands R) machine.old → IsStoreOf (D.view machine.old.bank.disk) R → RanBy turns brands R result (S.left src.old) (K.holds out.old) (K.holds out.new) (D.view machine.old.bank.disk) (D.view machine.new.bank.disk) }
+    ensures text { (brands : List Tabled) (R : List Commit) → StandsFor (opening brands R) machine.old → FindsAlways (D.view machine.old.bank.disk) (S.left src.old) → IfSome (S.left src.old) (λ bytes. TellsText (traced mode.now brands R bytes) result (K.holds out.old) (K.holds out.new)) }
+    ensures line { (brands : List Tabled) (R : List Commit) → StandsFor (opening brands R) machine.old → FindsAlways (D.view machine.old.bank.disk) (S.left src.old) → IfSome (S.left src.old) (λ bytes. TellsLine (traced mode.now brands R bytes).err result (E.holds err.old) (E.holds err.new) (E.faults err.old) (E.faults err.new)) }
+    ensures answered { (brands : List Tabled) (R : List Commit) → StandsFor (opening brands R) machine.old → FindsAlways (D.view machine.old.bank.disk) (S.left src.old) → AnswersTrace mode.now brands R result (S.left src.old) (S.left src.new) (K.holds out.old) (K.holds out.new) }
+    ensures recorded { (brands : List Tabled) (R : List Commit) → StandsFor (opening brands R) machine.old → IsStoreOf (D.view machine.old.bank.disk) R → RanBy mode.now brands R result (S.left src.old) (K.holds out.old) (K.holds out.new) (D.view machine.old.bank.disk) (D.view machine.new.bank.disk) }
     ensures read_fault { result ≡ READ_FAULT → Rose (S.faults src.old) (S.faults src.new) }
     ensures read_line { result ≡ READ_FAULT → TakesFront (E.holds err.old) (E.holds err.new) (E.faults err.old) (E.faults err.new) read_fault_line }
     ensures write_fault { result ≡ WRITE_FAULT → Rose (K.faults out.old) (K.faults out.new) ⊎ Rose (E.faults err.old) (E.faults err.new) }
@@ -137,7 +137,7 @@ fn run_lines<S: Source, K: Sink, E: Sink, D: Disk, F: Fn(&Change) -> HookAnswer>
     ensures memory_line { result ≡ NO_MEMORY → TakesFront (E.holds err.old) (E.holds err.new) (E.faults err.old) (E.faults err.new) memory_line }
     ensures passes { Passes (D.view machine.old.bank.disk) (D.view machine.new.bank.disk) }
 {
-    match trace_all(alloc, turns, machine, src, out) {
+    match trace_all(alloc, mode, machine, src, out) {
         Ok(None) => DONE,
         Ok(Some(complaint)) => complain(alloc, err, complaint),
         Err(fault) => fail(err, fault),
@@ -169,7 +169,7 @@ fn run_index<K: Sink, E: Sink, D: Disk, F: Fn(&Change) -> HookAnswer>(
 // What a command does on a machine that is opened.
 fn run_task<S: Source, K: Sink, E: Sink, D: Disk, F: Fn(&Change) -> HookAnswer>(
     alloc: Global,
-    task: Task,
+    task: &Task,
     machine: &mut Machine<'_, D, F>,
     src: &mut S,
     out: &mut K,
@@ -181,11 +181,11 @@ fn run_task<S: Source, K: Sink, E: Sink, D: Disk, F: Fn(&Change) -> HookAnswer>(
     ensures statuses { IsStatus result }
     ensures usage { result ≢ USAGE }
     ensures store { (D.view machine.old.bank.disk).Keeps → result ≢ NOT_A_STORE }
-    ensures text { (brands : List Tabled) (R : List Commit) → StandsFor (opening brands R) machine.old → FindsStore task (D.view machine.old.bank.disk) (S.left src.old) → IfSome (done_over task brands R (S.left src.old)) (λ o. TellsText o result (K.holds out.old) (K.holds out.new)) }
-    ensures line { (brands : List Tabled) (R : List Commit) → StandsFor (opening brands R) machine.old → FindsStore task (D.view machine.old.bank.disk) (S.left src.old) → IfSome (done_over task brands R (S.left src.old)) (λ o. TellsLine o.err result (E.holds err.old) (E.holds err.new) (E.faults err.old) (E.faults err.new)) }
-    ensures answered { (brands : List Tabled) (R : List Commit) → StandsFor (opening brands R) machine.old → FindsStore task (D.view machine.old.bank.disk) (S.left src.old) → AnswersOver task brands R result (S.left src.old) (S.left src.new) (K.holds out.old) (K.holds out.new) }
-    ensures unread { task ≡ Task.Index → src.new ≡ src.old }
-    ensures recorded { (brands : List Tabled) (R : List Commit) → StandsFor (opening brands R) machine.old → IsStoreOf (D.view machine.old.bank.disk) R → RecordsOver task brands R result (S.left src.old) (K.holds out.old) (K.holds out.new) (D.view machine.old.bank.disk) (D.view machine.new.bank.disk) }
+    ensures text { (brands : List Tabled) (R : List Commit) → StandsFor (opening brands R) machine.old → FindsStore task.now (D.view machine.old.bank.disk) (S.left src.old) → IfSome (done_over task.now brands R (S.left src.old)) (λ o. TellsText o result (K.holds out.old) (K.holds out.new)) }
+    ensures line { (brands : List Tabled) (R : List Commit) → StandsFor (opening brands R) machine.old → FindsStore task.now (D.view machine.old.bank.disk) (S.left src.old) → IfSome (done_over task.now brands R (S.left src.old)) (λ o. TellsLine o.err result (E.holds err.old) (E.holds err.new) (E.faults err.old) (E.faults err.new)) }
+    ensures answered { (brands : List Tabled) (R : List Commit) → StandsFor (opening brands R) machine.old → FindsStore task.now (D.view machine.old.bank.disk) (S.left src.old) → AnswersOver task.now brands R result (S.left src.old) (S.left src.new) (K.holds out.old) (K.holds out.new) }
+    ensures unread { task.now ≡ Task.Index → src.new ≡ src.old }
+    ensures recorded { (brands : List Tabled) (R : List Commit) → StandsFor (opening brands R) machine.old → IsStoreOf (D.view machine.old.bank.disk) R → RecordsOver task.now brands R result (S.left src.old) (K.holds out.old) (K.holds out.new) (D.view machine.old.bank.disk) (D.view machine.new.bank.disk) }
     ensures read_fault { result ≡ READ_FAULT → Rose (S.faults src.old) (S.faults src.new) }
     ensures read_line { result ≡ READ_FAULT → TakesFront (E.holds err.old) (E.holds err.new) (E.faults err.old) (E.faults err.new) read_fault_line }
     ensures write_fault { result ≡ WRITE_FAULT → Rose (K.faults out.old) (K.faults out.new) ⊎ Rose (E.faults err.old) (E.faults err.new) }
@@ -195,7 +195,7 @@ fn run_task<S: Source, K: Sink, E: Sink, D: Disk, F: Fn(&Change) -> HookAnswer>(
     ensures passes { Passes (D.view machine.old.bank.disk) (D.view machine.new.bank.disk) }
 {
     match task {
-        Task::Run(turns) => run_lines(alloc, turns, machine, src, out, err),
+        Task::Run(mode) => run_lines(alloc, mode, machine, src, out, err),
         Task::Index => run_index(alloc, machine, out, err),
     }
 }
@@ -203,7 +203,7 @@ fn run_task<S: Source, K: Sink, E: Sink, D: Disk, F: Fn(&Change) -> HookAnswer>(
 // A command over the store: the machine is opened on the disk, which is handed back however that ends.
 fn run_on_store<S: Source, K: Sink, E: Sink, D: Disk, F: Fn(&Change) -> HookAnswer>(
     alloc: Global,
-    task: Task,
+    task: &Task,
     src: &mut S,
     out: &mut K,
     err: &mut E,
@@ -213,13 +213,13 @@ fn run_on_store<S: Source, K: Sink, E: Sink, D: Disk, F: Fn(&Change) -> HookAnsw
     requires { AllFollow F.Fn brands.now }
     ensures statuses { IsStatus result.0 }
     ensures usage { result.0 ≢ USAGE }
-    ensures text { (found : Found) → Finds (D.view disk) found → IfSome (done_on task (tables_of brands.now) found (S.left src.old)) (λ o. TellsText o result.0 (K.holds out.old) (K.holds out.new)) }
-    ensures line { (found : Found) → Finds (D.view disk) found → IfSome (done_on task (tables_of brands.now) found (S.left src.old)) (λ o. TellsLine o.err result.0 (E.holds err.old) (E.holds err.new) (E.faults err.old) (E.faults err.new)) }
-    ensures answered { (found : Found) → Finds (D.view disk) found → AnswersOn task (tables_of brands.now) found result.0 (S.left src.old) (S.left src.new) (K.holds out.old) (K.holds out.new) }
-    ensures any_disk { RestartsNothing task (S.left src.old) → DoneOverSome task (tables_of brands.now) result.0 (S.left src.old) (S.left src.new) (K.holds out.old) (K.holds out.new) (E.holds err.old) (E.holds err.new) (E.faults err.old) (E.faults err.new) }
-    ensures unread { task ≡ Task.Index → src.new ≡ src.old }
+    ensures text { (found : Found) → Finds (D.view disk) found → IfSome (done_on task.now (tables_of brands.now) found (S.left src.old)) (λ o. TellsText o result.0 (K.holds out.old) (K.holds out.new)) }
+    ensures line { (found : Found) → Finds (D.view disk) found → IfSome (done_on task.now (tables_of brands.now) found (S.left src.old)) (λ o. TellsLine o.err result.0 (E.holds err.old) (E.holds err.new) (E.faults err.old) (E.faults err.new)) }
+    ensures answered { (found : Found) → Finds (D.view disk) found → AnswersOn task.now (tables_of brands.now) found result.0 (S.left src.old) (S.left src.new) (K.holds out.old) (K.holds out.new) }
+    ensures any_disk { RestartsNothing task.now (S.left src.old) → DoneOverSome task.now (tables_of brands.now) result.0 (S.left src.old) (S.left src.new) (K.holds out.old) (K.holds out.new) (E.holds err.old) (E.holds err.new) (E.faults err.old) (E.faults err.new) }
+    ensures unread { task.now ≡ Task.Index → src.new ≡ src.old }
     ensures store { result.0 ≡ NOT_A_STORE → (D.view disk).Keeps → IsNoStore (D.view disk) }
-    ensures recorded { (R : List Commit) → IsStoreOf (D.view disk) R → RecordsOver task (tables_of brands.now) R result.0 (S.left src.old) (K.holds out.old) (K.holds out.new) (D.view disk) (D.view result.1) }
+    ensures recorded { (R : List Commit) → IsStoreOf (D.view disk) R → RecordsOver task.now (tables_of brands.now) R result.0 (S.left src.old) (K.holds out.old) (K.holds out.new) (D.view disk) (D.view result.1) }
     ensures read_fault { result.0 ≡ READ_FAULT → Rose (S.faults src.old) (S.faults src.new) }
     ensures read_line { result.0 ≡ READ_FAULT → TakesFront (E.holds err.old) (E.holds err.new) (E.faults err.old) (E.faults err.new) read_fault_line }
     ensures write_fault { result.0 ≡ WRITE_FAULT → Rose (K.faults out.old) (K.faults out.new) ⊎ Rose (E.faults err.old) (E.faults err.new) }
@@ -243,7 +243,7 @@ fn run_on_store<S: Source, K: Sink, E: Sink, D: Disk, F: Fn(&Change) -> HookAnsw
 
 /// Does what the words say, and answers the exit status and the disk. `out` and `err` are standard output and
 /// standard error. Lines are answered one at a time, up to the one that ends the run, and less than a piece of
-/// the input is read beyond it. `trace`, `script` and `index` open the store on the disk; the replies that wait are written
+/// the input is read beyond it. `trace`, `script`, `purge` and `index` open the store on the disk; what waits to be written is written
 /// before a record is stored.
 pub fn run_zones<S: Source, K: Sink, E: Sink, D: Disk, F: Fn(&Change) -> HookAnswer>(
     alloc: Global,
@@ -276,8 +276,10 @@ pub fn run_zones<S: Source, K: Sink, E: Sink, D: Disk, F: Fn(&Change) -> HookAns
     // Where no command reads its input, none of it is taken.
     ensures unread { ReadsNothing (command_of (map string_bytes words.now)) → src.new ≡ src.old }
 
-    // Words that are no form of the command line.
-    ensures usage { (result.0 ≡ USAGE) ↔ (command_of (map string_bytes words.now) ≡ None) }
+    // Words that are no form of the command line. Memory may run out for the name of a zone alone, so before it is known that it
+    // is none.
+    ensures usage { result.0 ≡ USAGE → command_of (map string_bytes words.now) ≡ None }
+    ensures form { command_of (map string_bytes words.now) ≡ None → (result.0 ≡ USAGE) ⊎ (result.0 ≡ NO_MEMORY) }
 
     // The source failed.
     ensures read_fault { result.0 ≡ READ_FAULT → Rose (S.faults src.old) (S.faults src.new) }
@@ -301,13 +303,17 @@ pub fn run_zones<S: Source, K: Sink, E: Sink, D: Disk, F: Fn(&Change) -> HookAns
         HasRecorded (tables_of brands.now) (command_of (map string_bytes words.now)) R result.0 (S.left src.old) (K.holds out.old) (K.holds out.new) (D.view disk) (D.view result.1) }
     ensures untouched { OpensNothing (command_of (map string_bytes words.now)) → result.1 ≡ disk }
 {
-    match command_of(words) {
+    let command = match command_of(alloc, words) {
+        Ok(command) => command,
+        Err(AllocError) => return (fail(err, RunFault::Memory), disk),
+    };
+    match command {
         Some(Command::Export) => match export_all(alloc, src) {
             Ok(Outcome::Text(text)) => (write_text(out, err, &text), disk),
             Ok(Outcome::Complains(complaint)) => (complain(alloc, err, complaint), disk),
             Err(fault) => (fail(err, RunFault::from(fault)), disk),
         },
-        Some(Command::OnStore(task)) => run_on_store(alloc, task, src, out, err, disk, brands),
+        Some(Command::OnStore(task)) => run_on_store(alloc, &task, src, out, err, disk, brands),
         Some(Command::Help) => (write_text(out, err, HELP), disk),
         Some(Command::Version) => (write_text(out, err, VERSION), disk),
         None => {

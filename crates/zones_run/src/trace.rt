@@ -1,6 +1,6 @@
-//! The commands `trace` and `script`: the events of the input go through a zone machine over the store on a disk, one after the
-//! other, and for `script` also the turns that are put in.
-//! Their replies are written together, before an event stores a record and once it has, before the system restarts, before more
+//! The commands `trace`, `script` and `purge`: the events of the input go through a zone machine over the store on a disk, one
+//! after the other, and for `script` also the turns that are put in.
+//! What is told of them is written together, before an event stores a record and once it has, before the system restarts, before more
 //! is read where no line is begun, and when many of them wait.
 ghost use Rattle.std.specs.Prelude.{◌≡◌, ◌≢◌, ◌<◌, ◌≤◌, ◌⊎◌, ◌++◌, ℕ, List, [], Err, IfErr, length, IfOk, IfSome, IsErrOf, Ok, OnErr, OnOk, Some, false, true};
 ghost use Rattle.zn_io.specs.Streams.{Rose, after_known};
@@ -14,19 +14,18 @@ ghost use Rattle.zone_machine.specs.Code.Decided.{AsksBrands, MayGoOn, subject_b
 ghost use Rattle.zone_machine.specs.Code.Openings.{StandsFor};
 ghost use Rattle.zone_machine.specs.Code.Records.{Passes};
 ghost use Rattle.trace_text.specs.Lines.{event_of};
-ghost use Rattle.trace_text.specs.Replies.{reply_text};
 ghost use Rattle.zones_run.specs.Answering.{Fails, FindsAlways, IsAnswered, LeavesText, MayStop, RestartsWell, Steps, Stops, StopsText, TakesEvent, ended_by};
 ghost use Rattle.zones_run.specs.Complaints.{IsOfInput};
 ghost use Rattle.zones_run.specs.Recording.{RanAs};
 ghost use Rattle.zones_run.specs.Run.{HasFront};
 ghost use Rattle.zones_run.specs.Tracing.{EndsAs, HasWritten, is_refusal, is_refused_outcome, is_refused_turn, left_to_tell, told_refusal};
 
-use crate::answers::{WAITING_MAX, answer, put_reply, write_waiting};
+use crate::answers::{WAITING_MAX, answer, put_told, write_waiting};
 use crate::fault::RunFault;
 use crate::lines::{Ahead, Got, LINES_MAX, next_line};
 use crate::outcome::Complaint;
 use crate::turns::{Taken, give_turns, taken_from};
-use crate::words::Turns;
+use crate::words::Mode;
 use brand_hooks::{Change, HookAnswer};
 use commit_journal::StoreFault;
 use std::alloc::{AllocError, Global};
@@ -65,6 +64,7 @@ fn ended_by(stop: Stop, number: u64) -> Result<Option<Complaint>, RunFault>
 // The system restarts. The replies that wait are written before the disk is read, and its own waits.
 fn restart<D: Disk, F: Fn(&Change) -> HookAnswer, K: Sink>(
     alloc: Global,
+    mode: &Mode,
     machine: &mut Machine<'_, D, F>,
     event: &Event,
     text: &mut Vec<u8>,
@@ -74,7 +74,7 @@ fn restart<D: Disk, F: Fn(&Change) -> HookAnswer, K: Sink>(
     requires is { is_restart event.now ≡ true }
     requires asks { AsksBrands F.Fn machine.old }
     requires ready { MayGoOn D.view machine.old }
-    ensures answered { IfOk result (λ answer. (S : State) → StandsFor S machine.old → (D.view machine.old.bank.disk).Keeps → IsAnswered S event.now answer (λ T. StandsFor T machine.new) (D.view machine.old.bank.disk) (D.view machine.new.bank.disk) (after_known (K.holds out.old) waiting.old.items) (after_known (K.holds out.new) waiting.new.items)) }
+    ensures answered { IfOk result (λ answer. (S : State) → StandsFor S machine.old → (D.view machine.old.bank.disk).Keeps → IsAnswered mode.now S event.now answer (λ T. StandsFor T machine.new) (D.view machine.old.bank.disk) (D.view machine.new.bank.disk) (after_known (K.holds out.old) waiting.old.items) (after_known (K.holds out.new) waiting.new.items)) }
     ensures stopped { IfErr result (λ stop. (S : State) → StandsFor S machine.old → Stops stop (machine.new.bank ≡ machine.old.bank) S (Ok (Some event.now)) (D.view machine.old.bank.disk) (D.view machine.new.bank.disk)) }
     ensures may { IfErr result (λ stop. MayStop stop (D.view machine.old.bank.disk)) }
     ensures text { IfErr result (λ stop. StopsText stop (K.holds out.old) (K.holds out.new) waiting.old.items waiting.new.items) }
@@ -90,7 +90,7 @@ fn restart<D: Disk, F: Fn(&Change) -> HookAnswer, K: Sink>(
         return Err(Stop::Fault(fault));
     }
     match machine.answer(alloc, event, true) {
-        Ok(answer) => match put_reply(event, &answer, text, waiting) {
+        Ok(answer) => match put_told(mode, event, &answer, text, waiting) {
             Ok(()) => Ok(answer),
             Err(AllocError) => Err(Stop::Fault(RunFault::Memory)),
         },
@@ -101,9 +101,10 @@ fn restart<D: Disk, F: Fn(&Change) -> HookAnswer, K: Sink>(
     }
 }
 
-// One event is answered, and its reply waits to be written.
+// One event is answered, and what is told of it waits to be written.
 fn take_event<D: Disk, F: Fn(&Change) -> HookAnswer, K: Sink>(
     alloc: Global,
+    mode: &Mode,
     machine: &mut Machine<'_, D, F>,
     event: &Event,
     text: &mut Vec<u8>,
@@ -112,7 +113,7 @@ fn take_event<D: Disk, F: Fn(&Change) -> HookAnswer, K: Sink>(
 ) -> Result<Answer, Stop>
     requires asks { AsksBrands F.Fn machine.old }
     requires ready { MayGoOn D.view machine.old }
-    ensures answered { IfOk result (λ answer. (S : State) → StandsFor S machine.old → RestartsWell (Ok (Some event.now)) (D.view machine.old.bank.disk) → IsAnswered S event.now answer (λ T. StandsFor T machine.new) (D.view machine.old.bank.disk) (D.view machine.new.bank.disk) (after_known (K.holds out.old) waiting.old.items) (after_known (K.holds out.new) waiting.new.items)) }
+    ensures answered { IfOk result (λ answer. (S : State) → StandsFor S machine.old → RestartsWell (Ok (Some event.now)) (D.view machine.old.bank.disk) → IsAnswered mode.now S event.now answer (λ T. StandsFor T machine.new) (D.view machine.old.bank.disk) (D.view machine.new.bank.disk) (after_known (K.holds out.old) waiting.old.items) (after_known (K.holds out.new) waiting.new.items)) }
     ensures stopped { IfErr result (λ stop. (S : State) → StandsFor S machine.old → Stops stop (machine.new.bank ≡ machine.old.bank) S (Ok (Some event.now)) (D.view machine.old.bank.disk) (D.view machine.new.bank.disk)) }
     ensures may { IfErr result (λ stop. MayStop stop (D.view machine.old.bank.disk)) }
     ensures text { IfErr result (λ stop. StopsText stop (K.holds out.old) (K.holds out.new) waiting.old.items waiting.new.items) }
@@ -125,9 +126,9 @@ fn take_event<D: Disk, F: Fn(&Change) -> HookAnswer, K: Sink>(
     ensures asks { AsksBrands F.Fn machine.new }
 {
     if event.is_restart() {
-        return restart(alloc, machine, event, text, waiting, out);
+        return restart(alloc, mode, machine, event, text, waiting, out);
     }
-    match answer(alloc, machine, event, text, waiting, out) {
+    match answer(alloc, mode, machine, event, text, waiting, out) {
         Ok(answer) => Ok(answer),
         Err(fault) => Err(Stop::Fault(fault)),
     }
@@ -136,6 +137,7 @@ fn take_event<D: Disk, F: Fn(&Change) -> HookAnswer, K: Sink>(
 // One line: its event, if it is one, is answered, and the number of the first refused line is reported.
 fn take_line<D: Disk, F: Fn(&Change) -> HookAnswer, K: Sink>(
     alloc: Global,
+    mode: &Mode,
     machine: &mut Machine<'_, D, F>,
     line: &[u8],
     number: u64,
@@ -147,7 +149,7 @@ fn take_line<D: Disk, F: Fn(&Change) -> HookAnswer, K: Sink>(
     requires short { length line.now ≤ 4096 }
     requires asks { AsksBrands F.Fn machine.old }
     requires ready { MayGoOn D.view machine.old }
-    ensures taken { IfOk result (λ taken. (S : State) → StandsFor S machine.old → RestartsWell (event_of S.started line.now) (D.view machine.old.bank.disk) → TakesEvent S (event_of S.started line.now) (λ T. StandsFor T machine.new) (machine.new.bank ≡ machine.old.bank) (D.view machine.old.bank.disk) (D.view machine.new.bank.disk) number refused taken (after_known (K.holds out.old) waiting.old.items) (after_known (K.holds out.new) waiting.new.items)) }
+    ensures taken { IfOk result (λ taken. (S : State) → StandsFor S machine.old → RestartsWell (event_of S.started line.now) (D.view machine.old.bank.disk) → TakesEvent mode.now S (event_of S.started line.now) (λ T. StandsFor T machine.new) (machine.new.bank ≡ machine.old.bank) (D.view machine.old.bank.disk) (D.view machine.new.bank.disk) number refused taken (after_known (K.holds out.old) waiting.old.items) (after_known (K.holds out.new) waiting.new.items)) }
     ensures stopped { IfErr result (λ stop. (S : State) → StandsFor S machine.old → Stops stop (machine.new.bank ≡ machine.old.bank) S (event_of S.started line.now) (D.view machine.old.bank.disk) (D.view machine.new.bank.disk)) }
     ensures may { IfErr result (λ stop. MayStop stop (D.view machine.old.bank.disk)) }
     ensures text { IfErr result (λ stop. StopsText stop (K.holds out.old) (K.holds out.new) waiting.old.items waiting.new.items) }
@@ -164,7 +166,7 @@ fn take_line<D: Disk, F: Fn(&Change) -> HookAnswer, K: Sink>(
             refused,
             opened: None,
         }),
-        Ok(Some(event)) => match take_event(alloc, machine, &event, text, waiting, out) {
+        Ok(Some(event)) => match take_event(alloc, mode, machine, &event, text, waiting, out) {
             Ok(answer) => Ok(taken_from(refused, number, &event, answer)),
             Err(stop) => Err(stop),
         },
@@ -200,7 +202,7 @@ fn write_some<K: Sink>(
 // line is read, so whoever types whole lines gets each reply before the next line is read; nor while the disk is written.
 fn take_lines<D: Disk, F: Fn(&Change) -> HookAnswer, S: Source, K: Sink>(
     alloc: Global,
-    turns: Turns,
+    mode: &Mode,
     machine: &mut Machine<'_, D, F>,
     source: &mut S,
     text: &mut Vec<u8>,
@@ -210,8 +212,8 @@ fn take_lines<D: Disk, F: Fn(&Change) -> HookAnswer, S: Source, K: Sink>(
     requires asks { AsksBrands F.Fn machine.old }
     requires ready { MayGoOn D.view machine.old }
     requires none { waiting.old.items ≡ [] }
-    ensures ran { (brands : List Tabled) (R : List Commit) → StandsFor (opening brands R) machine.old → FindsAlways (D.view machine.old.bank.disk) (S.left source.old) → EndsAs turns brands R result (S.left source.old) (S.left source.new) (K.holds out.old) (K.holds out.new) (after_known (K.holds out.new) waiting.new.items) }
-    ensures recorded { (brands : List Tabled) (R : List Commit) → StandsFor (opening brands R) machine.old → IsStoreOf (D.view machine.old.bank.disk) R → RanAs turns brands R result (S.left source.old) (K.holds out.old) (after_known (K.holds out.new) waiting.new.items) (D.view machine.old.bank.disk) (D.view machine.new.bank.disk) }
+    ensures ran { (brands : List Tabled) (R : List Commit) → StandsFor (opening brands R) machine.old → FindsAlways (D.view machine.old.bank.disk) (S.left source.old) → EndsAs mode.now brands R result (S.left source.old) (S.left source.new) (K.holds out.old) (K.holds out.new) (after_known (K.holds out.new) waiting.new.items) }
+    ensures recorded { (brands : List Tabled) (R : List Commit) → StandsFor (opening brands R) machine.old → IsStoreOf (D.view machine.old.bank.disk) R → RanAs mode.now brands R result (S.left source.old) (K.holds out.old) (after_known (K.holds out.new) waiting.new.items) (D.view machine.old.bank.disk) (D.view machine.new.bank.disk) }
     ensures kind { (D.view machine.old.bank.disk).Keeps → IfOk result (λ complaint. IfSome complaint IsOfInput) }
     ensures read { IsErrOf result RunFault.Read → Rose (S.faults source.old) (S.faults source.new) }
     ensures write { IsErrOf result RunFault.Write → Rose (K.faults out.old) (K.faults out.new) }
@@ -237,6 +239,7 @@ fn take_lines<D: Disk, F: Fn(&Change) -> HookAnswer, S: Source, K: Sink>(
         }
         match take_line(
             alloc,
+            mode,
             machine,
             &line,
             before + 1,
@@ -247,7 +250,7 @@ fn take_lines<D: Disk, F: Fn(&Change) -> HookAnswer, S: Source, K: Sink>(
         ) {
             Ok(taken) => match give_turns(
                 alloc,
-                turns,
+                mode,
                 machine,
                 taken,
                 before + 1,
@@ -268,19 +271,19 @@ fn take_lines<D: Disk, F: Fn(&Change) -> HookAnswer, S: Source, K: Sink>(
     Ok(ended(refused))
 }
 
-/// Runs all lines on a machine, one at a time, up to the first that is outside the grammar or past a limit, and writes their
-/// replies. What is left to report is answered.
+/// Runs all lines on a machine, one at a time, up to the first that is outside the grammar or past a limit, and writes what is
+/// told of them. What is left to report is answered.
 pub fn trace_all<D: Disk, F: Fn(&Change) -> HookAnswer, S: Source, K: Sink>(
     alloc: Global,
-    turns: Turns,
+    mode: &Mode,
     machine: &mut Machine<'_, D, F>,
     source: &mut S,
     out: &mut K,
 ) -> Result<Option<Complaint>, RunFault>
     requires asks { AsksBrands F.Fn machine.old }
     requires ready { MayGoOn D.view machine.old }
-    ensures ran { (brands : List Tabled) (R : List Commit) → StandsFor (opening brands R) machine.old → FindsAlways (D.view machine.old.bank.disk) (S.left source.old) → EndsAs turns brands R result (S.left source.old) (S.left source.new) (K.holds out.old) (K.holds out.new) (K.holds out.new) }
-    ensures recorded { (brands : List Tabled) (R : List Commit) → StandsFor (opening brands R) machine.old → IsStoreOf (D.view machine.old.bank.disk) R → RanAs turns brands R result (S.left source.old) (K.holds out.old) (K.holds out.new) (D.view machine.old.bank.disk) (D.view machine.new.bank.disk) }
+    ensures ran { (brands : List Tabled) (R : List Commit) → StandsFor (opening brands R) machine.old → FindsAlways (D.view machine.old.bank.disk) (S.left source.old) → EndsAs mode.now brands R result (S.left source.old) (S.left source.new) (K.holds out.old) (K.holds out.new) (K.holds out.new) }
+    ensures recorded { (brands : List Tabled) (R : List Commit) → StandsFor (opening brands R) machine.old → IsStoreOf (D.view machine.old.bank.disk) R → RanAs mode.now brands R result (S.left source.old) (K.holds out.old) (K.holds out.new) (D.view machine.old.bank.disk) (D.view machine.new.bank.disk) }
     ensures kind { (D.view machine.old.bank.disk).Keeps → IfOk result (λ complaint. IfSome complaint IsOfInput) }
     ensures read { IsErrOf result RunFault.Read → Rose (S.faults source.old) (S.faults source.new) }
     ensures write { IsErrOf result RunFault.Write → Rose (K.faults out.old) (K.faults out.new) }
@@ -290,7 +293,7 @@ pub fn trace_all<D: Disk, F: Fn(&Change) -> HookAnswer, S: Source, K: Sink>(
 {
     let mut text = Vec::new(alloc);
     let mut waiting = Vec::new(alloc);
-    let ended = take_lines(alloc, turns, machine, source, &mut text, &mut waiting, out);
+    let ended = take_lines(alloc, mode, machine, source, &mut text, &mut waiting, out);
     match write_waiting(&mut waiting, out) {
         Ok(()) => ended,
         Err(_) => Err(RunFault::Write),

@@ -21,7 +21,7 @@ ghost use Rattle.zones_run.specs.Tracing.{EndsAs, HasWritten};
 
 use crate::answers::{answer, is_refusal};
 use crate::fault::RunFault;
-use crate::words::Turns;
+use crate::words::Mode;
 use brand_hooks::{Change, HookAnswer};
 use std::alloc::Global;
 use zn_base::ZoneName;
@@ -123,12 +123,12 @@ fn until_answered<D: Disk, F: Fn(&Change) -> HookAnswer, K: Sink>(
 ) -> Result<Option<u64>, RunFault>
     requires asks { AsksBrands F.Fn machine.old }
     requires ready { MayGoOn D.view machine.old }
-    ensures went { (brands : List Tabled) (R : List Commit) (first : D) (held bytes input : Option (List ℕ)) → Follows Turns.PutIn (puts_until 10000000 opened number) brands R (λ S. StandsFor S machine.old) (Left brands R (D.view first) (D.view machine.old.bank.disk)) refused (number + 1) held (after_known (K.holds out.old) waiting.old.items) bytes input
-        → IfOk result (λ now. Follows Turns.PutIn none_put brands R (λ S. StandsFor S machine.new) (Left brands R (D.view first) (D.view machine.new.bank.disk)) now (number + 1) held (after_known (K.holds out.new) waiting.new.items) bytes input) }
-    ensures ended { (brands : List Tabled) (R : List Commit) (first : D) (held bytes input : Option (List ℕ)) → Follows Turns.PutIn (puts_until 10000000 opened number) brands R (λ S. StandsFor S machine.old) (Left brands R (D.view first) (D.view machine.old.bank.disk)) refused (number + 1) held (after_known (K.holds out.old) waiting.old.items) bytes input
-        → (left : Option (List ℕ)) → HasWritten held (K.holds out.old) → TakesPiece bytes left → IfErr result (λ fault. EndsAs Turns.PutIn brands R (Err fault) input left held (K.holds out.new) (after_known (K.holds out.new) waiting.new.items)) }
-    ensures recorded { (brands : List Tabled) (R : List Commit) (first : D) (held bytes input : Option (List ℕ)) → Follows Turns.PutIn (puts_until 10000000 opened number) brands R (λ S. StandsFor S machine.old) (Left brands R (D.view first) (D.view machine.old.bank.disk)) refused (number + 1) held (after_known (K.holds out.old) waiting.old.items) bytes input
-        → IsStoreOf (D.view first) R → IfErr result (λ fault. RanAs Turns.PutIn brands R (Err fault) input held (after_known (K.holds out.new) waiting.new.items) (D.view first) (D.view machine.new.bank.disk)) }
+    ensures went { (brands : List Tabled) (R : List Commit) (first : D) (held bytes input : Option (List ℕ)) → Follows Mode.WithTurns (puts_until 10000000 opened number) brands R (λ S. StandsFor S machine.old) (Left brands R (D.view first) (D.view machine.old.bank.disk)) refused (number + 1) held (after_known (K.holds out.old) waiting.old.items) bytes input
+        → IfOk result (λ now. Follows Mode.WithTurns none_put brands R (λ S. StandsFor S machine.new) (Left brands R (D.view first) (D.view machine.new.bank.disk)) now (number + 1) held (after_known (K.holds out.new) waiting.new.items) bytes input) }
+    ensures ended { (brands : List Tabled) (R : List Commit) (first : D) (held bytes input : Option (List ℕ)) → Follows Mode.WithTurns (puts_until 10000000 opened number) brands R (λ S. StandsFor S machine.old) (Left brands R (D.view first) (D.view machine.old.bank.disk)) refused (number + 1) held (after_known (K.holds out.old) waiting.old.items) bytes input
+        → (left : Option (List ℕ)) → HasWritten held (K.holds out.old) → TakesPiece bytes left → IfErr result (λ fault. EndsAs Mode.WithTurns brands R (Err fault) input left held (K.holds out.new) (after_known (K.holds out.new) waiting.new.items)) }
+    ensures recorded { (brands : List Tabled) (R : List Commit) (first : D) (held bytes input : Option (List ℕ)) → Follows Mode.WithTurns (puts_until 10000000 opened number) brands R (λ S. StandsFor S machine.old) (Left brands R (D.view first) (D.view machine.old.bank.disk)) refused (number + 1) held (after_known (K.holds out.old) waiting.old.items) bytes input
+        → IsStoreOf (D.view first) R → IfErr result (λ fault. RanAs Mode.WithTurns brands R (Err fault) input held (after_known (K.holds out.new) waiting.new.items) (D.view first) (D.view machine.new.bank.disk)) }
     ensures written { HasWritten (K.holds out.old) (K.holds out.new) }
     ensures none { IsErrOf result RunFault.Write ⊎ IsErrOf result RunFault.Disk → waiting.new.items ≡ [] }
     ensures only { OnErr result (result ≢ Err RunFault.Read) }
@@ -143,7 +143,7 @@ fn until_answered<D: Disk, F: Fn(&Change) -> HookAnswer, K: Sink>(
     let event = Event::Turn { zone: opened.zone };
     let mut refused = refused;
     for given in 0..TURNS_MAX {
-        match answer(alloc, machine, &event, text, waiting, out) {
+        match answer(alloc, &Mode::WithTurns, machine, &event, text, waiting, out) {
             Ok(answer) => {
                 refused = refused_by(refused, number, &answer.reply.head);
                 if is_last(ticket, &answer.reply.head) {
@@ -159,7 +159,7 @@ fn until_answered<D: Disk, F: Fn(&Change) -> HookAnswer, K: Sink>(
 /// Puts in the turns that follow a line, and answers the first line that is refused by now.
 pub fn give_turns<D: Disk, F: Fn(&Change) -> HookAnswer, K: Sink>(
     alloc: Global,
-    turns: Turns,
+    mode: &Mode,
     machine: &mut Machine<'_, D, F>,
     taken: Taken,
     number: u64,
@@ -169,12 +169,12 @@ pub fn give_turns<D: Disk, F: Fn(&Change) -> HookAnswer, K: Sink>(
 ) -> Result<Option<u64>, RunFault>
     requires asks { AsksBrands F.Fn machine.old }
     requires ready { MayGoOn D.view machine.old }
-    ensures went { (brands : List Tabled) (R : List Commit) (first : D) (held bytes input : Option (List ℕ)) → Follows turns (puts_after turns taken.opened number) brands R (λ S. StandsFor S machine.old) (Left brands R (D.view first) (D.view machine.old.bank.disk)) taken.refused (number + 1) held (after_known (K.holds out.old) waiting.old.items) bytes input
-        → IfOk result (λ now. Follows turns none_put brands R (λ S. StandsFor S machine.new) (Left brands R (D.view first) (D.view machine.new.bank.disk)) now (number + 1) held (after_known (K.holds out.new) waiting.new.items) bytes input) }
-    ensures ended { (brands : List Tabled) (R : List Commit) (first : D) (held bytes input : Option (List ℕ)) → Follows turns (puts_after turns taken.opened number) brands R (λ S. StandsFor S machine.old) (Left brands R (D.view first) (D.view machine.old.bank.disk)) taken.refused (number + 1) held (after_known (K.holds out.old) waiting.old.items) bytes input
-        → (left : Option (List ℕ)) → HasWritten held (K.holds out.old) → TakesPiece bytes left → IfErr result (λ fault. EndsAs turns brands R (Err fault) input left held (K.holds out.new) (after_known (K.holds out.new) waiting.new.items)) }
-    ensures recorded { (brands : List Tabled) (R : List Commit) (first : D) (held bytes input : Option (List ℕ)) → Follows turns (puts_after turns taken.opened number) brands R (λ S. StandsFor S machine.old) (Left brands R (D.view first) (D.view machine.old.bank.disk)) taken.refused (number + 1) held (after_known (K.holds out.old) waiting.old.items) bytes input
-        → IsStoreOf (D.view first) R → IfErr result (λ fault. RanAs turns brands R (Err fault) input held (after_known (K.holds out.new) waiting.new.items) (D.view first) (D.view machine.new.bank.disk)) }
+    ensures went { (brands : List Tabled) (R : List Commit) (first : D) (held bytes input : Option (List ℕ)) → Follows mode.now (puts_after mode.now taken.opened number) brands R (λ S. StandsFor S machine.old) (Left brands R (D.view first) (D.view machine.old.bank.disk)) taken.refused (number + 1) held (after_known (K.holds out.old) waiting.old.items) bytes input
+        → IfOk result (λ now. Follows mode.now none_put brands R (λ S. StandsFor S machine.new) (Left brands R (D.view first) (D.view machine.new.bank.disk)) now (number + 1) held (after_known (K.holds out.new) waiting.new.items) bytes input) }
+    ensures ended { (brands : List Tabled) (R : List Commit) (first : D) (held bytes input : Option (List ℕ)) → Follows mode.now (puts_after mode.now taken.opened number) brands R (λ S. StandsFor S machine.old) (Left brands R (D.view first) (D.view machine.old.bank.disk)) taken.refused (number + 1) held (after_known (K.holds out.old) waiting.old.items) bytes input
+        → (left : Option (List ℕ)) → HasWritten held (K.holds out.old) → TakesPiece bytes left → IfErr result (λ fault. EndsAs mode.now brands R (Err fault) input left held (K.holds out.new) (after_known (K.holds out.new) waiting.new.items)) }
+    ensures recorded { (brands : List Tabled) (R : List Commit) (first : D) (held bytes input : Option (List ℕ)) → Follows mode.now (puts_after mode.now taken.opened number) brands R (λ S. StandsFor S machine.old) (Left brands R (D.view first) (D.view machine.old.bank.disk)) taken.refused (number + 1) held (after_known (K.holds out.old) waiting.old.items) bytes input
+        → IsStoreOf (D.view first) R → IfErr result (λ fault. RanAs mode.now brands R (Err fault) input held (after_known (K.holds out.new) waiting.new.items) (D.view first) (D.view machine.new.bank.disk)) }
     ensures written { HasWritten (K.holds out.old) (K.holds out.new) }
     ensures none { IsErrOf result RunFault.Write ⊎ IsErrOf result RunFault.Disk → waiting.new.items ≡ [] }
     ensures only { OnErr result (result ≢ Err RunFault.Read) }
@@ -186,9 +186,9 @@ pub fn give_turns<D: Disk, F: Fn(&Change) -> HookAnswer, K: Sink>(
     ensures asks { AsksBrands F.Fn machine.new }
 {
     let Taken { refused, opened } = taken;
-    match turns {
-        Turns::OfInput => Ok(refused),
-        Turns::PutIn => match opened {
+    match mode {
+        Mode::Replies | Mode::Purged(_) => Ok(refused),
+        Mode::WithTurns => match opened {
             Some(opened) => {
                 until_answered(alloc, machine, opened, number, refused, text, waiting, out)
             }

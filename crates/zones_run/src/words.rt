@@ -1,6 +1,10 @@
 //! The words of the command line, after the program's name.
-ghost use Rattle.std.specs.Prelude.{◌≡◌, map, string_bytes};
-ghost use Rattle.zones_run.specs.Words.{command_named, command_of};
+ghost use Rattle.std.specs.Prelude.{◌≡◌, IfOk, OnErr, map, string_bytes};
+ghost use Rattle.zn_base.specs.Names.{name_of};
+ghost use Rattle.zones_run.specs.Words.{MayPurge, command_for, command_named, command_of, purge_for};
+
+use std::alloc::{AllocError, Global};
+use zn_base::{NameFault, ZoneName};
 
 /// What `zones` writes where its words are no form of it.
 pub const USAGE_LINE: &[u8] =
@@ -16,6 +20,8 @@ COMMAND is one of
   trace      write the reply to each event of the trace on standard input
   script     the same, and give a zone's daemon its turns after each line that asks it
              for something
+  purge ZONE run the trace, and write in place of replies its lines that are of this zone
+             or of the whole system, each behind what the pools gave it
   index      write a line for each stored zone
   --help     write this text
   --version  write the version
@@ -27,26 +33,30 @@ is no store, 8 for a line above 4096 bytes or more than 200000 lines, and 9 wher
 memory runs out.\n
 docs/CODES.md says what each code means, and what to do about it.\n";
 
-/// Which turns zones' daemons are given.
-#[derive(Clone, Copy, Debug, PartialEq, Eq)]
-pub enum Turns {
-    /// Those of the input alone.
-    OfInput,
-    /// Also those that are put in after a session's line that is answered by a ticket, until the ticket is answered.
-    PutIn,
+/// How the lines of an input are run, and what is told of their events.
+#[derive(Drop)]
+pub enum Mode {
+    /// The replies.
+    Replies,
+    /// The same, and after a session's line that is answered by a ticket turns of the zone's daemon are put in, until the ticket
+    /// is answered.
+    WithTurns,
+    /// The lines of the events of a zone and of the whole system, behind what they were given. Those of all other zones are
+    /// left out.
+    Purged(ZoneName),
 }
 
 /// What a command does once it has opened the store on the disk.
-#[derive(Clone, Copy, Debug, PartialEq, Eq)]
+#[derive(Drop)]
 pub enum Task {
-    /// It runs the lines of its input, as `trace` and `script` do.
-    Run(Turns),
+    /// It runs the lines of its input, as `trace`, `script` and `purge` do.
+    Run(Mode),
     /// It writes the index of the stored zones.
     Index,
 }
 
 /// The forms of the command line.
-#[derive(Clone, Copy, Debug, PartialEq, Eq)]
+#[derive(Drop)]
 pub enum Command {
     Export,
     OnStore(Task),
@@ -60,8 +70,8 @@ fn command_named(word: &str) -> Option<Command>
 {
     match word {
         "export" => Some(Command::Export),
-        "trace" => Some(Command::OnStore(Task::Run(Turns::OfInput))),
-        "script" => Some(Command::OnStore(Task::Run(Turns::PutIn))),
+        "trace" => Some(Command::OnStore(Task::Run(Mode::Replies))),
+        "script" => Some(Command::OnStore(Task::Run(Mode::WithTurns))),
         "index" => Some(Command::OnStore(Task::Index)),
         "--help" => Some(Command::Help),
         "--version" => Some(Command::Version),
@@ -69,12 +79,38 @@ fn command_named(word: &str) -> Option<Command>
     }
 }
 
-/// The command that the words are, if they are one.
-pub fn command_of(words: &[String]) -> Option<Command>
-    ensures { result ≡ command_of (map string_bytes words.now) }
+// The command that purges all zones but one, where the word is a zone's name.
+fn purge_for(alloc: Global, word: &str) -> Result<Option<Command>, AllocError>
+    ensures some { IfOk result (λ command. command ≡ purge_for (name_of word.now)) }
+    ensures memory { MayPurge (purge_for (name_of word.now)) }
+{
+    match ZoneName::read(alloc, word.as_bytes()) {
+        Ok(zone) => Ok(Some(Command::OnStore(Task::Run(Mode::Purged(zone))))),
+        Err(NameFault::Memory) => Err(AllocError),
+        Err(_) => Ok(None),
+    }
+}
+
+// The command of two words.
+fn command_for(alloc: Global, word: &str, zone: &str) -> Result<Option<Command>, AllocError>
+    ensures some { IfOk result (λ command. command ≡ command_for word.now zone.now) }
+    ensures memory { MayPurge (command_for word.now zone.now) }
+{
+    match word {
+        "purge" => purge_for(alloc, zone),
+        _ => Ok(None),
+    }
+}
+
+/// The command that the words are, if they are one. It takes no memory but for the name of a zone.
+pub fn command_of(alloc: Global, words: &[String]) -> Result<Option<Command>, AllocError>
+    ensures some { IfOk result (λ command. command ≡ command_of (map string_bytes words.now)) }
+    ensures memory { OnErr result (MayPurge (command_of (map string_bytes words.now))) }
 {
     match words {
-        [word] => command_named(word.as_str()),
-        _ => None,
+        [] => Ok(None),
+        [word] => Ok(command_named(word.as_str())),
+        [word, zone] => command_for(alloc, word.as_str(), zone.as_str()),
+        _ => Ok(None),
     }
 }

@@ -11,8 +11,8 @@ returns-in-Run-clause-text g c = λ brands R s finds.
     let left = g.S.Source.left c.run_lines.new.src in
     let held = g.K.Sink.holds c.args.out.now in
     let holds = g.K.Sink.holds c.run_lines.new.out in
-    run_done c.args.task c.in-Run.turns c.in-Run.is brands R c.run_lines.result input left held holds (λ (o : Output). TellsText o c.run_lines.result held holds)
-    (c.run_lines.ensures.text brands R s (run_finds c.args.task c.in-Run.turns c.in-Run.is brands R c.run_lines.result input left held holds (g.D.Disk.view c.args.machine.now.bank.disk) finds))
+    run_done c.args.task.now c.in-Run.mode c.in-Run.is brands R c.run_lines.result input left held holds (λ (o : Output). TellsText o c.run_lines.result held holds)
+    (c.run_lines.ensures.text brands R s (run_finds c.args.task.now c.in-Run.mode c.in-Run.is brands R c.run_lines.result input left held holds (g.D.Disk.view c.args.machine.now.bank.disk) finds))
 
 pub returns-in-Run-clause-line : goal.returns-in-Run-clause-line
 returns-in-Run-clause-line g c = λ brands R s finds.
@@ -20,8 +20,8 @@ returns-in-Run-clause-line g c = λ brands R s finds.
     let left = g.S.Source.left c.run_lines.new.src in
     let held = g.K.Sink.holds c.args.out.now in
     let holds = g.K.Sink.holds c.run_lines.new.out in
-    run_done c.args.task c.in-Run.turns c.in-Run.is brands R c.run_lines.result input left held holds (λ (o : Output). TellsLine o.err c.run_lines.result (g.E.Sink.holds c.args.err.now) (g.E.Sink.holds c.run_lines.new.err) (g.E.Sink.faults c.args.err.now) (g.E.Sink.faults c.run_lines.new.err))
-    (c.run_lines.ensures.line brands R s (run_finds c.args.task c.in-Run.turns c.in-Run.is brands R c.run_lines.result input left held holds (g.D.Disk.view c.args.machine.now.bank.disk) finds))
+    run_done c.args.task.now c.in-Run.mode c.in-Run.is brands R c.run_lines.result input left held holds (λ (o : Output). TellsLine o.err c.run_lines.result (g.E.Sink.holds c.args.err.now) (g.E.Sink.holds c.run_lines.new.err) (g.E.Sink.faults c.args.err.now) (g.E.Sink.faults c.run_lines.new.err))
+    (c.run_lines.ensures.line brands R s (run_finds c.args.task.now c.in-Run.mode c.in-Run.is brands R c.run_lines.result input left held holds (g.D.Disk.view c.args.machine.now.bank.disk) finds))
 
 pub returns-in-Run-clause-answered : goal.returns-in-Run-clause-answered
 returns-in-Run-clause-answered g c = λ brands R s finds.
@@ -29,8 +29,8 @@ returns-in-Run-clause-answered g c = λ brands R s finds.
     let left = g.S.Source.left c.run_lines.new.src in
     let held = g.K.Sink.holds c.args.out.now in
     let holds = g.K.Sink.holds c.run_lines.new.out in
-    run_answers c.args.task c.in-Run.turns c.in-Run.is brands R c.run_lines.result input left held holds
-    (c.run_lines.ensures.answered brands R s (run_finds c.args.task c.in-Run.turns c.in-Run.is brands R c.run_lines.result input left held holds (g.D.Disk.view c.args.machine.now.bank.disk) finds))
+    run_answers c.args.task.now c.in-Run.mode c.in-Run.is brands R c.run_lines.result input left held holds
+    (c.run_lines.ensures.answered brands R s (run_finds c.args.task.now c.in-Run.mode c.in-Run.is brands R c.run_lines.result input left held holds (g.D.Disk.view c.args.machine.now.bank.disk) finds))
 
 pub returns-in-Run-clause-recorded : goal.returns-in-Run-clause-recorded
 returns-in-Run-clause-recorded g c = λ brands R s is.
@@ -38,28 +38,28 @@ returns-in-Run-clause-recorded g c = λ brands R s is.
     let left = g.S.Source.left c.run_lines.new.src in
     let held = g.K.Sink.holds c.args.out.now in
     let holds = g.K.Sink.holds c.run_lines.new.out in
-    run_records c.args.task c.in-Run.turns c.in-Run.is brands R c.run_lines.result input left held holds (g.D.Disk.view c.args.machine.now.bank.disk) (g.D.Disk.view c.run_lines.new.machine.bank.disk) (c.run_lines.ensures.recorded brands R s is)
+    run_records c.args.task.now c.in-Run.mode c.in-Run.is brands R c.run_lines.result input left held holds (g.D.Disk.view c.args.machine.now.bank.disk) (g.D.Disk.view c.run_lines.new.machine.bank.disk) (c.run_lines.ensures.recorded brands R s is)
 
 pub returns-in-Index-clause-text : goal.returns-in-Index-clause-text
 returns-in-Index-clause-text g c = λ brands R s finds.
     let input = g.S.Source.left c.args.src.now in
     let held = g.K.Sink.holds c.args.out.now in
     let holds = g.K.Sink.holds c.run_index.new.out in
-    index_done c.args.task c.in-Index.is brands R c.run_index.result input input held holds (λ (o : Output). TellsText o c.run_index.result held holds) (c.run_index.ensures.text brands R s)
+    index_done c.args.task.now c.in-Index.is brands R c.run_index.result input input held holds (λ (o : Output). TellsText o c.run_index.result held holds) (c.run_index.ensures.text brands R s)
 
 pub returns-in-Index-clause-line : goal.returns-in-Index-clause-line
 returns-in-Index-clause-line g c = λ brands R s finds.
     let input = g.S.Source.left c.args.src.now in
     let held = g.K.Sink.holds c.args.out.now in
     let holds = g.K.Sink.holds c.run_index.new.out in
-    index_done c.args.task c.in-Index.is brands R c.run_index.result input input held holds (λ (o : Output). TellsLine o.err c.run_index.result (g.E.Sink.holds c.args.err.now) (g.E.Sink.holds c.run_index.new.err) (g.E.Sink.faults c.args.err.now) (g.E.Sink.faults c.run_index.new.err)) c.run_index.ensures.line
+    index_done c.args.task.now c.in-Index.is brands R c.run_index.result input input held holds (λ (o : Output). TellsLine o.err c.run_index.result (g.E.Sink.holds c.args.err.now) (g.E.Sink.holds c.run_index.new.err) (g.E.Sink.faults c.args.err.now) (g.E.Sink.faults c.run_index.new.err)) c.run_index.ensures.line
 
 pub returns-in-Index-clause-answered : goal.returns-in-Index-clause-answered
 returns-in-Index-clause-answered g c = λ brands R s finds.
     let input = g.S.Source.left c.args.src.now in
     let held = g.K.Sink.holds c.args.out.now in
     let holds = g.K.Sink.holds c.run_index.new.out in
-    index_answers c.args.task c.in-Index.is brands R c.run_index.result input input held holds (record { taken = refl; nothing = λ f. c.run_index.ensures.nothing (grind (arith, f, c.run_index.ensures.statuses)) })
+    index_answers c.args.task.now c.in-Index.is brands R c.run_index.result input input held holds (record { taken = refl; nothing = λ f. c.run_index.ensures.nothing (grind (arith, f, c.run_index.ensures.statuses)) })
 
 pub returns-in-Index-clause-recorded : goal.returns-in-Index-clause-recorded
 returns-in-Index-clause-recorded g c = λ brands R s is.
@@ -67,4 +67,4 @@ returns-in-Index-clause-recorded g c = λ brands R s is.
     let held = g.K.Sink.holds c.args.out.now in
     let holds = g.K.Sink.holds c.run_index.new.out in
     let v = g.D.Disk.view c.args.machine.now.bank.disk in
-    index_records c.args.task c.in-Index.is brands R c.run_index.result input input held holds v v (keeps_store R v (g.met.D.Disk.sound c.args.machine.now.bank.disk) is)
+    index_records c.args.task.now c.in-Index.is brands R c.run_index.result input input held holds v v (keeps_store R v (g.met.D.Disk.sound c.args.machine.now.bank.disk) is)

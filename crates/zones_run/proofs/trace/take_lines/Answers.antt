@@ -19,8 +19,8 @@ pub loop-before-init : goal.loop-before-init
 loop-before-init g c =
     let v = g.D.Disk.view c.args.machine.now.bank.disk in
     record {
-      run = λ brands R s a. follows_told c.args.turns none_put brands R (λ S. StandsFor S c.args.machine.now) (Left brands R v v) _ _ _ _ _ _ _ (nothing_waits (g.K.Sink.holds c.args.out.now) c.args.waiting.now.items c.requires.none)
-          (rw c.new-ahead.ensures (follows_from_start c.args.turns brands R (λ S. StandsFor S c.args.machine.now) (Left brands R v v) (g.K.Sink.holds c.args.out.now) _ s (λ is. keeps_start brands R v (g.met.D.Disk.sound c.args.machine.now.bank.disk) is)));
+      run = λ brands R s a. follows_told c.args.mode.now none_put brands R (λ S. StandsFor S c.args.machine.now) (Left brands R v v) _ _ _ _ _ _ _ (nothing_waits (g.K.Sink.holds c.args.out.now) c.args.waiting.now.items c.requires.none)
+          (rw c.new-ahead.ensures (follows_from_start c.args.mode.now brands R (λ S. StandsFor S c.args.machine.now) (Left brands R v v) (g.K.Sink.holds c.args.out.now) _ s (λ is. keeps_start brands R v (g.met.D.Disk.sound c.args.machine.now.bank.disk) is)));
       asks = c.requires.asks;
       ready = c.requires.ready;
       few = rw c.new-ahead.ensures (omega arith);
@@ -32,43 +32,43 @@ loop-before-init g c =
 
 pub returns-in_err-write_some-clause-ran : goal.returns-in_err-write_some-clause-ran
 returns-in_err-write_some-clause-ran g c = λ brands R s a.
-    ends_writing c.args.turns brands R _ _ _ _ _ _ (search rules) (flushed_front c.args.turns brands R _ _ _ _ _ c.loop-before.invariant.written (has_replies c.args.turns none_put brands R _ _ _ _ _ _ _ (c.loop-before.invariant.run brands R s a).run) c.in_err-write_some.ensures.front)
-    (runs_lines c.args.turns none_put brands R _ _ _ _ _ _ _ _ (c.loop-before.invariant.run brands R s a).run (takes_just _ _ _ refl c.loop-before.invariant.few))
+    ends_writing c.args.mode.now brands R _ _ _ _ _ _ (search rules) (flushed_front c.args.mode.now brands R _ _ _ _ _ c.loop-before.invariant.written (has_replies c.args.mode.now none_put brands R _ _ _ _ _ _ _ (c.loop-before.invariant.run brands R s a).run) c.in_err-write_some.ensures.front)
+    (runs_lines c.args.mode.now none_put brands R _ _ _ _ _ _ _ _ (c.loop-before.invariant.run brands R s a).run (takes_just _ _ _ refl c.loop-before.invariant.few))
 
 pub returns-in_err-write_some-clause-recorded : goal.returns-in_err-write_some-clause-recorded
 returns-in_err-write_some-clause-recorded g c = λ brands R s is.
     let v0 = g.D.Disk.view c.args.machine.now.bank.disk in
     let v = g.D.Disk.view c.loop-before.machine.bank.disk in
-    ran_cut c.args.turns none_put brands R _ v0 v _ _ _ _ _ _ (c.loop-before.invariant.run brands R s (inl is.keeps)) is _ _ (search rules)
+    ran_cut c.args.mode.now none_put brands R _ v0 v _ _ _ _ _ _ (c.loop-before.invariant.run brands R s (inl is.keeps)) is _ _ (search rules)
 
 pub returns-in_err-write_some-clause-written : goal.returns-in_err-write_some-clause-written
 returns-in_err-write_some-clause-written g c = written_on _ _ _ c.loop-before.invariant.written (written_front _ _ _ c.in_err-write_some.ensures.front)
 
 pub returns-in_err-write_some-2-clause-ran : goal.returns-in_err-write_some-2-clause-ran
 returns-in_err-write_some-2-clause-ran g c = λ brands R s a.
-    ends_writing c.args.turns brands R _ _ _ _ _ _ (search rules) (flushed_front c.args.turns brands R _ _ _ _ _ c.loop-before.invariant.written (has_replies c.args.turns none_put brands R _ _ _ _ _ _ _ (c.loop-before.invariant.run brands R s a).run) c.in_err-write_some-2.ensures.front)
-    (runs_lines c.args.turns none_put brands R _ _ _ _ _ _ _ _ (c.loop-before.invariant.run brands R s a).run (takes_just _ _ _ refl c.loop-before.invariant.few))
+    ends_writing c.args.mode.now brands R _ _ _ _ _ _ (search rules) (flushed_front c.args.mode.now brands R _ _ _ _ _ c.loop-before.invariant.written (has_replies c.args.mode.now none_put brands R _ _ _ _ _ _ _ (c.loop-before.invariant.run brands R s a).run) c.in_err-write_some-2.ensures.front)
+    (runs_lines c.args.mode.now none_put brands R _ _ _ _ _ _ _ _ (c.loop-before.invariant.run brands R s a).run (takes_just _ _ _ refl c.loop-before.invariant.few))
 
 pub returns-in_err-write_some-2-clause-recorded : goal.returns-in_err-write_some-2-clause-recorded
 returns-in_err-write_some-2-clause-recorded g c = λ brands R s is.
     let v0 = g.D.Disk.view c.args.machine.now.bank.disk in
     let v = g.D.Disk.view c.loop-before.machine.bank.disk in
-    ran_cut c.args.turns none_put brands R _ v0 v _ _ _ _ _ _ (c.loop-before.invariant.run brands R s (inl is.keeps)) is _ _ (search rules)
+    ran_cut c.args.mode.now none_put brands R _ v0 v _ _ _ _ _ _ (c.loop-before.invariant.run brands R s (inl is.keeps)) is _ _ (search rules)
 
 pub returns-in_err-write_some-2-clause-written : goal.returns-in_err-write_some-2-clause-written
 returns-in_err-write_some-2-clause-written g c = written_on _ _ _ c.loop-before.invariant.written (written_front _ _ _ c.in_err-write_some-2.ensures.front)
 
 pub returns-in_err-next_line-clause-ran : goal.returns-in_err-next_line-clause-ran
 returns-in_err-next_line-clause-ran g c = λ brands R s a.
-    let run = (runs_told c.args.turns none_put brands R _ _ _ _ _ _ _ _ c.in_ok-write_some.ensures.same (c.loop-before.invariant.run brands R s a).run) in
-    ends_reading c.args.turns brands R _ c.in_err-next_line.field-0.0 _ _ _ _ _ c.from_residual-in_err-next_line.ensures.1 (has_replies c.args.turns none_put brands R _ _ _ _ _ _ _ run) (answers_lines c.args.turns brands R _ _ _ _ _ _ _ _ run c.in_err-next_line.ensures.taken)
-    (λ failed. answers_read c.args.turns brands R _ _ _ _ _ _ _ _ run (c.in_err-next_line.ensures.begun (ap Err failed)))
+    let run = (runs_told c.args.mode.now none_put brands R _ _ _ _ _ _ _ _ c.in_ok-write_some.ensures.same (c.loop-before.invariant.run brands R s a).run) in
+    ends_reading c.args.mode.now brands R _ c.in_err-next_line.field-0.0 _ _ _ _ _ c.from_residual-in_err-next_line.ensures.1 (has_replies c.args.mode.now none_put brands R _ _ _ _ _ _ _ run) (answers_lines c.args.mode.now brands R _ _ _ _ _ _ _ _ run c.in_err-next_line.ensures.taken)
+    (λ failed. answers_read c.args.mode.now brands R _ _ _ _ _ _ _ _ run (c.in_err-next_line.ensures.begun (ap Err failed)))
 
 pub returns-in_err-next_line-clause-recorded : goal.returns-in_err-next_line-clause-recorded
 returns-in_err-next_line-clause-recorded g c = λ brands R s is.
     let v0 = g.D.Disk.view c.args.machine.now.bank.disk in
     let v = g.D.Disk.view c.loop-before.machine.bank.disk in
-    ran_part c.args.turns none_put brands R _ v0 v _ _ _ _ _ _ (follows_told c.args.turns none_put brands R _ (Left brands R v0 v) _ _ _ _ _ _ _ c.in_ok-write_some.ensures.same (c.loop-before.invariant.run brands R s (inl is.keeps))) is _ _ _ _ (err_not_ok c.from_residual-in_err-next_line.result c.from_residual-in_err-next_line.ensures.0)
+    ran_part c.args.mode.now none_put brands R _ v0 v _ _ _ _ _ _ (follows_told c.args.mode.now none_put brands R _ (Left brands R v0 v) _ _ _ _ _ _ _ c.in_ok-write_some.ensures.same (c.loop-before.invariant.run brands R s (inl is.keeps))) is _ _ _ _ (err_not_ok c.from_residual-in_err-next_line.result c.from_residual-in_err-next_line.ensures.0)
 
 pub returns-in_err-next_line-clause-written : goal.returns-in_err-next_line-clause-written
 returns-in_err-next_line-clause-written g c = written_on _ _ _ c.loop-before.invariant.written c.in_ok-write_some.ensures.written
@@ -78,28 +78,28 @@ returns-in_err-next_line-clause-none g c = λ failed. absurd (only_reading _ c.i
 
 pub returns-in-End-clause-ran : goal.returns-in-End-clause-ran
 returns-in-End-clause-ran g c = λ brands R s a.
-    let run = (runs_told c.args.turns none_put brands R _ _ _ _ _ _ _ _ c.in_ok-write_some.ensures.same (c.loop-before.invariant.run brands R s a).run) in
-    (tells_end c.args.turns brands R _ _ _ _ _ _ _ _ run (rw c.in-End.is at c.in_ok-next_line.ensures.got) c.ended.ensures.told, answers_lines c.args.turns brands R _ _ _ _ _ _ _ _ run c.in_ok-next_line.ensures.taken)
+    let run = (runs_told c.args.mode.now none_put brands R _ _ _ _ _ _ _ _ c.in_ok-write_some.ensures.same (c.loop-before.invariant.run brands R s a).run) in
+    (tells_end c.args.mode.now brands R _ _ _ _ _ _ _ _ run (rw c.in-End.is at c.in_ok-next_line.ensures.got) c.ended.ensures.told, answers_lines c.args.mode.now brands R _ _ _ _ _ _ _ _ run c.in_ok-next_line.ensures.taken)
 
 pub returns-in-End-clause-recorded : goal.returns-in-End-clause-recorded
 returns-in-End-clause-recorded g c = λ brands R s is.
     let v0 = g.D.Disk.view c.args.machine.now.bank.disk in
     let v = g.D.Disk.view c.loop-before.machine.bank.disk in
-    ran_whole c.args.turns brands R _ v0 v _ _ _ _ _ _ (follows_told c.args.turns none_put brands R _ (Left brands R v0 v) _ _ _ _ _ _ _ c.in_ok-write_some.ensures.same (c.loop-before.invariant.run brands R s (inl is.keeps))) is _ _ _ _ At_end (at_end _ _ _ (rw c.in-End.is at c.in_ok-next_line.ensures.got))
+    ran_whole c.args.mode.now brands R _ v0 v _ _ _ _ _ _ (follows_told c.args.mode.now none_put brands R _ (Left brands R v0 v) _ _ _ _ _ _ _ c.in_ok-write_some.ensures.same (c.loop-before.invariant.run brands R s (inl is.keeps))) is _ _ _ _ At_end (at_end _ _ _ (rw c.in-End.is at c.in_ok-next_line.ensures.got))
 
 pub returns-in-End-clause-written : goal.returns-in-End-clause-written
 returns-in-End-clause-written g c = written_on _ _ _ c.loop-before.invariant.written c.in_ok-write_some.ensures.written
 
 pub returns-in-TooLong-clause-ran : goal.returns-in-TooLong-clause-ran
 returns-in-TooLong-clause-ran g c = λ brands R s a.
-    let run = (runs_told c.args.turns none_put brands R _ _ _ _ _ _ _ _ c.in_ok-write_some.ensures.same (c.loop-before.invariant.run brands R s a).run) in
-    (tells_long c.args.turns brands R _ _ _ _ _ _ _ run (rw c.in-TooLong.is at c.in_ok-next_line.ensures.got), answers_lines c.args.turns brands R _ _ _ _ _ _ _ _ run c.in_ok-next_line.ensures.taken)
+    let run = (runs_told c.args.mode.now none_put brands R _ _ _ _ _ _ _ _ c.in_ok-write_some.ensures.same (c.loop-before.invariant.run brands R s a).run) in
+    (tells_long c.args.mode.now brands R _ _ _ _ _ _ _ run (rw c.in-TooLong.is at c.in_ok-next_line.ensures.got), answers_lines c.args.mode.now brands R _ _ _ _ _ _ _ _ run c.in_ok-next_line.ensures.taken)
 
 pub returns-in-TooLong-clause-recorded : goal.returns-in-TooLong-clause-recorded
 returns-in-TooLong-clause-recorded g c = λ brands R s is.
     let v0 = g.D.Disk.view c.args.machine.now.bank.disk in
     let v = g.D.Disk.view c.loop-before.machine.bank.disk in
-    ran_whole c.args.turns brands R _ v0 v _ _ _ _ _ _ (follows_told c.args.turns none_put brands R _ (Left brands R v0 v) _ _ _ _ _ _ _ c.in_ok-write_some.ensures.same (c.loop-before.invariant.run brands R s (inl is.keeps))) is _ _ _ _ (Past_limit _) (at_long _ _ _ (rw c.in-TooLong.is at c.in_ok-next_line.ensures.got))
+    ran_whole c.args.mode.now brands R _ v0 v _ _ _ _ _ _ (follows_told c.args.mode.now none_put brands R _ (Left brands R v0 v) _ _ _ _ _ _ _ c.in_ok-write_some.ensures.same (c.loop-before.invariant.run brands R s (inl is.keeps))) is _ _ _ _ (Past_limit _) (at_long _ _ _ (rw c.in-TooLong.is at c.in_ok-next_line.ensures.got))
 
 pub returns-in-TooLong-clause-written : goal.returns-in-TooLong-clause-written
 returns-in-TooLong-clause-written g c = written_on _ _ _ c.loop-before.invariant.written c.in_ok-write_some.ensures.written
@@ -112,9 +112,9 @@ returns-in-Err-clause-ran g c = λ brands R s a.
     let w = g.D.Disk.view c.take_line.new.machine.bank.disk in
     let line = rw c.in-Line.is at c.in_ok-next_line.ensures.got in
     let stopped = rw c.deref.ensures.value at c.in-Err.ensures.stopped in
-    rw c.ended_by.ensures.ended (ends_stopped c.args.turns brands R _ c.in-Err.stop _ _ _ _ _ _ _ _ _ _ c.next_line.new.line.items _ (c.take_line.new.machine.bank ≡ c.loop-before.machine.bank) v w
-    (runs_told c.args.turns none_put brands R _ _ _ _ _ _ _ _ c.in_ok-write_some.ensures.same (c.loop-before.invariant.run brands R s a).run) (written_on _ _ _ c.loop-before.invariant.written c.in_ok-write_some.ensures.written) c.in-Err.ensures.text c.in_ok-next_line.ensures.taken line.0 (omega arith) line.1 stopped c.in-Err.ensures.may
-    (λ run. restarts_well c.args.turns brands R (λ S. StandsFor S c.loop-before.machine) _ _ _ _ c.next_line.new.line.items _ _ _ v0 v a c.loop-before.invariant.passes.model.0 run took (omega arith) line.1))
+    rw c.ended_by.ensures.ended (ends_stopped c.args.mode.now brands R _ c.in-Err.stop _ _ _ _ _ _ _ _ _ _ c.next_line.new.line.items _ (c.take_line.new.machine.bank ≡ c.loop-before.machine.bank) v w
+    (runs_told c.args.mode.now none_put brands R _ _ _ _ _ _ _ _ c.in_ok-write_some.ensures.same (c.loop-before.invariant.run brands R s a).run) (written_on _ _ _ c.loop-before.invariant.written c.in_ok-write_some.ensures.written) c.in-Err.ensures.text c.in_ok-next_line.ensures.taken line.0 (omega arith) line.1 stopped c.in-Err.ensures.may
+    (λ run. restarts_well c.args.mode.now brands R (λ S. StandsFor S c.loop-before.machine) _ _ _ _ c.next_line.new.line.items _ _ _ v0 v a c.loop-before.invariant.passes.model.0 run took (omega arith) line.1))
 
 pub returns-in-Err-clause-recorded : goal.returns-in-Err-clause-recorded
 returns-in-Err-clause-recorded g c = λ brands R s is.
@@ -124,8 +124,8 @@ returns-in-Err-clause-recorded g c = λ brands R s is.
     let line = rw c.in-Line.is at c.in_ok-next_line.ensures.got in
     let took = rw c.in-Line.is at c.in_ok-next_line.ensures.took in
     let stopped = rw c.deref.ensures.value at c.in-Err.ensures.stopped in
-    rw c.ended_by.ensures.ended (ran_stopped c.args.turns brands R (λ S. StandsFor S c.loop-before.machine) v0 v w c.in-Err.stop _ _ _ _ _ _ _ _ _ _ c.next_line.new.line.items _ (c.take_line.new.machine.bank ≡ c.loop-before.machine.bank)
-    (follows_told c.args.turns none_put brands R _ (Left brands R v0 v) _ _ _ _ _ _ _ c.in_ok-write_some.ensures.same (c.loop-before.invariant.run brands R s (inl is.keeps))) is c.in-Err.ensures.text took line.0 (omega arith) line.1 stopped c.in-Err.ensures.may
+    rw c.ended_by.ensures.ended (ran_stopped c.args.mode.now brands R (λ S. StandsFor S c.loop-before.machine) v0 v w c.in-Err.stop _ _ _ _ _ _ _ _ _ _ c.next_line.new.line.items _ (c.take_line.new.machine.bank ≡ c.loop-before.machine.bank)
+    (follows_told c.args.mode.now none_put brands R _ (Left brands R v0 v) _ _ _ _ _ _ _ c.in_ok-write_some.ensures.same (c.loop-before.invariant.run brands R s (inl is.keeps))) is c.in-Err.ensures.text took line.0 (omega arith) line.1 stopped c.in-Err.ensures.may
     (λ e P x. subst (λ (b : Account g.row.D.Denot). P (g.D.Disk.view b.disk)) (sym e) x))
 
 pub returns-in-Err-clause-written : goal.returns-in-Err-clause-written
@@ -158,8 +158,8 @@ loop-before-preserved g c =
     let taken = rw c.deref.ensures.value at c.in-Ok.ensures.taken in
     record {
       run = λ brands R s a. c.in-Ok-give_turns.ensures.went brands R c.args.machine.now.bank.disk _ _ _
-          (follows_line c.args.turns brands R (c.take_line.new.machine.bank ≡ c.loop-before.machine.bank) (λ S. StandsFor S c.loop-before.machine) (λ S. StandsFor S c.take_line.new.machine) (Left brands R v0 v) (Left brands R v0 u) v u _ c.in-Ok.taken _ _ _ _ c.next_line.new.line.items _ _ _ v0 a c.loop-before.invariant.passes.model.0
-          (follows_told c.args.turns none_put brands R _ (Left brands R v0 v) _ _ _ _ _ _ _ c.in_ok-write_some.ensures.same (c.loop-before.invariant.run brands R s a)) taken took (omega arith) line.1
+          (follows_line c.args.mode.now brands R (c.take_line.new.machine.bank ≡ c.loop-before.machine.bank) (λ S. StandsFor S c.loop-before.machine) (λ S. StandsFor S c.take_line.new.machine) (Left brands R v0 v) (Left brands R v0 u) v u _ c.in-Ok.taken _ _ _ _ c.next_line.new.line.items _ _ _ v0 a c.loop-before.invariant.passes.model.0
+          (follows_told c.args.mode.now none_put brands R _ (Left brands R v0 v) _ _ _ _ _ _ _ c.in_ok-write_some.ensures.same (c.loop-before.invariant.run brands R s a)) taken took (omega arith) line.1
           (λ e h k is. subst (λ (b : Account g.row.D.Denot). HasKept brands R h v0 (g.D.Disk.view b.disk)) (sym e) (k is))
           (λ S e h reached goes k is. keeps_step brands R h S (entry_in S e) reached v0 v u goes (k is)));
       asks = c.give_turns.ensures.asks;
@@ -180,8 +180,8 @@ returns-in-Err-give_turns-clause-ran g c = λ brands R s a.
     let took = rw c.in-Line.is at c.in_ok-next_line.ensures.took in
     let taken = rw c.deref.ensures.value at c.in-Ok.ensures.taken in
     c.in-Err-give_turns.ensures.ended brands R c.args.machine.now.bank.disk _ _ _
-    (follows_line c.args.turns brands R (c.take_line.new.machine.bank ≡ c.loop-before.machine.bank) (λ S. StandsFor S c.loop-before.machine) (λ S. StandsFor S c.take_line.new.machine) (Left brands R v0 v) (Left brands R v0 u) v u _ c.in-Ok.taken _ _ _ _ c.next_line.new.line.items _ _ _ v0 a c.loop-before.invariant.passes.model.0
-    (follows_told c.args.turns none_put brands R _ (Left brands R v0 v) _ _ _ _ _ _ _ c.in_ok-write_some.ensures.same (c.loop-before.invariant.run brands R s a)) taken took (omega arith) line.1
+    (follows_line c.args.mode.now brands R (c.take_line.new.machine.bank ≡ c.loop-before.machine.bank) (λ S. StandsFor S c.loop-before.machine) (λ S. StandsFor S c.take_line.new.machine) (Left brands R v0 v) (Left brands R v0 u) v u _ c.in-Ok.taken _ _ _ _ c.next_line.new.line.items _ _ _ v0 a c.loop-before.invariant.passes.model.0
+    (follows_told c.args.mode.now none_put brands R _ (Left brands R v0 v) _ _ _ _ _ _ _ c.in_ok-write_some.ensures.same (c.loop-before.invariant.run brands R s a)) taken took (omega arith) line.1
     (λ e h k is. subst (λ (b : Account g.row.D.Denot). HasKept brands R h v0 (g.D.Disk.view b.disk)) (sym e) (k is))
     (λ S e h reached goes k is. keeps_step brands R h S (entry_in S e) reached v0 v u goes (k is)))
     _ (written_on _ _ _ (written_on _ _ _ c.loop-before.invariant.written c.in_ok-write_some.ensures.written) c.take_line.ensures.written) (takes_just _ _ _ refl (c.in_ok-next_line.ensures.few c.in-Line.is))
@@ -195,8 +195,8 @@ returns-in-Err-give_turns-clause-recorded g c = λ brands R s is.
     let took = rw c.in-Line.is at c.in_ok-next_line.ensures.took in
     let taken = rw c.deref.ensures.value at c.in-Ok.ensures.taken in
     c.in-Err-give_turns.ensures.recorded brands R c.args.machine.now.bank.disk _ _ _
-    (follows_line c.args.turns brands R (c.take_line.new.machine.bank ≡ c.loop-before.machine.bank) (λ S. StandsFor S c.loop-before.machine) (λ S. StandsFor S c.take_line.new.machine) (Left brands R v0 v) (Left brands R v0 u) v u _ c.in-Ok.taken _ _ _ _ c.next_line.new.line.items _ _ _ v0 (inl is.keeps) c.loop-before.invariant.passes.model.0
-    (follows_told c.args.turns none_put brands R _ (Left brands R v0 v) _ _ _ _ _ _ _ c.in_ok-write_some.ensures.same (c.loop-before.invariant.run brands R s (inl is.keeps))) taken took (omega arith) line.1
+    (follows_line c.args.mode.now brands R (c.take_line.new.machine.bank ≡ c.loop-before.machine.bank) (λ S. StandsFor S c.loop-before.machine) (λ S. StandsFor S c.take_line.new.machine) (Left brands R v0 v) (Left brands R v0 u) v u _ c.in-Ok.taken _ _ _ _ c.next_line.new.line.items _ _ _ v0 (inl is.keeps) c.loop-before.invariant.passes.model.0
+    (follows_told c.args.mode.now none_put brands R _ (Left brands R v0 v) _ _ _ _ _ _ _ c.in_ok-write_some.ensures.same (c.loop-before.invariant.run brands R s (inl is.keeps))) taken took (omega arith) line.1
     (λ e h k is. subst (λ (b : Account g.row.D.Denot). HasKept brands R h v0 (g.D.Disk.view b.disk)) (sym e) (k is))
     (λ S e h reached goes k is. keeps_step brands R h S (entry_in S e) reached v0 v u goes (k is)))
     is
@@ -211,15 +211,15 @@ returns-in-Err-give_turns-clause-read g c = λ failed.
 
 pub returns-in_err-refill-clause-ran : goal.returns-in_err-refill-clause-ran
 returns-in_err-refill-clause-ran g c = λ brands R s a.
-    let run = (runs_told c.args.turns none_put brands R _ _ _ _ _ _ _ _ c.in_ok-write_some-2.ensures.same (c.loop-before.invariant.run brands R s a).run) in
+    let run = (runs_told c.args.mode.now none_put brands R _ _ _ _ _ _ _ _ c.in_ok-write_some-2.ensures.same (c.loop-before.invariant.run brands R s a).run) in
     let begins = takes_none _ _ c.in_err-refill.ensures.kept in
-    ends_reading c.args.turns brands R _ c.in_err-refill.field-0.0 _ _ _ _ _ c.from_residual-in_err-refill.ensures.1 (has_replies c.args.turns none_put brands R _ _ _ _ _ _ _ run) (answers_lines c.args.turns brands R _ _ _ _ _ _ _ _ run begins.0) (λ _. answers_read c.args.turns brands R _ _ _ _ _ _ _ _ run begins)
+    ends_reading c.args.mode.now brands R _ c.in_err-refill.field-0.0 _ _ _ _ _ c.from_residual-in_err-refill.ensures.1 (has_replies c.args.mode.now none_put brands R _ _ _ _ _ _ _ run) (answers_lines c.args.mode.now brands R _ _ _ _ _ _ _ _ run begins.0) (λ _. answers_read c.args.mode.now brands R _ _ _ _ _ _ _ _ run begins)
 
 pub returns-in_err-refill-clause-recorded : goal.returns-in_err-refill-clause-recorded
 returns-in_err-refill-clause-recorded g c = λ brands R s is.
     let v0 = g.D.Disk.view c.args.machine.now.bank.disk in
     let v = g.D.Disk.view c.loop-before.machine.bank.disk in
-    ran_part c.args.turns none_put brands R _ v0 v _ _ _ _ _ _ (follows_told c.args.turns none_put brands R _ (Left brands R v0 v) _ _ _ _ _ _ _ c.in_ok-write_some-2.ensures.same (c.loop-before.invariant.run brands R s (inl is.keeps))) is _ _ _ _ (err_not_ok c.from_residual-in_err-refill.result c.from_residual-in_err-refill.ensures.0)
+    ran_part c.args.mode.now none_put brands R _ v0 v _ _ _ _ _ _ (follows_told c.args.mode.now none_put brands R _ (Left brands R v0 v) _ _ _ _ _ _ _ c.in_ok-write_some-2.ensures.same (c.loop-before.invariant.run brands R s (inl is.keeps))) is _ _ _ _ (err_not_ok c.from_residual-in_err-refill.result c.from_residual-in_err-refill.ensures.0)
 
 pub returns-in_err-refill-clause-written : goal.returns-in_err-refill-clause-written
 returns-in_err-refill-clause-written g c = written_on _ _ _ c.loop-before.invariant.written c.in_ok-write_some-2.ensures.written
@@ -229,16 +229,16 @@ returns-in_err-refill-clause-none g c = λ failed. absurd (only_reading _ c.in_e
 
 pub returns-then-branch-clause-ran : goal.returns-then-branch-clause-ran
 returns-then-branch-clause-ran g c = λ brands R s a.
-    let run = (runs_told c.args.turns none_put brands R _ _ _ _ _ _ _ _ c.in_ok-write_some-2.ensures.same (c.loop-before.invariant.run brands R s a).run) in (
-      tells_last c.args.turns brands R _ _ _ _ _ _ _ _ _ run (omega (arith, c.loop-before-test.false, c.loop-before.auto.before-end)) c.in_ok-refill.ensures.bytes (c.in_ok-refill.ensures.more c.if-branch.true),
-      answers_lines c.args.turns brands R _ _ _ _ _ _ _ _ run (takes_just _ _ _ c.in_ok-refill.ensures.bytes c.in_ok-refill.ensures.few),
+    let run = (runs_told c.args.mode.now none_put brands R _ _ _ _ _ _ _ _ c.in_ok-write_some-2.ensures.same (c.loop-before.invariant.run brands R s a).run) in (
+      tells_last c.args.mode.now brands R _ _ _ _ _ _ _ _ _ run (omega (arith, c.loop-before-test.false, c.loop-before.auto.before-end)) c.in_ok-refill.ensures.bytes (c.in_ok-refill.ensures.more c.if-branch.true),
+      answers_lines c.args.mode.now brands R _ _ _ _ _ _ _ _ run (takes_just _ _ _ c.in_ok-refill.ensures.bytes c.in_ok-refill.ensures.few),
     )
 
 pub returns-then-branch-clause-recorded : goal.returns-then-branch-clause-recorded
 returns-then-branch-clause-recorded g c = λ brands R s is.
     let v0 = g.D.Disk.view c.args.machine.now.bank.disk in
     let v = g.D.Disk.view c.loop-before.machine.bank.disk in
-    ran_whole c.args.turns brands R _ v0 v _ _ _ _ _ _ (follows_told c.args.turns none_put brands R _ (Left brands R v0 v) _ _ _ _ _ _ _ c.in_ok-write_some-2.ensures.same (c.loop-before.invariant.run brands R s (inl is.keeps))) is _ _ _ _ (Past_limit 200001)
+    ran_whole c.args.mode.now brands R _ v0 v _ _ _ _ _ _ (follows_told c.args.mode.now none_put brands R _ (Left brands R v0 v) _ _ _ _ _ _ _ c.in_ok-write_some-2.ensures.same (c.loop-before.invariant.run brands R s (inl is.keeps))) is _ _ _ _ (Past_limit 200001)
     (last_long _ _ _ _ _ (omega (arith, c.loop-before-test.false, c.loop-before.auto.before-end)) c.in_ok-refill.ensures.bytes (c.in_ok-refill.ensures.more c.if-branch.true))
 
 pub returns-then-branch-clause-written : goal.returns-then-branch-clause-written
@@ -246,16 +246,16 @@ returns-then-branch-clause-written g c = written_on _ _ _ c.loop-before.invarian
 
 pub returns-clause-ran : goal.returns-clause-ran
 returns-clause-ran g c = λ brands R s a.
-    let run = (runs_told c.args.turns none_put brands R _ _ _ _ _ _ _ _ c.in_ok-write_some-2.ensures.same (c.loop-before.invariant.run brands R s a).run) in
+    let run = (runs_told c.args.mode.now none_put brands R _ _ _ _ _ _ _ _ c.in_ok-write_some-2.ensures.same (c.loop-before.invariant.run brands R s a).run) in
     let end = c.in_ok-refill.ensures.end c.if-branch.false in
-    (tells_last_end c.args.turns brands R _ _ _ _ _ _ _ _ _ _ run c.in_ok-refill.ensures.bytes end.0 end.1 c.ended-2.ensures.told, answers_lines c.args.turns brands R _ _ _ _ _ _ _ _ run (takes_just _ _ _ c.in_ok-refill.ensures.bytes c.in_ok-refill.ensures.few))
+    (tells_last_end c.args.mode.now brands R _ _ _ _ _ _ _ _ _ _ run c.in_ok-refill.ensures.bytes end.0 end.1 c.ended-2.ensures.told, answers_lines c.args.mode.now brands R _ _ _ _ _ _ _ _ run (takes_just _ _ _ c.in_ok-refill.ensures.bytes c.in_ok-refill.ensures.few))
 
 pub returns-clause-recorded : goal.returns-clause-recorded
 returns-clause-recorded g c = λ brands R s is.
     let v0 = g.D.Disk.view c.args.machine.now.bank.disk in
     let v = g.D.Disk.view c.loop-before.machine.bank.disk in
     let end = c.in_ok-refill.ensures.end c.if-branch.false in
-    ran_whole c.args.turns brands R _ v0 v _ _ _ _ _ _ (follows_told c.args.turns none_put brands R _ (Left brands R v0 v) _ _ _ _ _ _ _ c.in_ok-write_some-2.ensures.same (c.loop-before.invariant.run brands R s (inl is.keeps))) is _ _ _ _ At_end (last_end _ _ _ _ _ c.in_ok-refill.ensures.bytes end.0 end.1)
+    ran_whole c.args.mode.now brands R _ v0 v _ _ _ _ _ _ (follows_told c.args.mode.now none_put brands R _ (Left brands R v0 v) _ _ _ _ _ _ _ c.in_ok-write_some-2.ensures.same (c.loop-before.invariant.run brands R s (inl is.keeps))) is _ _ _ _ At_end (last_end _ _ _ _ _ c.in_ok-refill.ensures.bytes end.0 end.1)
 
 pub returns-clause-written : goal.returns-clause-written
 returns-clause-written g c = written_on _ _ _ c.loop-before.invariant.written c.in_ok-write_some-2.ensures.written

@@ -8,7 +8,7 @@ use Rattle.zone_cases.specs.declared.events.Event.TheVariants.{Turn}
 use Rattle.zones_run.specs.Answering.{Fails, IsAnswered}
 use Rattle.zones_run.specs.Midway.{Left, puts_until}
 use Rattle.zones_run.specs.Scripting.{entry_in}
-use Rattle.zones_run.specs.declared.words.Turns.TheVariants.{PutIn}
+use Rattle.zones_run.specs.declared.words.Mode.TheVariants.{WithTurns}
 use Rattle.zones_run.proofs.Answered.{passes_on}
 use Rattle.zones_run.proofs.Keeping.{keeps_step}
 use Rattle.zones_run.proofs.Putting.{next_put, puts_turns}
@@ -39,7 +39,7 @@ returns-then-is_last-clause-went g c = λ brands R first held bytes input f.
     let more = 10000000 - (c.loop-given.given + 1) in
     follows_turn brands R (λ S. StandsFor S c.loop-given.machine) (λ S. StandsFor S c.answer.new.machine) (Left brands R (view first) v) (Left brands R (view first) w) v w _ _ c.args.number _ more c.args.opened c.in-Ok.answer true _ _ _ _ _
     (follows_some (10000000 - c.loop-given.given) (suc more) c.args.opened brands R _ _ _ _ _ _ _ _ _ (omega (arith, c.loop-given-test.true)) (c.loop-given.invariant.run brands R first held bytes input f))
-    (λ S stood. subst (λ (e : Event). IsAnswered S e c.in-Ok.answer (λ T. StandsFor T c.answer.new.machine) v w (after_known (g.K.Sink.holds c.loop-given.out) c.loop-given.waiting.items) (after_known (g.K.Sink.holds c.answer.new.out) c.answer.new.waiting.items)) c.loop-given.invariant.event (c.in-Ok.ensures.answered S stood)) c.refused_by-refused.ensures (sym c.if-is_last.true ∙ c.is_last.ensures)
+    (λ S stood. subst (λ (e : Event). IsAnswered WithTurns S e c.in-Ok.answer (λ T. StandsFor T c.answer.new.machine) v w (after_known (g.K.Sink.holds c.loop-given.out) c.loop-given.waiting.items) (after_known (g.K.Sink.holds c.answer.new.out) c.answer.new.waiting.items)) c.loop-given.invariant.event (c.in-Ok.ensures.answered S stood)) c.refused_by-refused.ensures (sym c.if-is_last.true ∙ c.is_last.ensures)
     (λ S e h reached goes k is. keeps_step brands R h S (entry_in S e) reached (view first) v w goes (k is))
 
 pub returns-then-is_last-clause-written : goal.returns-then-is_last-clause-written
@@ -63,7 +63,7 @@ returns-in-Err-clause-recorded g c = λ brands R first held bytes input f is.
     let view = g.D.Disk.view in
     let more = 10000000 - (c.loop-given.given + 1) in
     let now = follows_some (10000000 - c.loop-given.given) (suc more) c.args.opened brands R _ _ _ _ _ _ _ _ _ (omega (arith, c.loop-given-test.true)) (c.loop-given.invariant.run brands R first held bytes input f) in
-    ran_left PutIn brands R c.in-Err.fault _ _ _ _ _ _ (view first) (view c.answer.new.machine.bank.disk) c.in-Err.ensures.text
+    ran_left WithTurns brands R c.in-Err.fault _ _ _ _ _ _ (view first) (view c.answer.new.machine.bank.disk) c.in-Err.ensures.text
     (ran_turn (puts_until (suc more) c.args.opened c.args.number) brands R (λ S. StandsFor S c.loop-given.machine) (view first) (view c.loop-given.machine.bank.disk) (view c.answer.new.machine.bank.disk) _ c.args.number _ _ _ _ _ c.in-Err.fault (c.answer.new.machine.bank ≡ c.loop-given.machine.bank) (Turn c.args.opened.zone) _ now is
     (next_put more c.args.opened c.args.number now.run.state) (λ S stood. subst (λ (e : Event). Fails c.in-Err.fault (c.answer.new.machine.bank ≡ c.loop-given.machine.bank) S e (view c.loop-given.machine.bank.disk) (view c.answer.new.machine.bank.disk)) c.loop-given.invariant.event (c.in-Err.ensures.kept S stood)) (λ e P x. subst (λ (b : Account g.row.D.Denot). P (view b.disk)) (sym e) x))
 
@@ -79,7 +79,7 @@ loop-given-preserved g c =
     record {
       run = λ brands R first held bytes input f. follows_turn brands R (λ S. StandsFor S c.loop-given.machine) (λ S. StandsFor S c.answer.new.machine) (Left brands R (view first) v) (Left brands R (view first) w) v w _ _ c.args.number _ more c.args.opened c.in-Ok.answer false _ _ _ _ _
           (follows_some (10000000 - c.loop-given.given) (suc more) c.args.opened brands R _ _ _ _ _ _ _ _ _ (omega (arith, c.loop-given-test.true)) (c.loop-given.invariant.run brands R first held bytes input f))
-          (λ S stood. subst (λ (e : Event). IsAnswered S e c.in-Ok.answer (λ T. StandsFor T c.answer.new.machine) v w (after_known (g.K.Sink.holds c.loop-given.out) c.loop-given.waiting.items) (after_known (g.K.Sink.holds c.answer.new.out) c.answer.new.waiting.items)) c.loop-given.invariant.event (c.in-Ok.ensures.answered S stood)) c.refused_by-refused.ensures (sym c.if-is_last.false ∙ c.is_last.ensures)
+          (λ S stood. subst (λ (e : Event). IsAnswered WithTurns S e c.in-Ok.answer (λ T. StandsFor T c.answer.new.machine) v w (after_known (g.K.Sink.holds c.loop-given.out) c.loop-given.waiting.items) (after_known (g.K.Sink.holds c.answer.new.out) c.answer.new.waiting.items)) c.loop-given.invariant.event (c.in-Ok.ensures.answered S stood)) c.refused_by-refused.ensures (sym c.if-is_last.false ∙ c.is_last.ensures)
           (λ S e h reached goes k is. keeps_step brands R h S (entry_in S e) reached (view first) v w goes (k is));
       event = c.loop-given.invariant.event;
       asks = c.answer.ensures.asks;
