@@ -6,6 +6,7 @@ Claims stand in one list, in the order in which they were made; each question lo
 
 import re
 
+from pool_model import Denied
 from trace_lines import Refused
 
 MOST_DECLARED = 1024
@@ -61,8 +62,9 @@ class Items:
         """Gives a zone an item that is declared and that no other zone has."""
         holders = [holder for holder, *claim in self.claims if claim == [kind, item]]
         if item not in self.declared[kind] or holders:
-            raise Refused("82 Denied %s" % POOLS[kind])
+            raise Denied(POOLS[kind])
         self.claims.append((zone, kind, item))
+        return "yes"
 
     def held(self, zone, kind=None):
         """(kind, item) of each claim of a zone, in the order of claim; of one kind, or of all of them."""

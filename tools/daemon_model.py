@@ -107,7 +107,7 @@ class Daemon:
         """Does one step of a request, and answers it as it is printed."""
         kind, _, rest = step.partition(" ")
         if kind in ("link", "address", "dataset"):
-            system.items.claim(name, kind, rest)
+            system.claim(name, kind, rest)
         elif kind == "state":
             system.go_to(name, rest)
         elif kind not in ("copy", "erase"):
@@ -128,18 +128,17 @@ class Daemon:
         nobody has its console, and its output is gone."""
         record = system.store.records[name]
         if state != "moved":
-            system.store.change(name, dataclasses.replace(record, state=state))
+            system.change(name, dataclasses.replace(record, state=state))
             if record.state == "installed":
                 system.consoles.pop(name, None)
             return
         config = record.config.with_values(zonepath=self.request.detail)
         if len(config.text()) > MOST_TEXT:
             raise Refused("29 TooLarge %d" % len(config.text()))
-        system.store.change(name, dataclasses.replace(record, config=config), commit=True)
+        system.change(name, dataclasses.replace(record, config=config), commit=True)
 
     def step_source(self, name, system, source):
-        if system.state(source.encode()) != "installed":
-            raise Refused("82 Denied source")
+        system.grants.ask(system.let_clone, source.encode())
 
     def step_zid(self, name, system, _):
         return system.give_zid(name)

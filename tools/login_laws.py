@@ -74,10 +74,10 @@ def in_a_login(host, event):
     if what != "call" or words[0] == "fork":
         return None
     host = copy.deepcopy(host)
-    _, lines, _ = host.answer(("S", number, b"zlogin " + name))
+    lines = host.answer(("S", number, b"zlogin " + name)).lines
     if number in host.logins:
         pid = host.logins[number].pid
-        _, lines, _ = host.answer(("S", number, " ".join(words).encode()))
+        lines = host.answer(("S", number, " ".join(words).encode())).lines
         if words == ["ps"]:
             lines[lines.index("%d 0 login" % pid)] = "%d 0 ps" % pid
     if number in host.logins:

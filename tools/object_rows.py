@@ -279,8 +279,8 @@ def told(configs, before, lines, host=None):
         if callable(line):
             replies.append(line(host))
             continue
-        subject, said, _ = host.answer(host.read(line.encode()))
-        replies.append("%s %s" % (subject.decode(), " | ".join(said)))
+        answer = host.answer(host.read(line.encode()))
+        replies.append("%s %s" % (answer.subject.decode(), " | ".join(answer.lines)))
         hand_in(host, configs)
     return replies[len(before):]
 

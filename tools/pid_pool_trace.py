@@ -31,7 +31,7 @@ class Pool:
     def line(self, line):
         """Adds a line, and answers the head of its reply."""
         self.lines.append(line)
-        return self.host.answer(self.host.read(line.encode()))[1][0]
+        return self.host.answer(self.host.read(line.encode())).lines[0]
 
     def pid(self, zone):
         """Some process of a zone, its first ones more often than others."""

@@ -176,7 +176,7 @@ def walk_fault(rng, steps):
         line = line_of(rng, host)
         states = {name: host.state(name.encode()) for name in ZONES}
         configs = {name: host.config(name.encode()) for name in ZONES}
-        said = host.answer(host.read(line.encode()))[1][0]
+        said = host.answer(host.read(line.encode())).lines[0]
         wrong = watched[line[2:]].turned(said) if line.startswith("D ") else None
         for name in ZONES:
             was, now = states[name], host.state(name.encode())

@@ -8,7 +8,7 @@ bytes of all records stay, also of those that a later one replaces, so that the 
 import dataclasses
 
 from config_model import Config
-from trace_lines import Refused
+from pool_model import Denied
 
 MOST_ZONES = 256
 MOST_BYTES = 33554432
@@ -44,26 +44,28 @@ class Store:
         self.records, self.serial, self.used = {}, 0, 1
 
     def change(self, name, record, commit=False):
-        """Stores a record, or tells which pool denies it; None removes the zone. A commit and a move count as a change
-        of the configuration, and may give the zone another path."""
+        """Stores a record and answers its number, or tells which pool denies it; None removes the zone. A commit and a
+        move count as a change of the configuration, and may give the zone another path."""
         old = self.records.get(name)
         if record is None:
-            self.take(removal_size(name))
+            number = self.take(removal_size(name))
             del self.records[name]
-            return
+            return number
         if old is None and len(self.records) == MOST_ZONES:
-            raise Refused("82 Denied zones")
+            raise Denied("zones")
         others = [it.config.path for other, it in self.records.items() if other != name]
         if (old is None or old.config.path != record.config.path) and record.config.path in others:
-            raise Refused("82 Denied paths")
-        self.take(record.size(name))
-        made = self.serial if old is None else old.made
-        revision = self.serial if commit else record.revision
+            raise Denied("paths")
+        number = self.take(record.size(name))
+        made = number if old is None else old.made
+        revision = number if commit else record.revision
         self.records[name] = dataclasses.replace(record, made=made, revision=revision)
+        return number
 
     def take(self, size):
-        """Takes the room of one more record, and its number."""
+        """Takes the room of one more record, and answers its number, which counts all records from the first one on."""
         if self.used + AROUND + size > MOST_BYTES:
-            raise Refused("82 Denied store")
+            raise Denied("store")
         self.used += AROUND + size
         self.serial += 1
+        return self.serial

@@ -14,6 +14,7 @@ from config_model import DEFAULT
 from console_model import Console
 from mount_model import Mounts
 from plan_model import BRANDS
+from pool_model import Denied, Grants
 from store_model import Store
 from trace_lines import Refused
 
@@ -24,7 +25,7 @@ ZIDS = range(1, 10000)
 def next_number(numbers, last, used, pool):
     """The lowest free number above the last one given, or else the lowest free one."""
     if len(used) == len(numbers):
-        raise Refused("82 Denied %s" % pool)
+        raise Denied(pool)
     above = range(max(last + 1, numbers.start), numbers.stop)
     return next(number for number in itertools.chain(above, numbers) if number not in used)
 
@@ -55,11 +56,12 @@ class Process:
 
 
 class System:
-    """The zones of one system and what they have, and the last numbers given."""
+    """The zones of one system and what they have, the last numbers given, and what pools gave to the event under
+    way."""
 
     def __init__(self, brands=None, store=None):
         self.brands = BRANDS if brands is None else brands
-        self.store, self.items = store or Store(), Items()
+        self.store, self.items, self.grants = store or Store(), Items(), Grants()
         self.restart()
 
     def restart(self):
@@ -90,13 +92,27 @@ class System:
             del self.active[name]
 
     def give_zid(self, name):
-        self.zids[name] = self.last_zid = next_number(ZIDS, self.last_zid, self.zids.values(), "zids")
+        self.last_zid = self.grants.ask(next_number, ZIDS, self.last_zid, self.zids.values(), "zids")
+        self.zids[name] = self.last_zid
         return self.last_zid
 
     def give_devices(self, name, patterns):
         """Gives a zone the declared devices of some patterns, and answers how many these are."""
         self.devices[name] = self.items.devices(patterns)
         return len(self.devices[name])
+
+    def change(self, name, record, commit=False):
+        """Stores a record of a zone, or where it is None removes the zone."""
+        self.grants.ask(self.store.change, name, record, commit)
+
+    def claim(self, name, kind, item):
+        self.grants.ask(self.items.claim, name, kind, item)
+
+    def let_clone(self, source):
+        """Gives a zone to be cloned, which has to be installed."""
+        if self.state(source) != "installed":
+            raise Denied("source")
+        return "yes"
 
     # Processes.
 
@@ -109,7 +125,7 @@ class System:
         most = self.limits[process.zone].most
         if most is not None and len(self.pids(process.zone)) == most:
             raise Refused("EAGAIN")
-        self.last_pid = next_number(PIDS, self.last_pid, self.processes, "pids")
+        self.last_pid = self.grants.ask(next_number, PIDS, self.last_pid, self.processes, "pids")
         self.processes[self.last_pid] = process
         return self.last_pid
 

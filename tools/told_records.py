@@ -18,11 +18,12 @@ class LoggedStore(Store):
             self.change(*change)
 
     def change(self, name, record, commit=False):
-        super().change(name, record, commit)
+        number = super().change(name, record, commit)
         self.changes.append((name, record, commit))
         now, zone = self.records.get(name), name.decode()
         self.bodies.append(
             removal(zone) if now is None else body(zone, now.state, now.made, now.revision, now.config.text()))
+        return number
 
 
 class Told:
@@ -36,8 +37,7 @@ class Told:
         for line in export_model.lines_of(data):
             event, count = host.read(line), len(self.store.bodies)
             if event is not None:
-                subject, lines, _ = host.answer(event)
-                self.text += subject + b" " + "\n| ".join(lines).encode() + b"\n"
+                self.text += host.answer(event).reply()
             self.ends += [len(self.text)] * (len(self.store.bodies) - count)
 
     def answered(self, text):

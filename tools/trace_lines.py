@@ -1,8 +1,9 @@
 """The lines of a trace, as the model in trace_model.py reads them: events and calls of processes. What an idle session
 types is read by typed_lines.py.
 
-event_of(line, started, known) reads one line. `known` are the kinds of lines that are read beside those that always
-are; a line of a kind that isn't among them is none of the grammar, or is no line that a session may type.
+event_of(line, started, known) reads one line, and spelled(event) writes it. `known` are the kinds of lines that are
+read beside those that always are; a line of a kind that isn't among them is none of the grammar, or is no line that a
+session may type.
 """
 
 import re
@@ -209,3 +210,15 @@ def event_of(line, started=False, known=OLD_LINES):
         return ("D", name)
     pid = words.next(is_number)
     return ("P", name, int(pid), call_of(words, known))
+
+
+def spelled(event):
+    """The line of an event, as it is written where nothing is left out. An empty text has no space before it."""
+    tag, *rest = event
+    if tag == "S":
+        number, text = rest
+        return b"S %d %s" % (number, text) if text else b"S %d" % number
+    if tag == "P":
+        name, pid, words = rest
+        return b"P %s %d %s" % (name, pid, " ".join(words).encode())
+    return b" ".join([tag.encode()] + [it if isinstance(it, bytes) else it.encode() for it in rest])

@@ -1,9 +1,11 @@
-"""A plain, slow model of `zones trace` and `zones script`, written from their rules, and not from the program.
+"""A plain, slow model of `zones trace`, `zones script` and `zones purge`, written from their rules, and not from the
+program.
 
 run(data) gives (status, standard output, standard error) for a whole input. It shares no code with the
 program and is meant for comparing the two; tools/fuzz_trace.py does that, and tools/trace_rows.py,
-tools/object_rows.py and tools/request_rows.py compare the model with replies that are known. Lines are read by
-trace_lines.py and typed_lines.py; what zones have is kept by system_model.py, and their daemons are daemon_model.py's.
+tools/object_rows.py, tools/request_rows.py and tools/purge_rows.py compare the model with replies and grants that are
+known. Lines are read by trace_lines.py and typed_lines.py; what zones have is kept by system_model.py, their daemons
+are daemon_model.py's, and what shared pools give to an event is noted by pool_model.py.
 
 `known` are the kinds of lines that are read beside those that always are (trace_lines.KINDS_OF_LINES). Without
 `zonecfg` and `edit` no line sets anything of a zone's configuration but its zonepath and its brand: so each zone that a
@@ -23,13 +25,34 @@ from edit_model import Edit
 from mount_model import Mount
 from store_model import Record
 from system_model import Process, System
-from trace_lines import OLD_LINES, PRIVILEGES, Outside, Refused, event_of, name_fault
+from trace_lines import OLD_LINES, PRIVILEGES, Outside, Refused, event_of, name_fault, spelled
 from typed_lines import typed
 
 MOST_LINES = 200000
 MOST_BYTES = 4096
 
 NEEDED = {"fork": "proc_fork", "exec": "proc_exec", "mount": "sys_mount", "umount": "sys_mount"}
+
+
+@dataclasses.dataclass
+class Answer:
+    """An event, its subject, the lines of its reply (the first is the head), and its grant."""
+
+    event: tuple
+    subject: bytes
+    lines: list
+    grant: str
+
+    def is_refused(self):
+        head = self.lines[0]
+        return head.startswith(("err ", "failed ", "stuck ")) or " err " in head
+
+    def reply(self):
+        return self.subject + b" " + "\n| ".join(self.lines).encode() + b"\n"
+
+    def granted(self):
+        """The event with its grant, as a line states it."""
+        return b"@" + self.grant.encode() + b" " + spelled(self.event) + b"\n"
 
 
 class Host(System):
@@ -46,16 +69,16 @@ class Host(System):
         return event_of(line, self.started, self.known)
 
     def answer(self, event):
-        """The subject of an event, the lines of its reply (the first is the head), and whether it is refused."""
+        """What an event is answered."""
         self.started = self.started or event[0] != "Y"
         subject = self.subject(event)
+        self.grants.begin()
         try:
             lines = self.obey(event)
         except Refused as refused:
             lines = ["err %s" % refused, *refused.shown]
         self.logins = {number: it for number, it in self.logins.items() if it.pid in self.processes}
-        head = lines[0]
-        return subject, lines, head.startswith(("err ", "failed ", "stuck ")) or " err " in head
+        return Answer(event, subject, lines, self.grants.grant())
 
     def subject(self, event):
         """The zone that an event belongs to, `global`, or `*` for all of the system. A session that isn't idle gives
@@ -194,12 +217,12 @@ class Host(System):
         if seen not in (None, now):
             raise Refused("94 Changed %d %d" % (seen, now))
         if old is None:
-            self.store.change(name, Record("configured", config), commit=True)
+            self.change(name, Record("configured", config), commit=True)
         elif old.config != config:
             state, was = self.state(name), old.config
             if state != "configured" and (was.path, was.brand) != (config.path, config.brand):
                 raise Refused("81 WrongState %s" % state)
-            self.store.change(name, dataclasses.replace(old, config=config), commit=True)
+            self.change(name, dataclasses.replace(old, config=config), commit=True)
         return "ok"
 
     def commit_edited(self, name, values, seen):
@@ -217,7 +240,7 @@ class Host(System):
             raise Refused("81 WrongState %s" % self.state(name))
         if name in self.desks and self.desks[name].is_busy():
             raise Refused("97 DeskInUse")
-        self.store.change(name, None)
+        self.change(name, None)
 
     def request(self, number, name, kind, detail):
         """Gives a request to the zone's daemon, and the session its ticket."""
@@ -300,16 +323,24 @@ class Host(System):
 def answers(host, event, command):
     """What an event is answered. In a script a daemon that is asked takes turns, until it has answered or is stuck."""
     said = [host.answer(event)]
-    if command == "script" and said[0][1][0].startswith("ticket "):
+    if command == "script" and said[0].lines[0].startswith("ticket "):
         _, number, _ = event
-        while number in host.tickets and not said[-1][1][0].startswith("stuck "):
-            said.append(host.answer(("D", said[0][0])))
+        while number in host.tickets and not said[-1].lines[0].startswith("stuck "):
+            said.append(host.answer(("D", said[0].subject)))
     return said
 
 
+def written(answer, command):
+    """What a command writes of an event: its reply, or where the entries of one zone are purged, its line with its
+    grant where the event is of that zone or of all of the system."""
+    if not command.startswith("purge "):
+        return answer.reply()
+    return answer.granted() if answer.subject in (b"*", command.split(" ")[1].encode()) else b""
+
+
 def run(data, store=None, known=OLD_LINES, command="trace"):
-    """The status and both texts of `zones trace` or `zones script` over an input, on a store that it changes or,
-    without one, on an empty one."""
+    """The status and both texts of a command over an input, on a store that it changes or, without one, on an empty
+    one. The command is `trace`, `script` or `purge ZONE`."""
     host = Host(store=store, known=known)
     out, first = [], None
     for number, line in enumerate(export_model.lines_of(data), 1):
@@ -319,9 +350,9 @@ def run(data, store=None, known=OLD_LINES, command="trace"):
             event = host.read(line)
         except Outside as fault:
             return 3, b"".join(out), ("line %d: %s\n" % (number, fault)).encode()
-        for subject, lines, refused in answers(host, event, command) if event is not None else []:
-            out.append(subject + b" " + "\n| ".join(lines).encode() + b"\n")
-            if refused and first is None:
+        for answer in answers(host, event, command) if event is not None else []:
+            out.append(written(answer, command))
+            if answer.is_refused() and first is None:
                 first = number
     if first is not None:
         return 1, b"".join(out), b"first refused line: %d\n" % first

@@ -13,6 +13,7 @@ import login_laws
 import trace_lines
 import trace_model as model
 from config_model import Config
+from grant_laws import given_so_far, wrong_with_grant
 from login_maker import LoginMaker
 from request_laws import TABLE, Watched, brands_of, wrong_with
 from store_model import AROUND, MOST_BYTES, removal_size
@@ -74,11 +75,14 @@ class LawfulMaker(LoginMaker):
         store = (host.store.serial, host.store.used, dict(host.store.records))
         processes, last = set(host.processes), host.last_pid
         in_a_login = login_laws.in_a_login(host, event)
-        subject, lines, refused = host.answer(event)
+        given = given_so_far(host)
+        answer = host.answer(event)
+        subject, lines = answer.subject, answer.lines
         self.wrong = (
             self.of_others(subject, worlds) or self.of_states(event, lines[0], states, subject)
             or self.of_records(event, lines[0], store, subject) or self.of_refusals(lines[0], worlds, subject)
-            or self.of_turns(event, lines[0]) or self.of_restarts(event, store) or wrong_with(host)
+            or self.of_turns(event, lines[0]) or self.of_restarts(event, store)
+            or wrong_with_grant(given, host, answer) or wrong_with(host)
             or login_laws.wrong_with(host)
             or login_laws.wrong_with_processes(processes, last, host, event, lines[0])
             or login_laws.wrong_with_call(in_a_login, host, lines))
