@@ -1,17 +1,18 @@
 #!/usr/bin/env python3
-"""Compares `zones trace` or `zones script` with the plain model in trace_model.py over random inputs.
+"""Compares `zones trace`, `zones script` or `zones purge` with the plain model in trace_model.py over random inputs.
 
-    tools/fuzz_trace.py [--requests] [--twice] [--index] [--command script] [--lines KINDS] [--count N] [--seed S]
-        [--program FILE]
+    tools/fuzz_trace.py [--requests] [--twice] [--index] [--command script|purge] [--lines KINDS] [--count N]
+        [--seed S] [--program FILE]
     tools/fuzz_trace.py --self-test
-    tools/fuzz_trace.py --model-only [--requests] [--twice] [--command script] [--lines KINDS] [--count N] [--seed S]
+    tools/fuzz_trace.py --model-only [--requests] [--twice] [--command script|purge] [--lines KINDS] [--count N]
+        [--seed S]
 
 Traces are made along the grammar (trace_maker.py, process_maker.py, object_maker.py, request_maker.py), with the model
 at hand so that most events do something, and then some are cut, joined or have bytes changed. With `--requests` they
 are all of requests of zoneadm(8). The first input that differs is made as short as dropping lines and bytes makes it,
 and kept in fuzz-trace.input. Each trace has a store of its own; with `--twice` it is run on it a second time, and
-compared then. With `--index` what `zones index` tells of the store after that is compared too. It is no part of the
-gate.
+compared then. With `--index` what `zones index` tells of the store after that is compared too. With `--command purge`
+the entries of one zone are purged, mostly of one that the trace names. It is no part of the gate.
 
 `--lines` names kinds of lines that the program answers beside the older ones, with commas between them: zonecfg (a line
 of subcommands that makes, edits or deletes a zone), edit (sessions that edit), list, verify, help, restart, zlogin
@@ -19,14 +20,15 @@ of subcommands that makes, edits or deletes a zone), edit (sessions that edit), 
 then have such lines (zonecfg_maker.py, login_maker.py), and without it none has.
 
 `--self-test` compares the model with replies that are known, and looks at what holds of it in random systems
-(data_rows.py, trace_rows.py, object_rows.py, request_rows.py, zonecfg_rows.py, call_rows.py, index_rows.py,
-request_laws.py, zonecfg_laws.py); it needs no program. Nor does `--model-only`, which shows what the traces would be
-answered, and ends at a reply that has no form (reply_forms.py).
+(data_rows.py, trace_rows.py, object_rows.py, request_rows.py, zonecfg_rows.py, call_rows.py, purge_rows.py,
+index_rows.py, request_laws.py, zonecfg_laws.py); it needs no program. Nor does `--model-only`, which shows what the
+traces would be answered, and ends at a line that has no form (reply_forms.py).
 """
 
 import collections
 import pathlib
 import random
+import re
 import subprocess
 import sys
 import time
@@ -36,6 +38,7 @@ import data_rows
 import index_model
 import index_rows
 import object_rows
+import purge_rows
 import request_laws
 import request_rows
 import trace_model as model
@@ -45,38 +48,48 @@ import zonecfg_rows
 from arguments import arguments
 from login_maker import LoginMaker
 from own_folder import own_folder
-from reply_forms import kind_of, kind_of_line, misformed
+from reply_forms import kind_of, kind_of_line, misformed, misgranted
 from request_maker import RequestMaker
 from store_model import Store
-from trace_lines import ALL_LINES, KINDS_OF_LINES
+from trace_lines import ALL_LINES, KINDS_OF_LINES, is_zone_name
 from zonecfg_maker import ZonecfgMaker
 
 
 SECONDS = 600
+COMMANDS = ("trace", "script", "purge")
+NAMED = re.compile(rb"(?:-z|zlogin|^D|^P) +([^ \n]+)", re.M)
 
 
-def ran(program, word, data, folder):
-    """The status and both texts of the program with one word, over an input."""
-    done = subprocess.run([pathlib.Path(program).resolve(), word], input=data, capture_output=True, timeout=SECONDS,
-                          cwd=folder)
+def ran(program, command, data, folder):
+    """The status and both texts of the program with the words of a command, over an input."""
+    done = subprocess.run([pathlib.Path(program).resolve(), *command.split(" ")], input=data, capture_output=True,
+                          timeout=SECONDS, cwd=folder)
     return done.returncode, done.stdout, done.stderr
 
 
-def answer_of(program, data, args):
+def answer_of(data, command, args):
     """The status and both texts of the program over an input, the last of its runs over one store, which is empty
     before; and perhaps those of `index` after it."""
     with own_folder() as folder:
-        words = [(args.command, data)] * (2 if args.twice else 1) + [("index", b"")] * args.index
-        said = [ran(program, word, text, folder) for word, text in words]
+        runs = [(command, data)] * (2 if args.twice else 1) + [("index", b"")] * args.index
+        said = [ran(args.program, words, text, folder) for words, text in runs]
     return sum(said[-2:] if args.index else said[-1:], ())
 
 
-def told_of(data, args, known):
+def told_of(data, command, args, known):
     """What the model says that is, where such kinds of lines are known."""
     store = Store()
     for _ in range(2 if args.twice else 1):
-        said = model.run(data, store, known, args.command)
+        said = model.run(data, store, known, command)
     return said + ((0, index_model.text_of(store), b"") if args.index else ())
+
+
+def words_of(rng, command, data):
+    """The words of a command over an input: where a zone's entries are purged, mostly one that the input names."""
+    if command != "purge":
+        return command
+    names = sorted(set(filter(is_zone_name, NAMED.findall(data))))
+    return "purge " + (rng.choice(names).decode() if names and rng.random() < 0.95 else "nosuch")
 
 
 def shortened(pieces, differs):
@@ -102,8 +115,8 @@ def shortest(data, differs):
 
 
 def self_test():
-    parts = [data_rows, trace_rows, object_rows, request_rows, zonecfg_rows, call_rows, index_rows, request_laws,
-             zonecfg_laws]
+    parts = [data_rows, trace_rows, object_rows, request_rows, zonecfg_rows, call_rows, purge_rows, index_rows,
+             request_laws, zonecfg_laws]
     fault = next((it for it in (part.fault() for part in parts) if it is not None), None)
     print("the model answers as it is known to" if fault is None else "the model differs: %s" % fault)
     return 0 if fault is None else 1
@@ -129,26 +142,28 @@ class Counts:
                 print("%10d %s" % (count, kind))
 
 
-def difference(number, data, wanted, got):
+def difference(number, data, command, wanted, got):
     """Keeps the input that differs, as short as it gets, and tells of it."""
-    data = shortest(data, lambda less: got(less) != wanted(less))
+    data = shortest(data, lambda less: got(less, command) != wanted(less, command))
     pathlib.Path("fuzz-trace.input").write_bytes(data)
-    return "input %d differs, in short (kept in fuzz-trace.input): %r\nmodel:   %r\nprogram: %r" % (
-        number, data, wanted(data), got(data))
+    return "input %d of `%s` differs, in short (kept in fuzz-trace.input): %r\nmodel:   %r\nprogram: %r" % (
+        number, command, data, wanted(data, command), got(data, command))
 
 
 def compared(maker, args, wanted, got):
     """What is wrong with the first trace of a run that isn't as it should be, or None, and what was counted."""
-    traces, counts = [], Counts()
+    traces, counts, zones = [], Counts(), random.Random("zones %d" % args.seed)
+    fault_in = misgranted if args.command == "purge" else misformed
     for number in range(args.count):
         data = maker.next(traces)
         if 0 < len(data) < 20000:
             traces = (traces + [data])[-200:]
-        want = wanted(data)
-        if misformed(want[1]) is not None:
-            return "input %d is answered by a line without a form: %r" % (number, misformed(want[1])), counts
-        if got is not None and got(data) != want:
-            return difference(number, data, wanted, got), counts
+        command = words_of(zones, args.command, data)
+        want = wanted(data, command)
+        if fault_in(want[1]) is not None:
+            return "input %d is answered by a line without a form: %r" % (number, fault_in(want[1])), counts
+        if got is not None and got(data, command) != want:
+            return difference(number, data, command, wanted, got), counts
         counts.add(*want[:3])
     return None, counts
 
@@ -174,13 +189,13 @@ def maker_of(rng, known, command="trace", share=0.3):
 def main():
     args = arguments(__doc__, "self-test", "model-only", "requests", "twice", "index", options=["lines", "command"])
     args.command, known = args.command or "trace", kinds_in(args.lines)
-    if args.command not in ("trace", "script"):
-        raise SystemExit("the command is trace or script")
+    if args.command not in COMMANDS:
+        raise SystemExit("the command is one of %s" % ", ".join(COMMANDS))
     if args.self_test:
         return self_test()
     maker = maker_of(random.Random(args.seed), known, args.command, 1 if args.requests else 0.3)
-    got = None if args.model_only else (lambda data: answer_of(args.program, data, args))
-    fault, counts = compared(maker, args, lambda data: told_of(data, args, known), got)
+    got = None if args.model_only else (lambda data, command: answer_of(data, command, args))
+    fault, counts = compared(maker, args, lambda data, command: told_of(data, command, args, known), got)
     if fault is not None:
         print(fault)
         return 1

@@ -1,10 +1,13 @@
-"""The forms that replies of `zones trace` have, and the kinds that tools/fuzz_trace.py counts them by.
+"""The forms that replies of `zones trace` and lines of `zones purge` have, and the kinds that tools/fuzz_trace.py
+counts them by.
 
-misformed(text) gives the first line of an output that has no form, or None; kind_of_line(line) names a line's form
-without what differs from trace to trace.
+misformed(text) gives the first line of replies that has no form, or None, and misgranted(text) the same of events with
+their grants; kind_of_line(line) names a line's form without what differs from trace to trace.
 """
 
 import re
+
+from trace_lines import ALL_LINES, Outside, event_of, spelled
 
 NUMBER = r"(0|[1-9][0-9]*)"
 ZONE = r"[A-Za-z0-9][A-Za-z0-9_.-]{0,62}"
@@ -73,6 +76,13 @@ def whole(form):
     return re.compile("(?:%s)\\Z" % form)
 
 
+# The grants that an event of each kind may have.
+GRANTS = {
+    "S": "-|N|no (pids|zones|paths|store)", "P": "-|N|no pids", "Y": "-", "R": "-",
+    "D": "-|N|yes|no (pids|zids|paths|store|links|addresses|datasets|source)",
+}
+GRANTED_LINE = whole("|".join("@(%s) (?P<%s>%s( [ -~]+)?)" % (grants, tag, tag) for tag, grants in GRANTS.items()))
+
 HEAD_LINE = whole(r"(?P<subject>\*|%s) (?P<head>%s)" % (ZONE, HEAD))
 BODY_LINES = [(kind, whole(form)) for kind, form in BODIES]
 
@@ -100,6 +110,29 @@ def misformed(text):
     return None
 
 
+def misgranted(text):
+    """The first line of events with their grants that has no form, that isn't ended, or whose event is written
+    otherwise."""
+    lines = text.decode("latin-1").split("\n")
+    if lines.pop():
+        return "a last line without its newline"
+    started = False
+    for line in lines:
+        found = GRANTED_LINE.match(line)
+        if found is None or not is_spelled(found.group(found.lastgroup).encode(), started):
+            return line
+        started = started or found.lastgroup != "Y"
+    return None
+
+
+def is_spelled(line, started):
+    """Whether a line is as its event is written."""
+    try:
+        return spelled(event_of(line, started, ALL_LINES)) == line
+    except Outside:
+        return False
+
+
 def kind_of(said):
     """What is said, without the numbers, directories, names and items that differ from trace to trace; codes and
     statuses stay."""
@@ -110,7 +143,13 @@ def kind_of(said):
 
 
 def kind_of_line(line):
-    """The same of a line of the replies, without its subject and what a body shows."""
+    """The same of a line of the replies, without its subject and what a body shows, or of an event with its grant,
+    without what stands behind its tag."""
+    granted = GRANTED_LINE.match(line)
+    if granted is not None:
+        tag = granted.lastgroup
+        grant = line[1:granted.start(tag) - 1]
+        return "@%s %s" % ("N" if grant.isdigit() else grant, tag)
     subject, said = line.split(" ", 1)
     if subject == "|":
         kind = body_kind(said)

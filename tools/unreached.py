@@ -19,7 +19,7 @@ from fuzz_trace import kinds_in, maker_of
 MOST_BYTES = 50000
 MODEL = [
     "trace_model.py", "trace_lines.py", "typed_lines.py", "login_model.py", "console_model.py", "system_model.py", "daemon_model.py", "plan_model.py", "config_model.py",
-    "store_model.py", "claim_model.py", "mount_model.py", "edit_model.py", "list_model.py", "export_model.py",
+    "store_model.py", "pool_model.py", "claim_model.py", "mount_model.py", "edit_model.py", "list_model.py", "export_model.py",
 ]
 
 
