@@ -7,10 +7,9 @@ use Rattle.brand_hooks.specs.declared.change.ChangeKind.TheVariants as change
 use Rattle.datalink_table.specs.declared.claims.Claim.{Claim}
 use Rattle.datalink_table.specs.declared.claims.ClaimKind.{ClaimKind}
 use Rattle.datalink_table.specs.declared.claims.ClaimKind.TheVariants.{Link, Address, Dataset}
+use Rattle.grant_text.specs.Text.{pool_word}
 use Rattle.trace_text.specs.Flaws.{flaw_text, limit_fault_text}
 use Rattle.zn_base.specs.States.{state_text}
-use Rattle.zone_pools.specs.declared.grant.Pool.{Pool}
-use Rattle.zone_pools.specs.declared.grant.Pool.TheVariants.{Pids, Zids, Zones, Paths, Store, Links, Addresses, Datasets, Source as Sources}
 use Rattle.zoneadmd_steps.specs.declared.requests.Outcome.{Outcome}
 use Rattle.zoneadmd_steps.specs.declared.requests.Outcome.TheVariants.{Done, WrongState, Denied, HookRefused, Privilege, NotVerified, TooLarge}
 use Rattle.zoneadmd_steps.specs.declared.requests.RequestKind.{RequestKind}
@@ -19,17 +18,6 @@ use Rattle.zoneadmd_steps.specs.declared.requests.Step.{Step}
 use Rattle.zoneadmd_steps.specs.declared.requests.Step.TheVariants.{Hook, Record, Moved, Copy, Erase, Source, Zid, Limits, Devices, Root, Mounted, Claimed, State, Init, Kill, Unmount, Release, Clear, ZidBack}
 use Rattle.zoneadmd_steps.specs.declared.requests.TurnReply.{TurnReply}
 use Rattle.zoneadmd_steps.specs.declared.requests.TurnReply.TheVariants.{Idle, Began, Stepped, Failed, Undone, Finished, Stuck}
-
-abbrev pub pool_text : Pool → List ℕ
-pool_text Pids = codes "pids"
-pool_text Zids = codes "zids"
-pool_text Zones = codes "zones"
-pool_text Paths = codes "paths"
-pool_text Store = codes "store"
-pool_text Links = codes "links"
-pool_text Addresses = codes "addresses"
-pool_text Datasets = codes "datasets"
-pool_text Sources = codes "source"
 
 abbrev pub kind_text : RequestKind → List ℕ
 kind_text kind.Install = codes "install"
@@ -107,7 +95,7 @@ step_text (ZidBack n) = counted_text (codes "zidback") n
 unfoldable pub outcome_text : Outcome → List ℕ
 outcome_text Done = codes "ok"
 outcome_text (WrongState state) = codes "81 WrongState " ++ state_text state
-outcome_text (Denied pool) = codes "82 Denied " ++ pool_text pool
+outcome_text (Denied pool) = codes "82 Denied " ++ pool_word pool
 outcome_text (HookRefused code) = codes "83 HookRefused " ++ decimal code
 outcome_text (Privilege fault) = codes "84 Privilege " ++ limit_fault_text fault
 outcome_text (NotVerified flaw) = codes "85 NotVerified " ++ flaw_text flaw

@@ -1,32 +1,16 @@
 //! What a daemon's turn reports, printed.
 ghost use Rattle.std.specs.Prelude.{◌≡◌, ◌++◌, OnOk};
 ghost use Rattle.trace_text.specs.Phrases.{phrase_text};
-ghost use Rattle.trace_text.specs.Turns.{began_text, change_text, ending_text, failed_text, finished_text, hook_text, kind_text, moment_text, outcome_text, pool_text, release_text, step_text, turn_text, unmount_text};
+ghost use Rattle.trace_text.specs.Turns.{began_text, change_text, ending_text, failed_text, finished_text, hook_text, kind_text, moment_text, outcome_text, release_text, step_text, turn_text, unmount_text};
 
 use crate::flaws::{push_flaw, push_limit_fault};
 use crate::phrases::{Phrase, push_phrase};
 use brand_hooks::{Change, ChangeKind};
 use datalink_table::Claim;
+use grant_text::pool_word;
 use std::alloc::AllocError;
 use zn_base::{AbsPath, push_both, push_numbered};
-use zone_pools::Pool;
 use zoneadmd_steps::{Outcome, RequestKind, Step, TurnReply};
-
-pub(crate) fn pool_text(pool: Pool) -> &'static [u8]
-    ensures { result.now ≡ pool_text pool }
-{
-    match pool {
-        Pool::Pids => b"pids",
-        Pool::Zids => b"zids",
-        Pool::Zones => b"zones",
-        Pool::Paths => b"paths",
-        Pool::Store => b"store",
-        Pool::Links => b"links",
-        Pool::Addresses => b"addresses",
-        Pool::Datasets => b"datasets",
-        Pool::Source => b"source",
-    }
-}
 
 fn kind_text(kind: RequestKind) -> &'static [u8]
     ensures { result.now ≡ kind_text kind }
@@ -136,7 +120,7 @@ fn push_outcome(out: &mut Vec<u8>, outcome: &Outcome) -> Result<(), AllocError>
     match outcome {
         Outcome::Done => out.extend_from_slice(b"ok"),
         Outcome::WrongState(state) => push_both(out, b"81 WrongState ", state.text()),
-        Outcome::Denied(pool) => push_both(out, b"82 Denied ", pool_text(*pool)),
+        Outcome::Denied(pool) => push_both(out, b"82 Denied ", pool_word(*pool)),
         Outcome::HookRefused(code) => push_numbered(out, b"83 HookRefused ", *code as u64),
         Outcome::Privilege(fault) => {
             out.extend_from_slice(b"84 Privilege ")?;
