@@ -27,6 +27,7 @@ const FILES: &[(&str, &str)] = &[
     ("scripts", "rows/scripts.rows"),
     ("indexes", "rows/indexes.rows"),
     ("calls_alone", "rows/calls_alone.rows"),
+    ("purges", "rows/purges.rows"),
 ];
 
 // The first line in which two texts differ, as each of them has it; a text that ends before has nothing.

@@ -33,7 +33,7 @@ fn disk_of(alloc: Global, bytes: Vec<u8>) -> Result<MemDisk, AllocError> {
     MemDisk::new(alloc, bytes, DISK, Vec::new(alloc), None)
 }
 
-/// Runs a command over an input and a disk of some bytes.
+/// Runs a command, of one word or more, over an input and a disk of some bytes.
 pub fn run_on(
     alloc: Global,
     command: &str,
@@ -41,7 +41,9 @@ pub fn run_on(
     bytes: Vec<u8>,
 ) -> Result<Ended, AllocError> {
     let mut words = Vec::new(alloc);
-    words.push(String::from_str(alloc, command)?)?;
+    for word in command.split_whitespace() {
+        words.push(String::from_str(alloc, word)?)?;
+    }
     let mut source = MemSource::new(input, PIECE, Vec::new(alloc));
     let mut out = MemSink::new(alloc, ROOM, Vec::new(alloc))?;
     let mut err = MemSink::new(alloc, ROOM, Vec::new(alloc))?;
