@@ -9,10 +9,9 @@ use Rattle.commit_journal.specs.Journal.{Leave}
 use Rattle.commit_journal.specs.Zones.{rows_of}
 use Rattle.commit_journal.specs.declared.records.Commit.{Commit}
 use Rattle.trace_text.specs.Lines.{Said, event_of}
-use Rattle.trace_text.specs.Replies.{reply_text}
 use Rattle.zone_disk.specs.Bank.{Account}
 use Rattle.zone_disk.specs.Image.{Stands as Image_stands}
-use Rattle.zone_machine.specs.Code.Decided.{entry_by, subject_by}
+use Rattle.zone_machine.specs.Code.Decided.{entry_by}
 use Rattle.zone_machine.specs.Code.Records.{BankLeft, GoesUnder, IsReady, Passes}
 use Rattle.zone_machine.specs.Code.Restarts.{BankLeftAny, FindsAgain, LeavesAny, RestartLeft}
 use Rattle.zone_machine.specs.Code.Steps.{Answers, AsItWas, Leaves}

@@ -1,22 +1,15 @@
 //! Events are answered by the machine, and their replies wait to be written together.
-ghost use Rattle.std.specs.Prelude.{◌≡◌, ◌≢◌, ◌<◌, ◌≤◌, ◌⊎◌, ◌++◌, ℕ, List, [], Err, IfErr, length, IfOk, IfSome, IsErrOf, Ok, OnErr, OnOk, Some, false, true};
+ghost use Rattle.std.specs.Prelude.{◌≡◌, ◌≢◌, ◌<◌, ◌≤◌, ◌⊎◌, ◌++◌, [], Err, IfErr, IfOk, IsErrOf, Ok, OnErr, OnOk, false, true};
 ghost use Rattle.zn_io.specs.Streams.{Rose, after_known};
-ghost use Rattle.brand_hooks.specs.Brands.{Tabled};
-ghost use Rattle.commit_journal.specs.declared.records.Commit.{Commit};
 ghost use Rattle.zone_cases.specs.Events.{is_restart};
-ghost use Rattle.zone_machine.specs.Machine.{opening};
-ghost use Rattle.zone_machine.specs.Machine.Images.{IsStoreOf};
 ghost use Rattle.zone_cases.specs.State.{State};
 ghost use Rattle.zone_machine.specs.Code.Decided.{AsksBrands, MayGoOn, entry_by, own_subject, subject_by};
 ghost use Rattle.zone_machine.specs.Code.Openings.{StandsFor};
 ghost use Rattle.zone_machine.specs.Code.Records.{Passes};
-ghost use Rattle.trace_text.specs.Lines.{event_of};
 ghost use Rattle.zone_machine.specs.Machine.Histories.{concerns};
-ghost use Rattle.zones_run.specs.Answering.{Fails, FindsAlways, IsAnswered, LeavesText, MayStop, RestartsWell, Steps, Stops, StopsText, TakesEvent, ended_by};
-ghost use Rattle.zones_run.specs.Complaints.{IsOfInput};
-ghost use Rattle.zones_run.specs.Recording.{RanAs};
+ghost use Rattle.zones_run.specs.Answering.{Fails, IsAnswered, LeavesText, Steps};
 ghost use Rattle.zones_run.specs.Run.{HasFront};
-ghost use Rattle.zones_run.specs.Tracing.{EndsAs, HasWritten, entry_text, is_refusal, is_refused_outcome, is_refused_turn, left_to_tell, told_refusal};
+ghost use Rattle.zones_run.specs.Tracing.{HasWritten, entry_text, is_refusal, is_refused_turn};
 
 use crate::fault::RunFault;
 use crate::words::Mode;

@@ -1,5 +1,5 @@
 //! The top call of `zones`.
-ghost use Rattle.std.specs.Prelude.{◌≡◌, ◌≢◌, ◌≤◌, ◌⊎◌, ◌↔◌, ◌++◌, ◌∷◌, [], map, string_bytes, IfSome, List, None, Some, false, ℕ};
+ghost use Rattle.std.specs.Prelude.{◌≡◌, ◌≢◌, ◌≤◌, ◌⊎◌, [], map, string_bytes, IfSome, List, None, Some};
 ghost use Rattle.brand_hooks.specs.Brands.{Tabled, tables_of};
 ghost use Rattle.brand_hooks.specs.Hooks.{AllFollow};
 ghost use Rattle.commit_journal.specs.declared.records.Commit.{Commit};

@@ -2,7 +2,7 @@
 //! after the other, and for `script` also the turns that are put in.
 //! What is told of them is written together, before an event stores a record and once it has, before the system restarts, before more
 //! is read where no line is begun, and when many of them wait.
-ghost use Rattle.std.specs.Prelude.{◌≡◌, ◌≢◌, ◌<◌, ◌≤◌, ◌⊎◌, ◌++◌, ℕ, List, [], Err, IfErr, length, IfOk, IfSome, IsErrOf, Ok, OnErr, OnOk, Some, false, true};
+ghost use Rattle.std.specs.Prelude.{◌≡◌, ◌≢◌, ◌<◌, ◌≤◌, ◌⊎◌, List, [], Err, IfErr, length, IfOk, IfSome, IsErrOf, Ok, OnErr, OnOk, Some, false, true};
 ghost use Rattle.zn_io.specs.Streams.{Rose, after_known};
 ghost use Rattle.brand_hooks.specs.Brands.{Tabled};
 ghost use Rattle.commit_journal.specs.declared.records.Commit.{Commit};
@@ -10,15 +10,15 @@ ghost use Rattle.zone_cases.specs.Events.{is_restart};
 ghost use Rattle.zone_machine.specs.Machine.{opening};
 ghost use Rattle.zone_machine.specs.Machine.Images.{IsStoreOf};
 ghost use Rattle.zone_cases.specs.State.{State};
-ghost use Rattle.zone_machine.specs.Code.Decided.{AsksBrands, MayGoOn, subject_by};
+ghost use Rattle.zone_machine.specs.Code.Decided.{AsksBrands, MayGoOn};
 ghost use Rattle.zone_machine.specs.Code.Openings.{StandsFor};
 ghost use Rattle.zone_machine.specs.Code.Records.{Passes};
 ghost use Rattle.trace_text.specs.Lines.{event_of};
-ghost use Rattle.zones_run.specs.Answering.{Fails, FindsAlways, IsAnswered, LeavesText, MayStop, RestartsWell, Steps, Stops, StopsText, TakesEvent, ended_by};
+ghost use Rattle.zones_run.specs.Answering.{FindsAlways, IsAnswered, MayStop, RestartsWell, Stops, StopsText, TakesEvent, ended_by};
 ghost use Rattle.zones_run.specs.Complaints.{IsOfInput};
 ghost use Rattle.zones_run.specs.Recording.{RanAs};
 ghost use Rattle.zones_run.specs.Run.{HasFront};
-ghost use Rattle.zones_run.specs.Tracing.{EndsAs, HasWritten, is_refusal, is_refused_outcome, is_refused_turn, left_to_tell, told_refusal};
+ghost use Rattle.zones_run.specs.Tracing.{EndsAs, HasWritten, left_to_tell, told_refusal};
 
 use crate::answers::{WAITING_MAX, answer, put_told, write_waiting};
 use crate::fault::RunFault;

@@ -1,20 +1,16 @@
 //! The turns of zones' daemons that `script` puts in: after a session's line that is answered by a ticket, turns of that zone's
 //! daemon, until the ticket is answered or a turn is stuck.
-ghost use Rattle.std.specs.Prelude.{◌≡◌, ◌≢◌, ◌+◌, ◌≤◌, ◌<◌, ◌⊎◌, ℕ, List, [], Err, IfErr, IfOk, IsErrOf, OnErr, OnOk, Option, length};
-ghost use Rattle.zn_io.specs.Disk.{View};
+ghost use Rattle.std.specs.Prelude.{◌≡◌, ◌≢◌, ◌+◌, ◌≤◌, ◌<◌, ◌⊎◌, ℕ, List, [], Err, IfErr, IfOk, IsErrOf, OnErr, OnOk, Option};
 ghost use Rattle.zn_io.specs.Streams.{Rose, after_known};
 ghost use Rattle.brand_hooks.specs.Brands.{Tabled};
 ghost use Rattle.commit_journal.specs.declared.records.Commit.{Commit};
-ghost use Rattle.zone_cases.specs.Events.{is_restart};
 ghost use Rattle.zone_machine.specs.Machine.Images.{IsStoreOf};
-ghost use Rattle.zone_cases.specs.State.{State};
 ghost use Rattle.zone_machine.specs.Code.Decided.{AsksBrands, MayGoOn, entry_by};
 ghost use Rattle.zone_machine.specs.Code.Openings.{StandsFor};
 ghost use Rattle.zone_machine.specs.Code.Records.{Passes};
-ghost use Rattle.zones_run.specs.Answering.{Fails, IsAnswered, LeavesText, refused_with, taken_by};
+ghost use Rattle.zones_run.specs.Answering.{refused_with, taken_by};
 ghost use Rattle.zones_run.specs.Midway.{Follows, Left, none_put, puts_after, puts_until};
 ghost use Rattle.zones_run.specs.Recording.{RanAs};
-ghost use Rattle.zones_run.specs.Run.{HasFront};
 ghost use Rattle.zones_run.specs.Scripting.{is_last, opened, ticket_by, zone_by};
 ghost use Rattle.zones_run.specs.Taking.{TakesPiece};
 ghost use Rattle.zones_run.specs.Tracing.{EndsAs, HasWritten};

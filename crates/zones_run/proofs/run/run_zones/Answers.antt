@@ -1,11 +1,11 @@
-use Rattle.std.proofs.Common.{◌∙◌, Err, ap, refl, sym}
+use Rattle.std.proofs.Common.{◌∙◌, Err, refl, sym}
 use Rattle.brand_hooks.specs.Brands.{tables_of}
 use Rattle.zones_run.specs.Complaints.{complaint_output}
 use Rattle.zones_run.specs.Output.{Output, written}
-use Rattle.zones_run.specs.Run.{TellsLine, TellsText, fault_status, run_fault_of}
-use Rattle.zones_run.proofs.Commands.{answers_export, answers_help, answers_store, answers_usage, answers_version, asks_written, by_outcome, for_export, for_help, for_store, for_usage, for_version, line_usage, line_written, never_write, obeys_complained, obeys_failed, obeys_written, records_export, records_help, records_store, records_usage, records_version, text_usage, text_written}
+use Rattle.zones_run.specs.Run.{TellsLine, TellsText}
+use Rattle.zones_run.proofs.Commands.{answers_export, answers_help, answers_store, answers_usage, answers_version, asks_written, by_outcome, for_export, for_help, for_store, for_usage, for_version, line_usage, line_written, obeys_complained, obeys_written, records_export, records_help, records_store, records_usage, records_version, text_usage, text_written}
 use Rattle.zones_run.proofs.Purging.{answers_unread, line_unread, records_unread, text_unread}
-use Rattle.zones_run.proofs.Telling.{if_some, line_complained, line_failed, never_store, status_told, text_failed, text_nothing}
+use Rattle.zones_run.proofs.Telling.{line_complained, never_store, status_told, text_nothing}
 use Rattle.zones_run.proofs.run.run_zones.Goals as goal
 
 pub returns-in-Ok-Text-clause-text : goal.returns-in-Ok-Text-clause-text
