@@ -43,12 +43,12 @@ const TEXTS: &[(Grant, &[u8])] = &[
 // Where memory runs out, a front of the text is there, and it is printed again.
 fn is_printed(alloc: Global, grant: Grant, text: &[u8]) -> Result<bool, AllocError> {
     let mut line = Vec::new(alloc);
-    if push_grant(grant, &mut line).is_ok() {
+    if push_grant(&mut line, grant).is_ok() {
         return Ok(line.as_slice() == text);
     }
     let has_front = text.starts_with(&line);
     line.clear();
-    push_grant(grant, &mut line)?;
+    push_grant(&mut line, grant)?;
     Ok(has_front && line.as_slice() == text)
 }
 

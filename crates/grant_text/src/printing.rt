@@ -9,7 +9,7 @@ use zone_pools::Grant;
 
 /// Appends the text of a grant: `@-` where nothing was asked, `@N` for a number, `@yes`, or `@no POOL` for the pool
 /// that denied. Where memory runs out, the bytes are as they were, or have a front of it after them.
-pub fn push_grant(grant: Grant, out: &mut Vec<u8>) -> Result<(), AllocError>
+pub fn push_grant(out: &mut Vec<u8>, grant: Grant) -> Result<(), AllocError>
     ensures text { OnOk result (out.new.items ≡ out.old.items ++ grant_text grant) }
     ensures number { IsTrue (is_grant grant) }
 {
