@@ -5,7 +5,8 @@
 
 - sizes: counted in crates/, always.
 - speed: instructions of the native program by valgrind's callgrind, as the difference of two lengths, over the script
-  that tools/bench_export.py writes and over a trace of a zone that boots and halts over and over.
+  that tools/bench_export.py writes, over a trace of a zone that boots and halts over and over, and over a script of calls
+  alone.
 - gate: minutes of one processor, from the LOG that tools/time_gate.py writes of a run from nothing.
 
 What this run can't measure (no LOG, a crate that it lacks, no program, no valgrind) stays as the file has it, and a
@@ -129,15 +130,23 @@ def trace(zones):
     return text
 
 
-def instructions(program, word, data):
+def calls(lines):
+    """A zone comes up, and processes enter it for one call over and over."""
+    made = ["zonecfg -z %s create -b; set zonepath=/zones/z; set brand=ipkg", "zoneadm -z %s install", "zoneadm -z %s boot"]
+    typed = made + ["zlogin %s true"] * (lines - len(made))
+    return ("\n".join(line_of("z", 1, it) for it in typed) + "\n").encode()
+
+
+def instructions(program, command, data):
     with tempfile.TemporaryFile() as given, own_folder() as folder:
         given.write(data)
         given.seek(0)
-        words = ["valgrind", "--tool=callgrind", "--callgrind-out-file=/dev/null", pathlib.Path(program).resolve(), word]
-        run = subprocess.run(words, stdin=given, stdout=subprocess.DEVNULL, stderr=subprocess.PIPE, text=True, cwd=folder)
+        words = ["valgrind", "--tool=callgrind", "--callgrind-out-file=/dev/null", pathlib.Path(program).resolve()]
+        run = subprocess.run(words + command.split(), stdin=given, stdout=subprocess.DEVNULL, stderr=subprocess.PIPE,
+                             text=True, cwd=folder)
     counted = re.search(r"Collected : (\d+)", run.stderr)
     if run.returncode or not counted:
-        raise OSError("%s %s under callgrind ended with status %d" % (program, word, run.returncode))
+        raise OSError("%s %s under callgrind ended with status %d" % (program, command, run.returncode))
     return int(counted[1])
 
 
@@ -147,13 +156,15 @@ def speed(text, args):
         ("a line of `trace`, with its reply, of a zone that boots and halts over and over", "trace", trace(1)),
         ("the same of 60 zones that take turns", "trace", trace(60)),
         ("the same of 250 zones, one after the other", "trace", trace(250)),
+        ("a line of `purge` of the trace of one zone, all of whose lines it keeps", "purge z0", trace(1)),
+        ("a line of `script` in which a process enters a zone for the call `true`", "script", calls),
     ]
     made = []
     try:
-        for what, word, make in rows:
+        for what, command, make in rows:
             if not pathlib.Path(args.program).is_file():
                 raise OSError("no program %s" % args.program)
-            short, long = (instructions(args.program, word, make(lines)) for lines in LENGTHS)
+            short, long = (instructions(args.program, command, make(lines)) for lines in LENGTHS)
             made.append([what, "{:,}".format(round((long - short) / (LENGTHS[1] - LENGTHS[0])))])
     except OSError as why:
         print("speed: kept as it was (%s)" % why)
