@@ -1,12 +1,16 @@
--- No item is claimed by two zones: what comes to a zone is held by no other then, and the other events of a zone let claims go alone.
-use Rattle.std.proofs.Common.{◌≡◌, ◌∷◌, ◌++◌, ◌∙◌, ◌⊎◌, ◌&&◌, [], ℕ, List, Bool, Option, Some, None, true, false, not, ap, inl, inr, refl, subst, sym}
+-- No item is claimed by two zones, and each is declared: what comes to a zone is declared and held by no other then, the other events
+-- of a zone let claims go alone, and nothing that is declared goes.
+use Rattle.std.proofs.Common.{◌≡◌, ◌≤◌, length, ◌∷◌, ◌++◌, ◌∙◌, ◌⊎◌, ◌&&◌, [], ℕ, List, Bool, Option, Some, None, true, false, not, ap, inl, inr, refl, subst, sym}
 use Rattle.std.specs.Prelude.{bytes_eq}
-use Rattle.std.specs.List.{list_all}
-use Rattle.std.proofs.lemmas.Bool.{and_parts, false≢true, not-true, or_parts}
+use Rattle.std.specs.List.{AllByRecursion, IsDistinct, list_all}
+use Rattle.std.proofs.lemmas.Bool.{and_from, and_parts, false≢true, not-true, or_parts}
+use Rattle.std.proofs.lemmas.Map.Made.{length-le_from_is_member}
+use Rattle.std.specs.Cmp.{IsEquivalence}
 use Rattle.brand_hooks.specs.Brands.{Tabled}
 use Rattle.commit_journal.specs.declared.records.Commit.{Commit}
-use Rattle.datalink_table.proofs.Same_laws.{claim-Decides}
-use Rattle.datalink_table.specs.Claims.{claiming, holds, pool_of, same_claim}
+use Rattle.datalink_table.proofs.Kept.{once-last}
+use Rattle.datalink_table.proofs.Same_laws.{claim-Decides, claim_self}
+use Rattle.datalink_table.specs.Claims.{claim_of, claiming, each_once, holds, pool_of, same_claim}
 use Rattle.datalink_table.specs.declared.claims.Claim.{Claim}
 use Rattle.datalink_table.specs.declared.claims.ClaimKind.{ClaimKind}
 use Rattle.datalink_table.specs.declared.claims.ClaimKind.TheVariants.{Address, Dataset, Link}
@@ -15,14 +19,18 @@ use Rattle.zone_machine.proofs.Asking.{asks-decide, asks_rightly}
 use Rattle.zone_machine.proofs.Own_worlds.{view-world, world-one}
 use Rattle.zone_machine.specs.Machine.Histories.{after, after_entry, is_history, world_by}
 use Rattle.zone_machine.specs.Machine.Pools.{fits, fits_of, held_elsewhere, may_hold, pools_of}
-use Rattle.zone_machine.specs.Machine.{decide, one, opening, session_number, subject, whole_world}
+use Rattle.zone_machine.specs.Machine.{decide, declared_by, one, opening, session_number, subject, whole_world}
+use Rattle.zone_cases.specs.State.Declarations.{Declared, declare_refusal, unless_refused, with_declared}
 use Rattle.zone_cases.specs.State.Decisions.{Act, Decision, act_of, acts_world, after_came_world}
 use Rattle.zone_cases.specs.State.Edits.{Edit, Of_objects, console_gone_world, edit_world, edits_world, keeps_console}
 use Rattle.zone_cases.specs.State.Worlds.{World, view, view_of, world}
 use Rattle.zone_cases.specs.State.{State}
+use Rattle.zone_cases.specs.declared.events.Declaration.{Declaration}
+use Rattle.zone_cases.specs.declared.events.Declaration.TheVariants.{Device, Item}
 use Rattle.zone_cases.specs.declared.events.Entry.{Entry}
 use Rattle.zone_cases.specs.declared.events.Event.{Event}
 use Rattle.zone_cases.specs.declared.events.Event.TheVariants.{Process as Call_of, Restart, Session, System, Turn}
+use Rattle.zone_cases.specs.declared.replies.Refusal.{Refusal}
 use Rattle.zone_cases.specs.declared.events.Subject.{Subject}
 use Rattle.zone_cases.specs.declared.events.Subject.TheVariants.{Global, Whole, Zone}
 use Rattle.zone_pools.proofs.Owned_laws.{same_true}
@@ -33,7 +41,10 @@ use Rattle.zone_pools.specs.Pools.{fits_asked, fits_pool, fits_yes}
 use Rattle.zone_pools.specs.declared.grant.Grant.{Grant}
 use Rattle.zone_pools.specs.declared.grant.Grant.TheVariants.{Denied, Nothing, Number, Yes}
 use Rattle.zone_pools.specs.declared.owned.Owned.{Owned}
+use Rattle.zone_views.proofs.Keeping.{kept-after}
 use Rattle.zone_views.proofs.Purge.{begins}
+use Rattle.zone_views.proofs.Whole.{declared-after, declared-stays}
+use Rattle.zone_views.specs.Whole.{is_whole}
 use Rattle.zoneadmd_steps.proofs.Of_turns.{asked_item}
 use Rattle.zoneadmd_steps.specs.Arrivals.{A_claim, Arrival, New_claim, New_id, New_process, New_record, No_new_thing}
 use Rattle.zoneadmd_steps.specs.Objects.{Last_claim_goes, Processes_go}
@@ -143,9 +154,9 @@ module _ (k : Claim) where
 abbrev pub IsApart : State → Type 0
 IsApart S = (y z : Name) (c : Claim) → holds c (world y S).claims ≡ true → holds c (world z S).claims ≡ true → y ≡ z
 
--- who holds an item after an event held it before, or it is the event's zone, and no other held it
+-- who holds an item after an event held it before, or it is the event's zone, the item is declared, and no other held it
 abbrev Was : Subject → State → Claim → Name → Type 0
-Was s S k y = (holds k (world y S).claims ≡ true) ⊎ ((s ≡ Zone y) × ((x : Name) → holds k (world x S).claims ≡ true → y ≡ x))
+Was s S k y = (holds k (world y S).claims ≡ true) ⊎ ((s ≡ Zone y) × (holds k S.declared.items ≡ true) × ((x : Name) → holds k (world x S).claims ≡ true → y ≡ x))
 
 -- an event of the whole system gives nobody an item
 held-before : (k : Claim) (w : World) (e : Event) → holds k (whole_world e w).claims ≡ true → holds k w.claims ≡ true
@@ -166,8 +177,9 @@ was-of (Zone z) S e g k y f h = at_test (bytes_eq y z) refl
         let fit : fits_asked (pools_of S) y (asked_of (decide (view y S) e)) g ≡ true = subst (λ z. fits_asked (pools_of S) z (asked_of (decide (view z S) e)) g ≡ true) (sym same) f in
         let comes : (act_of (decide (view y S) e) g).came ≡ Some (New_claim k) = ap (λ v. (act_of (decide v e) g).came) (view-world y S) ∙ came in
         let may = came-fits k S y (decide (view y S) e) g (asks-decide (view y S) e) fit comes in
-        let none = not-true (held_elsewhere y k S.claims) (and_parts (holds k S.declared.items) (not (held_elsewhere y k S.claims)) may).1 in
-        inr (ap Zone (sym same), λ x has. elsewhere k y x S.claims none has)
+        let parts = and_parts (holds k S.declared.items) (not (held_elsewhere y k S.claims)) may in
+        let none = not-true (held_elsewhere y k S.claims) parts.1 in
+        inr (ap Zone (sym same), parts.0, λ x has. elsewhere k y x S.claims none has)
 
     at_test : (b : Bool) → bytes_eq y z ≡ b → Was (Zone z) S k y
     at_test true e' = at_act (same_true y z e') (holds-acts k (session_number e) (act_of (decide (view_of y (world y S)) e) g) (world y S) (simp e' at h))
@@ -182,8 +194,8 @@ apart-one S e g f apart y z c has also = at_both (was-one S e g c y f has) (was-
   where
     at_both : Was (subject S e) S c y → Was (subject S e) S c z → y ≡ z
     at_both (inl a) (inl b) = apart y z c a b
-    at_both (inl a) (inr b) = sym (b.1 y a)
-    at_both (inr a) (inl b) = a.1 z b
+    at_both (inl a) (inr b) = sym (b.2 y a)
+    at_both (inr a) (inl b) = a.2 z b
     at_both (inr a) (inr b) = let same : Zone y ≡ Zone z = sym a.0 ∙ b.0 in cc
 
 apart-after : (S : State) (h : List Entry) → is_history fits S h ≡ true → IsApart S → IsApart (after S h)
@@ -194,3 +206,131 @@ pub one-holder : (brands : List Tabled) (commits : List Commit) (h : List Entry)
     → let S = after (opening brands commits) h in
     holds c (world y S).claims ≡ true → holds c (world z S).claims ≡ true → y ≡ z
 one-holder brands commits h y z c is = apart-after (opening brands commits) h is (λ y z c has also. absurd (false≢true has)) y z c
+
+-- what is declared stays so
+module _ (k : Claim) where
+  holds-front : (cs ds : List Claim) → holds k cs ≡ true → holds k (cs ++ ds) ≡ true
+  holds-front [] ds h = absurd (false≢true h)
+  holds-front (c ∷ cs) ds h = at_test (holds-front cs ds) (same_claim k c) refl
+    where
+      at_test : (holds k cs ≡ true → holds k (cs ++ ds) ≡ true) → (b : Bool) → same_claim k c ≡ b → holds k (c ∷ cs ++ ds) ≡ true
+      at_test ih true e = simp e
+      at_test ih false e = simp e (ih (simp e at h))
+
+  holds-with : (what : Declaration) (d : Declared) → holds k d.items ≡ true → holds k (with_declared what d).items ≡ true
+  holds-with (Item kind item) d h = holds-front d.items (claim_of kind item ∷ []) h
+  holds-with (Device path) d h = h
+
+  holds-declaring : (r : Option Refusal) (what : Declaration) (d : Declared) → holds k d.items ≡ true → holds k (unless_refused r (with_declared what d) d).items ≡ true
+  holds-declaring None what d h = holds-with what d h
+  holds-declaring (Some refusal) what d h = h
+
+  holds-declared : (e : Event) (d : Declared) → holds k d.items ≡ true → holds k (declared_by e d).items ≡ true
+  holds-declared (System what) d h = holds-declaring (declare_refusal what d) what d h
+  holds-declared (Session n text) d h = h
+  holds-declared (Turn z) d h = h
+  holds-declared (Call_of z pid c) d h = h
+  holds-declared Restart d h = h
+
+  stays-declared : (S : State) (e : Event) (g : Grant) → holds k S.declared.items ≡ true → holds k (one S e g).state.declared.items ≡ true
+  stays-declared S e g h = at_whole (is_whole (subject S e)) refl
+    where
+      at_whole : (b : Bool) → is_whole (subject S e) ≡ b → holds k (one S e g).state.declared.items ≡ true
+      at_whole true is = subst (λ (d : Declared). holds k d.items ≡ true) (sym (declared-after S e g is)) (holds-declared e S.declared h)
+      at_whole false is = subst (λ (d : Declared). holds k d.items ≡ true) (sym (declared-stays S e g is)) h
+
+-- each item that a zone claims is declared
+abbrev AreDeclared : State → Type 0
+AreDeclared S = (z : Name) (c : Claim) → holds c (world z S).claims ≡ true → holds c S.declared.items ≡ true
+
+declared-one : (S : State) (e : Event) (g : Grant) → fits S e g ≡ true → AreDeclared S → AreDeclared (one S e g).state
+declared-one S e g f are z c has = stays-declared c S e g (at_was (was-one S e g c z f has))
+  where
+    at_was : Was (subject S e) S c z → holds c S.declared.items ≡ true
+    at_was (inl before) = are z c before
+    at_was (inr came) = came.1
+
+declared-from : (S : State) (h : List Entry) → is_history fits S h ≡ true → AreDeclared S → AreDeclared (after S h)
+declared-from S [] is are = are
+declared-from S (e ∷ h) is are = let parts = begins fits S e h is in declared-from (after_entry S e) h parts.rest (declared-one S e.event e.grant parts.permitted are)
+
+pub claims-declared : (brands : List Tabled) (commits : List Commit) (h : List Entry) (z : Name) (c : Claim) → is_history fits (opening brands commits) h ≡ true
+    → let S = after (opening brands commits) h in
+    holds c (world z S).claims ≡ true → holds c S.declared.items ≡ true
+claims-declared brands commits h z c is = declared-from (opening brands commits) h is (λ z c has. absurd (false≢true has)) z c
+
+-- none is claimed twice
+dropped-once : (cs : List Claim) → each_once cs ≡ true → each_once (but_last cs) ≡ true
+dropped-once [] h = h
+dropped-once (c ∷ []) h = refl
+dropped-once (c ∷ d ∷ cs) h =
+    let parts = and_parts (not (holds c (d ∷ cs))) (each_once (d ∷ cs)) h in
+    and_from (not (holds c (but_last (d ∷ cs)))) (each_once (but_last (d ∷ cs))) (ap not (not-before (holds c (but_last (d ∷ cs))) refl (not-true (holds c (d ∷ cs)) parts.0))) (dropped-once (d ∷ cs) parts.1)
+  where
+    not-before : (b : Bool) → holds c (but_last (d ∷ cs)) ≡ b → holds c (d ∷ cs) ≡ false → holds c (but_last (d ∷ cs)) ≡ false
+    not-before false e none = e
+    not-before true e none = absurd (false≢true (sym none ∙ holds-last c (d ∷ cs) e))
+
+once-edit : (n : Option ℕ) (e : Edit) (w : World) → each_once w.claims ≡ true → each_once (edit_world n e w).claims ≡ true
+once-edit n (Of_objects (Processes_go p)) w h = h
+once-edit n (Of_objects Last_claim_goes) w h = dropped-once w.claims h
+once-edit n _ w h = h
+
+once-edits : (n : Option ℕ) (es : List Edit) (w : World) → each_once w.claims ≡ true → each_once (edits_world n es w).claims ≡ true
+once-edits n [] w h = h
+once-edits n (e ∷ es) w h = once-edits n es (edit_world n e w) (once-edit n e w h)
+
+once-claiming : (b : Bool) (c : Claim) (cs : List Claim) → holds c cs ≡ b → each_once cs ≡ true → each_once (claiming b c cs) ≡ true
+once-claiming true c cs is h = h
+once-claiming false c cs is h = once-last c cs h is
+
+once-came : (came : Option Arrival) (w : World) → each_once w.claims ≡ true → each_once (after_came_world came w).claims ≡ true
+once-came None w h = h
+once-came (Some (New_process p)) w h = h
+once-came (Some (New_id i)) w h = h
+once-came (Some (New_record row)) w h = at_keeps (keeps_console row)
+  where
+    at_keeps : (b : Bool) → each_once (console_gone_world b (record w { stored = row })).claims ≡ true
+    at_keeps true = h
+    at_keeps false = h
+once-came (Some No_new_thing) w h = h
+once-came (Some (New_claim c)) w h = once-claiming (holds c w.claims) c w.claims refl h
+
+abbrev ClaimsOnce : World → Type 0
+ClaimsOnce w = each_once w.claims ≡ true
+
+pub claims-once : (brands : List Tabled) (commits : List Commit) (h : List Entry) (z : Name) → each_once (world z (after (opening brands commits) h)).claims ≡ true
+claims-once brands commits h z = kept-after ClaimsOnce
+    (λ z w e g once. let a = act_of (decide (view_of z w) e) g in once-edits (session_number e) a.effect.edits (after_came_world a.came w) (once-came a.came w once))
+    (λ w d once. once) (λ w once. refl) (opening brands commits) h (λ z. refl) z
+
+-- so a zone claims no more items than are declared
+back : (c d : Claim) → same_claim c d ≡ true → same_claim d c ≡ true
+back c d h = subst (λ x. same_claim x c ≡ true) ((claim-Decides c d).0 h) (claim_self c)
+
+claim-equivalence : IsEquivalence same_claim
+claim-equivalence = record {
+  refl = claim_self;
+  symm = λ c d. at_tests c d (same_claim c d) (same_claim d c) refl refl;
+  congr = λ c d e h. ap (λ x. same_claim x e) ((claim-Decides c d).0 h);
+}
+  where
+    at_tests : (c d : Claim) (a b : Bool) → same_claim c d ≡ a → same_claim d c ≡ b → same_claim c d ≡ same_claim d c
+    at_tests c d true b e f = e ∙ sym (back c d e)
+    at_tests c d false true e f = back d c f ∙ sym f
+    at_tests c d false false e f = e ∙ sym f
+
+apart-all : (c : Claim) (cs : List Claim) → holds c cs ≡ false → AllByRecursion (λ d. same_claim c d ≡ false) cs
+apart-all c [] h = tt
+apart-all c (d ∷ cs) h = let parts = or_parts (same_claim c d) (holds c cs) h in (parts.0, apart-all c cs parts.1)
+
+once-distinct : (cs : List Claim) → each_once cs ≡ true → IsDistinct same_claim cs
+unfolding IsDistinct
+once-distinct [] h = tt
+once-distinct (c ∷ cs) h = let parts = and_parts (not (holds c cs)) (each_once cs) h in (apart-all c cs (not-true (holds c cs) parts.0), once-distinct cs parts.1)
+
+pub claims-few : (brands : List Tabled) (commits : List Commit) (h : List Entry) (z : Name) → is_history fits (opening brands commits) h ≡ true
+    → let S = after (opening brands commits) h in length (world z S).claims ≤ length S.declared.items
+claims-few brands commits h z is =
+    let S = after (opening brands commits) h in
+    length-le_from_is_member claim-equivalence (world z S).claims S.declared.items (once-distinct (world z S).claims (claims-once brands commits h z)) (λ c has. claims-declared brands commits h z c is has)

@@ -525,7 +525,7 @@ module _ (P : World → Type 0) (z : Name) (w : World) (seated : (sessions : ℕ
     → P (record w { stored = None; sessions = sessions; console = console }))
     (asked : (r : Request) (sessions : ℕ → Option Doing) → P (record w { desk = with_request w.desk r; sessions = sessions }))
     (others : (n : Option ℕ) (c : Option Arrival) (es : List Zone_edit) → Called w n c es → P (edits_world n es (after_came_world c w)))
-    (remounted : (ms : List MountEntry) → P (record w { mounts = ms })) where
+    (remounted : (e : List_edit MountEntry) → Mounted w.mounts e → P (record w { mounts = edited e w.mounts })) where
   abbrev here : ℕ → Option Doing → ℕ → Option Doing
   here k d = λ j. at_session (Some k) j d (w.sessions j)
 
@@ -553,7 +553,7 @@ module _ (P : World → Type 0) (z : Name) (w : World) (seated : (sessions : ℕ
       at_seat _ (Is_seated d s) = removed row (here_gone k d) new_console is e f
   of_does _ _ _ (Puts k r row is idle) = asked r (here k (Some (Awaiting (w.desk.last + 1))))
   of_does _ _ _ (Calls n c es called) = others n c es called
-  of_does _ _ _ (Remounts n e mounted) = remounted (edited e w.mounts)
+  of_does _ _ _ (Remounts n e mounted) = remounted e mounted
   of_does _ _ _ (Consoles n es consoled) = at_console n es consoled
     where
       at_console : (n : Option ℕ) (es : List Zone_edit) → Consoled w n es → P (edits_world n es w)

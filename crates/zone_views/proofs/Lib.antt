@@ -13,6 +13,8 @@ pub mod Granting
 pub mod Numbered
 pub mod Whole
 pub mod Claiming
+pub mod Declared_few
+pub mod Mounts_few
 mod Edits
 mod Logins
 mod Consoles

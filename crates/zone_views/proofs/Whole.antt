@@ -75,6 +75,15 @@ pub declared-decides : (S T : State) (e : Event) (g : Grant) → subject S e ≡
 unfolding one
 declared-decides S T e g is it d = rw (is, it) (ap (declare_reply e) d, declared-whole S e ∙ (ap (declared_by e) d ∙ sym (declared-whole T e)))
 
+pub declared-after : (S : State) (e : Event) (g : Grant) → is_whole (subject S e) ≡ true → (one S e g).state.declared ≡ declared_by e S.declared
+unfolding one
+declared-after S e g h = at_subject (subject S e) refl h
+  where
+    at_subject : (s : Subject) → subject S e ≡ s → is_whole s ≡ true → (one S e g).state.declared ≡ declared_by e S.declared
+    at_subject Whole is h = rw is (declared-whole S e)
+    at_subject (Zone z) is h = absurd (false≢true h)
+    at_subject Global is h = absurd (false≢true h)
+
 -- other events leave it
 came-declared : (z : Name) (a : Option Arrival) (c : Common) → (came_common z a c).declared ≡ c.declared
 came-declared z None c = refl

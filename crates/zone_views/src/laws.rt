@@ -1,5 +1,5 @@
 //! The laws, over every state or every history.
-ghost use Rattle.std.specs.Prelude.{◌≡◌, ◌≢◌, ◌⊎◌, Bool, List, None, Option, Some, false, is_some, true, ℕ};
+ghost use Rattle.std.specs.Prelude.{◌≡◌, ◌≢◌, ◌≤◌, ◌⊎◌, Bool, List, None, Option, Some, false, is_some, length, true, ℕ};
 ghost use Rattle.std.specs.List.{list_all};
 ghost use Rattle.zn_base.specs.Moves.{may_move};
 ghost use Rattle.zn_base.specs.Names.{Name};
@@ -22,7 +22,7 @@ ghost use Rattle.zone_cases.specs.declared.events.Event.{Event};
 ghost use Rattle.zone_cases.specs.declared.events.Event.TheVariants.{Restart, Turn};
 ghost use Rattle.zone_cases.specs.declared.events.Subject.TheVariants.{Whole, Zone};
 ghost use Rattle.zone_cases.specs.declared.replies.Head.TheVariants.{Turned};
-ghost use Rattle.datalink_table.specs.Claims.{holds};
+ghost use Rattle.datalink_table.specs.Claims.{each_once, holds};
 ghost use Rattle.datalink_table.specs.declared.claims.Claim.{Claim};
 ghost use Rattle.brand_hooks.specs.Brands.{Tabled};
 ghost use Rattle.commit_journal.specs.declared.records.Commit.{Commit};
@@ -200,4 +200,22 @@ pub fn each_item_has_one_holder()
     ensures { (brands : List Tabled) (commits : List Commit) (h : List Entry) (y z : Name) (c : Claim) → is_history fits (opening brands commits) h ≡ true
         → let S = after (opening brands commits) h in
         holds c (world y S).claims ≡ true → holds c (world z S).claims ≡ true → y ≡ z }
+{}
+
+/// After any history whose grants fit, so after any legal one, each item that a zone claims is declared. It claims none
+/// twice, and so 3,072 at most, since 1,024 of each of the three kinds are declared at most.
+pub fn claimed_items_are_declared()
+    ensures declared { (brands : List Tabled) (commits : List Commit) (h : List Entry) (z : Name) (c : Claim) → is_history fits (opening brands commits) h ≡ true
+        → let S = after (opening brands commits) h in
+        holds c (world z S).claims ≡ true → holds c S.declared.items ≡ true }
+    ensures once { (brands : List Tabled) (commits : List Commit) (h : List Entry) (z : Name)
+        → each_once (world z (after (opening brands commits) h)).claims ≡ true }
+    ensures few { (brands : List Tabled) (commits : List Commit) (h : List Entry) (z : Name) → is_history fits (opening brands commits) h ≡ true
+        → length (world z (after (opening brands commits) h)).claims ≤ 3072 }
+{}
+
+/// After any history, whatever was granted, a zone has 128 mounts at most.
+pub fn mounts_are_few()
+    ensures { (z : Name) (brands : List Tabled) (commits : List Commit) (h : List Entry)
+        → length (world z (after (opening brands commits) h)).mounts ≤ 128 }
 {}
