@@ -1,5 +1,5 @@
 -- A zone has 128 mounts at most: one more is made by a call or by a turn only where there are fewer.
-use Rattle.std.proofs.Common.{◌≡◌, ◌≤◌, ◌<◌, ◌+◌, ◌∷◌, [], ℕ, List, Bool, Option, Some, None, Result, Ok as Right, Err, true, false, not, ap, arith, filter, length, map, refl}
+use Rattle.std.proofs.Common.{◌≡◌, ◌≤◌, ◌<◌, ◌+◌, ◌∷◌, [], ℕ, List, Bool, Option, Some, None, Result, Ok as Right, Err, true, false, not, ap, arith, length, map, refl}
 use Rattle.std.specs.Prelude.{is_ok, is_some, nat_lt, unwrap_or, if◌then◌else◌}
 use Rattle.std.proofs.lemmas.Bool.{ltb-true}
 use Rattle.std.proofs.lemmas.List.Sums.{count_by-le-length, length-filter}

@@ -1,4 +1,4 @@
-use Rattle.std.proofs.Common.{◌∙◌, Err, refl, sym}
+use Rattle.std.proofs.Common.{◌∙◌, refl, sym}
 use Rattle.brand_hooks.specs.Brands.{tables_of}
 use Rattle.zones_run.specs.Complaints.{complaint_output}
 use Rattle.zones_run.specs.Output.{Output, written}
