@@ -10,8 +10,8 @@ ghost use Rattle.zone_machine.specs.Code.Cells.{Stands};
 ghost use Rattle.zone_machine.specs.Code.Decided.{AsksBrands, IsHeard, MayGoOn, entry_by};
 ghost use Rattle.zone_machine.specs.Code.Openings.{Begins, BeginsAgain, StandsFor};
 ghost use Rattle.zone_machine.specs.Code.Records.{GoesUnder, Passes};
-ghost use Rattle.zone_machine.specs.Code.Restarts.{BankLeftAny, BeginsAgainAfter, IsAllowedStepOf, IsFittingStepOf, KeepsBodiesOf, LeavesAny, LosesStore};
-ghost use Rattle.zone_machine.specs.Code.Steps.{AsItWas, IsAllowed, IsMisfit, IsRefusedIfUnfit, IsStarted, IsSubject, IsZoneState};
+ghost use Rattle.zone_machine.specs.Code.Restarts.{BankLeftAny, BeginsAgainAfter, IsAllowedStepOf, IsFittingStepOf, IsStepUnderOf, KeepsBodiesOf, LeavesAny, LosesStore};
+ghost use Rattle.zone_machine.specs.Code.Steps.{AsItWas, FitsIn, IsAllowed, IsMisfit, IsRefusedIfUnfit, IsStarted, IsSubject, IsZoneState};
 ghost use Rattle.zone_machine.specs.Machine.{opening, restarted};
 ghost use Rattle.zone_machine.specs.Machine.Images.{Holds, IsStoreOf};
 ghost use Rattle.zone_machine.specs.Machine.Indexed.{index_of};
@@ -219,34 +219,37 @@ impl<'b, D: Disk, F: Fn(&Change) -> HookAnswer> Machine<'b, D, F> {
         self.parts.step(&mut self.bank, alloc, event, None, hook)
     }
 
-    /// The same of an event that is only lent: of the entry no more is made than the event doesn't say itself. Where the event
+    /// The same of an event that is only lent, under the grant that the pools give it, or under one that is stated, where it fits:
+    /// of the entry no more is made than the event doesn't say itself. Where the event
     /// may not record and would, or is a restart, nothing is done: so whoever has replies that wait can write them before the disk
-    /// is touched, and then have it done.
+    /// is touched, and then have it done. Where a stated grant doesn't fit, the machine is as it was.
     pub fn answer(
         &mut self,
         alloc: Global,
         event: &Event,
+        stated: Option<Grant>,
         may_record: bool,
     ) -> Result<Answer, StepFault>
         requires asks { AsksBrands F.Fn self.old }
         requires ready { MayGoOn D.view self.old }
-        ensures ok { IfOk result (λ answer. IsAllowedStepOf D.view self.old event.now (entry_by event.now answer) self.new) }
+        ensures ok { IfOk result (λ answer. IsStepUnderOf D.view stated self.old event.now (entry_by event.now answer) self.new) }
+        ensures fits { OnOk result (FitsIn stated self.old.parts event.now) }
         ensures again { OnOk result (BeginsAgainAfter event.now self.old self.new) }
-        ensures goes { GoesUnder None self.old.parts event.now self.old.bank.records (D.view self.old.bank.disk) (D.view self.new.bank.disk) }
-        ensures bodies { OnOk result (KeepsBodiesOf D.view None self.old event.now self.new) }
+        ensures goes { GoesUnder stated self.old.parts event.now self.old.bank.records (D.view self.old.bank.disk) (D.view self.new.bank.disk) }
+        ensures bodies { OnOk result (KeepsBodiesOf D.view stated self.old event.now self.new) }
         ensures ready { OnOk result (MayGoOn D.view self.new) }
         ensures passes { Passes (D.view self.old.bank.disk) (D.view self.new.bank.disk) }
-        ensures err { IfErr result (λ fault. fault ≢ StepFault.BadGrant) }
-        ensures fault { IfErr result (λ fault. LeavesAny fault None self.old.parts event.now self.new.parts) }
+        ensures err { stated ≡ None → IfErr result (λ fault. fault ≢ StepFault.BadGrant) }
+        ensures fault { IfErr result (λ fault. LeavesAny fault stated self.old.parts event.now self.new.parts) }
         ensures left { IfErr result (λ fault. BankLeftAny may_record event.now fault self.old.bank self.new.bank (D.view self.old.bank.disk) (D.view self.new.bank.disk) self.new.parts.shared) }
         ensures asks { AsksBrands F.Fn self.new }
     {
         if event.is_restart() {
-            return self.answer_restart(alloc, may_record);
+            return self.answer_restart(alloc, stated, may_record);
         }
         let hook = self.hear(event);
         self.parts
-            .answer(&mut self.bank, alloc, event, hook, may_record)
+            .answer(&mut self.bank, alloc, event, stated, hook, may_record)
     }
 
     /// An event is answered under a stated grant, where it fits, as when a recorded trace is run again. Where it doesn't fit or

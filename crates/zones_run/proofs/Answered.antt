@@ -8,17 +8,18 @@ use Rattle.zn_io.specs.Streams.{Rose, after_known}
 use Rattle.commit_journal.specs.Journal.{Leave}
 use Rattle.commit_journal.specs.Zones.{rows_of}
 use Rattle.commit_journal.specs.declared.records.Commit.{Commit}
-use Rattle.trace_text.specs.Lines.{Said, event_of}
 use Rattle.zone_disk.specs.Bank.{Account}
 use Rattle.zone_disk.specs.Image.{Stands as Image_stands}
 use Rattle.zone_machine.specs.Code.Decided.{entry_by}
-use Rattle.zone_machine.specs.Code.Records.{BankLeft, GoesUnder, IsReady, Passes}
+use Rattle.zone_machine.specs.Code.Records.{BankLeft, GoesUnder, IsReady, Passes, taken}
 use Rattle.zone_machine.specs.Code.Restarts.{BankLeftAny, FindsAgain, LeavesAny, RestartLeft}
-use Rattle.zone_machine.specs.Code.Steps.{Answers, AsItWas, Leaves}
+use Rattle.zone_machine.specs.Code.Cells.{Stands}
+use Rattle.zone_machine.specs.Code.Steps.{AsItWas, FitsIn, Leaves, StepsUnder, Takes}
 use Rattle.zone_cases.specs.Events.{is_restart}
 use Rattle.zone_machine.specs.Machine.{one, subject}
+use Rattle.zone_machine.specs.Machine.Histories.{entry_at}
 use Rattle.zone_machine.specs.Machine.Images.{Goes, Holds, NowHolds}
-use Rattle.zone_machine.specs.Machine.Pools.{allowed}
+use Rattle.zone_pools.specs.declared.grant.Grant.{Grant}
 use Rattle.zone_cases.specs.State.{State, bodies_of}
 use Rattle.zone_cases.specs.declared.events.Answer.{Answer}
 use Rattle.zone_cases.specs.declared.events.Entry.{Entry}
@@ -30,12 +31,13 @@ use Rattle.zone_machine.specs.declared.machine.Machine.{Machine}
 use Rattle.zone_machine.specs.declared.machine.parts.Parts.{Parts}
 use Rattle.zone_machine.specs.declared.machine.shared.Shared.{Shared}
 use Rattle.zone_machine.specs.Code.Openings.{StandsFor}
-use Rattle.zones_run.specs.Answering.{Fails, FailsLine, IsAnswered, Steps}
-use Rattle.zones_run.specs.Scripting.{state_after}
+use Rattle.zones_run.specs.Answering.{FailsLine, IsAnswered, Steps, Stops}
+use Rattle.zones_run.specs.Scripts.{Says, entry_for, fits_stated, said_by, state_for}
+use Rattle.zones_run.specs.declared.due.Due.{Due}
+use Rattle.zones_run.specs.declared.fault.Stop.{Stop}
 use Rattle.zones_run.specs.Recording.{GoesSurely}
 use Rattle.zones_run.specs.Tracing.{entry_text}
 use Rattle.zones_run.specs.declared.words.Mode.{Mode}
-use Rattle.zones_run.specs.declared.fault.RunFault.{RunFault}
 use Rattle.zones_run.specs.declared.fault.RunFault.TheVariants.{Memory}
 use Rattle.zones_run.proofs.Fronts.{after_known-append}
 
@@ -47,12 +49,12 @@ finds_other (Call_of z pid c) v bodies S h = tt
 finds_other (System what) v bodies S h = tt
 finds_other Restart v bodies S h = absurd (false≢true (sym h))
 
-pub leaves_other : (fault : StepFault) (t u : Parts) (e : Event) → is_restart e ≡ false → LeavesAny fault None t e u → Leaves fault None t e u
-leaves_other fault t u (Session n text) h left = left
-leaves_other fault t u (Turn z) h left = left
-leaves_other fault t u (Call_of z pid c) h left = left
-leaves_other fault t u (System what) h left = left
-leaves_other fault t u Restart h left = absurd (false≢true (sym h))
+pub leaves_other : (fault : StepFault) (stated : Option Grant) (t u : Parts) (e : Event) → is_restart e ≡ false → LeavesAny fault stated t e u → Leaves fault stated t e u
+leaves_other fault stated t u (Session n text) h left = left
+leaves_other fault stated t u (Turn z) h left = left
+leaves_other fault stated t u (Call_of z pid c) h left = left
+leaves_other fault stated t u (System what) h left = left
+leaves_other fault stated t u Restart h left = absurd (false≢true (sym h))
 
 pub left_other : {D : Type 0} (may : Bool) (e : Event) (fault : StepFault) (a b : Account D) (v w : View) (s : Shared) → is_restart e ≡ false → BankLeftAny may e fault a b v w s → BankLeft may fault a b v w s
 left_other may (Session n text) fault a b v w s h left = left
@@ -87,9 +89,12 @@ goes_surely before after v w same goes passes = record {
     either image (inl h) = subst (λ commits. Holds commits image) (sym same) h
     either image (inr h) = h
 
-pub restart_goes : {D F : Type 0} (S : State) (e : Event) → is_restart e ≡ true → (old : Machine D F) (v w : View) → StandsFor S old → GoesUnder None old.parts e old.bank.records v w → Passes v w → GoesSurely S.commits (state_after S e).commits v w
+rests : (e : Event) (S : State) (g : Grant) → is_restart e ≡ true → (one S e g).state.commits ≡ S.commits
 unfolding one subject
-restart_goes S e h old v w stands goes passes = goes_surely S.commits _ v w (ap (λ e. (state_after S e).commits) (restart_is e h)) (goes S stands.parts stands.bodies) passes
+rests e S g h = ap (λ x. (one S x g).state.commits) (restart_is e h)
+
+pub restart_goes : {D F : Type 0} (S : State) (d : Due) → is_restart d.event ≡ true → (old : Machine D F) (v w : View) → StandsFor S old → GoesUnder d.stated old.parts d.event old.bank.records v w → Passes v w → GoesSurely S.commits (state_for S d).commits v w
+restart_goes S d h old v w stands goes passes = goes_surely S.commits _ v w (rests d.event S (taken d.stated S d.event) h) (goes S stands.parts stands.bodies) passes
 
 -- whatever a crash leaves of a ready machine stands for the commits of its state
 pub ready_holds : {D F : Type 0} (S : State) (m : Machine D F) (v : View) → StandsFor S m → IsReady v m.bank m.parts.shared → v.Keeps → NowHolds v S.commits
@@ -98,17 +103,28 @@ ready_holds S m v stands ready keeps = λ image now. record {
   leave = subst (λ rows. Leave (bodies_of S.commits) rows) (sym (ap (λ k. k.rows) stands.parts.shared)) (subst (λ bodies. Leave bodies (rows_of m.parts.shared.rows.entries)) (sym stands.bodies) ready.zones.leave);
 }
 
+-- the grant that was taken, which fits where it was stated
+grant_taken : (stated : Option Grant) (S : State) (e : Event) (g : Grant) → Takes stated S e g → g ≡ taken stated S e
+grant_taken None S e g takes = takes
+grant_taken (Some stated) S e g takes = takes.0
+
+pub fits_in : (stated : Option Grant) (t : Parts) (e : Event) (S : State) → FitsIn stated t e → Stands S t → fits_stated stated S e ≡ true
+fits_in None t e S fits stands = refl
+fits_in (Some g) t e S fits stands = fits S stands
+
 -- the machine answered an event
-pub steps_by : {D F : Type 0} (S : State) (e : Event) (a : Answer) (old new : Machine D F) (v w : View) → StandsFor S old → Answers S e (allowed S e) (entry_by e a) new.parts → GoesUnder None old.parts e old.bank.records v w → bodies_of (state_after S e).commits ≡ new.bank.records
-    → IsReady w new.bank new.parts.shared → Passes v w → Steps S e a (λ T. StandsFor T new) v w
-steps_by S e a old new v w stands step goes bodies ready passes =
-    let after : StandsFor (state_after S e) new = record { parts = step.stands; bodies = bodies } in
+pub steps_by : {D F : Type 0} (S : State) (d : Due) (a : Answer) (old new : Machine D F) (v w : View) → StandsFor S old → FitsIn d.stated old.parts d.event → StepsUnder d.stated S d.event (entry_by d.event a) new.parts → GoesUnder d.stated old.parts d.event old.bank.records v w
+    → bodies_of (state_for S d).commits ≡ new.bank.records → IsReady w new.bank new.parts.shared → Passes v w → Steps S d a (λ T. StandsFor T new) v w
+steps_by S d a old new v w stands fits step goes bodies ready passes =
+    let grant = grant_taken d.stated S d.event (entry_by d.event a).grant step.takes in
+    let after : StandsFor (state_for S d) new = record { parts = subst (λ g. Stands (one S d.event g).state new.parts) grant step.answers.stands; bodies = bodies } in
     record {
-      told = step.told;
+      fits = fits_in d.stated old.parts d.event S fits stands.parts;
+      told = step.answers.told ∙ ap (entry_at S d.event) grant;
       stands = after;
       goes = record {
         any_moment = (goes S stands.parts stands.bodies).any_moment;
-        now = λ keeps. ready_holds (state_after S e) new w after ready (passes.model.0 keeps);
+        now = λ keeps. ready_holds (state_for S d) new w after ready (passes.model.0 keeps);
         model = passes.model.0;
       };
     }
@@ -122,8 +138,8 @@ pub would_same : {D : Type 0} (may : Bool) (fault : StepFault) (a b : Account D)
 would_same true fault a b v w s is left = absurd (subst (λ f. BankLeft true f a b v w s) is left)
 would_same false fault a b v w s is left = subst (λ f. BankLeft false f a b v w s) is left
 
-pub would_as : (fault : StepFault) (t u : Parts) (e : Event) → fault ≡ WouldRecord → Leaves fault None t e u → AsItWas t u
-would_as fault t u e is left = (subst (λ f. Leaves f None t e u) is left).0
+pub would_as : (fault : StepFault) (stated : Option Grant) (t u : Parts) (e : Event) → fault ≡ WouldRecord → Leaves fault stated t e u → AsItWas t u
+would_as fault stated t u e is left = (subst (λ f. Leaves f stated t e u) is left).0
 
 -- or since the disk failed, which it does only in one that may record
 pub disk_rose : {D : Type 0} (may : Bool) (fault : StepFault) (a b : Account D) (v w : View) (s : Shared) → fault ≡ DiskFault → BankLeft may fault a b v w s → (may ≡ true) × Rose v.faults w.faults
@@ -138,19 +154,20 @@ pub stands_on : {D F : Type 0} (S : State) (old new : Machine D F) → AsItWas o
 stands_on S old new was bank stands = record { parts = (was S).0 stands.parts; bodies = stands.bodies ∙ sym (ap (λ b. b.records) bank) }
 
 -- the reply waits after what waited
-pub is_answered : (mode : Mode) (S : State) (e : Event) (a : Answer) (now_stands : State → Type 0) (v w : View) (old new : List ℕ) (holds between now : Option (List ℕ)) → Steps S e a now_stands v w → after_known between old ≡ holds → new ≡ old ++ entry_text mode (entry_by e a)
-    → now ≡ between → IsAnswered mode S e a now_stands v w holds (after_known now new)
-is_answered mode S e a now_stands v w old new holds between now steps same text stays = record {
+pub is_answered : (mode : Mode) (S : State) (d : Due) (a : Answer) (now_stands : State → Type 0) (v w : View) (old new : List ℕ) (holds between now : Option (List ℕ)) → Steps S d a now_stands v w → after_known between old ≡ holds → new ≡ old ++ entry_text mode (entry_by d.event a)
+    → now ≡ between → IsAnswered mode S d a now_stands v w holds (after_known now new)
+is_answered mode S d a now_stands v w old new holds between now steps same text stays = record {
+  fits = steps.fits;
   told = steps.told;
   stands = steps.stands;
-  text = ap (λ known. after_known known new) stays ∙ ap (after_known between) text ∙ sym (after_known-append between old (entry_text mode (entry_by e a)))
-      ∙ ap (λ known. after_known known (entry_text mode (entry_by e a))) same ∙ ap (λ (entry : Entry). after_known holds (entry_text mode entry)) steps.told;
+  text = ap (λ known. after_known known new) stays ∙ ap (after_known between) text ∙ sym (after_known-append between old (entry_text mode (entry_by d.event a)))
+      ∙ ap (λ known. after_known known (entry_text mode (entry_by d.event a))) same ∙ ap (λ (entry : Entry). after_known holds (entry_text mode entry)) steps.told;
   goes = steps.goes;
 }
 
 -- the same event, first left as it is
-pub steps_later : {D : Type 0} (view : D → View) (S : State) (e : Event) (a : Answer) (now_stands : State → Type 0) (first mid : Account D) (w : View) → mid ≡ first → Steps S e a now_stands (view mid.disk) w → Steps S e a now_stands (view first.disk) w
-steps_later view S e a now_stands first mid w same steps = subst (λ b. Steps S e a now_stands (view b.disk) w) same steps
+pub steps_later : {D : Type 0} (view : D → View) (S : State) (d : Due) (a : Answer) (now_stands : State → Type 0) (first mid : Account D) (w : View) → mid ≡ first → Steps S d a now_stands (view mid.disk) w → Steps S d a now_stands (view first.disk) w
+steps_later view S d a now_stands first mid w same steps = subst (λ b. Steps S d a now_stands (view b.disk) w) same steps
 
 pub if_ok_steps : {A E : Type 0} (r : Result A E) (P Q : A → Type 0) → ((a : A) → P a → Q a) → IfOk r P → IfOk r Q
 if_ok_steps (Ok a) P Q lead holds = lead a holds
@@ -160,8 +177,8 @@ pub if_err_fails : {A E : Type 0} (r : Result A E) (P Q : E → Type 0) → ((e 
 if_err_fails (Ok a) P Q lead holds = tt
 if_err_fails (Err e) P Q lead holds = lead e holds
 
-pub fails_later : {D : Type 0} (view : D → View) (S : State) (e : Event) (fault : RunFault) (first mid last : Account D) → mid ≡ first → Fails fault (last ≡ mid) S e (view mid.disk) (view last.disk) → Fails fault (last ≡ first) S e (view first.disk) (view last.disk)
-fails_later view S e fault first mid last same fails = subst (λ b. Fails fault (last ≡ b) S e (view b.disk) (view last.disk)) same fails
+pub stops_later : {D : Type 0} (view : D → View) (S : State) (said : Says) (stop : Stop) (first mid last : Account D) → mid ≡ first → Stops stop (last ≡ mid) S said (view mid.disk) (view last.disk) → Stops stop (last ≡ first) S said (view first.disk) (view last.disk)
+stops_later view S said stop first mid last same stops = subst (λ b. Stops stop (last ≡ b) S said (view b.disk) (view last.disk)) same stops
 
 pub passes_later : {D : Type 0} (view : D → View) (first mid : Account D) (w : View) → mid ≡ first → Passes (view mid.disk) w → Passes (view first.disk) w
 passes_later view first mid w same passes = subst (λ b. Passes (view b.disk) w) same passes
@@ -170,11 +187,11 @@ pub passes_on : (u v w : View) → Passes u v → Passes v w → Passes u w
 passes_on u v w a b = record { model = (λ k. b.model.0 (a.model.0 k), λ k. a.model.1 (b.model.1 k)); faults = omega (arith, a.faults, b.faults) }
 
 -- a line of which nothing was done
-pub fails_nothing : (same : Type 0) (S : State) (said : Said) (v w : View) → same → FailsLine Memory same S said v w
-fails_nothing same S (Ok (Some e)) v w left = inl left
+pub fails_nothing : (same : Type 0) (S : State) (said : Says) (v w : View) → same → FailsLine Memory same S said v w
+fails_nothing same S (Ok (Some d)) v w left = inl left
 fails_nothing same S (Ok None) v w left = left
 fails_nothing same S (Err fault) v w left = left
 
 -- the event that a line was read as was not answered
-pub fails_event : (fault : RunFault) (same : Type 0) (S : State) (started : Bool) (line : List ℕ) (e : Event) (v w : View) → started ≡ S.started → event_of started line ≡ Ok (Some e) → Fails fault same S e v w → FailsLine fault same S (event_of S.started line) v w
-fails_event fault same S started line e v w is says fails = subst (λ said. FailsLine fault same S said v w) (sym says ∙ ap (λ b. event_of b line) is) fails
+pub stops_event : (stop : Stop) (same : Type 0) (S : State) (mode : Mode) (started : Bool) (line : List ℕ) (d : Due) (v w : View) → started ≡ S.started → said_by mode started line ≡ Ok (Some d) → Stops stop same S (Ok (Some d)) v w → Stops stop same S (said_by mode S.started line) v w
+stops_event stop same S mode started line d v w is says stops = subst (λ said. Stops stop same S said v w) (sym says ∙ ap (λ b. said_by mode b line) is) stops

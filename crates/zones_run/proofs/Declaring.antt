@@ -20,7 +20,12 @@ use Rattle.zone_cases.specs.declared.events.Event.{Event}
 use Rattle.zone_cases.specs.declared.events.Event.TheVariants.{System}
 use Rattle.zones_run.specs.Declarations.{DeclaresFirst}
 use Rattle.zones_run.specs.Output.{is_past_limit}
-use Rattle.zones_run.specs.Tracing.{Past_limit, Script, counts, counts_event, ends, script_from, with_line}
+use Rattle.trace_text.specs.Given.{Given, behind, given_by, given_of, stated}
+use Rattle.zone_pools.specs.declared.grant.Grant.{Grant}
+use Rattle.zones_run.specs.Scripts.{Past_limit, Says, Script, counts, counts_event, due_given, due_said, ends, said_by, script_from, with_line}
+use Rattle.zones_run.specs.declared.due.Due.{Due}
+use Rattle.zones_run.specs.declared.words.Mode.{Mode}
+use Rattle.zones_run.specs.declared.words.Mode.TheVariants.{Purged, Replies, Stated, WithTurns}
 
 -- a line says no declaration
 abbrev Undeclared : Said → Type 0
@@ -91,9 +96,39 @@ by_tag tag more =
 undeclared : (line : List ℕ) → Undeclared (event_of true line)
 undeclared line = by_test (is_no_event line) (Ok None) _ tt (by_test (begins_with 64 line) (Err GrantForm) _ tt (by_tag (first_word line) (after_word line)))
 
+-- the same of what is due
+abbrev UndeclaredDue : Says → Type 0
+UndeclaredDue (Ok (Some d)) = counts_event d.event ≡ true
+UndeclaredDue (Ok None) = Unit {0}
+UndeclaredDue (Err fault) = Unit {0}
+
+by_said : (said : Said) → Undeclared said → UndeclaredDue (due_said said)
+by_said (Ok (Some e)) un = un
+by_said (Ok None) un = tt
+by_said (Err fault) un = tt
+
+by_behind : (grant : Grant) (place : ℕ) (said : Said) → Undeclared said → UndeclaredDue (due_given (behind grant place said))
+by_behind grant place (Ok (Some e)) un = un
+by_behind grant place (Ok None) un = tt
+by_behind grant place (Err fault) un = tt
+
+by_split : (split : Option (Grant × List ℕ)) → UndeclaredDue (due_given (given_by true split))
+by_split None = tt
+by_split (Some split) = by_behind split.0 _ (event_of true split.1) (undeclared split.1)
+
+by_blank : (b : Bool) (given : Given) → UndeclaredDue (due_given given) → UndeclaredDue (due_given (cond b (Ok None) given))
+by_blank true given un = tt
+by_blank false given un = un
+
+undeclared_due : (mode : Mode) (line : List ℕ) → UndeclaredDue (said_by mode true line)
+undeclared_due Replies line = by_said (event_of true line) (undeclared line)
+undeclared_due WithTurns line = by_said (event_of true line) (undeclared line)
+undeclared_due (Purged zone) line = by_said (event_of true line) (undeclared line)
+undeclared_due Stated line = by_blank (is_no_event line) (given_by true (stated line)) (by_split (stated line))
+
 -- the events of a script
 abbrev events : Script → List Event
-events script = map (λ e. e.1) script.events
+events script = map (λ e. e.1.event) script.events
 
 -- none of some events is a declaration
 abbrev DeclareNothing : List Event → Type 0
@@ -119,35 +154,36 @@ first-cons e b es count none first [] after what is = All-nil (λ e. counts_even
 first-cons e true es count none first (x ∷ before) after what is = absurd (none before after what (cc))
 first-cons e false es count none first (x ∷ before) after what is = let same : x ≡ e = cc in All-cons (λ e. counts_event e ≡ false) x before (ap counts_event same ∙ count) (first before after what (cc))
 
-nothing_said : (n : ℕ) (said : Said) (more : Script) → Undeclared said → DeclareNothing (events more) → DeclareNothing (events (with_line n said more))
+nothing_said : (n : ℕ) (said : Says) (more : Script) → UndeclaredDue said → DeclareNothing (events more) → DeclareNothing (events (with_line n said more))
 nothing_said n (Err fault) more un none = nothing-nil
 nothing_said n (Ok None) more un none = none
-nothing_said n (Ok (Some e)) more un none = nothing-cons e (events more) un none
+nothing_said n (Ok (Some d)) more un none = nothing-cons d.event (events more) un none
 
-first_said : (n : ℕ) (said : Said) (more : Bool → Script) → DeclareNothing (events (more true)) → DeclareFirst (events (more false)) → DeclareFirst (events (with_line n said (more (counts said))))
+first_said : (n : ℕ) (said : Says) (more : Bool → Script) → DeclareNothing (events (more true)) → DeclareFirst (events (more false)) → DeclareFirst (events (with_line n said (more (counts said))))
 first_said n (Err fault) more none first = first-nil
 first_said n (Ok None) more none first = first
-first_said n (Ok (Some e)) more none first = first-cons e (counts_event e) (λ b. events (more b)) refl none first
+first_said n (Ok (Some d)) more none first = first-cons d.event (counts_event d.event) (λ b. events (more b)) refl none first
 
--- the script of lines where an event that counts has come, and where none has
-nothing_declared : (n : ℕ) (lines : List (List ℕ)) → DeclareNothing (events (script_from true n lines))
-nothing_declared n [] = nothing-nil
-nothing_declared n (line ∷ lines) = at_limit (is_past_limit n line) (nothing_said n (event_of true line) (script_from true (n + 1) lines) (undeclared line) (nothing_declared (n + 1) lines))
-  where
-    at_limit : (b : Bool) → DeclareNothing (events (with_line n (event_of true line) (script_from true (n + 1) lines))) → DeclareNothing (events (cond b (ends (Past_limit n)) (with_line n (event_of true line) (script_from true (n + 1) lines))))
-    at_limit true none = nothing-nil
-    at_limit false none = none
+module _ (mode : Mode) where
+  -- the script of lines where an event that counts has come, and where none has
+  nothing_declared : (n : ℕ) (lines : List (List ℕ)) → DeclareNothing (events (script_from mode true n lines))
+  nothing_declared n [] = nothing-nil
+  nothing_declared n (line ∷ lines) = at_limit (is_past_limit n line) (nothing_said n (said_by mode true line) (script_from mode true (n + 1) lines) (undeclared_due mode line) (nothing_declared (n + 1) lines))
+    where
+      at_limit : (b : Bool) → DeclareNothing (events (with_line n (said_by mode true line) (script_from mode true (n + 1) lines))) → DeclareNothing (events (cond b (ends (Past_limit n)) (with_line n (said_by mode true line) (script_from mode true (n + 1) lines))))
+      at_limit true none = nothing-nil
+      at_limit false none = none
 
-declared_first : (n : ℕ) (lines : List (List ℕ)) → DeclareFirst (events (script_from false n lines))
-declared_first n [] = first-nil
-declared_first n (line ∷ lines) = at_limit (is_past_limit n line) (first_said n (event_of false line) (λ b. script_from b (n + 1) lines) (nothing_declared (n + 1) lines) (declared_first (n + 1) lines))
-  where
-    said : Said
-    said = event_of false line
+  declared_first : (n : ℕ) (lines : List (List ℕ)) → DeclareFirst (events (script_from mode false n lines))
+  declared_first n [] = first-nil
+  declared_first n (line ∷ lines) = at_limit (is_past_limit n line) (first_said n (said_by mode false line) (λ b. script_from mode b (n + 1) lines) (nothing_declared (n + 1) lines) (declared_first (n + 1) lines))
+    where
+      said : Says
+      said = said_by mode false line
 
-    at_limit : (b : Bool) → DeclareFirst (events (with_line n said (script_from (counts said) (n + 1) lines))) → DeclareFirst (events (cond b (ends (Past_limit n)) (with_line n said (script_from (counts said) (n + 1) lines))))
-    at_limit true first = first-nil
-    at_limit false first = first
+      at_limit : (b : Bool) → DeclareFirst (events (with_line n said (script_from mode (counts said) (n + 1) lines))) → DeclareFirst (events (cond b (ends (Past_limit n)) (with_line n said (script_from mode (counts said) (n + 1) lines))))
+      at_limit true first = first-nil
+      at_limit false first = first
 
 pub declares-first : DeclaresFirst
-declares-first bytes = declared_first 1 (lines_of bytes)
+declares-first mode bytes = declared_first mode 1 (lines_of bytes)

@@ -1,9 +1,8 @@
 -- Histories and their changes, one entry further.
-use Rattle.std.proofs.Common.{◌≡◌, ◌&&◌, ℕ, List, [], ◌∷◌, ◌++◌, Bool, true, false, Option, Some, None, refl, ap, sym, ◌∙◌, append_assoc}
+use Rattle.std.proofs.Common.{◌≡◌, ◌&&◌, ℕ, List, [], ◌∷◌, ◌++◌, Bool, true, false, Option, Some, None, Ok, Err, refl, ap, sym, ◌∙◌, append_assoc}
 use Rattle.std.proofs.lemmas.Bool.{and_from}
 use Rattle.std.proofs.lemmas.List.{append-nil}
 use Rattle.zn_base.specs.Names.{Name}
-use Rattle.zone_pools.specs.Same.{same_grant}
 use Rattle.zone_pools.proofs.Same_laws.{grant-Decides}
 use Rattle.zoneadmd_steps.specs.Arrivals.{Arrival, New_claim, New_id, New_process, New_record, No_new_thing}
 use Rattle.zoneadmd_steps.specs.Objects.{Processes_go}
@@ -14,8 +13,16 @@ use Rattle.zone_cases.specs.State.Edits.{Edit, Of_objects, comes, console_gone, 
 use Rattle.zone_cases.specs.State.Worlds.{view}
 use Rattle.zone_machine.specs.Machine.{decide, one, one_of, session_number, subject, whole}
 use Rattle.zone_machine.specs.Machine.Changes.{change, change_of, changes, committed}
-use Rattle.zone_machine.specs.Machine.Histories.{after, after_entry, entry_at, is_legal, is_told}
-use Rattle.zone_machine.specs.Machine.Pools.{allowed}
+use Rattle.zone_machine.specs.Code.Records.{taken}
+use Rattle.zone_machine.specs.Machine.Histories.{after, after_entry, is_allowed, is_history, is_told}
+use Rattle.zone_machine.specs.Machine.Pools.{allowed, fits}
+use Rattle.zone_pools.specs.declared.grant.Grant.{Grant}
+use Rattle.trace_text.specs.Given.{Given, given_of}
+use Rattle.trace_text.specs.Lines.{Said, event_of}
+use Rattle.zones_run.specs.Scripts.{due_given, due_said, entry_for, fits_due, fits_stated, permits, said_by, states, unstated}
+use Rattle.zones_run.specs.declared.due.Due.{Due}
+use Rattle.zones_run.specs.declared.words.Mode.{Mode}
+use Rattle.zones_run.specs.declared.words.Mode.TheVariants.{Purged, Replies, Stated, WithTurns}
 use Rattle.zone_cases.specs.declared.events.Entry.{Entry}
 use Rattle.zone_cases.specs.declared.events.Event.{Event}
 use Rattle.zone_cases.specs.declared.events.Event.TheVariants.{Process as Call_of, Restart, Session, System, Turn}
@@ -79,20 +86,55 @@ commits-after S [] = sym (append-nil S.commits)
 commits-after S (e ∷ h) =
     commits-after (after_entry S e) h ∙ ap (λ l. l ++ changes (after_entry S e) h) (commits-entry S e) ∙ append_assoc S.commits (change S e) (changes (after_entry S e) h)
 
-legal-push : (S : State) (h : List Entry) (e : Entry) → is_legal S h ≡ true → is_legal (after S h) (e ∷ []) ≡ true → is_legal S (h ++ e ∷ []) ≡ true
-legal-push S [] e is more = more
-legal-push S (d ∷ h) e is more =
-    at_test (is_told S d && same_grant d.grant (allowed S d.event)) (is_legal (after_entry S d) h) (is_legal (after_entry S d) (h ++ e ∷ [])) is (λ rest. legal-push (after_entry S d) h e rest more)
+history-push : (permitted : State → Event → Grant → Bool) (S : State) (h : List Entry) (e : Entry) → is_history permitted S h ≡ true → is_history permitted (after S h) (e ∷ []) ≡ true → is_history permitted S (h ++ e ∷ []) ≡ true
+history-push permitted S [] e is more = more
+history-push permitted S (d ∷ h) e is more =
+    at_test (is_told S d && permitted S d.event d.grant) (is_history permitted (after_entry S d) h) (is_history permitted (after_entry S d) (h ++ e ∷ [])) is (λ rest. history-push permitted (after_entry S d) h e rest more)
   where
     at_test : (a b c : Bool) → (a && b) ≡ true → (b ≡ true → c ≡ true) → (a && c) ≡ true
     at_test true b c is lead = lead is
     at_test false b c is lead = is
 
-legal-one : (S : State) (e : Event) → is_legal S (entry_at S e (allowed S e) ∷ []) ≡ true
-legal-one S e =
-    and_from _ _ (and_from _ _ (and_from _ _ ((subject-Decides (subject S e) (subject S e)).1 refl) ((reply-Decides (one S e (allowed S e)).reply (one S e (allowed S e)).reply).1 refl)) ((grant-Decides (allowed S e) (allowed S e)).1 refl)) refl
+-- what is due in a run states a grant where its lines do, and else none
+abbrev pub Suits : Mode → Due → Type 0
+Suits Stated d = (g : Grant) × (d.stated ≡ Some g)
+Suits mode d = d.stated ≡ None
 
--- the entry of an event under the grant that the pools give goes on a legal history
-pub legal-entry : (S : State) (h : List Entry) (T : State) (e : Event) → T ≡ after S h → is_legal S h ≡ true → is_legal S (h ++ entry_at T e (allowed T e) ∷ []) ≡ true
-legal-entry S h T e reached is =
-    legal-push S h (entry_at T e (allowed T e)) is (ap (λ (U : State). is_legal U (entry_at T e (allowed T e) ∷ [])) (sym reached) ∙ legal-one T e)
+allowed-same : (S : State) (d : Due) → d.stated ≡ None → is_allowed S d.event (taken d.stated S d.event) ≡ true
+allowed-same S d is = ap (λ stated. is_allowed S d.event (taken stated S d.event)) is ∙ (grant-Decides (allowed S d.event) (allowed S d.event)).1 refl
+
+-- its grant is permitted
+pub permits-due : (mode : Mode) (S : State) (d : Due) → Suits mode d → fits_due S d ≡ true → permits mode S d.event (taken d.stated S d.event) ≡ true
+permits-due Stated S d suits h = ap (λ stated. fits S d.event (taken stated S d.event)) suits.1 ∙ (sym (ap (λ stated. fits_stated stated S d.event) suits.1) ∙ h)
+permits-due Replies S d suits fits = allowed-same S d suits
+permits-due WithTurns S d suits fits = allowed-same S d suits
+permits-due (Purged zone) S d suits fits = allowed-same S d suits
+
+-- its entry is told
+pub due-told : (S : State) (d : Due) → is_told S (entry_for S d) ≡ true
+due-told S d = and_from _ _ ((subject-Decides (subject S d.event) (subject S d.event)).1 refl) ((reply-Decides (one S d.event (taken d.stated S d.event)).reply (one S d.event (taken d.stated S d.event)).reply).1 refl)
+
+due-one : (mode : Mode) (S : State) (d : Due) → Suits mode d → fits_due S d ≡ true → is_history (permits mode) S (entry_for S d ∷ []) ≡ true
+due-one mode S d suits fits = and_from _ _ (and_from _ _ (due-told S d) (permits-due mode S d suits fits)) refl
+
+-- the entry of what is due goes on a history whose grants are permitted
+pub history-entry : (mode : Mode) (S : State) (h : List Entry) (T : State) (d : Due) → Suits mode d → fits_due T d ≡ true → T ≡ after S h → is_history (permits mode) S h ≡ true → is_history (permits mode) S (h ++ entry_for T d ∷ []) ≡ true
+history-entry mode S h T d suits fits reached is =
+    history-push (permits mode) S h (entry_for T d) is (ap (λ (U : State). is_history (permits mode) U (entry_for T d ∷ [])) (sym reached) ∙ due-one mode T d suits fits)
+
+-- what a line says is such
+due_suits : (mode : Mode) (said : Said) (d : Due) → states mode ≡ false → due_said said ≡ Ok (Some d) → d.stated ≡ None
+due_suits mode (Ok None) d not is = absurd (cc)
+due_suits mode (Ok (Some e)) d not is = let same : unstated e ≡ d = cc in sym (ap (λ (d : Due). d.stated) same)
+due_suits mode (Err fault) d not is = absurd (cc)
+
+given_suits : (given : Given) (d : Due) → due_given given ≡ Ok (Some d) → (g : Grant) × (d.stated ≡ Some g)
+given_suits (Ok None) d is = absurd (cc)
+given_suits (Ok (Some g)) d is = let same : d ≡ record { event = g.1; stated = Some g.0 } = cc in (g.0, ap (λ (d : Due). d.stated) same)
+given_suits (Err fault) d is = absurd (cc)
+
+pub suits_said : (mode : Mode) (started : Bool) (line : List ℕ) (d : Due) → said_by mode started line ≡ Ok (Some d) → Suits mode d
+suits_said Replies started line d is = due_suits Replies (event_of started line) d refl is
+suits_said WithTurns started line d is = due_suits WithTurns (event_of started line) d refl is
+suits_said (Purged zone) started line d is = due_suits (Purged zone) (event_of started line) d refl is
+suits_said Stated started line d is = given_suits (given_of started line) d is

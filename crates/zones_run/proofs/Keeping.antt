@@ -7,12 +7,14 @@ use Rattle.brand_hooks.specs.Brands.{Tabled}
 use Rattle.commit_journal.specs.declared.records.Commit.{Commit}
 use Rattle.zone_machine.specs.Machine.{opening}
 use Rattle.zone_machine.specs.Machine.Changes.{HoldsFront, change, changes}
-use Rattle.zone_machine.specs.Machine.Histories.{after, after_entry, is_legal}
+use Rattle.zone_machine.specs.Machine.Histories.{after, after_entry, is_history}
 use Rattle.zone_machine.specs.Machine.Images.{Goes, Holds, HoldsEither, IsStoreOf}
 use Rattle.zone_cases.specs.State.{State}
 use Rattle.zone_cases.specs.declared.events.Entry.{Entry}
 use Rattle.zones_run.specs.Midway.{HasKept}
 use Rattle.zones_run.specs.Recording.{GoesSurely, IsFront, Records, commits_with}
+use Rattle.zones_run.specs.Scripts.{permits}
+use Rattle.zones_run.specs.declared.words.Mode.{Mode}
 use Rattle.zones_run.proofs.Histories.{after-push, changes-push, commits-after}
 
 pub front-none : (brands : List Tabled) (R : List Commit) (image : List ℕ) → Holds R image → HoldsFront (opening brands R) [] image
@@ -72,10 +74,10 @@ module _ (brands : List Tabled) (R : List Commit) (h : List Entry) (S : State) (
   }
 
   -- one in which the disk failed
-  pub records_torn : (v0 v w : View) (all : Option (List Entry)) → Goes S.commits (after_entry S e).commits v w → HasKept brands R h v0 v → is_legal (opening brands R) (h ++ e ∷ []) ≡ true → IfSome all (IsFront (h ++ e ∷ [])) → Records brands R h (e ∷ []) all v0 w
-  records_torn v0 v w all goes kept legal begins = record {
+  pub records_torn : (mode : Mode) (v0 v w : View) (all : Option (List Entry)) → Goes S.commits (after_entry S e).commits v w → HasKept brands R h v0 v → is_history (permits mode) (opening brands R) (h ++ e ∷ []) ≡ true → IfSome all (IsFront (h ++ e ∷ [])) → Records mode brands R h (e ∷ []) all v0 w
+  records_torn mode v0 v w all goes kept permitted begins = record {
     few = omega arith;
-    legal = legal;
+    permitted = permitted;
     begins = begins;
     any_moment = moments v0 v w kept.any_moment (goes.any_moment kept.keeps);
     now = λ image now. elim (goes.now kept.keeps image now) as (λ _. HoldsEither (commits_with brands R h) (commits_with brands R (h ++ e ∷ [])) image) [
@@ -85,12 +87,12 @@ module _ (brands : List Tabled) (R : List Commit) (h : List Entry) (S : State) (
   }
 
 -- all that was begun was answered
-pub records_all : (brands : List Tabled) (R : List Commit) (h : List Entry) (v0 v : View) (all : Option (List Entry)) → HasKept brands R h v0 v → is_legal (opening brands R) h ≡ true → IfSome all (IsFront h) → Records brands R h [] all v0 v
-records_all brands R h v0 v all kept legal begins =
+pub records_all : (mode : Mode) (brands : List Tabled) (R : List Commit) (h : List Entry) (v0 v : View) (all : Option (List Entry)) → HasKept brands R h v0 v → is_history (permits mode) (opening brands R) h ≡ true → IfSome all (IsFront h) → Records mode brands R h [] all v0 v
+records_all mode brands R h v0 v all kept permitted begins =
     let same : h ++ [] ≡ h = append-nil h in
     record {
       few = omega arith;
-      legal = rw same legal;
+      permitted = rw same permitted;
       begins = subst (λ (l : List Entry). IfSome all (IsFront l)) (sym same) begins;
       any_moment = subst (λ (l : List Entry). Leaves v0 v (HoldsFront (opening brands R) l)) (sym same) kept.any_moment;
       now = λ image now. inl (kept.now image now);

@@ -13,6 +13,7 @@ pub mod Begins
 pub mod TraceEnds
 pub mod TraceStarts
 pub mod Histories
+pub mod Permitted
 pub mod Keeping
 pub mod TraceRecords
 pub mod Stopping

@@ -70,7 +70,7 @@ ran_later mode brands R status input held holds u v w past ran =
       under_way = ran.under_way;
       records = record {
         few = ran.records.few;
-        legal = ran.records.legal;
+        permitted = ran.records.permitted;
         begins = ran.records.begins;
         any_moment = joined u v w (HoldsFront (opening brands R) h) (weaker u v (Holds R) (HoldsFront (opening brands R) h) (front_any brands R h) past) ran.records.any_moment;
         now = ran.records.now;
@@ -90,7 +90,7 @@ ran_nothing mode brands R status input held v w sound past not =
       under_way = [];
       records = record {
         few = omega arith;
-        legal = refl;
+        permitted = refl;
         begins = if_some _ (option_map (λ bs. (run_of mode brands R bs).entries) input) (λ all. record { rest = all; whole = refl });
         any_moment = weaker v w (Holds R) (HoldsFront (opening brands R) []) (front-none brands R) past;
         now = λ image now. inl (subst (λ (l : List Commit). Holds l image) (sym (append-nil R)) (past.each image (sound.counts_now v.moment image past.later now)));

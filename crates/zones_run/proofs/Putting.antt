@@ -23,11 +23,12 @@ use Rattle.zone_cases.specs.declared.events.Whose.TheVariants.{Found, Own}
 use Rattle.zone_cases.specs.declared.replies.Head.{Head}
 use Rattle.zone_cases.specs.declared.replies.Head.TheVariants.{Ok as Accepted, Refused, Status, Ticket, Turned}
 use Rattle.zones_run.specs.Midway.{puts_until}
-use Rattle.zones_run.specs.Scripting.{both_parts, entry_in, is_last, is_turn, numbered, opened, opened_by, put_in, puts_in, state_after, state_past, ticket_by, turns_after, turns_until, zone_by}
-use Rattle.zones_run.specs.Tracing.{counts_event}
+use Rattle.zones_run.specs.Scripting.{all_unstated, both_parts, entry_in, is_last, is_turn, numbered, opened, opened_by, put_in, puts_in, state_after, state_past, ticket_by, turns_after, turns_until, with_events, zone_by}
+use Rattle.zones_run.specs.Scripts.{At_misfit, Ending, Script, counts_event, ends, entries_from, entry_for, fits_due, fits_stated, state_for, with_due}
+use Rattle.zones_run.specs.declared.due.Due.{Due}
 use Rattle.zones_run.specs.declared.turns.Opened.{Opened}
 use Rattle.zones_run.specs.declared.words.Mode.{Mode}
-use Rattle.zones_run.specs.declared.words.Mode.TheVariants.{Purged, Replies, WithTurns}
+use Rattle.zones_run.specs.declared.words.Mode.TheVariants.{Purged, Replies, Stated, WithTurns}
 use Rattle.zones_run.proofs.Starting.{started_after}
 
 pub unnumbered : (n : ℕ) (es : List Event) → map (λ (x : ℕ × Event). x.1) (numbered n es) ≡ es
@@ -38,6 +39,7 @@ unnumbered n (e ∷ es) = ap (λ l. e ∷ l) (unnumbered n es)
 pub none_after : (mode : Mode) (S : State) → turns_after mode None S ≡ []
 none_after Replies S = refl
 none_after (Purged zone) S = refl
+none_after Stated S = refl
 none_after WithTurns S = refl
 
 -- a line that is answered by a ticket counts, and so does each turn
@@ -50,6 +52,9 @@ opened_counts Restart s h o is = refl
 
 turn_counts : (S : State) (e : Event) → counts_event e ≡ true → (state_after S e).started ≡ true
 turn_counts S e is = started_after S e (allowed S e) ∙ ap (λ b. S.started || b) is ∙ or-true S.started
+
+due_counts : (S : State) (d : Due) → counts_event d.event ≡ true → (state_for S d).started ≡ true
+due_counts S d is = started_after S d.event (entry_for S d).grant ∙ ap (λ b. S.started || b) is ∙ or-true S.started
 
 started_until : (more : ℕ) (o : Opened) (S : State) → S.started ≡ true → (state_past S (turns_until more o S)).started ≡ true
 unfolding turns_until
@@ -65,13 +70,14 @@ started_until (suc more) o S is =
 by_ticket : (mode : Mode) (said : Option Opened) (S : State) → ((o : Opened) → said ≡ Some o → S.started ≡ true) → (state_past S (turns_after mode said S)).started ≡ S.started
 by_ticket Replies said S begun = refl
 by_ticket (Purged zone) said S begun = refl
+by_ticket Stated said S begun = refl
 by_ticket WithTurns None S begun = refl
 by_ticket WithTurns (Some o) S begun = started_until 10000000 o S (begun o refl) ∙ sym (begun o refl)
 
 -- what the lines after the turns say depends on the line before them alone
-pub started_past : (mode : Mode) (S : State) (e : Event) → (state_past (state_after S e) (turns_after mode (opened (entry_in S e)) (state_after S e))).started ≡ (S.started || counts_event e)
-started_past mode S e =
-    by_ticket mode (opened (entry_in S e)) (state_after S e) (λ o is. turn_counts S e (opened_counts e (entry_in S e).subject (entry_in S e).reply.head o is)) ∙ started_after S e (allowed S e)
+pub started_past : (mode : Mode) (S : State) (d : Due) → (state_past (state_for S d) (turns_after mode (opened (entry_for S d)) (state_for S d))).started ≡ (S.started || counts_event d.event)
+started_past mode S d =
+    by_ticket mode (opened (entry_for S d)) (state_for S d) (λ o is. due_counts S d (opened_counts d.event (entry_for S d).subject (entry_for S d).reply.head o is)) ∙ started_after S d.event (entry_for S d).grant
 
 -- they are turns
 abbrev AreTurns : List Entry → Type 0
@@ -98,6 +104,7 @@ until_rests (suc more) o S =
 after_rests : (mode : Mode) (said : Option Opened) (S : State) → list_any is_restart (turns_after mode said S) ≡ false
 after_rests Replies said S = refl
 after_rests (Purged zone) said S = refl
+after_rests Stated said S = refl
 after_rests WithTurns None S = refl
 after_rests WithTurns (Some o) S = until_rests 10000000 o S
 
@@ -109,44 +116,77 @@ first_rests : (a b x : Bool) → (a || b) ≡ false → (a || x) ≡ x
 first_rests false b x h = refl
 first_rests true b x h = absurd (cc)
 
-numbered_rests : (n : ℕ) (es : List Event) (events : List (ℕ × Event)) → list_any is_restart es ≡ false → list_any (λ (x : ℕ × Event). is_restart x.1) (numbered n es ++ events) ≡ list_any (λ (x : ℕ × Event). is_restart x.1) events
+-- so the events that restart are some of those of the lines
+numbered_rests : (n : ℕ) (es : List Event) (events : List (ℕ × Due)) → list_any is_restart es ≡ false → list_any (λ (x : ℕ × Due). is_restart x.1.event) (all_unstated (numbered n es) ++ events) ≡ list_any (λ (x : ℕ × Due). is_restart x.1.event) events
 numbered_rests n [] events h = refl
 numbered_rests n (e ∷ es) events h =
     ap (λ b. is_restart e || b) (numbered_rests n es events (or_rest (is_restart e) (list_any is_restart es) h))
-    ∙ first_rests (is_restart e) (list_any is_restart es) (list_any (λ (x : ℕ × Event). is_restart x.1) events) h
+    ∙ first_rests (is_restart e) (list_any is_restart es) (list_any (λ (x : ℕ × Due). is_restart x.1.event) events) h
 
-pub put_rests : (mode : Mode) (S : State) (events : List (ℕ × Event)) → list_any (λ (x : ℕ × Event). is_restart x.1) (put_in mode S events) ≡ list_any (λ (x : ℕ × Event). is_restart x.1) events
-put_rests mode S [] = refl
-put_rests mode S (e ∷ events) =
-    let T = state_after S e.1 in
-    let more = turns_after mode (opened (entry_in S e.1)) T in
-    ap (λ b. is_restart e.1 || b) (numbered_rests e.0 more (put_in mode (state_past T more) events) (after_rests mode (opened (entry_in S e.1)) T) ∙ put_rests mode (state_past T more) events)
+abbrev any_restart : List (ℕ × Due) → Bool
+any_restart events = list_any (λ (x : ℕ × Due). is_restart x.1.event) events
+
+or_lead : (a b c : Bool) → (b ≡ true → c ≡ true) → (a || b) ≡ true → (a || c) ≡ true
+or_lead true b c lead h = refl
+or_lead false b c lead h = lead h
+
+pub put_rests : (mode : Mode) (S : State) (events : List (ℕ × Due)) (ending : Ending) → list_any (λ (x : ℕ × Due). is_restart x.1.event) (put_in mode S events ending).events ≡ true → list_any (λ (x : ℕ × Due). is_restart x.1.event) events ≡ true
+put_rests mode S [] ending h = h
+put_rests mode S (e ∷ events) ending h =
+    let T = state_for S e.1 in
+    let more = turns_after mode (opened (entry_for S e.1)) T in
+    let rest = put_in mode (state_past T more) events ending in
+    by_fit (fits_due S e.1) e (with_events (numbered e.0 more) rest)
+    (λ k. or_lead (is_restart e.1.event) (any_restart (with_events (numbered e.0 more) rest).events) (any_restart events)
+    (λ r. put_rests mode (state_past T more) events ending (sym (numbered_rests e.0 more rest.events (after_rests mode (opened (entry_for S e.1)) T)) ∙ r)) k) h
+  where
+    by_fit : (b : Bool) (e : ℕ × Due) (script : Script) → (any_restart (e ∷ script.events) ≡ true → any_restart (e ∷ events) ≡ true) → any_restart (cond b (with_due e script) (ends (At_misfit e.0))).events ≡ true → any_restart (e ∷ events) ≡ true
+    by_fit true e script lead k = lead k
+    by_fit false e script lead k = absurd (true≢false (sym k))
 
 -- only `script` puts any in
 none_of : (mode : Mode) (said : Option Opened) (S : State) → puts_in mode ≡ false → turns_after mode said S ≡ []
 none_of Replies said S h = refl
 none_of (Purged zone) said S h = refl
+none_of Stated said S h = refl
 none_of WithTurns said S h = absurd (true≢false h)
 
-pub puts_none : (mode : Mode) → (mode ≡ Replies) ⊎ ((zone : ZoneName) × (mode ≡ Purged zone)) → puts_in mode ≡ false
+pub puts_none : (mode : Mode) → (mode ≡ Replies) ⊎ (((zone : ZoneName) × (mode ≡ Purged zone)) ⊎ (mode ≡ Stated)) → puts_in mode ≡ false
 puts_none mode (inl is) = ap puts_in is
-puts_none mode (inr is) = ap puts_in is.1
+puts_none mode (inr (inl is)) = ap puts_in is.1
+puts_none mode (inr (inr is)) = ap puts_in is
 
-pub nothing_put : (mode : Mode) (S : State) (events : List (ℕ × Event)) → puts_in mode ≡ false → put_in mode S events ≡ events
-nothing_put mode S [] h = refl
-nothing_put mode S (e ∷ events) h =
-    let T = state_after S e.1 in
-    ap (λ more. e ∷ (numbered e.0 more ++ put_in mode (state_past T more) events)) (none_of mode (opened (entry_in S e.1)) T h)
-    ∙ ap (λ l. e ∷ l) (nothing_put mode T events h)
+-- where no grants are stated, and none are put in, the events are those of the lines
+abbrev pub NoneStated : List (ℕ × Due) → Type 0
+NoneStated [] = Unit {0}
+NoneStated (e ∷ events) = (e.1.stated ≡ None) × NoneStated events
+
+pub nothing_put : (mode : Mode) (S : State) (events : List (ℕ × Due)) (ending : Ending) → puts_in mode ≡ false → NoneStated events → put_in mode S events ending ≡ record { events = events; ending = ending }
+nothing_put mode S [] ending h none = refl
+nothing_put mode S (e ∷ events) ending h none =
+    let T = state_for S e.1 in
+    let more = turns_after mode (opened (entry_for S e.1)) T in
+    let rest = put_in mode (state_past T more) events ending in
+    ap (λ b. cond b (with_due e (with_events (numbered e.0 more) rest)) (ends (At_misfit e.0))) (unstated_fits S e.1 none.0)
+    ∙ ap (λ more. with_due e (with_events (numbered e.0 more) (put_in mode (state_past T more) events ending))) (none_of mode (opened (entry_for S e.1)) T h)
+    ∙ ap (with_due e) (nothing_put mode T events ending h none.1)
+  where
+    unstated_fits : (S : State) (d : Due) → d.stated ≡ None → fits_due S d ≡ true
+    unstated_fits S d is = ap (λ stated. fits_stated stated S d.event) is
 
 -- of a turn and those after it
 pub next_put : (more : ℕ) (o : Opened) (m : ℕ) (S : State) → puts_until (suc more) o m S ≡ (m, Turn o.zone) ∷ numbered m (cond (is_last o.ticket (entry_in S (Turn o.zone)).reply.head) [] (turns_until more o (state_after S (Turn o.zone))))
 unfolding turns_until
 next_put more o m S = refl
 
-pub puts_turns : (more : ℕ) (o : Opened) (m : ℕ) (S : State) → All (λ (x : Entry). is_turn x.event ≡ true) (history S (map (λ (x : ℕ × Event). x.1) (puts_until more o m S ++ [])))
+-- the entries of turns that are put in
+pub entries_unstated : (S : State) (events : List (ℕ × Event)) → entries_from S (map (λ (x : ℕ × Due). x.1) (all_unstated events ++ [])) ≡ history S (map (λ (x : ℕ × Event). x.1) events)
+entries_unstated S [] = refl
+entries_unstated S (e ∷ events) = ap (λ l. entry_in S e.1 ∷ l) (entries_unstated (state_after S e.1) events)
+
+pub puts_turns : (more : ℕ) (o : Opened) (m : ℕ) (S : State) → All (λ (x : Entry). is_turn x.event ≡ true) (entries_from S (map (λ (x : ℕ × Due). x.1) (all_unstated (puts_until more o m S) ++ [])))
 puts_turns more o m S =
-    subst (λ (es : List Event). AreTurns (history S es)) (sym (ap (map (λ (x : ℕ × Event). x.1)) (append-nil (puts_until more o m S)) ∙ unnumbered m (turns_until more o S))) (until_turns more o S)
+    subst AreTurns (sym (entries_unstated S (puts_until more o m S) ∙ ap (history S) (unnumbered m (turns_until more o S)))) (until_turns more o S)
 
 -- the ticket that a line was answered, from its parts
 by_head : (n : ℕ) (text : List ℕ) (z : Name) (h : Head) → opened_by (Session n text) (Zone z) h ≡ both_parts (ticket_by (Session n text) h) (Some z)

@@ -13,7 +13,7 @@ use Rattle.zone_cases.specs.declared.events.Event.{Event}
 use Rattle.zone_cases.specs.declared.events.Event.TheVariants.{Process as Call_of, Restart, Session, System, Turn}
 use Rattle.zone_cases.specs.declared.events.Subject.{Subject}
 use Rattle.zone_cases.specs.declared.events.Subject.TheVariants.{Zone, Global, Whole}
-use Rattle.zones_run.specs.Tracing.{counts_event}
+use Rattle.zones_run.specs.Scripts.{counts_event}
 
 -- a zone, or the global zone
 abbrev IsZone : Subject → Type 0

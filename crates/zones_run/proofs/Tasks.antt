@@ -16,7 +16,7 @@ use Rattle.zones_run.specs.declared.words.Mode.{Mode}
 use Rattle.zones_run.proofs.Commands.{if_mapped}
 
 module _ (task : Task) (mode : Mode) (is : task ≡ Run mode) (brands : List Tabled) (R : List Commit) (status : ℕ) (input left held holds : Option (List ℕ)) where
-  pub run_finds : (v : View) → FindsStore task v input → FindsAlways v input
+  pub run_finds : (v : View) → FindsStore task v input → FindsAlways mode v input
   run_finds v finds = subst (λ (t : Task). FindsStore t v input) is finds
 
   pub run_done : (P : Output → Type 0) → IfSome input (λ bytes. P (traced mode brands R bytes)) → IfSome (done_over task brands R input) P

@@ -17,7 +17,7 @@ use Rattle.zones_run.specs.declared.fault.RunFault.{RunFault}
 use Rattle.zones_run.specs.declared.words.Mode.{Mode}
 use Rattle.zones_run.specs.declared.fault.RunFault.TheVariants.{Disk, Memory, Read, Write}
 use Rattle.zones_run.specs.declared.outcome.Complaint.{Complaint}
-use Rattle.zones_run.specs.declared.outcome.Complaint.TheVariants.{End, FirstRefused, Grammar, Limit, Line, NotAStore}
+use Rattle.zones_run.specs.declared.outcome.Complaint.TheVariants.{BadGrant, End, FirstRefused, Grammar, Limit, Line, NotAStore}
 use Rattle.zones_run.proofs.Fronts.{after_known-nil, behind_nothing}
 use Rattle.zones_run.proofs.TraceEnds.{ends_run, fails_with, lines_some, whole_front, whole_replies}
 use Rattle.zones_run.proofs.TraceRecords.{nearly_all}
@@ -35,6 +35,7 @@ some_status : (complaint : Complaint) → status_refused ≤ complaint_status co
 some_status (Line number refusal) = omega arith
 some_status (End refusal) = omega arith
 some_status (Grammar number fault) = omega arith
+some_status (BadGrant number) = omega arith
 some_status (FirstRefused number) = omega arith
 some_status (Limit number) = omega arith
 some_status (NotAStore fault) = omega arith
@@ -43,6 +44,7 @@ no_fault_status : (complaint : Complaint) → complaint_status complaint ≡ sta
 no_fault_status (Line number refusal) is = omega arith
 no_fault_status (End refusal) is = omega arith
 no_fault_status (Grammar number fault) is = omega arith
+no_fault_status (BadGrant number) is = omega arith
 no_fault_status (FirstRefused number) is = omega arith
 no_fault_status (Limit number) is = omega arith
 no_fault_status (NotAStore fault) is = omega arith
@@ -57,6 +59,7 @@ input_status : (complaint : Complaint) → IsOfInput complaint → complaint_sta
 input_status (Line number refusal) of is = omega (arith, is)
 input_status (End refusal) of is = omega (arith, is)
 input_status (Grammar number fault) of is = omega (arith, is)
+input_status (BadGrant number) of is = omega (arith, is)
 input_status (FirstRefused number) of is = omega (arith, is)
 input_status (Limit number) of is = omega (arith, is)
 input_status (NotAStore fault) of is = of

@@ -7,7 +7,6 @@ use Rattle.zn_io.specs.Disk.{View}
 use Rattle.zn_io.specs.Streams.{after_known}
 use Rattle.brand_hooks.specs.Brands.{Tabled}
 use Rattle.commit_journal.specs.declared.records.Commit.{Commit}
-use Rattle.trace_text.specs.Lines.{Said, event_of}
 use Rattle.zone_machine.specs.Machine.{opening}
 use Rattle.zone_machine.specs.Machine.Images.{Goes, IsStoreOf}
 use Rattle.zone_cases.specs.State.{State}
@@ -15,16 +14,17 @@ use Rattle.zone_cases.specs.declared.events.Entry.{Entry}
 use Rattle.zone_cases.specs.declared.events.Event.{Event}
 use Rattle.zones_run.specs.Answering.{Fails, FailsLine, LeavesText}
 use Rattle.zones_run.specs.Midway.{Follows, Knows, Left, none_put}
-use Rattle.zones_run.specs.Scripting.{entry_in, state_after}
+use Rattle.zones_run.specs.Scripts.{Ending, Says, entry_for, fits_due, said_by, state_for, unstated}
+use Rattle.zones_run.specs.declared.due.Due.{Due}
 use Rattle.zones_run.specs.Reading.{TakesLine}
 use Rattle.zones_run.specs.Recording.{GoesSurely, HasNearlyTold, IsFront, Ran, RanAs}
-use Rattle.zones_run.specs.Tracing.{Ending, entries_text, run_of}
+use Rattle.zones_run.specs.Tracing.{entries_text, run_of}
 use Rattle.zones_run.specs.declared.fault.RunFault.{RunFault}
 use Rattle.zones_run.specs.declared.fault.RunFault.TheVariants.{Disk, Memory, Read, Write}
 use Rattle.zones_run.specs.declared.outcome.Complaint.{Complaint}
 use Rattle.zones_run.specs.declared.words.Mode.{Mode}
 use Rattle.zones_run.specs.declared.words.Mode.TheVariants.{WithTurns}
-use Rattle.zones_run.proofs.Histories.{legal-entry}
+use Rattle.zones_run.proofs.Histories.{Suits, history-entry, suits_said}
 use Rattle.zones_run.proofs.Keeping.{keeps_step, records_all, records_torn}
 use Rattle.zones_run.proofs.TraceEnds.{EndsSo, all_entries, fails_with}
 use Rattle.zones_run.proofs.TraceRuns.{begins_entry, begins_input, begins_turn}
@@ -72,7 +72,7 @@ module _ (mode : Mode) (to_put : State → List (ℕ × Event)) (brands : List T
   ran_part whole torn told nearly not = record {
     answered = f.run.done;
     under_way = [];
-    records = records_all brands R f.run.done v0 v (option_map (λ bs. (run_of mode brands R bs).entries) input) (f.kept is) f.legal (begins_input mode brands R refused (to_put f.run.state) n f.run.state f.run.done bytes input f.run.known);
+    records = records_all mode brands R f.run.done v0 v (option_map (λ bs. (run_of mode brands R bs).entries) input) (f.kept is) f.legal (begins_input mode brands R refused (to_put f.run.state) n f.run.state f.run.done bytes input f.run.known);
     settled = λ clear. refl;
     all = λ w. absurd (not w);
     replies = λ t. f.run.text;
@@ -84,14 +84,14 @@ module _ (mode : Mode) (to_put : State → List (ℕ × Event)) (brands : List T
   ran_cut r now failed = ran_writing mode brands R r (Err Write) input held holds now v0 v failed (λ h. cc) (ran_part _ _ _ _ (λ ok. cc))
 
   -- in an event in which the disk failed
-  ran_torn : (w : View) (e : Event) → IfSome (option_map (λ bs. (run_of mode brands R bs).entries) input) (IsFront (f.run.done ++ entry_in f.run.state e ∷ []))
-      → Goes f.run.state.commits (state_after f.run.state e).commits v w → RanAs mode brands R (Err Disk) input held holds v0 w
-  ran_torn w e begins goes =
-      let entry : Entry = entry_in f.run.state e in
+  ran_torn : (w : View) (d : Due) → Suits mode d → fits_due f.run.state d ≡ true → IfSome (option_map (λ bs. (run_of mode brands R bs).entries) input) (IsFront (f.run.done ++ entry_for f.run.state d ∷ []))
+      → Goes f.run.state.commits (state_for f.run.state d).commits v w → RanAs mode brands R (Err Disk) input held holds v0 w
+  ran_torn w d suits fits begins goes =
+      let entry : Entry = entry_for f.run.state d in
       record {
         answered = f.run.done;
         under_way = entry ∷ [];
-        records = records_torn brands R f.run.done f.run.state entry f.reached v0 v w (option_map (λ bs. (run_of mode brands R bs).entries) input) goes (f.kept is) (legal-entry (opening brands R) f.run.done f.run.state e f.reached f.legal) begins;
+        records = records_torn brands R f.run.done f.run.state entry f.reached mode v0 v w (option_map (λ bs. (run_of mode brands R bs).entries) input) goes (f.kept is) (history-entry mode (opening brands R) f.run.done f.run.state d suits fits f.reached f.legal) begins;
         settled = λ clear. absurd (clear refl);
         all = λ w. absurd (cc);
         replies = λ t. f.run.text;
@@ -99,15 +99,15 @@ module _ (mode : Mode) (to_put : State → List (ℕ × Event)) (brands : List T
       }
 
   -- after an event for whose reply memory ran out
-  ran_untold : (w : View) (e : Event) → IfSome (option_map (λ bs. (run_of mode brands R bs).entries) input) (IsFront (f.run.done ++ entry_in f.run.state e ∷ []))
-      → GoesSurely f.run.state.commits (state_after f.run.state e).commits v w → RanAs mode brands R (Err Memory) input held holds v0 w
-  ran_untold w e begins goes =
-      let entry : Entry = entry_in f.run.state e in
+  ran_untold : (w : View) (d : Due) → Suits mode d → fits_due f.run.state d ≡ true → IfSome (option_map (λ bs. (run_of mode brands R bs).entries) input) (IsFront (f.run.done ++ entry_for f.run.state d ∷ []))
+      → GoesSurely f.run.state.commits (state_for f.run.state d).commits v w → RanAs mode brands R (Err Memory) input held holds v0 w
+  ran_untold w d suits fits begins goes =
+      let entry : Entry = entry_for f.run.state d in
       record {
         answered = f.run.done ++ entry ∷ [];
         under_way = [];
-        records = records_all brands R (f.run.done ++ entry ∷ []) v0 w (option_map (λ bs. (run_of mode brands R bs).entries) input) (keeps_step brands R f.run.done f.run.state entry f.reached v0 v w goes (f.kept is))
-            (legal-entry (opening brands R) f.run.done f.run.state e f.reached f.legal) begins;
+        records = records_all mode brands R (f.run.done ++ entry ∷ []) v0 w (option_map (λ bs. (run_of mode brands R bs).entries) input) (keeps_step brands R f.run.done f.run.state entry f.reached v0 v w goes (f.kept is))
+            (history-entry mode (opening brands R) f.run.done f.run.state d suits fits f.reached f.legal) begins;
         settled = λ clear. refl;
         all = λ w. absurd (cc);
         replies = λ t. absurd (no_told t);
@@ -123,21 +123,21 @@ module _ (mode : Mode) (to_put : State → List (ℕ × Event)) (brands : List T
   ran_stayed fault same w left stay = stay left (λ u. RanAs mode brands R (Err fault) input held holds v0 u) (ran_part _ _ _ _ (λ ok. cc))
 
   -- at an event that could not be answered
-  pub ran_event : (fault : RunFault) (same : Type 0) (w : View) (e : Event) → IfSome (option_map (λ bs. (run_of mode brands R bs).entries) input) (IsFront (f.run.done ++ entry_in f.run.state e ∷ []))
-      → Fails fault same f.run.state e v w → (same → (P : View → Type 0) → P v → P w) → RanAs mode brands R (Err fault) input held holds v0 w
-  ran_event Disk same w e begins fails stay = ran_torn w e begins fails
-  ran_event Memory same w e begins (inl left) stay = ran_stayed Memory same w left stay
-  ran_event Memory same w e begins (inr goes) stay = ran_untold w e begins goes
-  ran_event Read same w e begins left stay = ran_stayed Read same w left stay
-  ran_event Write same w e begins left stay = ran_stayed Write same w left stay
+  pub ran_event : (fault : RunFault) (same : Type 0) (w : View) (d : Due) → Suits mode d → (fits_due f.run.state d ≡ true → IfSome (option_map (λ bs. (run_of mode brands R bs).entries) input) (IsFront (f.run.done ++ entry_for f.run.state d ∷ [])))
+      → Fails fault same f.run.state d v w → (same → (P : View → Type 0) → P v → P w) → RanAs mode brands R (Err fault) input held holds v0 w
+  ran_event Disk same w d suits begins fails stay = ran_torn w d suits fails.0 (begins fails.0) fails.1
+  ran_event Memory same w d suits begins (inl left) stay = ran_stayed Memory same w left stay
+  ran_event Memory same w d suits begins (inr goes) stay = ran_untold w d suits goes.0 (begins goes.0) goes.1
+  ran_event Read same w d suits begins left stay = ran_stayed Read same w left stay
+  ran_event Write same w d suits begins left stay = ran_stayed Write same w left stay
 
 module _ (mode : Mode) (brands : List Tabled) (R : List Commit) (stands : State → Type 0) (v0 v : View) (refused : Option ℕ) (n : ℕ) (held holds bytes input : Option (List ℕ)) (f : Follows mode none_put brands R stands (Left brands R v0 v) refused n held holds bytes input) (is : IsStoreOf v0 R) where
   -- at its end
-  pub ran_whole : (whole torn told nearly : Type 0) (ending : Ending) → EndsSo f.run.state.started n ending bytes → Ran mode brands R whole torn told nearly input held holds v0 v
+  pub ran_whole : (whole torn told nearly : Type 0) (ending : Ending) → EndsSo mode f.run.state n ending bytes → Ran mode brands R whole torn told nearly input held holds v0 v
   ran_whole whole torn told nearly ending ended = record {
     answered = f.run.done;
     under_way = [];
-    records = records_all brands R f.run.done v0 v (option_map (λ bs. (run_of mode brands R bs).entries) input) (f.kept is) f.legal (begins_input mode brands R refused [] n f.run.state f.run.done bytes input f.run.known);
+    records = records_all mode brands R f.run.done v0 v (option_map (λ bs. (run_of mode brands R bs).entries) input) (f.kept is) f.legal (begins_input mode brands R refused [] n f.run.state f.run.done bytes input f.run.known);
     settled = λ clear. refl;
     all = λ w. all_entries mode brands R stands refused n held holds bytes input ending f.run ended;
     replies = λ t. f.run.text;
@@ -145,19 +145,20 @@ module _ (mode : Mode) (brands : List Tabled) (R : List Commit) (stands : State 
   }
 
   -- at a line that could not be answered
-  pub ran_failed : (fault : RunFault) (same : Type 0) (w : View) (line : List ℕ) (new : Option (List ℕ)) (said : Said) → TakesLine line bytes new → n ≤ 200000 → length line ≤ 4096 → event_of f.run.state.started line ≡ said
+  pub ran_failed : (fault : RunFault) (same : Type 0) (w : View) (line : List ℕ) (new : Option (List ℕ)) (said : Says) → TakesLine line bytes new → n ≤ 200000 → length line ≤ 4096 → said_by mode f.run.state.started line ≡ said
       → FailsLine fault same f.run.state said v w → (same → (P : View → Type 0) → P v → P w) → RanAs mode brands R (Err fault) input held holds v0 w
   ran_failed fault same w line new (Ok None) took h k says left stay = ran_stayed mode none_put brands R stands v0 v refused n held holds bytes input f is fault same w left stay
   ran_failed fault same w line new (Err bad) took h k says left stay = ran_stayed mode none_put brands R stands v0 v refused n held holds bytes input f is fault same w left stay
-  ran_failed fault same w line new (Ok (Some e)) took h k says fails stay =
-      ran_event mode none_put brands R stands v0 v refused n held holds bytes input f is fault same w e (begins_entry mode brands R stands refused n held holds e line bytes new input f.run took h k says) fails stay
+  ran_failed fault same w line new (Ok (Some d)) took h k says fails stay =
+      ran_event mode none_put brands R stands v0 v refused n held holds bytes input f is fault same w d (suits_said mode f.run.state.started line d says)
+      (λ fits. begins_entry mode brands R stands refused n held holds d line bytes new input f.run took h k says fits) fails stay
 
 -- at a turn that was put in and could not be answered
 pub ran_turn : (to_put : State → List (ℕ × Event)) (brands : List Tabled) (R : List Commit) (stands : State → Type 0) (v0 v w : View) (refused : Option ℕ) (m n : ℕ) (held holds bytes input : Option (List ℕ)) (fault : RunFault) (same : Type 0) (e : Event) (rest : List (ℕ × Event)) (f : Follows WithTurns to_put brands R stands (Left brands R v0 v) refused n held holds bytes input)
-    → IsStoreOf v0 R → to_put f.run.state ≡ (m, e) ∷ rest → ((S : State) → stands S → Fails fault same S e v w) → (same → (P : View → Type 0) → P v → P w) → RanAs WithTurns brands R (Err fault) input held holds v0 w
+    → IsStoreOf v0 R → to_put f.run.state ≡ (m, e) ∷ rest → ((S : State) → stands S → Fails fault same S (unstated e) v w) → (same → (P : View → Type 0) → P v → P w) → RanAs WithTurns brands R (Err fault) input held holds v0 w
 ran_turn to_put brands R stands v0 v w refused m n held holds bytes input fault same e rest f is next fails stay =
-    ran_event WithTurns to_put brands R stands v0 v refused n held holds bytes input f is fault same w e
-    (begins_turn WithTurns brands R refused m n f.run.state f.run.done e rest bytes input (subst (λ (l : List (ℕ × Event)). IfSome input (Knows WithTurns brands R refused l n f.run.state f.run.done bytes)) next f.run.known))
+    ran_event WithTurns to_put brands R stands v0 v refused n held holds bytes input f is fault same w (unstated e) refl
+    (λ fits. begins_turn WithTurns brands R refused m n f.run.state f.run.done e rest bytes input (subst (λ (l : List (ℕ × Event)). IfSome input (Knows WithTurns brands R refused l n f.run.state f.run.done bytes)) next f.run.known))
     (fails f.run.state f.run.stood) stay
 
 -- with what was written and waits after a line that could not be answered

@@ -9,9 +9,8 @@ use Rattle.std.proofs.lemmas.List.{append-nil}
 use Rattle.zn_io.specs.Streams.{after_known, before_known}
 use Rattle.brand_hooks.specs.Brands.{Tabled}
 use Rattle.commit_journal.specs.declared.records.Commit.{Commit}
-use Rattle.trace_text.specs.Lines.{Said, event_of}
 use Rattle.zn_io.specs.Disk.{View}
-use Rattle.zone_machine.specs.Machine.Histories.{after, after_entry, history}
+use Rattle.zone_machine.specs.Machine.Histories.{after, after_entry}
 use Rattle.zone_cases.specs.Events.{is_restart}
 use Rattle.zone_machine.specs.Machine.{opening}
 use Rattle.zone_pools.specs.Pools.{or_else}
@@ -24,18 +23,20 @@ use Rattle.zone_machine.specs.Code.Decided.{entry_by}
 use Rattle.zn_base.specs.Lines.{is_newline, lines_of, with_first}
 use Rattle.zones_run.specs.Lines.{AreWhole, has_newline}
 use Rattle.zones_run.specs.Reading.{TakesLine}
-use Rattle.zones_run.specs.Answering.{FindsAlways, IsAnswered, RestartsWell, TakesEvent, refused_with, taken_by}
-use Rattle.zones_run.specs.Midway.{Follows, Knows, RunsOn, lines_from, none_put, puts_after, puts_until, run_on, run_onto, with_events}
+use Rattle.zones_run.specs.Answering.{FindsAlways, IsAnswered, RestartsWell, RestartsWellAt, TakesEvent, refused_with, taken_by}
+use Rattle.zones_run.specs.Midway.{Follows, Knows, RunsOn, lines_from, none_put, puts_after, puts_until, run_on, run_onto}
 use Rattle.zones_run.specs.Recording.{GoesSurely, IsFront}
-use Rattle.zones_run.specs.Scripting.{entry_in, is_last, numbered, opened, put_in, puts_in, state_after, state_past, turns_after, turns_until}
-use Rattle.zones_run.specs.Tracing.{Run, entries_text, entry_text, has_restart, is_refusal, run_of, script_of}
+use Rattle.zones_run.specs.Scripting.{entry_in, is_last, numbered, opened, puts_in, state_after, state_past, turns_after, turns_until, with_events, with_turns}
+use Rattle.zones_run.specs.Scripts.{Says, entries_from, entry_for, fits_due, has_restart, permits, said_by, script_of, state_for, unstated}
+use Rattle.zones_run.specs.Tracing.{Run, entries_text, entry_text, is_refusal, run_of}
+use Rattle.zones_run.specs.declared.due.Due.{Due}
 use Rattle.zones_run.specs.declared.turns.Opened.{Opened}
 use Rattle.zones_run.specs.declared.turns.Taken.{Taken as Told}
 use Rattle.zones_run.specs.declared.words.Mode.{Mode}
-use Rattle.zones_run.specs.declared.words.Mode.TheVariants.{Purged, Replies, WithTurns}
+use Rattle.zones_run.specs.declared.words.Mode.TheVariants.{Purged, Replies, Stated, WithTurns}
 use Rattle.zones_run.proofs.Cuts.{cut_at, cut_whole}
 use Rattle.zones_run.proofs.Fronts.{after_known-append, after_known-nil}
-use Rattle.zones_run.proofs.Histories.{after-push, legal-entry}
+use Rattle.zones_run.proofs.Histories.{after-push, history-entry, suits_said}
 use Rattle.zones_run.proofs.Putting.{none_after, put_rests}
 use Rattle.zones_run.proofs.Traces.{answers_line, answers_turn, from_first_line, or_else-None, refused_at_line, skips_line}
 
@@ -178,7 +179,7 @@ turn_known mode brands R done refused now m n S e to_put bytes (Some input) told
 
 -- a line that is no event
 pub runs_past : (mode : Mode) (brands : List Tabled) (R : List Commit) (stands : State → Type 0) (refused : Option ℕ) (n : ℕ) (held holds : Option (List ℕ)) (line : List ℕ) (old new input : Option (List ℕ))
-    → (run : RunsOn mode none_put brands R stands refused n held holds old input) → TakesLine line old new → n ≤ 200000 → length line ≤ 4096 → event_of run.state.started line ≡ Ok None → IfSome input (Knows mode brands R refused [] (n + 1) run.state run.done new)
+    → (run : RunsOn mode none_put brands R stands refused n held holds old input) → TakesLine line old new → n ≤ 200000 → length line ≤ 4096 → said_by mode run.state.started line ≡ Ok None → IfSome input (Knows mode brands R refused [] (n + 1) run.state run.done new)
 runs_past mode brands R stands refused n held holds line old new input run took h k e =
     for_input mode brands R run.done run.done refused refused n run.state run.state [] line old new input (λ lines. skips_line mode run.done refused n run.state line lines h k e) took run.known
 
@@ -195,19 +196,19 @@ text-push mode done entry held holds now_holds text more =
     more ∙ ap (λ known. after_known known (entry_text mode entry)) text ∙ after_known-append held (entries_text mode done) (entry_text mode entry) ∙ ap (after_known held) (sym (entries_text-push mode done entry))
 
 -- the event that a line was read as is answered
-pub takes_answered : (mode : Mode) (S : State) (now_stands : State → Type 0) (same : Type 0) (v w : View) (started : Bool) (line : List ℕ) (e : Event) (a : Answer) (n : ℕ) (refused : Option ℕ) (taken : Told) (holds now_holds : Option (List ℕ))
-    → started ≡ S.started → event_of started line ≡ Ok (Some e) → (RestartsWell (Ok (Some e)) v → IsAnswered mode S e a now_stands v w holds now_holds) → taken ≡ taken_by refused n (entry_by e a)
-    → RestartsWell (event_of S.started line) v → TakesEvent mode S (event_of S.started line) now_stands same v w n refused taken holds now_holds
-takes_answered mode S now_stands same v w started line e a n refused taken holds now_holds is says answered so well =
-    let said : Ok (Some e) ≡ event_of S.started line = sym says ∙ ap (λ b. event_of b line) is in
-    let answer = answered (λ restarts. well (sym said ∙ restarts)) in
-    subst (λ said. TakesEvent mode S said now_stands same v w n refused taken holds now_holds) said (a, answer, so ∙ ap (taken_by refused n) answer.told)
+pub takes_answered : (mode : Mode) (S : State) (now_stands : State → Type 0) (same : Type 0) (v w : View) (started : Bool) (line : List ℕ) (d : Due) (a : Answer) (n : ℕ) (refused : Option ℕ) (taken : Told) (holds now_holds : Option (List ℕ))
+    → started ≡ S.started → said_by mode started line ≡ Ok (Some d) → (RestartsWellAt S d v → IsAnswered mode S d a now_stands v w holds now_holds) → taken ≡ taken_by refused n (entry_by d.event a)
+    → RestartsWell S (said_by mode S.started line) v → TakesEvent mode S (said_by mode S.started line) now_stands same v w n refused taken holds now_holds
+takes_answered mode S now_stands same v w started line d a n refused taken holds now_holds is says answered so well =
+    let said : said_by mode S.started line ≡ Ok (Some d) = sym (ap (λ b. said_by mode b line) is) ∙ says in
+    let answer = answered (subst (λ s. RestartsWell S s v) said well) in
+    subst (λ s. TakesEvent mode S s now_stands same v w n refused taken holds now_holds) (sym said) (a, answer, so ∙ ap (taken_by refused n) answer.told)
 
 -- a line that was read as no event
 pub takes_nothing : (mode : Mode) (S : State) (now_stands : State → Type 0) (same : Type 0) (v w : View) (started : Bool) (line : List ℕ) (n : ℕ) (refused : Option ℕ) (taken : Told) (holds : Option (List ℕ))
-    → started ≡ S.started → event_of started line ≡ Ok None → now_stands S → same → taken ≡ record { refused = refused; opened = None } → TakesEvent mode S (event_of S.started line) now_stands same v w n refused taken holds holds
+    → started ≡ S.started → said_by mode started line ≡ Ok None → now_stands S → same → taken ≡ record { refused = refused; opened = None } → TakesEvent mode S (said_by mode S.started line) now_stands same v w n refused taken holds holds
 takes_nothing mode S now_stands same v w started line n refused taken holds is says stood left so =
-    subst (λ said. TakesEvent mode S said now_stands same v w n refused taken holds holds) (sym says ∙ ap (λ b. event_of b line) is) (stood, so, refl, left)
+    subst (λ said. TakesEvent mode S said now_stands same v w n refused taken holds holds) (sym says ∙ ap (λ b. said_by mode b line) is) (stood, so, refl, left)
 
 -- the run of the input is the run over the bytes to come, from here on
 pub known_run : (mode : Mode) (brands : List Tabled) (R : List Commit) (refused : Option ℕ) (to_put : List (ℕ × Event)) (n : ℕ) (S : State) (done : List Entry) (bytes : Option (List ℕ)) (input : List ℕ) (known : Knows mode brands R refused to_put n S done bytes input) → run_of mode brands R input ≡ run_onto mode done refused to_put n S (lines_of known.to_come)
@@ -230,10 +231,10 @@ nothing_after : (mode : Mode) (n : ℕ) (S : State) → puts_after mode None n S
 nothing_after mode n S = ap (numbered n) (none_after mode S)
 
 -- a line that was taken, whatever it says
-follows_said : (mode : Mode) (brands : List Tabled) (R : List Commit) (same : Type 0) (stands now_stands : State → Type 0) (left_by now_left : List Entry → Type 0) (v w : View) (refused : Option ℕ) (taken : Told) (n : ℕ) (held holds now_holds : Option (List ℕ)) (line : List ℕ) (old new input : Option (List ℕ)) (f : Follows mode none_put brands R stands left_by refused n held holds old input) (said : Said)
-    → event_of f.run.state.started line ≡ said → TakesEvent mode f.run.state said now_stands same v w n refused taken holds now_holds → TakesLine line old new → n ≤ 200000 → length line ≤ 4096
+follows_said : (mode : Mode) (brands : List Tabled) (R : List Commit) (same : Type 0) (stands now_stands : State → Type 0) (left_by now_left : List Entry → Type 0) (v w : View) (refused : Option ℕ) (taken : Told) (n : ℕ) (held holds now_holds : Option (List ℕ)) (line : List ℕ) (old new input : Option (List ℕ)) (f : Follows mode none_put brands R stands left_by refused n held holds old input) (said : Says)
+    → said_by mode f.run.state.started line ≡ said → TakesEvent mode f.run.state said now_stands same v w n refused taken holds now_holds → TakesLine line old new → n ≤ 200000 → length line ≤ 4096
     → (same → (h : List Entry) → left_by h → now_left h)
-    → ((S : State) (e : Event) (h : List Entry) → S ≡ after (opening brands R) h → GoesSurely S.commits (state_after S e).commits v w → left_by h → now_left (h ++ entry_in S e ∷ []))
+    → ((S : State) (entry : Entry) (h : List Entry) → S ≡ after (opening brands R) h → GoesSurely S.commits (after_entry S entry).commits v w → left_by h → now_left (h ++ entry ∷ []))
     → Follows mode (puts_after mode taken.opened n) brands R now_stands now_left taken.refused (n + 1) held now_holds new input
 follows_said mode brands R same stands now_stands left_by now_left v w refused taken n held holds now_holds line old new input f (Ok None) says took line_took h k stays steps =
     let past = runs_past mode brands R stands refused n held holds line old new input f.run line_took h k says in
@@ -244,23 +245,23 @@ follows_said mode brands R same stands now_stands left_by now_left v w refused t
       legal = f.legal;
       kept = stays took.3 f.run.done f.kept;
     }))
-follows_said mode brands R same stands now_stands left_by now_left v w refused taken n held holds now_holds line old new input f (Ok (Some e)) says took line_took h k stays steps =
+follows_said mode brands R same stands now_stands left_by now_left v w refused taken n held holds now_holds line old new input f (Ok (Some d)) says took line_took h k stays steps =
     let S = f.run.state in
-    let entry : Entry = entry_in S e in
+    let entry : Entry = entry_for S d in
     let by = taken_by refused n entry in
-    let answered : IsAnswered mode S e took.0 now_stands v w holds now_holds = took.1 in
+    let answered : IsAnswered mode S d took.0 now_stands v w holds now_holds = took.1 in
     subst (λ (t : Told). Follows mode (puts_after mode t.opened n) brands R now_stands now_left t.refused (n + 1) held now_holds new input) (sym took.2) (record {
       run = record {
-        state = state_after S e;
+        state = state_for S d;
         stood = answered.stands;
         done = f.run.done ++ entry ∷ [];
         text = text-push mode f.run.done entry held holds now_holds f.run.text answered.text;
-        known = for_input mode brands R f.run.done (f.run.done ++ entry ∷ []) refused by.refused n S (state_after S e) (puts_after mode (opened entry) n (state_after S e)) line old new input
-            (λ lines. answers_line mode f.run.done refused n S e line lines h k says ∙ ap (λ r. run_onto mode (f.run.done ++ entry ∷ []) r (puts_after mode (opened entry) n (state_after S e)) (n + 1) (state_after S e) lines) (refused_as refused n entry)) line_took f.run.known;
+        known = for_input mode brands R f.run.done (f.run.done ++ entry ∷ []) refused by.refused n S (state_for S d) (puts_after mode (opened entry) n (state_for S d)) line old new input
+            (λ lines. answers_line mode f.run.done refused n S d line lines h k says answered.fits ∙ ap (λ r. run_onto mode (f.run.done ++ entry ∷ []) r (puts_after mode (opened entry) n (state_for S d)) (n + 1) (state_for S d) lines) (refused_as refused n entry)) line_took f.run.known;
       };
       reached = ap (λ (T : State). after_entry T entry) f.reached ∙ sym (after-push (opening brands R) f.run.done entry);
-      legal = legal-entry (opening brands R) f.run.done S e f.reached f.legal;
-      kept = steps S e f.run.done f.reached answered.goes f.kept;
+      legal = history-entry mode (opening brands R) f.run.done S d (suits_said mode S.started line d says) answered.fits f.reached f.legal;
+      kept = steps S entry f.run.done f.reached answered.goes f.kept;
     })
 follows_said mode brands R same stands now_stands left_by now_left v w refused taken n held holds now_holds line old new input f (Err fault) says took line_took h k stays steps = absurd took
 
@@ -270,9 +271,9 @@ puts_rest last more o m S = numbered m (cond last [] (turns_until more o S))
 
 -- a turn that is put in
 pub follows_turn : (brands : List Tabled) (R : List Commit) (stands now_stands : State → Type 0) (left_by now_left : List Entry → Type 0) (v w : View) (refused now : Option ℕ) (m n more : ℕ) (o : Opened) (a : Answer) (last : Bool) (held holds now_holds bytes input : Option (List ℕ))
-    → Follows WithTurns (puts_until (suc more) o m) brands R stands left_by refused n held holds bytes input → ((S : State) → stands S → IsAnswered WithTurns S (Turn o.zone) a now_stands v w holds now_holds)
+    → Follows WithTurns (puts_until (suc more) o m) brands R stands left_by refused n held holds bytes input → ((S : State) → stands S → IsAnswered WithTurns S (unstated (Turn o.zone)) a now_stands v w holds now_holds)
     → now ≡ refused_with refused m a.reply.head → last ≡ is_last o.ticket a.reply.head
-    → ((S : State) (e : Event) (h : List Entry) → S ≡ after (opening brands R) h → GoesSurely S.commits (state_after S e).commits v w → left_by h → now_left (h ++ entry_in S e ∷ []))
+    → ((S : State) (entry : Entry) (h : List Entry) → S ≡ after (opening brands R) h → GoesSurely S.commits (after_entry S entry).commits v w → left_by h → now_left (h ++ entry ∷ []))
     → Follows WithTurns (puts_rest last more o m) brands R now_stands now_left now n held now_holds bytes input
 unfolding turns_until
 follows_turn brands R stands now_stands left_by now_left v w refused now m n more o a last held holds now_holds bytes input f answers so ends steps =
@@ -291,8 +292,8 @@ follows_turn brands R stands now_stands left_by now_left v w refused now m n mor
         known = turn_known WithTurns brands R f.run.done refused now m n S e (puts_rest (is_last o.ticket entry.reply.head) more o m (state_after S e)) bytes input told f.run.known;
       };
       reached = ap (λ (T : State). after_entry T entry) f.reached ∙ sym (after-push (opening brands R) f.run.done entry);
-      legal = legal-entry (opening brands R) f.run.done S e f.reached f.legal;
-      kept = steps S e f.run.done f.reached answered.goes f.kept;
+      legal = history-entry WithTurns (opening brands R) f.run.done S (unstated e) refl refl f.reached f.legal;
+      kept = steps S entry f.run.done f.reached answered.goes f.kept;
     })
 
 -- where none are put in, or none are left, the run goes on with the lines
@@ -300,6 +301,7 @@ pub follows_none : (mode : Mode) (said : Option Opened) (brands : List Tabled) (
     → Follows mode (puts_after mode said m) brands R stands left_by refused n held holds bytes input → Follows mode none_put brands R stands left_by refused n held holds bytes input
 follows_none Replies said brands R stands left_by refused m n held holds bytes input h f = f
 follows_none (Purged zone) said brands R stands left_by refused m n held holds bytes input h f = f
+follows_none Stated said brands R stands left_by refused m n held holds bytes input h f = f
 follows_none WithTurns None brands R stands left_by refused m n held holds bytes input h f = f
 follows_none WithTurns (Some o) brands R stands left_by refused m n held holds bytes input (inl h) f = absurd (true≢false h)
 follows_none WithTurns (Some o) brands R stands left_by refused m n held holds bytes input (inr h) f = absurd (cc)
@@ -318,19 +320,19 @@ follows_some k more o brands R stands left_by refused m n held holds bytes input
 pub begins_input : (mode : Mode) (brands : List Tabled) (R : List Commit) (refused : Option ℕ) (to_put : List (ℕ × Event)) (n : ℕ) (S : State) (done : List Entry) (bytes input : Option (List ℕ)) → IfSome input (Knows mode brands R refused to_put n S done bytes) → IfSome (option_map (λ bs. (run_of mode brands R bs).entries) input) (IsFront done)
 begins_input mode brands R refused to_put n S done bytes None known = tt
 begins_input mode brands R refused to_put n S done bytes (Some input) known = record {
-  rest = history S (map (λ (e : ℕ × Event). e.1) (with_events to_put (lines_from mode n (state_past S (map (λ (e : ℕ × Event). e.1) to_put)) (lines_of known.to_come))).events);
+  rest = entries_from S (map (λ (e : ℕ × Due). e.1) (with_events to_put (lines_from mode n (state_past S (map (λ (e : ℕ × Event). e.1) to_put)) (lines_of known.to_come))).events);
   whole = ap (λ (r : Run). r.entries) (known_run mode brands R refused to_put n S done bytes input known);
 }
 
 -- and so they are with the entry of one line more
-pub begins_entry : (mode : Mode) (brands : List Tabled) (R : List Commit) (stands : State → Type 0) (refused : Option ℕ) (n : ℕ) (held holds : Option (List ℕ)) (e : Event) (line : List ℕ) (old new input : Option (List ℕ)) (run : RunsOn mode none_put brands R stands refused n held holds old input)
-    → TakesLine line old new → n ≤ 200000 → length line ≤ 4096 → event_of run.state.started line ≡ Ok (Some e) → IfSome (option_map (λ bs. (run_of mode brands R bs).entries) input) (IsFront (run.done ++ entry_in run.state e ∷ []))
-begins_entry mode brands R stands refused n held holds e line old new input run took h k says =
+pub begins_entry : (mode : Mode) (brands : List Tabled) (R : List Commit) (stands : State → Type 0) (refused : Option ℕ) (n : ℕ) (held holds : Option (List ℕ)) (d : Due) (line : List ℕ) (old new input : Option (List ℕ)) (run : RunsOn mode none_put brands R stands refused n held holds old input)
+    → TakesLine line old new → n ≤ 200000 → length line ≤ 4096 → said_by mode run.state.started line ≡ Ok (Some d) → fits_due run.state d ≡ true → IfSome (option_map (λ bs. (run_of mode brands R bs).entries) input) (IsFront (run.done ++ entry_for run.state d ∷ []))
+begins_entry mode brands R stands refused n held holds d line old new input run took h k says fits =
     let S = run.state in
-    let entry : Entry = entry_in S e in
-    let to_put = numbered n (turns_after mode (opened entry) (state_after S e)) in
-    begins_input mode brands R (or_else refused (refused_at_line n entry)) to_put (n + 1) (state_after S e) (run.done ++ entry ∷ []) new input
-    (for_input mode brands R run.done (run.done ++ entry ∷ []) refused (or_else refused (refused_at_line n entry)) n S (state_after S e) to_put line old new input (λ lines. answers_line mode run.done refused n S e line lines h k says) took run.known)
+    let entry : Entry = entry_for S d in
+    let to_put = numbered n (turns_after mode (opened entry) (state_for S d)) in
+    begins_input mode brands R (or_else refused (refused_at_line n entry)) to_put (n + 1) (state_for S d) (run.done ++ entry ∷ []) new input
+    (for_input mode brands R run.done (run.done ++ entry ∷ []) refused (or_else refused (refused_at_line n entry)) n S (state_for S d) to_put line old new input (λ lines. answers_line mode run.done refused n S d line lines h k says fits) took run.known)
 
 -- or with that of a turn more
 pub begins_turn : (mode : Mode) (brands : List Tabled) (R : List Commit) (refused : Option ℕ) (m n : ℕ) (S : State) (done : List Entry) (e : Event) (to_put : List (ℕ × Event)) (bytes input : Option (List ℕ))
@@ -340,44 +342,52 @@ begins_turn mode brands R refused m n S done e to_put bytes input known =
     (turn_known mode brands R done refused (or_else refused (refused_at_line m (entry_in S e))) m n S e to_put bytes input refl known)
 
 -- the entries of events are of those events
-told_events : (S : State) (es : List Event) → list_any (λ (x : Entry). is_restart x.event) (history S es) ≡ list_any is_restart es
+told_events : (S : State) (ds : List Due) → list_any (λ (x : Entry). is_restart x.event) (entries_from S ds) ≡ list_any (λ (d : Due). is_restart d.event) ds
 told_events S [] = refl
-told_events S (e ∷ es) = ap (λ b. is_restart e || b) (told_events (state_after S e) es)
+told_events S (d ∷ ds) = ap (λ b. is_restart d.event || b) (told_events (state_for S d) ds)
 
-script_events : (es : List (ℕ × Event)) → list_any is_restart (map (λ (e : ℕ × Event). e.1) es) ≡ list_any (λ (e : ℕ × Event). is_restart e.1) es
+script_events : (es : List (ℕ × Due)) → list_any (λ (d : Due). is_restart d.event) (map (λ (e : ℕ × Due). e.1) es) ≡ list_any (λ (e : ℕ × Due). is_restart e.1.event) es
 script_events [] = refl
-script_events (e ∷ es) = ap (λ b. is_restart e.1 || b) (script_events es)
+script_events (e ∷ es) = ap (λ b. is_restart e.1.event || b) (script_events es)
 
 last_any : (done : List Entry) (entry : Entry) (rest : List Entry) → is_restart entry.event ≡ true → list_any (λ (x : Entry). is_restart x.event) ((done ++ entry ∷ []) ++ rest) ≡ true
 last_any [] entry rest h = rw h refl
 last_any (d ∷ done) entry rest h = rw (last_any done entry rest h) (or-true (is_restart d.event))
 
--- a line that is read as a restart is one of the input's
-pub restart_told : (mode : Mode) (brands : List Tabled) (R : List Commit) (stands : State → Type 0) (refused : Option ℕ) (n : ℕ) (held holds : Option (List ℕ)) (line : List ℕ) (old new : Option (List ℕ)) (bytes : List ℕ) (run : RunsOn mode none_put brands R stands refused n held holds old (Some bytes))
-    → TakesLine line old new → n ≤ 200000 → length line ≤ 4096 → event_of run.state.started line ≡ Ok (Some Restart) → has_restart bytes ≡ true
-restart_told mode brands R stands refused n held holds line old new bytes run took h k says =
-    let entry : Entry = entry_in run.state Restart in
-    let front : IsFront (run.done ++ entry ∷ []) (run_of mode brands R bytes).entries = begins_entry mode brands R stands refused n held holds Restart line old new (Some bytes) run took h k says in
-    let told = ap (list_any (λ (x : Entry). is_restart x.event)) front.whole ∙ last_any run.done entry front.rest refl in
-    let events = put_in mode (opening brands R) (script_of bytes).events in
-    sym (put_rests mode (opening brands R) (script_of bytes).events) ∙ (sym (script_events events) ∙ (sym (told_events (opening brands R) (map (λ (e : ℕ × Event). e.1) events)) ∙ told))
+-- a line that is read as a restart under a grant that fits is one of the input's
+pub restart_told : (mode : Mode) (brands : List Tabled) (R : List Commit) (stands : State → Type 0) (refused : Option ℕ) (n : ℕ) (held holds : Option (List ℕ)) (d : Due) (line : List ℕ) (old new : Option (List ℕ)) (bytes : List ℕ) (run : RunsOn mode none_put brands R stands refused n held holds old (Some bytes))
+    → TakesLine line old new → n ≤ 200000 → length line ≤ 4096 → said_by mode run.state.started line ≡ Ok (Some d) → is_restart d.event ≡ true → fits_due run.state d ≡ true → has_restart mode bytes ≡ true
+restart_told mode brands R stands refused n held holds d line old new bytes run took h k says is fits =
+    let entry : Entry = entry_for run.state d in
+    let front : IsFront (run.done ++ entry ∷ []) (run_of mode brands R bytes).entries = begins_entry mode brands R stands refused n held holds d line old new (Some bytes) run took h k says fits in
+    let told = ap (list_any (λ (x : Entry). is_restart x.event)) front.whole ∙ last_any run.done entry front.rest is in
+    let script = script_of mode bytes in
+    let events = (with_turns mode (opening brands R) script).events in
+    put_rests mode (opening brands R) script.events script.ending (sym (script_events events) ∙ (sym (told_events (opening brands R) (map (λ (e : ℕ × Due). e.1) events)) ∙ told))
 
 -- so it finds the store, where each restart of the input does
-pub restarts_well : (mode : Mode) (brands : List Tabled) (R : List Commit) (stands : State → Type 0) (refused : Option ℕ) (n : ℕ) (held holds : Option (List ℕ)) (line : List ℕ) (old new input : Option (List ℕ)) (v0 v : View) → FindsAlways v0 input → (v0.Keeps → v.Keeps)
-    → (run : RunsOn mode none_put brands R stands refused n held holds old input) → TakesLine line old new → n ≤ 200000 → length line ≤ 4096 → RestartsWell (event_of run.state.started line) v
-restarts_well mode brands R stands refused n held holds line old new input v0 v (inl kept) keeps run took h k = λ says. keeps kept
-restarts_well mode brands R stands refused n held holds line old new None v0 v (inr known) keeps run took h k = absurd (cc)
-restarts_well mode brands R stands refused n held holds line old new (Some input) v0 v (inr known) keeps run took h k =
+well_said : (mode : Mode) (brands : List Tabled) (R : List Commit) (stands : State → Type 0) (refused : Option ℕ) (n : ℕ) (held holds : Option (List ℕ)) (line : List ℕ) (old new input : Option (List ℕ)) (v0 v : View) → FindsAlways mode v0 input → (v0.Keeps → v.Keeps)
+    → (run : RunsOn mode none_put brands R stands refused n held holds old input) → TakesLine line old new → n ≤ 200000 → length line ≤ 4096 → (said : Says) → said_by mode run.state.started line ≡ said → RestartsWell run.state said v
+well_said mode brands R stands refused n held holds line old new input v0 v finds keeps run took h k (Ok None) says = tt
+well_said mode brands R stands refused n held holds line old new input v0 v finds keeps run took h k (Err fault) says = tt
+well_said mode brands R stands refused n held holds line old new input v0 v (inl kept) keeps run took h k (Ok (Some d)) says = λ is fits. keeps kept
+well_said mode brands R stands refused n held holds line old new None v0 v (inr known) keeps run took h k (Ok (Some d)) says = absurd (cc)
+well_said mode brands R stands refused n held holds line old new (Some input) v0 v (inr known) keeps run took h k (Ok (Some d)) says =
     let same : input ≡ known.0 = cc in
-    λ says. absurd (false≢true (sym known.2 ∙ (ap has_restart (sym same) ∙ restart_told mode brands R stands refused n held holds line old new input run took h k says)))
+    λ is fits. absurd (false≢true (sym known.2 ∙ (ap (has_restart mode) (sym same) ∙ restart_told mode brands R stands refused n held holds d line old new input run took h k says is fits)))
+
+pub restarts_well : (mode : Mode) (brands : List Tabled) (R : List Commit) (stands : State → Type 0) (refused : Option ℕ) (n : ℕ) (held holds : Option (List ℕ)) (line : List ℕ) (old new input : Option (List ℕ)) (v0 v : View) → FindsAlways mode v0 input → (v0.Keeps → v.Keeps)
+    → (run : RunsOn mode none_put brands R stands refused n held holds old input) → TakesLine line old new → n ≤ 200000 → length line ≤ 4096 → RestartsWell run.state (said_by mode run.state.started line) v
+restarts_well mode brands R stands refused n held holds line old new input v0 v finds keeps run took h k =
+    well_said mode brands R stands refused n held holds line old new input v0 v finds keeps run took h k (said_by mode run.state.started line) refl
 
 -- what it says depends on whether an event has come, which the machine's state tells; it may restart the system where each restart
 -- of the input finds the store
 pub follows_line : (mode : Mode) (brands : List Tabled) (R : List Commit) (same : Type 0) (stands now_stands : State → Type 0) (left_by now_left : List Entry → Type 0) (v w : View) (refused : Option ℕ) (taken : Told) (n : ℕ) (held holds now_holds : Option (List ℕ)) (line : List ℕ) (old new input : Option (List ℕ))
-    → (v0 : View) → FindsAlways v0 input → (v0.Keeps → v.Keeps) → Follows mode none_put brands R stands left_by refused n held holds old input → ((S : State) → stands S → RestartsWell (event_of S.started line) v → TakesEvent mode S (event_of S.started line) now_stands same v w n refused taken holds now_holds) → TakesLine line old new → n ≤ 200000 → length line ≤ 4096
+    → (v0 : View) → FindsAlways mode v0 input → (v0.Keeps → v.Keeps) → Follows mode none_put brands R stands left_by refused n held holds old input → ((S : State) → stands S → RestartsWell S (said_by mode S.started line) v → TakesEvent mode S (said_by mode S.started line) now_stands same v w n refused taken holds now_holds) → TakesLine line old new → n ≤ 200000 → length line ≤ 4096
     → (same → (h : List Entry) → left_by h → now_left h)
-    → ((S : State) (e : Event) (h : List Entry) → S ≡ after (opening brands R) h → GoesSurely S.commits (state_after S e).commits v w → left_by h → now_left (h ++ entry_in S e ∷ []))
+    → ((S : State) (entry : Entry) (h : List Entry) → S ≡ after (opening brands R) h → GoesSurely S.commits (after_entry S entry).commits v w → left_by h → now_left (h ++ entry ∷ []))
     → Follows mode (puts_after mode taken.opened n) brands R now_stands now_left taken.refused (n + 1) held now_holds new input
 follows_line mode brands R same stands now_stands left_by now_left v w refused taken n held holds now_holds line old new input v0 finds keeps f took line_took h k stays steps =
-    follows_said mode brands R same stands now_stands left_by now_left v w refused taken n held holds now_holds line old new input f (event_of f.run.state.started line) refl
+    follows_said mode brands R same stands now_stands left_by now_left v w refused taken n held holds now_holds line old new input f (said_by mode f.run.state.started line) refl
     (took f.run.state f.run.stood (restarts_well mode brands R stands refused n held holds line old new input v0 v finds keeps f.run line_took h k)) line_took h k stays steps

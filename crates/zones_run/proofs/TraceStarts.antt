@@ -20,7 +20,7 @@ no_replies mode brands R held input = has_replies mode none_put brands R (λ S. 
 pub no_lines : (mode : Mode) (brands : List Tabled) (R : List Commit) (held input : Option (List ℕ)) → IfSome input (λ _. AnswersLines mode brands R input input held held)
 no_lines mode brands R held input = answers_lines mode brands R (λ S. Unit {0}) None 1 held held (before_known [] input) input input (start mode brands R held input) (takes_just [] (before_known [] input) input refl (omega arith))
 
-pub runs_none : (mode : Mode) (brands : List Tabled) (R : List Commit) (held input : Option (List ℕ)) → IfSome input (λ _. RunsLines input input)
+pub runs_none : (mode : Mode) (brands : List Tabled) (R : List Commit) (held input : Option (List ℕ)) → IfSome input (λ _. RunsLines mode brands R input input)
 runs_none mode brands R held input = runs_lines mode none_put brands R (λ S. Unit {0}) None 1 held held (before_known [] input) input input (start mode brands R held input) (takes_just [] (before_known [] input) input refl (omega arith))
 
 pub no_read : (mode : Mode) (brands : List Tabled) (R : List Commit) (held input : Option (List ℕ)) → IfSome input (λ _. AnswersRead mode brands R input input held held)

@@ -24,6 +24,8 @@ help_text = text_of_lines (
     codes "             for something" ∷
     codes "  purge ZONE run the trace, and write in place of replies its lines that are of this zone" ∷
     codes "             or of the whole system, each behind what the pools gave it" ∷
+    codes "  given      the same as trace, for lines that state what the pools gave their events, as" ∷
+    codes "             purge writes them" ∷
     codes "  index      write a line for each stored zone" ∷
     codes "  --help     write this text" ∷
     codes "  --version  write the version" ∷

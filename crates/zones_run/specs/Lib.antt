@@ -11,6 +11,7 @@ pub mod Output
 pub mod Complaints
 pub mod Exporting
 pub mod Outcomes
+pub mod Scripts
 pub mod Scripting
 pub mod Tracing
 pub mod Opening
@@ -20,6 +21,7 @@ pub mod Midway
 pub mod Turns_end
 pub mod Resting
 pub mod Declarations
+pub mod Permitted
 pub mod Program
 pub mod Run
 pub mod Denoted

@@ -8,7 +8,7 @@ use Rattle.brand_hooks.specs.Brands.{Tabled}
 use Rattle.commit_journal.specs.declared.records.Commit.{Commit}
 use Rattle.zone_machine.specs.Machine.{opening}
 use Rattle.zone_machine.specs.Machine.Changes.{HoldsFront}
-use Rattle.zone_machine.specs.Machine.Histories.{after, history, is_legal}
+use Rattle.zone_machine.specs.Machine.Histories.{after, is_history}
 use Rattle.zone_machine.specs.Machine.Images.{IsStoreOf, NowHolds}
 use Rattle.zone_cases.specs.State.{State}
 use Rattle.zone_cases.specs.declared.events.Entry.{Entry}
@@ -16,8 +16,9 @@ use Rattle.zone_cases.specs.declared.events.Event.{Event}
 use Rattle.zone_pools.specs.Pools.{or_else}
 use Rattle.zones_run.specs.Lines.{AreWhole}
 use Rattle.zones_run.specs.Recording.{commits_with}
-use Rattle.zones_run.specs.Scripting.{numbered, state_past, turns_after, turns_until}
-use Rattle.zones_run.specs.Tracing.{Run, Script, first_refused, entries_text, script_from, with_turns}
+use Rattle.zones_run.specs.Scripting.{numbered, state_past, turns_after, turns_until, with_events, with_turns}
+use Rattle.zones_run.specs.Scripts.{Script, entries_from, permits, script_from}
+use Rattle.zones_run.specs.Tracing.{Run, first_refused, entries_text}
 use Rattle.zones_run.specs.declared.turns.Opened.{Opened}
 use Rattle.zones_run.specs.declared.words.Mode.{Mode}
 
@@ -27,15 +28,11 @@ with_history done refused script h =
     record { entries = done ++ h; refused = or_else refused (first_refused script.events h); ending = script.ending }
 
 abbrev pub with_script : List Entry → Option ℕ → State → Script → Run
-with_script done refused S script = with_history done refused script (history S (map (λ e. e.1) script.events))
-
--- events before those of a script
-abbrev pub with_events : List (ℕ × Event) → Script → Script
-with_events events script = record { events = events ++ script.events; ending = script.ending }
+with_script done refused S script = with_history done refused script (entries_from S (map (λ e. e.1) script.events))
 
 -- the script of the lines from a number on, in a state, with the turns that are put in
 abbrev pub lines_from : Mode → ℕ → State → List (List ℕ) → Script
-lines_from mode number S lines = with_turns mode S (script_from S.started number lines)
+lines_from mode number S lines = with_turns mode S (script_from mode S.started number lines)
 
 -- a run that has come so far, and goes on in a state with turns that are still put in, and then with the lines from a number on
 abbrev pub run_onto : Mode → List Entry → Option ℕ → List (ℕ × Event) → ℕ → State → List (List ℕ) → Run
@@ -76,11 +73,11 @@ pub record RunsOn (mode : Mode) (to_put : State → List (ℕ × Event)) (brands
   pub text : holds ≡ after_known held (entries_text mode done)
   pub known : IfSome input (Knows mode brands R refused (to_put state) number state done bytes)
 
--- a run that has come so far over a legal history, and what its entries have left on the disk
+-- a run that has come so far over a history whose grants are permitted, and what its entries have left on the disk
 pub record Follows (mode : Mode) (to_put : State → List (ℕ × Event)) (brands : List Tabled) (R : List Commit) (stands : State → Type 0) (left_by : List Entry → Type 0) (refused : Option ℕ) (number : ℕ) (held holds bytes input : Option (List ℕ)) : Type 0 where
   pub run : RunsOn mode to_put brands R stands refused number held holds bytes input
   pub reached : run.state ≡ after (opening brands R) run.done
-  pub legal : is_legal (opening brands R) run.done ≡ true
+  pub legal : is_history (permits mode) (opening brands R) run.done ≡ true
   pub kept : left_by run.done
 
 -- a crash at any moment leaves the commits and those of some of the entries, from the first one on; and now, those of all

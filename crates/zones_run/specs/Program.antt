@@ -24,7 +24,8 @@ use Rattle.zones_run.specs.Opening.{Found}
 use Rattle.zones_run.specs.Output.{Output, written}
 use Rattle.zones_run.specs.Recording.{KeepsStore, RanBy}
 use Rattle.zones_run.specs.Run.{IsWhole, TellsLine, TellsText}
-use Rattle.zones_run.specs.Tracing.{AnswersRead, AnswersSome, HasReplies, has_restart, RunsLines, run_of, traced}
+use Rattle.zones_run.specs.Tracing.{AnswersRead, AnswersSome, HasReplies, RunsLines, run_of, traced}
+use Rattle.zones_run.specs.Scripts.{has_restart}
 use Rattle.zones_run.specs.Words.{command_of}
 
 -- what a command comes to over the store of some commits and the whole input
@@ -62,7 +63,7 @@ OpensNothing command = Unit {0}
 
 -- no line of the input restarts the system, or none is read
 abbrev pub RestartsNothing : Task → Option (List ℕ) → Type 0
-RestartsNothing (Run mode) input = (bytes : List ℕ) × (input ≡ Some bytes) × (has_restart bytes ≡ false)
+RestartsNothing (Run mode) input = (bytes : List ℕ) × (input ≡ Some bytes) × (has_restart mode bytes ≡ false)
 RestartsNothing Index input = Unit {0}
 
 -- each restart finds the store: the disk keeps to its model, or there is none
@@ -78,7 +79,7 @@ pub record AsksNothing (status : ℕ) (input left held holds : Option (List ℕ)
 -- those of the lines taken, but for some of the last turns that are put in, and where the source failed just those, with nothing
 -- taken after the beginning of the next
 pub record AnswersTrace (mode : Mode) (brands : List Tabled) (R : List Commit) (status : ℕ) (input left held holds : Option (List ℕ)) : Type 0 where
-  pub taken : IfSome input (λ _. RunsLines input left)
+  pub taken : IfSome input (λ _. RunsLines mode brands R input left)
   pub some : (status ≡ status_no_memory) ⊎ ((status ≡ status_disk_fault) ⊎ (status ≡ status_read_fault)) → IfSome input (λ bytes. HasReplies mode held holds (run_of mode brands R bytes))
   pub failed : (status ≡ status_no_memory) ⊎ (status ≡ status_disk_fault) → IfSome input (λ _. AnswersSome mode brands R input left held holds)
   pub read : status ≡ status_read_fault → IfSome input (λ _. AnswersRead mode brands R input left held holds)

@@ -6,11 +6,12 @@ use Rattle.zn_io.specs.Streams.{after_known}
 use Rattle.brand_hooks.specs.Brands.{Tabled}
 use Rattle.commit_journal.specs.declared.records.Commit.{Commit}
 use Rattle.zone_machine.specs.Machine.Changes.{HoldsFront, changes}
-use Rattle.zone_machine.specs.Machine.Histories.{is_legal}
+use Rattle.zone_machine.specs.Machine.Histories.{is_history}
 use Rattle.zone_machine.specs.Machine.Images.{Holds, HoldsEither, NowHolds}
 use Rattle.zone_machine.specs.Machine.{opening}
 use Rattle.zone_cases.specs.declared.events.Entry.{Entry}
 use Rattle.zones_run.specs.Run.{IsWhole}
+use Rattle.zones_run.specs.Scripts.{permits}
 use Rattle.zones_run.specs.Statuses.{status_disk_fault, status_no_memory, status_read_fault}
 use Rattle.zones_run.specs.Tracing.{entries_text, run_of}
 use Rattle.zones_run.specs.declared.fault.RunFault.{RunFault}
@@ -34,13 +35,14 @@ pub record IsFront {A : Type 0} (xs ys : List A) : Type 0 where
   pub rest : List A
   pub whole : ys ≡ xs ++ rest
 
--- a run over a store that answered some entries, and perhaps began one more: the entries are legal, and the first ones of
+-- a run over a store that answered some entries, and perhaps began one more: they make a history under grants that are permitted, those
+-- that the pools give or, where they are stated, those that fit; and they are the first ones of
 -- `all` where those of the whole input are known. A crash at any moment meanwhile leaves the commits of the store and those of
 -- some of the entries, from the first one on; a crash at the end leaves those of all that were answered, perhaps with that of
 -- the one under way
-pub record Records (brands : List Tabled) (R : List Commit) (answered under_way : List Entry) (all : Option (List Entry)) (old new : View) : Type 0 where
+pub record Records (mode : Mode) (brands : List Tabled) (R : List Commit) (answered under_way : List Entry) (all : Option (List Entry)) (old new : View) : Type 0 where
   pub few : length under_way ≤ 1
-  pub legal : IsTrue (is_legal (opening brands R) (answered ++ under_way))
+  pub permitted : IsTrue (is_history (permits mode) (opening brands R) (answered ++ under_way))
   pub begins : IfSome all (IsFront (answered ++ under_way))
   pub any_moment : Leaves old new (HoldsFront (opening brands R) (answered ++ under_way))
   pub now : (image : List ℕ) → new.Now image → HoldsEither (commits_with brands R answered) (commits_with brands R (answered ++ under_way)) image
@@ -58,7 +60,7 @@ pub record HasNearlyTold (mode : Mode) (answered : List Entry) (held holds : Opt
 pub record Ran (mode : Mode) (brands : List Tabled) (R : List Commit) (whole torn told cut : Type 0) (input held holds : Option (List ℕ)) (old new : View) : Type 0 where
   pub answered : List Entry
   pub under_way : List Entry
-  pub records : Records brands R answered under_way (option_map (λ bytes. (run_of mode brands R bytes).entries) input) old new
+  pub records : Records mode brands R answered under_way (option_map (λ bytes. (run_of mode brands R bytes).entries) input) old new
   pub settled : (torn → ⊥) → under_way ≡ []
   pub all : whole → IfSome input (λ bytes. answered ≡ (run_of mode brands R bytes).entries)
   pub replies : told → holds ≡ after_known held (entries_text mode answered)

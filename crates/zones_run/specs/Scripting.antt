@@ -12,10 +12,12 @@ use Rattle.zone_cases.specs.declared.events.Subject.TheVariants.{Zone}
 use Rattle.zone_cases.specs.declared.events.Whose.{Whose}
 use Rattle.zone_cases.specs.declared.events.Whose.TheVariants.{Found}
 use Rattle.zn_base.specs.Names.{Name}
+use Rattle.zones_run.specs.Scripts.{At_misfit, Ending, Script, ends, entry_for, fits_due, state_for, unstated, with_due}
 use Rattle.zone_cases.specs.declared.replies.Head.{Head}
 use Rattle.zone_cases.specs.declared.replies.Head.TheVariants.{Ticket, Turned}
 use Rattle.zoneadmd_steps.specs.declared.requests.TurnReply.{TurnReply}
 use Rattle.zoneadmd_steps.specs.declared.requests.TurnReply.TheVariants.{Finished, Idle, Stuck}
+use Rattle.zones_run.specs.declared.due.Due.{Due}
 use Rattle.zones_run.specs.declared.turns.Opened.{Opened}
 use Rattle.zones_run.specs.declared.words.Mode.{Mode}
 use Rattle.zones_run.specs.declared.words.Mode.TheVariants.{WithTurns}
@@ -83,13 +85,26 @@ puts_in mode = false
 abbrev pub numbered : ℕ → List Event → List (ℕ × Event)
 numbered n es = map (λ e. (n, e)) es
 
--- the events of lines from a state on, each with its line's number, and after each the turns that are put in
-abbrev pub put_in : Mode → State → List (ℕ × Event) → List (ℕ × Event)
-put_in mode S [] = []
-put_in mode S (e ∷ events) =
-    let T = state_after S e.1 in
-    let more = turns_after mode (opened (entry_in S e.1)) T in
-    e ∷ (numbered e.0 more ++ put_in mode (state_past T more) events)
+-- such events, under the grants that the pools give
+abbrev pub all_unstated : List (ℕ × Event) → List (ℕ × Due)
+all_unstated events = map (λ e. (e.0, unstated e.1)) events
+
+-- and before those of a script
+abbrev pub with_events : List (ℕ × Event) → Script → Script
+with_events events script = record { events = all_unstated events ++ script.events; ending = script.ending }
+
+-- the events of lines from a state on, each with its line's number, and after each the turns that are put in, up to the first whose
+-- stated grant doesn't fit
+abbrev pub put_in : Mode → State → List (ℕ × Due) → Ending → Script
+put_in mode S [] ending = ends ending
+put_in mode S (e ∷ events) ending =
+    let T = state_for S e.1 in
+    let more = turns_after mode (opened (entry_for S e.1)) T in
+    if fits_due S e.1 then with_due e (with_events (numbered e.0 more) (put_in mode (state_past T more) events ending)) else ends (At_misfit e.0)
+
+-- a script with the turns that are put in, from a state on
+abbrev pub with_turns : Mode → State → Script → Script
+with_turns mode S script = put_in mode S script.events script.ending
 
 abbrev pub is_turn : Event → Bool
 is_turn (Turn z) = true

@@ -1,29 +1,25 @@
--- What `trace` and `script` write for the whole of their input: its lines are read, their events, with the turns that are put in,
--- make a history of the zone machine from the commits of its store on, with the brands that there are, and the history's replies
--- are printed.
+-- What `trace`, `script`, `purge` and `given` write for the whole of their input: its lines are read, their events, with the turns that
+-- are put in, make a history of the zone machine from the commits of its store on, with the brands that there are, and the history's
+-- replies are printed.
 use Rattle.std.specs.Prelude.{All, ◌++◌, ℕ, List, [], ◌∷◌, ◌+◌, ◌≡◌, map, take, Bool, true, false, ◌||◌, Option, Some, None, IfSome, Result, Ok, Err, if◌then◌else◌}
-use Rattle.std.specs.List.{flat_map, list_any}
+use Rattle.std.specs.List.{flat_map}
 use Rattle.zn_io.specs.Streams.{after_known}
 use Rattle.brand_hooks.specs.Brands.{Tabled}
 use Rattle.commit_journal.specs.declared.records.Commit.{Commit}
-use Rattle.trace_text.specs.Lines.{Said, event_of, given_text}
+use Rattle.trace_text.specs.Lines.{given_text}
 use Rattle.trace_text.specs.Replies.{reply_text}
-use Rattle.trace_text.specs.declared.fault.LineFault.{LineFault}
-use Rattle.zone_machine.specs.Machine.Histories.{concerns, history}
-use Rattle.zone_cases.specs.Events.{is_restart}
+use Rattle.zone_machine.specs.Machine.Histories.{concerns}
 use Rattle.zone_machine.specs.Machine.{opening}
 use Rattle.zoneadmd_steps.specs.declared.requests.Outcome.{Outcome}
 use Rattle.zoneadmd_steps.specs.declared.requests.Outcome.TheVariants.{Done}
 use Rattle.zoneadmd_steps.specs.declared.requests.TurnReply.{TurnReply}
 use Rattle.zoneadmd_steps.specs.declared.requests.TurnReply.TheVariants.{Failed, Finished, Stuck}
 use Rattle.zone_cases.specs.declared.events.Entry.{Entry}
-use Rattle.zone_cases.specs.declared.events.Event.{Event}
-use Rattle.zone_cases.specs.declared.events.Event.TheVariants.{System}
 use Rattle.zone_cases.specs.declared.replies.Head.{Head}
 use Rattle.zone_cases.specs.declared.replies.Head.TheVariants.{Refused, Turned}
-use Rattle.zone_cases.specs.State.{State}
-use Rattle.zn_base.specs.Lines.{lines_of}
-use Rattle.zones_run.specs.Scripting.{is_turn, put_in, puts_in}
+use Rattle.zones_run.specs.Scripting.{is_turn, puts_in, with_turns}
+use Rattle.zones_run.specs.Scripts.{At_end, At_fault, At_misfit, Ending, Past_limit, Script, entries_from, script_of}
+use Rattle.zones_run.specs.declared.due.Due.{Due}
 use Rattle.zones_run.specs.declared.words.Mode.{Mode}
 use Rattle.zones_run.specs.declared.words.Mode.TheVariants.{Purged}
 use Rattle.zones_run.specs.declared.fault.RunFault.{RunFault}
@@ -31,54 +27,9 @@ use Rattle.zones_run.specs.declared.fault.RunFault.TheVariants.{Read, Write}
 use Rattle.zones_run.specs.Taking.{TakesLines, TakesNoMore}
 use Rattle.zones_run.specs.Complaints.{complaint_output, limit_at}
 use Rattle.zones_run.specs.declared.outcome.Complaint.{Complaint}
-use Rattle.zones_run.specs.declared.outcome.Complaint.TheVariants.{FirstRefused, Grammar as Bad_line}
-use Rattle.zones_run.specs.Output.{Output, is_past_limit, written}
+use Rattle.zones_run.specs.declared.outcome.Complaint.TheVariants.{BadGrant, FirstRefused, Grammar as Bad_line}
+use Rattle.zones_run.specs.Output.{Output, written}
 use Rattle.zones_run.specs.Run.{HasFront}
-
--- how the lines end: at the end of the input, at a line outside the grammar, or past a limit
-pub data Ending : Type 0 where
-  At_end : Ending
-  At_fault : (number : ℕ) → LineFault → Ending
-  Past_limit : (number : ℕ) → Ending
-
--- the events of the lines, each with the number of its line, up to where they end
-pub record Script : Type 0 where
-  pub events : List (ℕ × Event)
-  pub ending : Ending
-
-abbrev pub ends : Ending → Script
-ends ending = record { events = []; ending = ending }
-
--- a line's event, if it is one, stands before those of the lines after it
-abbrev pub with_line : ℕ → Said → Script → Script
-with_line number (Err fault) more = ends (At_fault number fault)
-with_line number (Ok None) more = more
-with_line number (Ok (Some event)) more = record { events = (number, event) ∷ more.events; ending = more.ending }
-
--- an event counts unless it is a declaration: once one that counts has come, nothing may be declared
-abbrev pub counts_event : Event → Bool
-counts_event (System what) = false
-counts_event event = true
-
--- whether a line says such an event
-abbrev pub counts : Said → Bool
-counts (Ok (Some event)) = counts_event event
-counts said = false
-
--- the script of the lines from a number on, by whether an event that counts has come before them
-abbrev pub script_from : (started : Bool) → ℕ → List (List ℕ) → Script
-script_from started number [] = ends At_end
-script_from started number (line ∷ lines) =
-    if is_past_limit number line then ends (Past_limit number)
-    else let said = event_of started line in with_line number said (script_from (started || counts said) (number + 1) lines)
-
--- the script of a whole input
-abbrev pub script_of : List ℕ → Script
-script_of bytes = script_from false 1 (lines_of bytes)
-
--- whether a line of a whole input restarts the system
-abbrev pub has_restart : List ℕ → Bool
-has_restart bytes = list_any (λ e. is_restart e.1) (script_of bytes).events
 
 -- a refusal: `err`, `failed`, `finished` other than `ok`, or `stuck`
 abbrev pub is_refused_outcome : Outcome → Bool
@@ -97,7 +48,7 @@ is_refusal (Turned turn) = is_refused_turn turn
 is_refusal head = false
 
 -- the number of the first line whose entry is a refusal
-abbrev pub first_refused : List (ℕ × Event) → List Entry → Option ℕ
+abbrev pub first_refused : List (ℕ × Due) → List Entry → Option ℕ
 first_refused (e ∷ events) (entry ∷ entries) =
     if is_refusal entry.reply.head then Some e.0 else first_refused events entries
 first_refused events entries = None
@@ -112,17 +63,13 @@ pub record Run : Type 0 where
 abbrev pub run_by : Script → List Entry → Run
 run_by script entries = record { entries = entries; refused = first_refused script.events entries; ending = script.ending }
 
--- the entries are the history of the events, from a machine of some brands whose store has some commits
+-- the entries are those of the events, from a machine of some brands whose store has some commits
 abbrev pub script_run : List Tabled → List Commit → Script → Run
-script_run brands R script = run_by script (history (opening brands R) (map (λ e. e.1) script.events))
-
--- a script with the turns that are put in, from a state on
-abbrev pub with_turns : Mode → State → Script → Script
-with_turns mode S script = record { events = put_in mode S script.events; ending = script.ending }
+script_run brands R script = run_by script (entries_from (opening brands R) (map (λ e. e.1) script.events))
 
 -- the run of a whole input
 abbrev pub run_of : Mode → List Tabled → List Commit → List ℕ → Run
-run_of mode brands R bytes = script_run brands R (with_turns mode (opening brands R) (script_of bytes))
+run_of mode brands R bytes = script_run brands R (with_turns mode (opening brands R) (script_of mode bytes))
 
 -- what is told of an entry: its reply; or, where all other zones are purged, the line of an event of the zone or of the whole
 -- system, and nothing of any other
@@ -141,6 +88,7 @@ told_refusal text (Some number) = record (complaint_output (FirstRefused number)
 abbrev pub told_ending : List ℕ → Option ℕ → Ending → Output
 told_ending text refused At_end = told_refusal text refused
 told_ending text refused (At_fault number fault) = record (complaint_output (Bad_line number fault)) { out = text }
+told_ending text refused (At_misfit number) = record (complaint_output (BadGrant number)) { out = text }
 told_ending text refused (Past_limit number) = record (limit_at number) { out = text }
 
 -- the output of a run
@@ -167,17 +115,17 @@ pub record HasReplies (mode : Mode) (held holds : Option (List ℕ)) (run : Run)
   pub taken : holds ≡ after_known held (entries_text mode (take count run.entries))
 
 -- `trace` has taken lines that don't end it, the beginning of one more, and at most one piece
-abbrev pub RunsLines : (input left : Option (List ℕ)) → Type 0
-RunsLines input left = TakesLines (λ bytes. (script_of bytes).ending ≡ At_end) input left
+abbrev pub RunsLines : Mode → List Tabled → List Commit → (input left : Option (List ℕ)) → Type 0
+RunsLines mode brands R input left = TakesLines (λ bytes. (run_of mode brands R bytes).ending ≡ At_end) input left
 
 -- and has written the replies of just those lines
 pub record AnswersLines (mode : Mode) (brands : List Tabled) (R : List Commit) (input left held holds : Option (List ℕ)) : Type 0 where
-  pub runs : RunsLines input left
+  pub runs : RunsLines mode brands R input left
   pub text : holds ≡ after_known held (entries_text mode (run_of mode brands R runs.lines).entries)
 
 -- or, where a fault came in a turn that was put in, but for those of the last turns that are put in after these lines
 pub record AnswersSome (mode : Mode) (brands : List Tabled) (R : List Commit) (input left held holds : Option (List ℕ)) : Type 0 where
-  pub runs : RunsLines input left
+  pub runs : RunsLines mode brands R input left
   pub told : List Entry
   pub untold : List Entry
   pub whole : (run_of mode brands R runs.lines).entries ≡ told ++ untold
@@ -195,7 +143,7 @@ abbrev pub EndsAs : Mode → List Tabled → List Commit → Result (Option Comp
 EndsAs mode brands R (Ok complaint) input left held holds told =
     IfSome input (λ bytes. Tells complaint held told (traced mode brands R bytes)) × IfSome input (λ _. AnswersLines mode brands R input left held told)
 EndsAs mode brands R (Err Write) input left held holds told =
-    IfSome input (λ bytes. HasFront held holds (traced mode brands R bytes).out) × IfSome input (λ _. RunsLines input left)
+    IfSome input (λ bytes. HasFront held holds (traced mode brands R bytes).out) × IfSome input (λ _. RunsLines mode brands R input left)
 EndsAs mode brands R (Err Read) input left held holds told =
     IfSome input (λ bytes. HasReplies mode held told (run_of mode brands R bytes)) × IfSome input (λ _. AnswersRead mode brands R input left held told)
 EndsAs mode brands R (Err fault) input left held holds told =

@@ -7,7 +7,7 @@ use Rattle.zones_run.specs.declared.words.Command.{Command}
 use Rattle.zones_run.specs.declared.words.Command.TheVariants.{Export, OnStore, Help, Version}
 use Rattle.zones_run.specs.declared.words.Task.{Task}
 use Rattle.zones_run.specs.declared.words.Task.TheVariants.{Index, Run}
-use Rattle.zones_run.specs.declared.words.Mode.TheVariants.{Purged, Replies, WithTurns}
+use Rattle.zones_run.specs.declared.words.Mode.TheVariants.{Purged, Replies, Stated, WithTurns}
 
 -- the commands that open the store
 abbrev pub trace_task : Task
@@ -16,11 +16,15 @@ trace_task = Run Replies
 abbrev pub script_task : Task
 script_task = Run WithTurns
 
+abbrev pub given_task : Task
+given_task = Run Stated
+
 abbrev pub command_named : List ℕ → Option Command
 command_named word =
     if bytes_eq word (codes "export") then Some Export
     else if bytes_eq word (codes "trace") then Some (OnStore trace_task)
     else if bytes_eq word (codes "script") then Some (OnStore script_task)
+    else if bytes_eq word (codes "given") then Some (OnStore given_task)
     else if bytes_eq word (codes "index") then Some (OnStore Index)
     else if bytes_eq word (codes "--help") then Some Help
     else if bytes_eq word (codes "--version") then Some Version

@@ -1,5 +1,5 @@
 //! Events are answered by the machine, and their replies wait to be written together.
-ghost use Rattle.std.specs.Prelude.{◌≡◌, ◌≢◌, ◌<◌, ◌≤◌, ◌⊎◌, ◌++◌, [], Err, IfErr, IfOk, IsErrOf, Ok, OnErr, OnOk, false, true};
+ghost use Rattle.std.specs.Prelude.{◌≡◌, ◌≢◌, ◌<◌, ◌≤◌, ◌⊎◌, ◌++◌, [], Err, IfErr, IfOk, IsErrOf, None, Ok, OnErr, OnOk, Some, false, true};
 ghost use Rattle.zn_io.specs.Streams.{Rose, after_known};
 ghost use Rattle.zone_cases.specs.Events.{is_restart};
 ghost use Rattle.zone_cases.specs.State.{State};
@@ -7,11 +7,12 @@ ghost use Rattle.zone_machine.specs.Code.Decided.{AsksBrands, MayGoOn, entry_by,
 ghost use Rattle.zone_machine.specs.Code.Openings.{StandsFor};
 ghost use Rattle.zone_machine.specs.Code.Records.{Passes};
 ghost use Rattle.zone_machine.specs.Machine.Histories.{concerns};
-ghost use Rattle.zones_run.specs.Answering.{Fails, IsAnswered, LeavesText, Steps};
+ghost use Rattle.zones_run.specs.Answering.{IsAnswered, IsFault, MayStop, Steps, Stops, StopsText};
 ghost use Rattle.zones_run.specs.Run.{HasFront};
 ghost use Rattle.zones_run.specs.Tracing.{HasWritten, entry_text, is_refusal, is_refused_turn};
 
-use crate::fault::RunFault;
+use crate::due::Due;
+use crate::fault::{RunFault, Stop};
 use crate::words::Mode;
 use brand_hooks::{Change, HookAnswer};
 use std::alloc::{AllocError, Global};
@@ -69,24 +70,26 @@ pub fn write_waiting<K: Sink>(waiting: &mut Vec<u8>, out: &mut K) -> Result<(), 
 fn answer_recording<D: Disk, F: Fn(&Change) -> HookAnswer>(
     alloc: Global,
     machine: &mut Machine<'_, D, F>,
-    event: &Event,
-) -> Result<Answer, RunFault>
-    requires stays { is_restart event.now ≡ false }
+    due: &Due,
+) -> Result<Answer, Stop>
+    requires stays { is_restart due.now.event ≡ false }
     requires asks { AsksBrands F.Fn machine.old }
     requires ready { MayGoOn D.view machine.old }
-    ensures steps { IfOk result (λ answer. (S : State) → StandsFor S machine.old → Steps S event.now answer (λ T. StandsFor T machine.new) (D.view machine.old.bank.disk) (D.view machine.new.bank.disk)) }
-    ensures kept { IfErr result (λ fault. (S : State) → StandsFor S machine.old → Fails fault (machine.new.bank ≡ machine.old.bank) S event.now (D.view machine.old.bank.disk) (D.view machine.new.bank.disk)) }
-    ensures only { IfErr result (λ fault. (fault ≡ RunFault.Memory) ⊎ (fault ≡ RunFault.Disk)) }
-    ensures disk { IsErrOf result RunFault.Disk → Rose (D.view machine.old.bank.disk).faults (D.view machine.new.bank.disk).faults }
+    ensures steps { IfOk result (λ answer. (S : State) → StandsFor S machine.old → Steps S due.now answer (λ T. StandsFor T machine.new) (D.view machine.old.bank.disk) (D.view machine.new.bank.disk)) }
+    ensures kept { IfErr result (λ stop. (S : State) → StandsFor S machine.old → Stops stop (machine.new.bank ≡ machine.old.bank) S (Ok (Some due.now)) (D.view machine.old.bank.disk) (D.view machine.new.bank.disk)) }
+    ensures only { IfErr result (λ stop. (stop ≡ Stop.Fault RunFault.Memory) ⊎ ((stop ≡ Stop.Fault RunFault.Disk) ⊎ (stop ≡ Stop.BadGrant))) }
+    ensures unstated { due.now.stated ≡ None → IfErr result IsFault }
+    ensures disk { IsErrOf result (Stop.Fault RunFault.Disk) → Rose (D.view machine.old.bank.disk).faults (D.view machine.new.bank.disk).faults }
     ensures ready { OnOk result (MayGoOn D.view machine.new) }
     ensures passes { Passes (D.view machine.old.bank.disk) (D.view machine.new.bank.disk) }
     ensures asks { AsksBrands F.Fn machine.new }
 {
-    match machine.answer(alloc, event, true) {
+    match machine.answer(alloc, &due.event, due.stated, true) {
         Ok(answer) => Ok(answer),
-        Err(StepFault::Memory) => Err(RunFault::Memory),
-        Err(StepFault::DiskFault) => Err(RunFault::Disk),
-        Err(StepFault::BadGrant | StepFault::WouldRecord | StepFault::NoStore(_)) => unreachable!(),
+        Err(StepFault::Memory) => Err(Stop::Fault(RunFault::Memory)),
+        Err(StepFault::DiskFault) => Err(Stop::Fault(RunFault::Disk)),
+        Err(StepFault::BadGrant) => Err(Stop::BadGrant),
+        Err(StepFault::WouldRecord | StepFault::NoStore(_)) => unreachable!(),
     }
 }
 
@@ -94,34 +97,37 @@ fn answer_recording<D: Disk, F: Fn(&Change) -> HookAnswer>(
 fn answer_after_waiting<D: Disk, F: Fn(&Change) -> HookAnswer, K: Sink>(
     alloc: Global,
     machine: &mut Machine<'_, D, F>,
-    event: &Event,
+    due: &Due,
     waiting: &mut Vec<u8>,
     out: &mut K,
-) -> Result<Answer, RunFault>
-    requires stays { is_restart event.now ≡ false }
+) -> Result<Answer, Stop>
+    requires stays { is_restart due.now.event ≡ false }
     requires asks { AsksBrands F.Fn machine.old }
     requires ready { MayGoOn D.view machine.old }
-    ensures steps { IfOk result (λ answer. (S : State) → StandsFor S machine.old → Steps S event.now answer (λ T. StandsFor T machine.new) (D.view machine.old.bank.disk) (D.view machine.new.bank.disk)) }
-    ensures kept { IfErr result (λ fault. (S : State) → StandsFor S machine.old → Fails fault (machine.new.bank ≡ machine.old.bank) S event.now (D.view machine.old.bank.disk) (D.view machine.new.bank.disk)) }
+    ensures steps { IfOk result (λ answer. (S : State) → StandsFor S machine.old → Steps S due.now answer (λ T. StandsFor T machine.new) (D.view machine.old.bank.disk) (D.view machine.new.bank.disk)) }
+    ensures kept { IfErr result (λ stop. (S : State) → StandsFor S machine.old → Stops stop (machine.new.bank ≡ machine.old.bank) S (Ok (Some due.now)) (D.view machine.old.bank.disk) (D.view machine.new.bank.disk)) }
+    ensures may { IfErr result (λ stop. MayStop stop (D.view machine.old.bank.disk)) }
+    ensures unstated { due.now.stated ≡ None → IfErr result IsFault }
     ensures same { OnOk result (after_known (K.holds out.new) waiting.new.items ≡ after_known (K.holds out.old) waiting.old.items) }
-    ensures text { IfErr result (λ fault. LeavesText fault (K.holds out.old) (K.holds out.new) waiting.old.items waiting.new.items) }
+    ensures text { IfErr result (λ stop. StopsText stop (K.holds out.old) (K.holds out.new) waiting.old.items waiting.new.items) }
     ensures written { HasWritten (K.holds out.old) (K.holds out.new) }
-    ensures write { IsErrOf result RunFault.Write → Rose (K.faults out.old) (K.faults out.new) }
-    ensures disk { IsErrOf result RunFault.Disk → Rose (D.view machine.old.bank.disk).faults (D.view machine.new.bank.disk).faults }
+    ensures write { IsErrOf result (Stop.Fault RunFault.Write) → Rose (K.faults out.old) (K.faults out.new) }
+    ensures disk { IsErrOf result (Stop.Fault RunFault.Disk) → Rose (D.view machine.old.bank.disk).faults (D.view machine.new.bank.disk).faults }
     ensures later { K.faults out.old ≤ K.faults out.new }
     ensures ready { OnOk result (MayGoOn D.view machine.new) }
     ensures passes { Passes (D.view machine.old.bank.disk) (D.view machine.new.bank.disk) }
     ensures asks { AsksBrands F.Fn machine.new }
 {
-    match machine.answer(alloc, event, waiting.is_empty()) {
+    match machine.answer(alloc, &due.event, due.stated, waiting.is_empty()) {
         Ok(answer) => Ok(answer),
-        Err(StepFault::WouldRecord) => {
-            write_waiting(waiting, out)?;
-            answer_recording(alloc, machine, event)
-        }
-        Err(StepFault::Memory) => Err(RunFault::Memory),
-        Err(StepFault::DiskFault) => Err(RunFault::Disk),
-        Err(StepFault::BadGrant | StepFault::NoStore(_)) => unreachable!(),
+        Err(StepFault::WouldRecord) => match write_waiting(waiting, out) {
+            Ok(()) => answer_recording(alloc, machine, due),
+            Err(fault) => Err(Stop::Fault(fault)),
+        },
+        Err(StepFault::Memory) => Err(Stop::Fault(RunFault::Memory)),
+        Err(StepFault::DiskFault) => Err(Stop::Fault(RunFault::Disk)),
+        Err(StepFault::BadGrant) => Err(Stop::BadGrant),
+        Err(StepFault::NoStore(_)) => unreachable!(),
     }
 }
 
@@ -183,7 +189,7 @@ fn push_told(
 {
     match mode {
         Mode::Purged(zone) => push_kept(zone, event, answer, text),
-        Mode::Replies | Mode::WithTurns => push_answer(text, event, answer),
+        Mode::Replies | Mode::WithTurns | Mode::Stated => push_answer(text, event, answer),
     }
 }
 
@@ -208,30 +214,32 @@ pub fn answer<D: Disk, F: Fn(&Change) -> HookAnswer, K: Sink>(
     alloc: Global,
     mode: &Mode,
     machine: &mut Machine<'_, D, F>,
-    event: &Event,
+    due: &Due,
     text: &mut Vec<u8>,
     waiting: &mut Vec<u8>,
     out: &mut K,
-) -> Result<Answer, RunFault>
-    requires stays { is_restart event.now ≡ false }
+) -> Result<Answer, Stop>
+    requires stays { is_restart due.now.event ≡ false }
     requires asks { AsksBrands F.Fn machine.old }
     requires ready { MayGoOn D.view machine.old }
-    ensures answered { IfOk result (λ answer. (S : State) → StandsFor S machine.old → IsAnswered mode.now S event.now answer (λ T. StandsFor T machine.new) (D.view machine.old.bank.disk) (D.view machine.new.bank.disk) (after_known (K.holds out.old) waiting.old.items) (after_known (K.holds out.new) waiting.new.items)) }
-    ensures kept { IfErr result (λ fault. (S : State) → StandsFor S machine.old → Fails fault (machine.new.bank ≡ machine.old.bank) S event.now (D.view machine.old.bank.disk) (D.view machine.new.bank.disk)) }
-    ensures text { IfErr result (λ fault. LeavesText fault (K.holds out.old) (K.holds out.new) waiting.old.items waiting.new.items) }
+    ensures answered { IfOk result (λ answer. (S : State) → StandsFor S machine.old → IsAnswered mode.now S due.now answer (λ T. StandsFor T machine.new) (D.view machine.old.bank.disk) (D.view machine.new.bank.disk) (after_known (K.holds out.old) waiting.old.items) (after_known (K.holds out.new) waiting.new.items)) }
+    ensures kept { IfErr result (λ stop. (S : State) → StandsFor S machine.old → Stops stop (machine.new.bank ≡ machine.old.bank) S (Ok (Some due.now)) (D.view machine.old.bank.disk) (D.view machine.new.bank.disk)) }
+    ensures may { IfErr result (λ stop. MayStop stop (D.view machine.old.bank.disk)) }
+    ensures unstated { due.now.stated ≡ None → IfErr result IsFault }
+    ensures text { IfErr result (λ stop. StopsText stop (K.holds out.old) (K.holds out.new) waiting.old.items waiting.new.items) }
     ensures written { HasWritten (K.holds out.old) (K.holds out.new) }
-    ensures write { IsErrOf result RunFault.Write → Rose (K.faults out.old) (K.faults out.new) }
-    ensures disk { IsErrOf result RunFault.Disk → Rose (D.view machine.old.bank.disk).faults (D.view machine.new.bank.disk).faults }
+    ensures write { IsErrOf result (Stop.Fault RunFault.Write) → Rose (K.faults out.old) (K.faults out.new) }
+    ensures disk { IsErrOf result (Stop.Fault RunFault.Disk) → Rose (D.view machine.old.bank.disk).faults (D.view machine.new.bank.disk).faults }
     ensures later { K.faults out.old ≤ K.faults out.new }
     ensures ready { OnOk result (MayGoOn D.view machine.new) }
     ensures passes { Passes (D.view machine.old.bank.disk) (D.view machine.new.bank.disk) }
     ensures asks { AsksBrands F.Fn machine.new }
 {
-    match answer_after_waiting(alloc, machine, event, waiting, out) {
-        Ok(answer) => match put_told(mode, event, &answer, text, waiting) {
+    match answer_after_waiting(alloc, machine, due, waiting, out) {
+        Ok(answer) => match put_told(mode, &due.event, &answer, text, waiting) {
             Ok(()) => Ok(answer),
-            Err(AllocError) => Err(RunFault::Memory),
+            Err(AllocError) => Err(Stop::Fault(RunFault::Memory)),
         },
-        Err(fault) => Err(fault),
+        Err(stop) => Err(stop),
     }
 }

@@ -2,7 +2,9 @@
 ghost use Rattle.std.specs.Prelude.{◌≡◌};
 
 use crate::lines::ReadFault;
+use commit_journal::StoreFault;
 use thiserror::Error;
+use trace_text::LineFault;
 
 /// What ends a run before its answer.
 #[derive(Clone, Copy, Debug, PartialEq, Eq, Error)]
@@ -28,4 +30,15 @@ impl From<ReadFault> for RunFault {
             ReadFault::Failed => RunFault::Read,
         }
     }
+}
+
+/// Why a line ends a trace.
+#[derive(Drop)]
+pub enum Stop {
+    Fault(RunFault),
+    Grammar(LineFault),
+    /// The grant that it states doesn't fit what its event asks of the pools.
+    BadGrant,
+    /// The system restarted, and what is on the disk is no store.
+    NoStore(StoreFault),
 }

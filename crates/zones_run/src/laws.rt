@@ -2,13 +2,9 @@
 //! program's body is.
 ghost use Rattle.zones_run.specs.Declarations.{DeclaresFirst};
 ghost use Rattle.zones_run.specs.Denoted.{ExportsWhatIsDenoted, RefusesAtWhatIsDenoted};
-ghost use Rattle.std.specs.Prelude.{◌≡◌, ℕ, List, false};
-ghost use Rattle.zone_cases.specs.State.{State};
-ghost use Rattle.zone_cases.specs.declared.events.Event.{Event};
 ghost use Rattle.zones_run.specs.Resting.{CrashesLeaveStoredStates};
-ghost use Rattle.zones_run.specs.Scripting.{put_in, puts_in};
+ghost use Rattle.zones_run.specs.Permitted.{EntriesAreTheMachines, LinesAreTheEvents};
 ghost use Rattle.zones_run.specs.Turns_end.{TurnsEnd};
-ghost use Rattle.zones_run.specs.declared.words.Mode.{Mode};
 
 /// A law: where `export` ends with status 0, it has written the export text of the configuration that the
 /// subcommands of its input denote, with scopes as brackets in their list, and that has no flaw.
@@ -32,9 +28,16 @@ pub fn crashes_leave_stored_states()
     ensures { CrashesLeaveStoredStates }
 {}
 
-/// A law: only `script` puts turns in, so the events of a `trace`, and of a `purge`, are those of its lines.
+/// A law: only `script` puts turns in, and only a line that states a grant may be unfit, so the events of a `trace`, and of a
+/// `purge`, are those of its lines.
 pub fn only_script_puts_in()
-    ensures { (mode : Mode) (S : State) (events : List (ℕ × Event)) → puts_in mode ≡ false → put_in mode S events ≡ events }
+    ensures { LinesAreTheEvents }
+{}
+
+/// A law: the entries of a run make a history of the zone machine, each under the grant that the pools give or, where lines state
+/// grants, under one that fits.
+pub fn entries_are_the_machines()
+    ensures { EntriesAreTheMachines }
 {}
 
 /// A law: where a zone's daemon has fewer turns left than may be put in, and the zone stays small, the last turn that is put in

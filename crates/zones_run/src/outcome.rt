@@ -18,6 +18,8 @@ pub enum Complaint {
     End(Refusal),
     /// A line of a trace is outside its grammar.
     Grammar(u64, LineFault),
+    /// A line of a trace states a grant that doesn't fit what its event asks of the pools.
+    BadGrant(u64),
     /// A trace is done, and this is its first line that was refused.
     FirstRefused(u64),
     /// A line is past a limit.
@@ -49,7 +51,7 @@ impl Complaint {
             Complaint::Line(_, _) | Complaint::End(_) | Complaint::FirstRefused(_) => {
                 status::REFUSED
             }
-            Complaint::Grammar(_, _) => status::GRAMMAR,
+            Complaint::Grammar(_, _) | Complaint::BadGrant(_) => status::GRAMMAR,
             Complaint::Limit(_) => status::LIMIT,
             Complaint::NotAStore(_) => status::NOT_A_STORE,
         }
@@ -74,6 +76,10 @@ impl Complaint {
                 push_numbered(&mut line, b"line ", *number)?;
                 line.extend_from_slice(b": ")?;
                 line.extend_from_slice(fault.to_string(alloc)?.as_bytes())?;
+            }
+            Complaint::BadGrant(number) => {
+                push_numbered(&mut line, b"line ", *number)?;
+                line.extend_from_slice(b": 105 BadGrant")?;
             }
             Complaint::FirstRefused(number) => {
                 push_numbered(&mut line, b"first refused line: ", *number)?;

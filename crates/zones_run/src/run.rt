@@ -111,7 +111,7 @@ fn complain<E: Sink>(alloc: Global, err: &mut E, complaint: Complaint) -> u8
     }
 }
 
-// The commands `trace`, `script` and `purge`, on a machine that is opened.
+// The commands `trace`, `script`, `purge` and `given`, on a machine that is opened.
 fn run_lines<S: Source, K: Sink, E: Sink, D: Disk, F: Fn(&Change) -> HookAnswer>(
     alloc: Global,
     mode: &Mode,
@@ -125,9 +125,9 @@ fn run_lines<S: Source, K: Sink, E: Sink, D: Disk, F: Fn(&Change) -> HookAnswer>
     ensures statuses { IsStatus result }
     ensures usage { result ≢ USAGE }
     ensures store { (D.view machine.old.bank.disk).Keeps → result ≢ NOT_A_STORE }
-    ensures text { (brands : List Tabled) (R : List Commit) → StandsFor (opening brands R) machine.old → FindsAlways (D.view machine.old.bank.disk) (S.left src.old) → IfSome (S.left src.old) (λ bytes. TellsText (traced mode.now brands R bytes) result (K.holds out.old) (K.holds out.new)) }
-    ensures line { (brands : List Tabled) (R : List Commit) → StandsFor (opening brands R) machine.old → FindsAlways (D.view machine.old.bank.disk) (S.left src.old) → IfSome (S.left src.old) (λ bytes. TellsLine (traced mode.now brands R bytes).err result (E.holds err.old) (E.holds err.new) (E.faults err.old) (E.faults err.new)) }
-    ensures answered { (brands : List Tabled) (R : List Commit) → StandsFor (opening brands R) machine.old → FindsAlways (D.view machine.old.bank.disk) (S.left src.old) → AnswersTrace mode.now brands R result (S.left src.old) (S.left src.new) (K.holds out.old) (K.holds out.new) }
+    ensures text { (brands : List Tabled) (R : List Commit) → StandsFor (opening brands R) machine.old → FindsAlways mode.now (D.view machine.old.bank.disk) (S.left src.old) → IfSome (S.left src.old) (λ bytes. TellsText (traced mode.now brands R bytes) result (K.holds out.old) (K.holds out.new)) }
+    ensures line { (brands : List Tabled) (R : List Commit) → StandsFor (opening brands R) machine.old → FindsAlways mode.now (D.view machine.old.bank.disk) (S.left src.old) → IfSome (S.left src.old) (λ bytes. TellsLine (traced mode.now brands R bytes).err result (E.holds err.old) (E.holds err.new) (E.faults err.old) (E.faults err.new)) }
+    ensures answered { (brands : List Tabled) (R : List Commit) → StandsFor (opening brands R) machine.old → FindsAlways mode.now (D.view machine.old.bank.disk) (S.left src.old) → AnswersTrace mode.now brands R result (S.left src.old) (S.left src.new) (K.holds out.old) (K.holds out.new) }
     ensures recorded { (brands : List Tabled) (R : List Commit) → StandsFor (opening brands R) machine.old → IsStoreOf (D.view machine.old.bank.disk) R → RanBy mode.now brands R result (S.left src.old) (K.holds out.old) (K.holds out.new) (D.view machine.old.bank.disk) (D.view machine.new.bank.disk) }
     ensures read_fault { result ≡ READ_FAULT → Rose (S.faults src.old) (S.faults src.new) }
     ensures read_line { result ≡ READ_FAULT → TakesFront (E.holds err.old) (E.holds err.new) (E.faults err.old) (E.faults err.new) read_fault_line }

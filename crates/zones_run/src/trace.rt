@@ -1,4 +1,4 @@
-//! The commands `trace`, `script` and `purge`: the events of the input go through a zone machine over the store on a disk, one
+//! The commands `trace`, `script`, `purge` and `given`: the events of the input go through a zone machine over the store on a disk, one
 //! after the other, and for `script` also the turns that are put in.
 //! What is told of them is written together, before an event stores a record and once it has, before the system restarts, before more
 //! is read where no line is begun, and when many of them wait.
@@ -13,25 +13,25 @@ ghost use Rattle.zone_cases.specs.State.{State};
 ghost use Rattle.zone_machine.specs.Code.Decided.{AsksBrands, MayGoOn};
 ghost use Rattle.zone_machine.specs.Code.Openings.{StandsFor};
 ghost use Rattle.zone_machine.specs.Code.Records.{Passes};
-ghost use Rattle.trace_text.specs.Lines.{event_of};
-ghost use Rattle.zones_run.specs.Answering.{FindsAlways, IsAnswered, MayStop, RestartsWell, Stops, StopsText, TakesEvent, ended_by};
+ghost use Rattle.zones_run.specs.Scripts.{said_by};
+ghost use Rattle.zones_run.specs.Answering.{FindsAlways, IsAnswered, MayStop, RestartsWell, RestartsWellAt, Stops, StopsText, TakesEvent, ended_by};
 ghost use Rattle.zones_run.specs.Complaints.{IsOfInput};
 ghost use Rattle.zones_run.specs.Recording.{RanAs};
 ghost use Rattle.zones_run.specs.Run.{HasFront};
 ghost use Rattle.zones_run.specs.Tracing.{EndsAs, HasWritten, left_to_tell, told_refusal};
 
 use crate::answers::{WAITING_MAX, answer, put_told, write_waiting};
-use crate::fault::RunFault;
+use crate::due::{Due, read_due};
+use crate::fault::{RunFault, Stop};
 use crate::lines::{Ahead, Got, LINES_MAX, next_line};
 use crate::outcome::Complaint;
 use crate::turns::{Taken, give_turns, taken_from};
 use crate::words::Mode;
 use brand_hooks::{Change, HookAnswer};
-use commit_journal::StoreFault;
 use std::alloc::{AllocError, Global};
-use trace_text::{LineFault, read_line};
+use trace_text::LineFault;
 use zn_io::{Disk, Sink, Source};
-use zone_cases::{Answer, Event};
+use zone_cases::Answer;
 use zone_machine::{Machine, StepFault};
 
 // What is left to report at the end of the input.
@@ -42,14 +42,6 @@ fn ended(refused: Option<u64>) -> Option<Complaint>
     refused.map(Complaint::FirstRefused)
 }
 
-// Why a line ends a trace.
-enum Stop {
-    Fault(RunFault),
-    Grammar(LineFault),
-    // The system restarted, and what is on the disk is no store.
-    NoStore(StoreFault),
-}
-
 // What a line that ends a trace ends it with.
 fn ended_by(stop: Stop, number: u64) -> Result<Option<Complaint>, RunFault>
     ensures ended { result ≡ ended_by stop number }
@@ -57,6 +49,7 @@ fn ended_by(stop: Stop, number: u64) -> Result<Option<Complaint>, RunFault>
     match stop {
         Stop::Fault(fault) => Err(fault),
         Stop::Grammar(fault) => Ok(Some(Complaint::Grammar(number, fault))),
+        Stop::BadGrant => Ok(Some(Complaint::BadGrant(number))),
         Stop::NoStore(fault) => Ok(Some(Complaint::NotAStore(fault))),
     }
 }
@@ -66,16 +59,16 @@ fn restart<D: Disk, F: Fn(&Change) -> HookAnswer, K: Sink>(
     alloc: Global,
     mode: &Mode,
     machine: &mut Machine<'_, D, F>,
-    event: &Event,
+    due: &Due,
     text: &mut Vec<u8>,
     waiting: &mut Vec<u8>,
     out: &mut K,
 ) -> Result<Answer, Stop>
-    requires is { is_restart event.now ≡ true }
+    requires is { is_restart due.now.event ≡ true }
     requires asks { AsksBrands F.Fn machine.old }
     requires ready { MayGoOn D.view machine.old }
-    ensures answered { IfOk result (λ answer. (S : State) → StandsFor S machine.old → (D.view machine.old.bank.disk).Keeps → IsAnswered mode.now S event.now answer (λ T. StandsFor T machine.new) (D.view machine.old.bank.disk) (D.view machine.new.bank.disk) (after_known (K.holds out.old) waiting.old.items) (after_known (K.holds out.new) waiting.new.items)) }
-    ensures stopped { IfErr result (λ stop. (S : State) → StandsFor S machine.old → Stops stop (machine.new.bank ≡ machine.old.bank) S (Ok (Some event.now)) (D.view machine.old.bank.disk) (D.view machine.new.bank.disk)) }
+    ensures answered { IfOk result (λ answer. (S : State) → StandsFor S machine.old → RestartsWellAt S due.now (D.view machine.old.bank.disk) → IsAnswered mode.now S due.now answer (λ T. StandsFor T machine.new) (D.view machine.old.bank.disk) (D.view machine.new.bank.disk) (after_known (K.holds out.old) waiting.old.items) (after_known (K.holds out.new) waiting.new.items)) }
+    ensures stopped { IfErr result (λ stop. (S : State) → StandsFor S machine.old → Stops stop (machine.new.bank ≡ machine.old.bank) S (Ok (Some due.now)) (D.view machine.old.bank.disk) (D.view machine.new.bank.disk)) }
     ensures may { IfErr result (λ stop. MayStop stop (D.view machine.old.bank.disk)) }
     ensures text { IfErr result (λ stop. StopsText stop (K.holds out.old) (K.holds out.new) waiting.old.items waiting.new.items) }
     ensures written { HasWritten (K.holds out.old) (K.holds out.new) }
@@ -89,15 +82,16 @@ fn restart<D: Disk, F: Fn(&Change) -> HookAnswer, K: Sink>(
     if let Err(fault) = write_waiting(waiting, out) {
         return Err(Stop::Fault(fault));
     }
-    match machine.answer(alloc, event, true) {
-        Ok(answer) => match put_told(mode, event, &answer, text, waiting) {
+    match machine.answer(alloc, &due.event, due.stated, true) {
+        Ok(answer) => match put_told(mode, &due.event, &answer, text, waiting) {
             Ok(()) => Ok(answer),
             Err(AllocError) => Err(Stop::Fault(RunFault::Memory)),
         },
         Err(StepFault::Memory) => Err(Stop::Fault(RunFault::Memory)),
         Err(StepFault::DiskFault) => Err(Stop::Fault(RunFault::Disk)),
+        Err(StepFault::BadGrant) => Err(Stop::BadGrant),
         Err(StepFault::NoStore(fault)) => Err(Stop::NoStore(fault)),
-        Err(StepFault::BadGrant | StepFault::WouldRecord) => unreachable!(),
+        Err(StepFault::WouldRecord) => unreachable!(),
     }
 }
 
@@ -106,15 +100,15 @@ fn take_event<D: Disk, F: Fn(&Change) -> HookAnswer, K: Sink>(
     alloc: Global,
     mode: &Mode,
     machine: &mut Machine<'_, D, F>,
-    event: &Event,
+    due: &Due,
     text: &mut Vec<u8>,
     waiting: &mut Vec<u8>,
     out: &mut K,
 ) -> Result<Answer, Stop>
     requires asks { AsksBrands F.Fn machine.old }
     requires ready { MayGoOn D.view machine.old }
-    ensures answered { IfOk result (λ answer. (S : State) → StandsFor S machine.old → RestartsWell (Ok (Some event.now)) (D.view machine.old.bank.disk) → IsAnswered mode.now S event.now answer (λ T. StandsFor T machine.new) (D.view machine.old.bank.disk) (D.view machine.new.bank.disk) (after_known (K.holds out.old) waiting.old.items) (after_known (K.holds out.new) waiting.new.items)) }
-    ensures stopped { IfErr result (λ stop. (S : State) → StandsFor S machine.old → Stops stop (machine.new.bank ≡ machine.old.bank) S (Ok (Some event.now)) (D.view machine.old.bank.disk) (D.view machine.new.bank.disk)) }
+    ensures answered { IfOk result (λ answer. (S : State) → StandsFor S machine.old → RestartsWellAt S due.now (D.view machine.old.bank.disk) → IsAnswered mode.now S due.now answer (λ T. StandsFor T machine.new) (D.view machine.old.bank.disk) (D.view machine.new.bank.disk) (after_known (K.holds out.old) waiting.old.items) (after_known (K.holds out.new) waiting.new.items)) }
+    ensures stopped { IfErr result (λ stop. (S : State) → StandsFor S machine.old → Stops stop (machine.new.bank ≡ machine.old.bank) S (Ok (Some due.now)) (D.view machine.old.bank.disk) (D.view machine.new.bank.disk)) }
     ensures may { IfErr result (λ stop. MayStop stop (D.view machine.old.bank.disk)) }
     ensures text { IfErr result (λ stop. StopsText stop (K.holds out.old) (K.holds out.new) waiting.old.items waiting.new.items) }
     ensures written { HasWritten (K.holds out.old) (K.holds out.new) }
@@ -125,13 +119,10 @@ fn take_event<D: Disk, F: Fn(&Change) -> HookAnswer, K: Sink>(
     ensures passes { Passes (D.view machine.old.bank.disk) (D.view machine.new.bank.disk) }
     ensures asks { AsksBrands F.Fn machine.new }
 {
-    if event.is_restart() {
-        return restart(alloc, mode, machine, event, text, waiting, out);
+    if due.event.is_restart() {
+        return restart(alloc, mode, machine, due, text, waiting, out);
     }
-    match answer(alloc, mode, machine, event, text, waiting, out) {
-        Ok(answer) => Ok(answer),
-        Err(fault) => Err(Stop::Fault(fault)),
-    }
+    answer(alloc, mode, machine, due, text, waiting, out)
 }
 
 // One line: its event, if it is one, is answered, and the number of the first refused line is reported.
@@ -149,8 +140,8 @@ fn take_line<D: Disk, F: Fn(&Change) -> HookAnswer, K: Sink>(
     requires short { length line.now ≤ 4096 }
     requires asks { AsksBrands F.Fn machine.old }
     requires ready { MayGoOn D.view machine.old }
-    ensures taken { IfOk result (λ taken. (S : State) → StandsFor S machine.old → RestartsWell (event_of S.started line.now) (D.view machine.old.bank.disk) → TakesEvent mode.now S (event_of S.started line.now) (λ T. StandsFor T machine.new) (machine.new.bank ≡ machine.old.bank) (D.view machine.old.bank.disk) (D.view machine.new.bank.disk) number refused taken (after_known (K.holds out.old) waiting.old.items) (after_known (K.holds out.new) waiting.new.items)) }
-    ensures stopped { IfErr result (λ stop. (S : State) → StandsFor S machine.old → Stops stop (machine.new.bank ≡ machine.old.bank) S (event_of S.started line.now) (D.view machine.old.bank.disk) (D.view machine.new.bank.disk)) }
+    ensures taken { IfOk result (λ taken. (S : State) → StandsFor S machine.old → RestartsWell S (said_by mode.now S.started line.now) (D.view machine.old.bank.disk) → TakesEvent mode.now S (said_by mode.now S.started line.now) (λ T. StandsFor T machine.new) (machine.new.bank ≡ machine.old.bank) (D.view machine.old.bank.disk) (D.view machine.new.bank.disk) number refused taken (after_known (K.holds out.old) waiting.old.items) (after_known (K.holds out.new) waiting.new.items)) }
+    ensures stopped { IfErr result (λ stop. (S : State) → StandsFor S machine.old → Stops stop (machine.new.bank ≡ machine.old.bank) S (said_by mode.now S.started line.now) (D.view machine.old.bank.disk) (D.view machine.new.bank.disk)) }
     ensures may { IfErr result (λ stop. MayStop stop (D.view machine.old.bank.disk)) }
     ensures text { IfErr result (λ stop. StopsText stop (K.holds out.old) (K.holds out.new) waiting.old.items waiting.new.items) }
     ensures written { HasWritten (K.holds out.old) (K.holds out.new) }
@@ -161,13 +152,13 @@ fn take_line<D: Disk, F: Fn(&Change) -> HookAnswer, K: Sink>(
     ensures passes { Passes (D.view machine.old.bank.disk) (D.view machine.new.bank.disk) }
     ensures asks { AsksBrands F.Fn machine.new }
 {
-    match read_line(alloc, line, machine.started()) {
+    match read_due(alloc, mode, line, machine.started()) {
         Ok(None) => Ok(Taken {
             refused,
             opened: None,
         }),
-        Ok(Some(event)) => match take_event(alloc, mode, machine, &event, text, waiting, out) {
-            Ok(answer) => Ok(taken_from(refused, number, &event, answer)),
+        Ok(Some(due)) => match take_event(alloc, mode, machine, &due, text, waiting, out) {
+            Ok(answer) => Ok(taken_from(refused, number, &due.event, answer)),
             Err(stop) => Err(stop),
         },
         Err(LineFault::Memory) => Err(Stop::Fault(RunFault::Memory)),
@@ -212,7 +203,7 @@ fn take_lines<D: Disk, F: Fn(&Change) -> HookAnswer, S: Source, K: Sink>(
     requires asks { AsksBrands F.Fn machine.old }
     requires ready { MayGoOn D.view machine.old }
     requires none { waiting.old.items ≡ [] }
-    ensures ran { (brands : List Tabled) (R : List Commit) → StandsFor (opening brands R) machine.old → FindsAlways (D.view machine.old.bank.disk) (S.left source.old) → EndsAs mode.now brands R result (S.left source.old) (S.left source.new) (K.holds out.old) (K.holds out.new) (after_known (K.holds out.new) waiting.new.items) }
+    ensures ran { (brands : List Tabled) (R : List Commit) → StandsFor (opening brands R) machine.old → FindsAlways mode.now (D.view machine.old.bank.disk) (S.left source.old) → EndsAs mode.now brands R result (S.left source.old) (S.left source.new) (K.holds out.old) (K.holds out.new) (after_known (K.holds out.new) waiting.new.items) }
     ensures recorded { (brands : List Tabled) (R : List Commit) → StandsFor (opening brands R) machine.old → IsStoreOf (D.view machine.old.bank.disk) R → RanAs mode.now brands R result (S.left source.old) (K.holds out.old) (after_known (K.holds out.new) waiting.new.items) (D.view machine.old.bank.disk) (D.view machine.new.bank.disk) }
     ensures kind { (D.view machine.old.bank.disk).Keeps → IfOk result (λ complaint. IfSome complaint IsOfInput) }
     ensures read { IsErrOf result RunFault.Read → Rose (S.faults source.old) (S.faults source.new) }
@@ -282,7 +273,7 @@ pub fn trace_all<D: Disk, F: Fn(&Change) -> HookAnswer, S: Source, K: Sink>(
 ) -> Result<Option<Complaint>, RunFault>
     requires asks { AsksBrands F.Fn machine.old }
     requires ready { MayGoOn D.view machine.old }
-    ensures ran { (brands : List Tabled) (R : List Commit) → StandsFor (opening brands R) machine.old → FindsAlways (D.view machine.old.bank.disk) (S.left source.old) → EndsAs mode.now brands R result (S.left source.old) (S.left source.new) (K.holds out.old) (K.holds out.new) (K.holds out.new) }
+    ensures ran { (brands : List Tabled) (R : List Commit) → StandsFor (opening brands R) machine.old → FindsAlways mode.now (D.view machine.old.bank.disk) (S.left source.old) → EndsAs mode.now brands R result (S.left source.old) (S.left source.new) (K.holds out.old) (K.holds out.new) (K.holds out.new) }
     ensures recorded { (brands : List Tabled) (R : List Commit) → StandsFor (opening brands R) machine.old → IsStoreOf (D.view machine.old.bank.disk) R → RanAs mode.now brands R result (S.left source.old) (K.holds out.old) (K.holds out.new) (D.view machine.old.bank.disk) (D.view machine.new.bank.disk) }
     ensures kind { (D.view machine.old.bank.disk).Keeps → IfOk result (λ complaint. IfSome complaint IsOfInput) }
     ensures read { IsErrOf result RunFault.Read → Rose (S.faults source.old) (S.faults source.new) }

@@ -16,7 +16,8 @@ ghost use Rattle.zones_run.specs.Taking.{TakesPiece};
 ghost use Rattle.zones_run.specs.Tracing.{EndsAs, HasWritten};
 
 use crate::answers::{answer, is_refusal};
-use crate::fault::RunFault;
+use crate::due::Due;
+use crate::fault::{RunFault, Stop};
 use crate::words::Mode;
 use brand_hooks::{Change, HookAnswer};
 use std::alloc::Global;
@@ -136,17 +137,21 @@ fn until_answered<D: Disk, F: Fn(&Change) -> HookAnswer, K: Sink>(
     ensures asks { AsksBrands F.Fn machine.new }
 {
     let ticket = opened.ticket;
-    let event = Event::Turn { zone: opened.zone };
+    let due = Due {
+        event: Event::Turn { zone: opened.zone },
+        stated: None,
+    };
     let mut refused = refused;
     for given in 0..TURNS_MAX {
-        match answer(alloc, &Mode::WithTurns, machine, &event, text, waiting, out) {
+        match answer(alloc, &Mode::WithTurns, machine, &due, text, waiting, out) {
             Ok(answer) => {
                 refused = refused_by(refused, number, &answer.reply.head);
                 if is_last(ticket, &answer.reply.head) {
                     return Ok(refused);
                 }
             }
-            Err(fault) => return Err(fault),
+            Err(Stop::Fault(fault)) => return Err(fault),
+            Err(Stop::Grammar(_) | Stop::BadGrant | Stop::NoStore(_)) => unreachable!(),
         }
     }
     Ok(refused)
@@ -183,7 +188,7 @@ pub fn give_turns<D: Disk, F: Fn(&Change) -> HookAnswer, K: Sink>(
 {
     let Taken { refused, opened } = taken;
     match mode {
-        Mode::Replies | Mode::Purged(_) => Ok(refused),
+        Mode::Replies | Mode::Purged(_) | Mode::Stated => Ok(refused),
         Mode::WithTurns => match opened {
             Some(opened) => {
                 until_answered(alloc, machine, opened, number, refused, text, waiting, out)

@@ -22,6 +22,8 @@ COMMAND is one of
              for something
   purge ZONE run the trace, and write in place of replies its lines that are of this zone
              or of the whole system, each behind what the pools gave it
+  given      the same as trace, for lines that state what the pools gave their events, as
+             purge writes them
   index      write a line for each stored zone
   --help     write this text
   --version  write the version
@@ -44,12 +46,14 @@ pub enum Mode {
     /// The lines of the events of a zone and of the whole system, behind what they were given. Those of all other zones are
     /// left out.
     Purged(ZoneName),
+    /// The replies. Each line states the grant of its event.
+    Stated,
 }
 
 /// What a command does once it has opened the store on the disk.
 #[derive(Drop)]
 pub enum Task {
-    /// It runs the lines of its input, as `trace`, `script` and `purge` do.
+    /// It runs the lines of its input, as `trace`, `script`, `purge` and `given` do.
     Run(Mode),
     /// It writes the index of the stored zones.
     Index,
@@ -72,6 +76,7 @@ fn command_named(word: &str) -> Option<Command>
         "export" => Some(Command::Export),
         "trace" => Some(Command::OnStore(Task::Run(Mode::Replies))),
         "script" => Some(Command::OnStore(Task::Run(Mode::WithTurns))),
+        "given" => Some(Command::OnStore(Task::Run(Mode::Stated))),
         "index" => Some(Command::OnStore(Task::Index)),
         "--help" => Some(Command::Help),
         "--version" => Some(Command::Version),

@@ -39,6 +39,10 @@ IsAllowedStepOf view m e entry n = (S : State) → Stands S m.parts → FindsAga
 abbrev pub IsFittingStepOf : {D F : Type 0} → (D → View) → Machine D F → Event → Grant → Entry → Machine D F → Type 0
 IsFittingStepOf view m e g entry n = (S : State) → Stands S m.parts → FindsAgain e (view m.bank.disk) m.bank.records S → (fits S e g ≡ true) × Answers S e g entry n.parts
 
+-- or under the one of these that it takes
+abbrev pub IsStepUnderOf : {D F : Type 0} → (D → View) → Option Grant → Machine D F → Event → Entry → Machine D F → Type 0
+IsStepUnderOf view stated m e entry n = (S : State) → Stands S m.parts → FindsAgain e (view m.bank.disk) m.bank.records S → StepsUnder stated S e entry n.parts
+
 -- and the bank then has the bodies of the commits after it
 abbrev pub KeepsBodiesOf : {D F : Type 0} → (D → View) → Option Grant → Machine D F → Event → Machine D F → Type 0
 KeepsBodiesOf view stated m e n =

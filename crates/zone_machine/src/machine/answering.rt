@@ -67,17 +67,18 @@ impl Parts {
         bank: &mut Bank<D>,
         alloc: Global,
         event: &Event,
+        stated: Option<Grant>,
         hook: HookAnswer,
         may_record: bool,
     ) -> Result<Answer, StepFault>
         requires stays { is_restart event.now ≡ false }
         requires hook { IsHeard self.old event.now hook }
         requires ready { IsReady (D.view bank.old.disk) bank.old self.old.shared }
-        ensures ok { IfOk result (λ answer. IsStepUnder None self.old event.now (entry_by event.now answer) self.new) }
-        ensures fault { IfErr result (λ fault. Leaves fault None self.old event.now self.new) }
+        ensures ok { IfOk result (λ answer. IsStepUnder stated self.old event.now (entry_by event.now answer) self.new) }
+        ensures fault { IfErr result (λ fault. Leaves fault stated self.old event.now self.new) }
         ensures ready { OnOk result (IsReady (D.view bank.new.disk) bank.new self.new.shared) }
-        ensures goes { GoesUnder None self.old event.now bank.old.records (D.view bank.old.disk) (D.view bank.new.disk) }
-        ensures bodies { OnOk result (KeepsBodies None self.old event.now bank.old.records bank.new.records) }
+        ensures goes { GoesUnder stated self.old event.now bank.old.records (D.view bank.old.disk) (D.view bank.new.disk) }
+        ensures bodies { OnOk result (KeepsBodies stated self.old event.now bank.old.records bank.new.records) }
         ensures passes { Passes (D.view bank.old.disk) (D.view bank.new.disk) }
         ensures left { IfErr result (λ fault. BankLeft may_record fault bank.old bank.new (D.view bank.old.disk) (D.view bank.new.disk) self.new.shared) }
         ensures brands { self.new.shared.brands ≡ self.old.shared.brands }
@@ -85,7 +86,7 @@ impl Parts {
         let read = read_event(event);
         let subject = subject(&self.shared, alloc, read)?;
         let (grant, reply) = self.answer_of(
-            bank, alloc, event, read, &subject, None, hook, may_record,
+            bank, alloc, event, read, &subject, stated, hook, may_record,
         )?;
         Ok(Answer {
             whose: Whose::Found(subject),
@@ -94,18 +95,23 @@ impl Parts {
         })
     }
 
-    // An event of the whole system is answered that isn't a restart, under the grant that it has.
-    fn answer_system(&mut self, alloc: Global, event: &Event) -> Result<Answer, StepFault>
+    // An event of the whole system is answered that isn't a restart.
+    fn answer_system(
+        &mut self,
+        alloc: Global,
+        event: &Event,
+        stated: Option<Grant>,
+    ) -> Result<Answer, StepFault>
         requires of { own_subject event.now ≡ subject_variants.Whole }
         requires stays { is_restart event.now ≡ false }
-        ensures ok { IfOk result (λ answer. IsStepUnder None self.old event.now (entry_by event.now answer) self.new) }
-        ensures fault { IfErr result (λ fault. Leaves fault None self.old event.now self.new) }
+        ensures ok { IfOk result (λ answer. IsStepUnder stated self.old event.now (entry_by event.now answer) self.new) }
+        ensures fault { IfErr result (λ fault. Leaves fault stated self.old event.now self.new) }
         ensures apart { IfErr result NeedsNoDisk }
         ensures rows { self.new.shared.rows ≡ self.old.shared.rows }
         ensures used { self.new.shared.used ≡ self.old.shared.used }
         ensures brands { self.new.shared.brands ≡ self.old.shared.brands }
     {
-        let (grant, reply) = self.answer_whole(alloc, event, None)?;
+        let (grant, reply) = self.answer_whole(alloc, event, stated)?;
         Ok(Answer {
             whose: Whose::Own,
             grant,
@@ -121,6 +127,7 @@ impl Parts {
         event: &Event,
         read: Read<'_>,
         zone: &ZoneName,
+        stated: Option<Grant>,
         hook: HookAnswer,
         may_record: bool,
     ) -> Result<Answer, StepFault>
@@ -130,17 +137,17 @@ impl Parts {
         requires right { IsRightRead read }
         requires hook { IsHeard self.old event.now hook }
         requires ready { IsReady (D.view bank.old.disk) bank.old self.old.shared }
-        ensures ok { IfOk result (λ answer. IsStepUnder None self.old event.now (entry_by event.now answer) self.new) }
-        ensures fault { IfErr result (λ fault. Leaves fault None self.old event.now self.new) }
+        ensures ok { IfOk result (λ answer. IsStepUnder stated self.old event.now (entry_by event.now answer) self.new) }
+        ensures fault { IfErr result (λ fault. Leaves fault stated self.old event.now self.new) }
         ensures ready { OnOk result (IsReady (D.view bank.new.disk) bank.new self.new.shared) }
-        ensures goes { GoesUnder None self.old event.now bank.old.records (D.view bank.old.disk) (D.view bank.new.disk) }
-        ensures bodies { OnOk result (KeepsBodies None self.old event.now bank.old.records bank.new.records) }
+        ensures goes { GoesUnder stated self.old event.now bank.old.records (D.view bank.old.disk) (D.view bank.new.disk) }
+        ensures bodies { OnOk result (KeepsBodies stated self.old event.now bank.old.records bank.new.records) }
         ensures passes { Passes (D.view bank.old.disk) (D.view bank.new.disk) }
         ensures left { IfErr result (λ fault. BankLeft may_record fault bank.old bank.new (D.view bank.old.disk) (D.view bank.new.disk) self.new.shared) }
         ensures brands { self.new.shared.brands ≡ self.old.shared.brands }
     {
         let (grant, reply) = self.answer_zone(
-            bank, alloc, event, read, zone, None, hook, may_record,
+            bank, alloc, event, read, zone, stated, hook, may_record,
         )?;
         Ok(Answer {
             whose: Whose::Own,
@@ -149,37 +156,41 @@ impl Parts {
         })
     }
 
-    /// An event that is lent is answered, where it isn't a restart, under the grant that the pools give it; of a turn the brand
-    /// answered `hook`.
+    /// An event that is lent is answered, where it isn't a restart, under the grant that the pools give it, or under one that is
+    /// stated, where it fits; of a turn the brand answered `hook`.
     #[tactic(auto, unfolding(crate::specs::Machine::decide))]
     pub(crate) fn answer<D: Disk>(
         &mut self,
         bank: &mut Bank<D>,
         alloc: Global,
         event: &Event,
+        stated: Option<Grant>,
         hook: HookAnswer,
         may_record: bool,
     ) -> Result<Answer, StepFault>
         requires stays { is_restart event.now ≡ false }
         requires hook { IsHeard self.old event.now hook }
         requires ready { IsReady (D.view bank.old.disk) bank.old self.old.shared }
-        ensures ok { IfOk result (λ answer. IsStepUnder None self.old event.now (entry_by event.now answer) self.new) }
-        ensures fault { IfErr result (λ fault. Leaves fault None self.old event.now self.new) }
+        ensures ok { IfOk result (λ answer. IsStepUnder stated self.old event.now (entry_by event.now answer) self.new) }
+        ensures fault { IfErr result (λ fault. Leaves fault stated self.old event.now self.new) }
         ensures ready { OnOk result (IsReady (D.view bank.new.disk) bank.new self.new.shared) }
-        ensures goes { GoesUnder None self.old event.now bank.old.records (D.view bank.old.disk) (D.view bank.new.disk) }
-        ensures bodies { OnOk result (KeepsBodies None self.old event.now bank.old.records bank.new.records) }
+        ensures goes { GoesUnder stated self.old event.now bank.old.records (D.view bank.old.disk) (D.view bank.new.disk) }
+        ensures bodies { OnOk result (KeepsBodies stated self.old event.now bank.old.records bank.new.records) }
         ensures passes { Passes (D.view bank.old.disk) (D.view bank.new.disk) }
         ensures left { IfErr result (λ fault. BankLeft may_record fault bank.old bank.new (D.view bank.old.disk) (D.view bank.new.disk) self.new.shared) }
         ensures brands { self.new.shared.brands ≡ self.old.shared.brands }
     {
         match event {
-            Event::Session { .. } => self.answer_line(bank, alloc, event, hook, may_record),
+            Event::Session { .. } => {
+                self.answer_line(bank, alloc, event, stated, hook, may_record)
+            },
             Event::Turn { zone } => self.answer_own(
                 bank,
                 alloc,
                 event,
                 Read::Turn(zone),
                 zone,
+                stated,
                 hook,
                 may_record,
             ),
@@ -189,10 +200,11 @@ impl Parts {
                 event,
                 Read::Process(zone, *pid, call),
                 zone,
+                stated,
                 hook,
                 may_record,
             ),
-            Event::System(_) => self.answer_system(alloc, event),
+            Event::System(_) => self.answer_system(alloc, event, stated),
             Event::Restart => unreachable!(),
         }
     }

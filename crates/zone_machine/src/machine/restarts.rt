@@ -45,28 +45,31 @@ impl<'b, D: Disk, F: Fn(&Change) -> HookAnswer> Machine<'b, D, F> {
         }
     }
 
-    /// A restart is answered, where it may go to the disk.
+    /// A restart is answered, where it may go to the disk, under the grant that the pools give it, or under one that is stated,
+    /// where it fits.
     pub(crate) fn answer_restart(
         &mut self,
         alloc: Global,
+        stated: Option<Grant>,
         may_record: bool,
     ) -> Result<Answer, StepFault>
         requires asks { AsksBrands F.Fn self.old }
         requires ready { MayGoOn D.view self.old }
-        ensures ok { IfOk result (λ answer. RestartsUnder D.view None self.old (entry_by events.Restart answer) self.new) }
+        ensures ok { IfOk result (λ answer. RestartsUnder D.view stated self.old (entry_by events.Restart answer) self.new) }
         ensures again { OnOk result ((S : State) → Stands S self.old.parts → BeginsAgain S self.new) }
-        ensures goes { GoesUnder None self.old.parts events.Restart self.old.bank.records (D.view self.old.bank.disk) (D.view self.new.bank.disk) }
-        ensures bodies { OnOk result (KeepsBodiesOf D.view None self.old events.Restart self.new) }
+        ensures goes { GoesUnder stated self.old.parts events.Restart self.old.bank.records (D.view self.old.bank.disk) (D.view self.new.bank.disk) }
+        ensures bodies { OnOk result (KeepsBodiesOf D.view stated self.old events.Restart self.new) }
+        ensures fits { OnOk result (FitsIn stated self.old.parts events.Restart) }
         ensures ready { OnOk result (MayGoOn D.view self.new) }
         ensures passes { Passes (D.view self.old.bank.disk) (D.view self.new.bank.disk) }
-        ensures fault { IfErr result (λ fault. LeavesRestart fault None self.old.parts self.new.parts) }
+        ensures fault { IfErr result (λ fault. LeavesRestart fault stated self.old.parts self.new.parts) }
         ensures left { IfErr result (λ fault. RestartLeft may_record fault self.old.bank self.new.bank (D.view self.old.bank.disk) (D.view self.new.bank.disk) self.new.parts.shared) }
         ensures asks { AsksBrands F.Fn self.new }
     {
         if !may_record {
             return Err(StepFault::WouldRecord);
         }
-        let grant = self.restart_under(alloc, None)?;
+        let grant = self.restart_under(alloc, stated)?;
         Ok(Answer {
             whose: Whose::Own,
             grant,

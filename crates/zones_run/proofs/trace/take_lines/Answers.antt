@@ -3,8 +3,7 @@ use Rattle.std.specs.Prelude.{Err}
 use Rattle.zone_disk.specs.Bank.{Account}
 use Rattle.zone_machine.specs.Code.Openings.{StandsFor}
 use Rattle.zones_run.specs.Midway.{HasKept, Left, none_put}
-use Rattle.zones_run.specs.Scripting.{entry_in}
-use Rattle.zones_run.specs.Tracing.{At_end, Past_limit}
+use Rattle.zones_run.specs.Scripts.{At_end, Past_limit}
 use Rattle.zones_run.proofs.Answered.{passes_on}
 use Rattle.zones_run.proofs.Begins.{takes_just, takes_none}
 use Rattle.zones_run.proofs.Keeping.{keeps_start, keeps_step}
@@ -85,7 +84,7 @@ pub returns-in-End-clause-recorded : goal.returns-in-End-clause-recorded
 returns-in-End-clause-recorded g c = λ brands R s is.
     let v0 = g.D.Disk.view c.args.machine.now.bank.disk in
     let v = g.D.Disk.view c.loop-before.machine.bank.disk in
-    ran_whole c.args.mode.now brands R _ v0 v _ _ _ _ _ _ (follows_told c.args.mode.now none_put brands R _ (Left brands R v0 v) _ _ _ _ _ _ _ c.in_ok-write_some.ensures.same (c.loop-before.invariant.run brands R s (inl is.keeps))) is _ _ _ _ At_end (at_end _ _ _ (rw c.in-End.is at c.in_ok-next_line.ensures.got))
+    ran_whole c.args.mode.now brands R _ v0 v _ _ _ _ _ _ (follows_told c.args.mode.now none_put brands R _ (Left brands R v0 v) _ _ _ _ _ _ _ c.in_ok-write_some.ensures.same (c.loop-before.invariant.run brands R s (inl is.keeps))) is _ _ _ _ At_end (at_end _ _ _ _ (rw c.in-End.is at c.in_ok-next_line.ensures.got))
 
 pub returns-in-End-clause-written : goal.returns-in-End-clause-written
 returns-in-End-clause-written g c = written_on _ _ _ c.loop-before.invariant.written c.in_ok-write_some.ensures.written
@@ -99,7 +98,7 @@ pub returns-in-TooLong-clause-recorded : goal.returns-in-TooLong-clause-recorded
 returns-in-TooLong-clause-recorded g c = λ brands R s is.
     let v0 = g.D.Disk.view c.args.machine.now.bank.disk in
     let v = g.D.Disk.view c.loop-before.machine.bank.disk in
-    ran_whole c.args.mode.now brands R _ v0 v _ _ _ _ _ _ (follows_told c.args.mode.now none_put brands R _ (Left brands R v0 v) _ _ _ _ _ _ _ c.in_ok-write_some.ensures.same (c.loop-before.invariant.run brands R s (inl is.keeps))) is _ _ _ _ (Past_limit _) (at_long _ _ _ (rw c.in-TooLong.is at c.in_ok-next_line.ensures.got))
+    ran_whole c.args.mode.now brands R _ v0 v _ _ _ _ _ _ (follows_told c.args.mode.now none_put brands R _ (Left brands R v0 v) _ _ _ _ _ _ _ c.in_ok-write_some.ensures.same (c.loop-before.invariant.run brands R s (inl is.keeps))) is _ _ _ _ (Past_limit _) (at_long _ _ _ _ (rw c.in-TooLong.is at c.in_ok-next_line.ensures.got))
 
 pub returns-in-TooLong-clause-written : goal.returns-in-TooLong-clause-written
 returns-in-TooLong-clause-written g c = written_on _ _ _ c.loop-before.invariant.written c.in_ok-write_some.ensures.written
@@ -161,7 +160,7 @@ loop-before-preserved g c =
           (follows_line c.args.mode.now brands R (c.take_line.new.machine.bank ≡ c.loop-before.machine.bank) (λ S. StandsFor S c.loop-before.machine) (λ S. StandsFor S c.take_line.new.machine) (Left brands R v0 v) (Left brands R v0 u) v u _ c.in-Ok.taken _ _ _ _ c.next_line.new.line.items _ _ _ v0 a c.loop-before.invariant.passes.model.0
           (follows_told c.args.mode.now none_put brands R _ (Left brands R v0 v) _ _ _ _ _ _ _ c.in_ok-write_some.ensures.same (c.loop-before.invariant.run brands R s a)) taken took (omega arith) line.1
           (λ e h k is. subst (λ (b : Account g.row.D.Denot). HasKept brands R h v0 (g.D.Disk.view b.disk)) (sym e) (k is))
-          (λ S e h reached goes k is. keeps_step brands R h S (entry_in S e) reached v0 v u goes (k is)));
+          (λ S entry h reached goes k is. keeps_step brands R h S entry reached v0 v u goes (k is)));
       asks = c.give_turns.ensures.asks;
       ready = c.in-Ok-give_turns.ensures.ready;
       few = c.in_ok-next_line.ensures.few c.in-Line.is;
@@ -183,7 +182,7 @@ returns-in-Err-give_turns-clause-ran g c = λ brands R s a.
     (follows_line c.args.mode.now brands R (c.take_line.new.machine.bank ≡ c.loop-before.machine.bank) (λ S. StandsFor S c.loop-before.machine) (λ S. StandsFor S c.take_line.new.machine) (Left brands R v0 v) (Left brands R v0 u) v u _ c.in-Ok.taken _ _ _ _ c.next_line.new.line.items _ _ _ v0 a c.loop-before.invariant.passes.model.0
     (follows_told c.args.mode.now none_put brands R _ (Left brands R v0 v) _ _ _ _ _ _ _ c.in_ok-write_some.ensures.same (c.loop-before.invariant.run brands R s a)) taken took (omega arith) line.1
     (λ e h k is. subst (λ (b : Account g.row.D.Denot). HasKept brands R h v0 (g.D.Disk.view b.disk)) (sym e) (k is))
-    (λ S e h reached goes k is. keeps_step brands R h S (entry_in S e) reached v0 v u goes (k is)))
+    (λ S entry h reached goes k is. keeps_step brands R h S entry reached v0 v u goes (k is)))
     _ (written_on _ _ _ (written_on _ _ _ c.loop-before.invariant.written c.in_ok-write_some.ensures.written) c.take_line.ensures.written) (takes_just _ _ _ refl (c.in_ok-next_line.ensures.few c.in-Line.is))
 
 pub returns-in-Err-give_turns-clause-recorded : goal.returns-in-Err-give_turns-clause-recorded
@@ -198,7 +197,7 @@ returns-in-Err-give_turns-clause-recorded g c = λ brands R s is.
     (follows_line c.args.mode.now brands R (c.take_line.new.machine.bank ≡ c.loop-before.machine.bank) (λ S. StandsFor S c.loop-before.machine) (λ S. StandsFor S c.take_line.new.machine) (Left brands R v0 v) (Left brands R v0 u) v u _ c.in-Ok.taken _ _ _ _ c.next_line.new.line.items _ _ _ v0 (inl is.keeps) c.loop-before.invariant.passes.model.0
     (follows_told c.args.mode.now none_put brands R _ (Left brands R v0 v) _ _ _ _ _ _ _ c.in_ok-write_some.ensures.same (c.loop-before.invariant.run brands R s (inl is.keeps))) taken took (omega arith) line.1
     (λ e h k is. subst (λ (b : Account g.row.D.Denot). HasKept brands R h v0 (g.D.Disk.view b.disk)) (sym e) (k is))
-    (λ S e h reached goes k is. keeps_step brands R h S (entry_in S e) reached v0 v u goes (k is)))
+    (λ S entry h reached goes k is. keeps_step brands R h S entry reached v0 v u goes (k is)))
     is
 
 pub returns-in-Err-give_turns-clause-written : goal.returns-in-Err-give_turns-clause-written
@@ -239,7 +238,7 @@ returns-then-branch-clause-recorded g c = λ brands R s is.
     let v0 = g.D.Disk.view c.args.machine.now.bank.disk in
     let v = g.D.Disk.view c.loop-before.machine.bank.disk in
     ran_whole c.args.mode.now brands R _ v0 v _ _ _ _ _ _ (follows_told c.args.mode.now none_put brands R _ (Left brands R v0 v) _ _ _ _ _ _ _ c.in_ok-write_some-2.ensures.same (c.loop-before.invariant.run brands R s (inl is.keeps))) is _ _ _ _ (Past_limit 200001)
-    (last_long _ _ _ _ _ (omega (arith, c.loop-before-test.false, c.loop-before.auto.before-end)) c.in_ok-refill.ensures.bytes (c.in_ok-refill.ensures.more c.if-branch.true))
+    (last_long _ _ _ _ _ _ (omega (arith, c.loop-before-test.false, c.loop-before.auto.before-end)) c.in_ok-refill.ensures.bytes (c.in_ok-refill.ensures.more c.if-branch.true))
 
 pub returns-then-branch-clause-written : goal.returns-then-branch-clause-written
 returns-then-branch-clause-written g c = written_on _ _ _ c.loop-before.invariant.written c.in_ok-write_some-2.ensures.written
@@ -255,7 +254,7 @@ returns-clause-recorded g c = λ brands R s is.
     let v0 = g.D.Disk.view c.args.machine.now.bank.disk in
     let v = g.D.Disk.view c.loop-before.machine.bank.disk in
     let end = c.in_ok-refill.ensures.end c.if-branch.false in
-    ran_whole c.args.mode.now brands R _ v0 v _ _ _ _ _ _ (follows_told c.args.mode.now none_put brands R _ (Left brands R v0 v) _ _ _ _ _ _ _ c.in_ok-write_some-2.ensures.same (c.loop-before.invariant.run brands R s (inl is.keeps))) is _ _ _ _ At_end (last_end _ _ _ _ _ c.in_ok-refill.ensures.bytes end.0 end.1)
+    ran_whole c.args.mode.now brands R _ v0 v _ _ _ _ _ _ (follows_told c.args.mode.now none_put brands R _ (Left brands R v0 v) _ _ _ _ _ _ _ c.in_ok-write_some-2.ensures.same (c.loop-before.invariant.run brands R s (inl is.keeps))) is _ _ _ _ At_end (last_end _ _ _ _ _ _ c.in_ok-refill.ensures.bytes end.0 end.1)
 
 pub returns-clause-written : goal.returns-clause-written
 returns-clause-written g c = written_on _ _ _ c.loop-before.invariant.written c.in_ok-write_some-2.ensures.written

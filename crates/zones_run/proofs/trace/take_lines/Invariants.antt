@@ -19,7 +19,7 @@ invariant-loop-before g l =
     let holds = g.K.Sink.holds in
     let view = g.D.Disk.view in
     record {
-      run : (brands : List Tabled) (R : List Commit) → StandsFor (opening brands R) l.fn.machine → FindsAlways (view l.fn.machine.bank.disk) (left l.fn.source)
+      run : (brands : List Tabled) (R : List Commit) → StandsFor (opening brands R) l.fn.machine → FindsAlways l.fn.mode (view l.fn.machine.bank.disk) (left l.fn.source)
           → Follows l.fn.mode none_put brands R (λ S. StandsFor S l.machine) (Left brands R (view l.fn.machine.bank.disk) (view l.machine.bank.disk)) l.refused (l.before + 1) (holds l.fn.out) (after_known (holds l.out) l.waiting.items) (before_known l.ahead (left l.source)) (left l.fn.source);
       asks : AsksBrands g.F.Fn l.machine;
       ready : MayGoOn view l.machine;

@@ -3,11 +3,10 @@ use Rattle.zone_disk.specs.Bank.{Account}
 use Rattle.zone_machine.specs.Code.Openings.{StandsFor}
 use Rattle.zn_io.specs.Streams.{after_known}
 use Rattle.zone_cases.specs.Events.{is_restart}
-use Rattle.zone_cases.specs.declared.events.Event.{Event}
 use Rattle.zone_cases.specs.declared.events.Event.TheVariants.{Turn}
-use Rattle.zones_run.specs.Answering.{Fails, IsAnswered}
+use Rattle.zones_run.specs.Answering.{IsAnswered, Stops}
+use Rattle.zones_run.specs.declared.due.Due.{Due}
 use Rattle.zones_run.specs.Midway.{Left, puts_until}
-use Rattle.zones_run.specs.Scripting.{entry_in}
 use Rattle.zones_run.specs.declared.words.Mode.TheVariants.{WithTurns}
 use Rattle.zones_run.proofs.Answered.{passes_on}
 use Rattle.zones_run.proofs.Keeping.{keeps_step}
@@ -20,7 +19,7 @@ use Rattle.zones_run.proofs.turns.until_answered.Goals as goal
 pub loop-given-init : goal.loop-given-init
 loop-given-init g c = record {
   run = λ brands R first held bytes input f. f;
-  event = refl;
+  due = refl;
   asks = c.requires.asks;
   ready = c.requires.ready;
   written = nothing_written (g.K.Sink.holds c.args.out.now);
@@ -29,7 +28,7 @@ loop-given-init g c = record {
 }
 
 pub answer-requires-clause-stays : goal.answer-requires-clause-stays
-answer-requires-clause-stays g c = subst (λ (e : Event). is_restart e ≡ false) (sym c.loop-given.invariant.event) refl
+answer-requires-clause-stays g c = subst (λ (d : Due). is_restart d.event ≡ false) (sym c.loop-given.invariant.due) refl
 
 pub returns-then-is_last-clause-went : goal.returns-then-is_last-clause-went
 returns-then-is_last-clause-went g c = λ brands R first held bytes input f.
@@ -39,8 +38,8 @@ returns-then-is_last-clause-went g c = λ brands R first held bytes input f.
     let more = 10000000 - (c.loop-given.given + 1) in
     follows_turn brands R (λ S. StandsFor S c.loop-given.machine) (λ S. StandsFor S c.answer.new.machine) (Left brands R (view first) v) (Left brands R (view first) w) v w _ _ c.args.number _ more c.args.opened c.in-Ok.answer true _ _ _ _ _
     (follows_some (10000000 - c.loop-given.given) (suc more) c.args.opened brands R _ _ _ _ _ _ _ _ _ (omega (arith, c.loop-given-test.true)) (c.loop-given.invariant.run brands R first held bytes input f))
-    (λ S stood. subst (λ (e : Event). IsAnswered WithTurns S e c.in-Ok.answer (λ T. StandsFor T c.answer.new.machine) v w (after_known (g.K.Sink.holds c.loop-given.out) c.loop-given.waiting.items) (after_known (g.K.Sink.holds c.answer.new.out) c.answer.new.waiting.items)) c.loop-given.invariant.event (c.in-Ok.ensures.answered S stood)) c.refused_by-refused.ensures (sym c.if-is_last.true ∙ c.is_last.ensures)
-    (λ S e h reached goes k is. keeps_step brands R h S (entry_in S e) reached (view first) v w goes (k is))
+    (λ S stood. subst (λ (d : Due). IsAnswered WithTurns S d c.in-Ok.answer (λ T. StandsFor T c.answer.new.machine) v w (after_known (g.K.Sink.holds c.loop-given.out) c.loop-given.waiting.items) (after_known (g.K.Sink.holds c.answer.new.out) c.answer.new.waiting.items)) c.loop-given.invariant.due (c.in-Ok.ensures.answered S stood)) c.refused_by-refused.ensures (sym c.if-is_last.true ∙ c.is_last.ensures)
+    (λ S entry h reached goes k is. keeps_step brands R h S entry reached (view first) v w goes (k is))
 
 pub returns-then-is_last-clause-written : goal.returns-then-is_last-clause-written
 returns-then-is_last-clause-written g c = written_on _ _ _ c.loop-given.invariant.written c.answer.ensures.written
@@ -79,9 +78,9 @@ loop-given-preserved g c =
     record {
       run = λ brands R first held bytes input f. follows_turn brands R (λ S. StandsFor S c.loop-given.machine) (λ S. StandsFor S c.answer.new.machine) (Left brands R (view first) v) (Left brands R (view first) w) v w _ _ c.args.number _ more c.args.opened c.in-Ok.answer false _ _ _ _ _
           (follows_some (10000000 - c.loop-given.given) (suc more) c.args.opened brands R _ _ _ _ _ _ _ _ _ (omega (arith, c.loop-given-test.true)) (c.loop-given.invariant.run brands R first held bytes input f))
-          (λ S stood. subst (λ (e : Event). IsAnswered WithTurns S e c.in-Ok.answer (λ T. StandsFor T c.answer.new.machine) v w (after_known (g.K.Sink.holds c.loop-given.out) c.loop-given.waiting.items) (after_known (g.K.Sink.holds c.answer.new.out) c.answer.new.waiting.items)) c.loop-given.invariant.event (c.in-Ok.ensures.answered S stood)) c.refused_by-refused.ensures (sym c.if-is_last.false ∙ c.is_last.ensures)
-          (λ S e h reached goes k is. keeps_step brands R h S (entry_in S e) reached (view first) v w goes (k is));
-      event = c.loop-given.invariant.event;
+          (λ S stood. subst (λ (d : Due). IsAnswered WithTurns S d c.in-Ok.answer (λ T. StandsFor T c.answer.new.machine) v w (after_known (g.K.Sink.holds c.loop-given.out) c.loop-given.waiting.items) (after_known (g.K.Sink.holds c.answer.new.out) c.answer.new.waiting.items)) c.loop-given.invariant.due (c.in-Ok.ensures.answered S stood)) c.refused_by-refused.ensures (sym c.if-is_last.false ∙ c.is_last.ensures)
+          (λ S entry h reached goes k is. keeps_step brands R h S entry reached (view first) v w goes (k is));
+      due = c.loop-given.invariant.due;
       asks = c.answer.ensures.asks;
       ready = c.in-Ok.ensures.ready;
       written = written_on _ _ _ c.loop-given.invariant.written c.answer.ensures.written;
