@@ -85,10 +85,13 @@ address_printable : (b : ℕ) → is_address_byte b ≡ true → is_text_byte b 
 unfolding is_address_byte
 address_printable b h = grind (arith, nat_tests)
 
+pub item_printable : (kind : ClaimKind) (word : List ℕ) → is_declaration (Item kind word) ≡ true → list_all is_text_byte word ≡ true
+item_printable Link word h = all_in is_item_byte is_text_byte word name_printable (name_bytes word h)
+item_printable Address word h = all_in is_address_byte is_text_byte word address_printable (address_bytes word h)
+item_printable Dataset word h = all_in is_item_byte is_text_byte word name_printable (name_bytes word h)
+
 pub item_is_text : (kind : ClaimKind) (word : List ℕ) → is_declaration (Item kind word) ≡ true → length word ≤ 4200 → IsTrue (is_text word)
-item_is_text Link word h few = is_text-bytes word (all_in is_item_byte is_text_byte word name_printable (name_bytes word h)) few
-item_is_text Address word h few = is_text-bytes word (all_in is_address_byte is_text_byte word address_printable (address_bytes word h)) few
-item_is_text Dataset word h few = is_text-bytes word (all_in is_item_byte is_text_byte word name_printable (name_bytes word h)) few
+item_is_text kind word h few = is_text-bytes word (item_printable kind word h) few
 
 space_in_address : is_address_byte 32 ≡ false
 unfolding is_address_byte

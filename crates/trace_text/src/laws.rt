@@ -1,0 +1,35 @@
+//! Laws of lines and of what they say. Each is the contract of a function that does nothing.
+ghost use Rattle.trace_text.specs.Given.{EventReadBack, EventsAreRight, GivenArePrintable, GivenAreRight, GivenPlacesAreWithin, GivenReadBack, LinesArePrintable, PlacesAreWithin, StatesItsSplit, StatesJustSplits};
+
+/// A law: what is written of an event that a line can say, behind a grant, is read back as that grant and that event, and
+/// alone as the event; a declaration only where no other event has come.
+pub fn given_lines_are_read_back()
+    ensures given { GivenReadBack }
+    ensures event { EventReadBack }
+{}
+
+/// A law: what a line says, with a grant or without, is an event that a line can say. So it can be printed and read again.
+pub fn read_events_are_right()
+    ensures given { GivenAreRight }
+    ensures event { EventsAreRight }
+{}
+
+/// Laws: a line that says a grant and an event is the text of that grant, a space and a rest that says that event; and a
+/// line states a grant just where it is so split.
+pub fn given_lines_state_their_splits()
+    ensures event { StatesItsSplit }
+    ensures grant { StatesJustSplits }
+{}
+
+/// A law: the place of a bad word lies in its line, or at its end.
+pub fn places_are_within_lines()
+    ensures given { GivenPlacesAreWithin }
+    ensures event { PlacesAreWithin }
+{}
+
+/// A law: what is written of an event that a line can say, with a grant or without, is of printable bytes, so it has no
+/// newline. A text of such lines is cut just where they were put together.
+pub fn printed_events_are_lines()
+    ensures given { GivenArePrintable }
+    ensures event { LinesArePrintable }
+{}
