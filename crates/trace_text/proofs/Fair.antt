@@ -1,10 +1,11 @@
 -- What a line says is right, and the place of its fault lies in the line.
-use Rattle.std.proofs.Common.{◌≡◌, ◌≤◌, ◌<◌, ◌+◌, ◌∙◌, ℕ, Bool, true, false, not, ◌&&◌, List, [], ◌∷◌, ◌++◌, length, Option, Some, None, Result, Ok, Err, IsTrue, codes, inl, inr, refl, sym, ap, subst, arith, length-append}
+use Rattle.std.proofs.Common.{◌≡◌, ◌≤◌, ◌<◌, ◌+◌, ◌-◌, ◌∙◌, ℕ, Bool, true, false, not, ◌&&◌, List, [], ◌∷◌, ◌++◌, length, Option, Some, None, Result, Ok, Err, IsTrue, codes, inl, inr, refl, sym, ap, subst, arith, length-append}
 use Rattle.std.specs.Prelude.{bytes_eq, if◌then◌else◌, is_ok, nat_le, position, unwrap_or}
 use Rattle.std.specs.List.{list_all}
 use Rattle.std.proofs.lemmas.Bool.{and_parts, leb-true}
 use Rattle.std.proofs.lemmas.List.Quantifiers.{position-Some}
 use Rattle.std.proofs.lemmas.Slice.Eq.{bytes_eq-Decides}
+use Rattle.zn_base.specs.Answers.{AnswersUnless}
 use Rattle.zn_base.specs.Decimals.{decimal_of, digits_value, is_decimal, is_spelled}
 use Rattle.zn_base.specs.Names.{Name, is_name, name_of}
 use Rattle.zn_base.specs.Text.{is_text_byte}
@@ -26,21 +27,13 @@ use Rattle.zone_cases.specs.declared.events.Event.TheVariants.{Process, Restart,
 use Rattle.datalink_table.specs.declared.claims.ClaimKind.TheVariants.{Address, Dataset, Link}
 use Rattle.grant_text.specs.Text.{SplitsInto, grant_text}
 use Rattle.trace_text.specs.Declarations.{is_declaration}
-use Rattle.trace_text.specs.Given.{EventsAreRight, Given, GivenAreRight, GivenPlacesAreWithin, IsRight, PlacesAreWithin, StatesItsSplit, behind, given_by, given_of, is_late, moved, stated}
+use Rattle.trace_text.specs.Given.{EventsAreRight, Given, GivenAreRight, GivenPlacesAreWithin, IsAt, IsRight, PlacesAreWithin, StatesItsSplit, behind, given_by, given_of, is_late, moved, stated}
 use Rattle.trace_text.specs.Lines.{Said, after_word, begins_with, call_at, called, declaration_by, declaration_of, declared, event_by, event_of, first_word, in_line, is_no_event, item_at, item_by, pid_at, pid_by, process_by, process_of, restart_by, session_of, turn_by, turn_of, typed_by, types, types_unless, with_words}
 use Rattle.trace_text.specs.declared.fault.LineFault.{LineFault}
 use Rattle.trace_text.specs.declared.fault.LineFault.TheVariants.{BadTag, BadWord, GrantForm, Memory, SysAfterStart}
 use Rattle.trace_text.proofs.Printable.{none_bad}
-use Rattle.trace_text.proofs.Stated.{pick, split_is}
+use Rattle.trace_text.proofs.Stated.{not_stated, pick, split_is, stated_is}
 use Rattle.trace_text.proofs.Words.{cut_length, first_word_short}
-
--- a fault whose place, if it has one, lies before an end or there
-abbrev pub IsAt : (end : ℕ) → LineFault → Type 0
-IsAt end (BadWord place) = place ≤ end
-IsAt end Memory = Unit {0}
-IsAt end GrantForm = Unit {0}
-IsAt end BadTag = Unit {0}
-IsAt end SysAfterStart = Unit {0}
 
 -- an event that a line can say, in time
 abbrev pub IsTimely : (started : Bool) → Event → Type 0
@@ -207,7 +200,7 @@ pub events_right : EventsAreRight
 events_right started line event h = subst (IsFair started (length line)) h (event_fair started line)
 
 pub places_within : PlacesAreWithin
-places_within started line place h = subst (IsFair started (length line)) h (event_fair started line)
+places_within started line fault h = subst (IsFair started (length line)) h (event_fair started line)
 
 -- a line with its grant
 grant_said : Given → Option Grant
@@ -286,4 +279,41 @@ given_at : (started : Bool) (line : List ℕ) → IsGivenAt (length line) (given
 given_at started line = if_at (length line) (is_no_event line) (Ok None) (given_by started (stated line)) tt (stated_at started line (stated line) refl)
 
 pub given_places : GivenPlacesAreWithin
-given_places started line place h = subst (IsGivenAt (length line)) h (given_at started line)
+given_places started line fault h = subst (IsGivenAt (length line)) h (given_at started line)
+
+-- what is answered of a line that begins with a grant, by what is answered of its rest
+pub given_told : (started : Bool) (line rest : List ℕ) (grant : Grant) (place : ℕ) (read : Said) → is_no_event line ≡ false → SplitsInto line grant rest → place ≡ length line - length rest
+    → AnswersUnless Memory (event_of started rest) read → AnswersUnless Memory (given_of started line) (behind grant place read)
+given_told started line rest grant place read some split at = by_read read
+  where
+    place_is : length (grant_text grant) + 1 ≡ place
+    place_is = omega (arith, at, split_length line rest grant split)
+
+    is : given_of started line ≡ behind grant place (event_of started rest)
+    is = rw (some, stated_is line rest grant split, place_is) refl
+
+    by_read : (read : Said) → AnswersUnless Memory (event_of started rest) read → AnswersUnless Memory (given_of started line) (behind grant place read)
+    by_read (Ok (Some event)) told = is ∙ ap (behind grant place) told
+    by_read (Ok None) told = inr (is ∙ ap (behind grant place) told)
+    by_read (Err fault) told = elim told [
+      | inl none ↦ inl (ap (moved place) none)
+      | inr said ↦ inr (is ∙ ap (behind grant place) said)
+    ]
+
+-- a line without a grant
+pub ungiven : (started : Bool) (line : List ℕ) → is_no_event line ≡ false → ((grant : Grant) (rest : List ℕ) → SplitsInto line grant rest → ⊥) → given_of started line ≡ Err GrantForm
+ungiven started line some none = rw (some, not_stated line none) refl
+
+-- the place of a fault that was answered
+pub told_at : (started : Bool) (line : List ℕ) (fault : LineFault) (most : ℕ) → length line ≤ most → AnswersUnless Memory (event_of started line) (Err fault) → IsAt most fault
+told_at started line fault most few told = elim told [
+  | inl none ↦ subst (IsAt most) (sym none) tt
+  | inr said ↦ further (length line) most fault few (places_within started line fault said)
+]
+  where
+    further : (end most : ℕ) (fault : LineFault) → end ≤ most → IsAt end fault → IsAt most fault
+    further end most (BadWord place) few is = let at_most : place ≤ end = is in omega (arith, at_most, few)
+    further end most Memory few is = tt
+    further end most GrantForm few is = tt
+    further end most BadTag few is = tt
+    further end most SysAfterStart few is = tt

@@ -62,6 +62,14 @@ moved place GrantForm = GrantForm
 moved place BadTag = BadTag
 moved place SysAfterStart = SysAfterStart
 
+-- a fault whose place, if it has one, lies before an end or there
+abbrev pub IsAt : (end : ℕ) → LineFault → Type 0
+IsAt end (BadWord place) = place ≤ end
+IsAt end Memory = Unit {0}
+IsAt end GrantForm = Unit {0}
+IsAt end BadTag = Unit {0}
+IsAt end SysAfterStart = Unit {0}
+
 -- behind a grant an event has to stand, from a place of the line on
 abbrev pub behind : Grant → (place : ℕ) → Said → Given
 behind grant place (Ok (Some event)) = Ok (Some (grant, event))
@@ -120,12 +128,12 @@ abbrev pub StatesItsSplit : Type 0
 StatesItsSplit = (started : Bool) (line : List ℕ) (grant : Grant) (event : Event) → given_of started line ≡ Ok (Some (grant, event))
     → (rest : List ℕ) × SplitsInto line grant rest × (event_of started rest ≡ Ok (Some event))
 
--- laws: the place of a bad word lies in its line, or is the line's length
+-- laws: the place of a bad word lies in its line, or at its end
 abbrev pub PlacesAreWithin : Type 0
-PlacesAreWithin = (started : Bool) (line : List ℕ) (place : ℕ) → event_of started line ≡ Err (BadWord place) → place ≤ length line
+PlacesAreWithin = (started : Bool) (line : List ℕ) (fault : LineFault) → event_of started line ≡ Err fault → IsAt (length line) fault
 
 abbrev pub GivenPlacesAreWithin : Type 0
-GivenPlacesAreWithin = (started : Bool) (line : List ℕ) (place : ℕ) → given_of started line ≡ Err (BadWord place) → place ≤ length line
+GivenPlacesAreWithin = (started : Bool) (line : List ℕ) (fault : LineFault) → given_of started line ≡ Err fault → IsAt (length line) fault
 
 -- laws: an event's line is of printable bytes, so it has no newline, also behind a grant
 abbrev pub LinesArePrintable : Type 0

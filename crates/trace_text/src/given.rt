@@ -1,7 +1,7 @@
 //! Lines of a trace whose events are behind what they were given, read as both.
-ghost use Rattle.std.specs.Prelude.{◌≤◌, length};
+ghost use Rattle.std.specs.Prelude.{◌≡◌, ◌≤◌, length};
 ghost use Rattle.zn_base.specs.Answers.{AnswersUnless};
-ghost use Rattle.trace_text.specs.Given.{given_of};
+ghost use Rattle.trace_text.specs.Given.{IsAt, given_of, moved};
 
 use crate::LineFault;
 use crate::lines::{is_no_event, read_line};
@@ -9,6 +9,18 @@ use grant_text::read_grant;
 use std::alloc::Global;
 use zone_cases::Event;
 use zone_pools::Grant;
+
+// A fault of what begins at a place of its line.
+fn moved(place: usize, fault: LineFault) -> LineFault
+    requires place { place ≤ 4200 }
+    requires fault { IsAt 4200 fault }
+    ensures { result ≡ moved place fault }
+{
+    match fault {
+        LineFault::BadWord(at) => LineFault::BadWord(place + at),
+        _ => fault,
+    }
+}
 
 /// The grant and the event that a line says, which has at most 4,200 bytes: the text of the grant, as `push_grant` writes
 /// it, one space and the event's own line, as `read_line` reads it. `started` is the same there. A blank line and a comment
@@ -31,7 +43,6 @@ pub fn read_given(
     match read_line(alloc, rest, started) {
         Ok(Some(event)) => Ok(Some((grant, event))),
         Ok(None) => Err(LineFault::BadTag),
-        Err(LineFault::BadWord(at)) => Err(LineFault::BadWord(line.len() - rest.len() + at)),
-        Err(fault) => Err(fault),
+        Err(fault) => Err(moved(line.len() - rest.len(), fault)),
     }
 }
