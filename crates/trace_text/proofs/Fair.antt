@@ -1,7 +1,6 @@
 -- What a line says is right, and the place of its fault lies in the line.
-use Rattle.std.proofs.Common.{◌≡◌, ◌≤◌, ◌<◌, ◌+◌, ◌-◌, ◌∙◌, ℕ, Bool, true, false, not, ◌&&◌, List, [], ◌∷◌, ◌++◌, length, Option, Some, None, Result, Ok, Err, IsTrue, codes, inl, inr, refl, sym, ap, subst, arith, length-append}
+use Rattle.std.proofs.Common.{◌≡◌, ◌≤◌, ◌<◌, ◌+◌, ◌-◌, ◌∙◌, ℕ, Bool, true, false, not, ◌&&◌, List, [], ◌∷◌, length, Option, Some, None, Result, Ok, Err, IsTrue, codes, inl, inr, refl, sym, ap, subst, arith, length-append}
 use Rattle.std.specs.Prelude.{bytes_eq, if◌then◌else◌, is_ok, nat_le, position, unwrap_or}
-use Rattle.std.specs.List.{list_all}
 use Rattle.std.proofs.lemmas.Bool.{and_parts, leb-true}
 use Rattle.std.proofs.lemmas.List.Quantifiers.{position-Some}
 use Rattle.std.proofs.lemmas.Slice.Eq.{bytes_eq-Decides}
@@ -11,7 +10,7 @@ use Rattle.zn_base.specs.Names.{Name, is_name, name_of}
 use Rattle.zn_base.specs.Text.{is_text_byte}
 use Rattle.zn_base.specs.declared.name.NameFault.{NameFault}
 use Rattle.zn_base.proofs.Read_back.{name_of_name}
-use Rattle.process_calls.specs.Calls.{call_of, greatest_pid, is_call, pid_in}
+use Rattle.process_calls.specs.Calls.{call_of, greatest_pid, pid_in}
 use Rattle.process_calls.specs.Words.{IsWithin}
 use Rattle.process_calls.specs.declared.call.Call.{Call}
 use Rattle.process_calls.specs.declared.call.CallFault.{CallFault}
@@ -23,12 +22,11 @@ use Rattle.zone_pools.specs.declared.grant.Grant.{Grant}
 use Rattle.zone_cases.specs.declared.events.Declaration.{Declaration}
 use Rattle.zone_cases.specs.declared.events.Declaration.TheVariants.{Device, Item}
 use Rattle.zone_cases.specs.declared.events.Event.{Event}
-use Rattle.zone_cases.specs.declared.events.Event.TheVariants.{Process, Restart, Session, System, Turn}
 use Rattle.datalink_table.specs.declared.claims.ClaimKind.TheVariants.{Address, Dataset, Link}
 use Rattle.grant_text.specs.Text.{SplitsInto, grant_text}
 use Rattle.trace_text.specs.Declarations.{is_declaration}
 use Rattle.trace_text.specs.Given.{EventsAreRight, Given, GivenAreRight, GivenPlacesAreWithin, IsAt, IsRight, PlacesAreWithin, StatesItsSplit, behind, given_by, given_of, is_late, moved, stated}
-use Rattle.trace_text.specs.Lines.{Said, after_word, begins_with, call_at, called, declaration_by, declaration_of, declared, event_by, event_of, first_word, in_line, is_no_event, item_at, item_by, pid_at, pid_by, process_by, process_of, restart_by, session_of, turn_by, turn_of, typed_by, types, types_unless, with_words}
+use Rattle.trace_text.specs.Lines.{Said, after_word, begins_with, call_at, called, declaration_of, declared, event_of, first_word, in_line, is_no_event, item_at, pid_at, pid_by, process_by, process_of, restart_by, session_of, turn_by, turn_of, typed_by, types, types_unless, with_words}
 use Rattle.trace_text.specs.declared.fault.LineFault.{LineFault}
 use Rattle.trace_text.specs.declared.fault.LineFault.TheVariants.{BadTag, BadWord, GrantForm, Memory, SysAfterStart}
 use Rattle.trace_text.proofs.Printable.{none_bad}

@@ -1,6 +1,6 @@
 -- What is printed of an event and a grant is printable.
-use Rattle.std.proofs.Common.{◌≡◌, ◌<◌, ◌≤◌, ◌∙◌, ◌+◌, ℕ, Bool, true, false, cond, not, ◌&&◌, ◌||◌, nat_lt, List, [], ◌∷◌, ◌++◌, length, Option, Some, None, IsTrue, codes, refl, ap, arith}
-use Rattle.std.specs.Prelude.{◌==◌, is_ok, nat_le, position}
+use Rattle.std.proofs.Common.{◌≡◌, ◌≤◌, ◌∙◌, ◌+◌, ℕ, Bool, true, false, cond, not, ◌&&◌, nat_lt, List, [], ◌∷◌, ◌++◌, length, Option, Some, None, IsTrue, refl, arith}
+use Rattle.std.specs.Prelude.{is_ok, nat_le, position}
 use Rattle.std.specs.Char.{is_ascii_digit, is_ascii_graphic}
 use Rattle.std.specs.Fmt.{decimal}
 use Rattle.std.specs.List.{list_all, position_or_len}
@@ -11,7 +11,6 @@ use Rattle.zn_base.specs.Names.{is_letter_or_digit, is_name, is_name_byte}
 use Rattle.zn_base.specs.Path.{is_path}
 use Rattle.zn_base.specs.Text.{is_text, is_text_byte, text_unless}
 use Rattle.zn_base.proofs.Read_back.{is_path_byte, name_of_name, path_of_path}
-use Rattle.kernel_objects.specs.declared.objects.Signal.{Signal}
 use Rattle.kernel_objects.specs.declared.objects.Signal.TheVariants.{Kill as KillSignal, Term, Zero}
 use Rattle.priv_sets.specs.Table.{name_of, privileges}
 use Rattle.priv_sets.proofs.Names.{name_bytes}
@@ -19,7 +18,7 @@ use Rattle.priv_sets.proofs.Rows.{length_of_privileges}
 use Rattle.process_calls.specs.declared.call.Call.{Call}
 use Rattle.process_calls.specs.declared.call.Call.TheVariants.{Bootargs, Cons, Datasets, Devices, Drop, Exec, Exit, False, Fork, Kill, Links, Mount, Mounts, Privs, Ps, Read, True, Umount, Write, Zonename}
 use Rattle.process_calls.specs.declared.call.MountCall.{MountCall}
-use Rattle.process_calls.specs.Calls.{call_text, greatest_pid, is_call, is_fstype, is_mount, is_process_name, is_run, is_special, mount_text, read_only_text, signal_text}
+use Rattle.process_calls.specs.Calls.{call_text, greatest_pid, is_call, is_fstype, is_mount, is_process_name, is_run, is_special, mount_text, read_only_text}
 use Rattle.process_calls.proofs.Named.{special_run}
 use Rattle.grant_text.specs.Text.{grant_text, greatest_number, is_grant, pool_word}
 use Rattle.grant_text.proofs.Numbers.{digits}
@@ -28,16 +27,14 @@ use Rattle.zone_pools.specs.declared.grant.Grant.TheVariants.{Denied, Nothing, N
 use Rattle.zone_pools.specs.declared.grant.Pool.{Pool}
 use Rattle.zone_pools.specs.declared.grant.Pool.TheVariants.{Pids, Zids, Zones, Paths, Store, Links, Addresses, Datasets, Source}
 use Rattle.export_read.proofs.Printable.{all_in}
-use Rattle.zone_cases.specs.declared.events.TheConstants.{SESSION_MAX}
 use Rattle.zone_cases.specs.declared.events.Declaration.{Declaration}
 use Rattle.zone_cases.specs.declared.events.Declaration.TheVariants.{Device, Item}
-use Rattle.zone_cases.specs.declared.events.Event.{Event}
 use Rattle.zone_cases.specs.declared.events.Event.TheVariants.{Process, Restart, Session, System, Turn}
 use Rattle.datalink_table.specs.declared.claims.ClaimKind.TheVariants.{Address, Dataset, Link}
 use Rattle.trace_text.proofs.Items.{item_printable}
 use Rattle.trace_text.specs.Declarations.{declaration_text, is_declaration}
-use Rattle.trace_text.specs.Given.{GivenArePrintable, IsRight, LinesArePrintable}
-use Rattle.trace_text.specs.Lines.{given_text, line_text, typed_text}
+use Rattle.trace_text.specs.Given.{GivenArePrintable, LinesArePrintable}
+use Rattle.trace_text.specs.Lines.{line_text, typed_text}
 
 abbrev pub IsPrinted : List ℕ → Type 0
 IsPrinted bytes = list_all is_text_byte bytes ≡ true

@@ -1,5 +1,5 @@
 -- What a line says whose event is behind what it was given, and what such lines are.
-use Rattle.std.specs.Prelude.{◌≡◌, ◌≤◌, ◌++◌, ◌+◌, ℕ, List, [], ◌∷◌, drop, length, Bool, false, IsTrue, Option, Some, None, Ok, Err, bytes_eq, codes, find, option_map, if◌then◌else◌, Result}
+use Rattle.std.specs.Prelude.{◌≡◌, ◌≤◌, ◌+◌, ℕ, List, [], ◌∷◌, drop, length, Bool, false, IsTrue, Option, Some, None, Ok, Err, bytes_eq, codes, find, option_map, if◌then◌else◌, Result}
 use Rattle.std.specs.List.{list_all}
 use Rattle.zn_base.specs.Decimals.{decimal_of}
 use Rattle.zn_base.specs.Names.{is_name}

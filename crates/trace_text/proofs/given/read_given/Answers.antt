@@ -1,4 +1,4 @@
-use Rattle.std.proofs.Common.{◌≡◌, ◌≤◌, ◌∙◌, length, Err, Ok, None, Some, inr, refl, sym, ap, arith}
+use Rattle.std.proofs.Common.{◌≤◌, ◌∙◌, length, Err, Ok, None, Some, inr, refl, sym, ap, arith}
 use Rattle.trace_text.proofs.Fair.{given_told, split_length, told_at, ungiven}
 use Rattle.trace_text.proofs.given.read_given.Goals as goal
 

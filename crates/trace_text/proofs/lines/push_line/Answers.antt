@@ -4,10 +4,10 @@ use Rattle.trace_text.proofs.Printed.{process_again, restart_again, session_agai
 use Rattle.trace_text.proofs.lines.push_line.Goals as goal
 
 pub returns-in_err-push_numbered-in-Session-clause-again : goal.returns-in_err-push_numbered-in-Session-clause-again
-returns-in_err-push_numbered-in-Session-clause-again c = rw c.in-Session.is (λ may. session_again false _ _ (text_printable _ (rw c.bytes-typed.ensures.bytes at c.bytes-typed.ensures.text)) may.0 may.1)
+returns-in_err-push_numbered-in-Session-clause-again c = rw c.in-Session.is (λ may. session_again false _ _ (text_printable c.in-Session.text (rw c.bytes-typed.ensures.bytes at c.bytes-typed.ensures.text)) may.0 may.1)
 
 pub returns-in_ok-push_numbered-in-Session-clause-again : goal.returns-in_ok-push_numbered-in-Session-clause-again
-returns-in_ok-push_numbered-in-Session-clause-again c = rw c.in-Session.is (λ may. session_again false _ _ (text_printable _ (rw c.bytes-typed.ensures.bytes at c.bytes-typed.ensures.text)) may.0 may.1)
+returns-in_ok-push_numbered-in-Session-clause-again c = rw c.in-Session.is (λ may. session_again false _ _ (text_printable c.in-Session.text (rw c.bytes-typed.ensures.bytes at c.bytes-typed.ensures.text)) may.0 may.1)
 
 pub returns-in-Turn-clause-again : goal.returns-in-Turn-clause-again
 returns-in-Turn-clause-again c = λ _. rw c.in-Turn.is (turn_again false _ (rw c.bytes.ensures.bytes at c.bytes.ensures.name))
