@@ -11,6 +11,7 @@ use trace_text::LineFault;
 use zn_base::NameFault;
 use zone_cases::Refusal;
 use zone_config::ConfigFault;
+use zone_machine::StepFault;
 use zoneadmd_steps::Outcome;
 use zonecfg_lex::LexFault;
 use zonecfg_scopes::EditFault;
@@ -145,7 +146,10 @@ fn line_runs() -> &'static [Run] {
         LineFault::Memory => [],
         LineFault::BadTag => [("trace", "Q\n", "101 BadTag")],
         LineFault::BadWord(_) => [("trace", "S 65 x\n", "102 BadWord")],
-        LineFault::GrantForm => [("trace", "@- D a\n", "103 GrantForm")],
+        LineFault::GrantForm => [
+            ("trace", "@- D a\n", "103 GrantForm"),
+            ("given", "D a\n", "103 GrantForm")
+        ],
         LineFault::SysAfterStart => [("trace", "S 1\nY link a\n", "104 SysAfterStart")],
     )
 }
@@ -353,6 +357,17 @@ const OPEN_GATE: &str = "\x01ZNSTORE1A\0\0\0\0\0\0\x01";
 
 const OTHER_FORM: &str = "\x01ZNSTORE1A\0\0\0\0\0\0\x01\0\0\0\x01x\0";
 
+// Of what ends a step one has a code: a stated grant that doesn't fit. A store's own faults are below.
+fn step_runs() -> &'static [Run] {
+    runs_of!(StepFault:
+        StepFault::Memory => [],
+        StepFault::BadGrant => [("given", "@1 D a\n", "105 BadGrant")],
+        StepFault::WouldRecord => [],
+        StepFault::DiskFault => [],
+        StepFault::NoStore(_) => [],
+    )
+}
+
 // A disk that fails has a line without a code, and a store without room is the pool `store`, which denies.
 fn store_runs() -> &'static [Run] {
     runs_of!(StoreFault:
@@ -453,6 +468,7 @@ pub fn check(rt: &(impl Files + Print + AllocGlobal)) -> io::Result<()> {
         errno_runs(),
         outcome_runs(),
         priv_runs(),
+        step_runs(),
         store_runs(),
     ];
     for runs in all {

@@ -81,6 +81,22 @@ const EXAMPLES: &[Example] = &[
         err: Some("examples/two.message"),
     },
     Example {
+        command: "purge db",
+        before: None,
+        input: "examples/two.trace",
+        status: 1,
+        out: Some("examples/purged.trace"),
+        err: Some("examples/two.message"),
+    },
+    Example {
+        command: "given",
+        before: None,
+        input: "examples/purged.trace",
+        status: 1,
+        out: Some("examples/purged.replies"),
+        err: Some("examples/purged.message"),
+    },
+    Example {
         command: "trace",
         before: None,
         input: "examples/processes.trace",
