@@ -29,7 +29,6 @@ import collections
 import pathlib
 import random
 import re
-import subprocess
 import sys
 import time
 
@@ -47,7 +46,7 @@ import zonecfg_laws
 import zonecfg_rows
 from arguments import arguments
 from login_maker import LoginMaker
-from own_folder import own_folder
+from own_folder import SECONDS, own_folder, ran
 from reply_forms import kind_of, kind_of_line, misformed, misgranted
 from request_maker import RequestMaker
 from store_model import Store
@@ -55,16 +54,8 @@ from trace_lines import ALL_LINES, KINDS_OF_LINES, is_zone_name
 from zonecfg_maker import ZonecfgMaker
 
 
-SECONDS = 600
 COMMANDS = ("trace", "script", "purge")
 NAMED = re.compile(rb"(?:-z|zlogin|^D|^P) +([^ \n]+)", re.M)
-
-
-def ran(program, command, data, folder):
-    """The status and both texts of the program with the words of a command, over an input."""
-    done = subprocess.run([pathlib.Path(program).resolve(), *command.split(" ")], input=data, capture_output=True,
-                          timeout=SECONDS, cwd=folder)
-    return done.returncode, done.stdout, done.stderr
 
 
 def answer_of(data, command, args):
