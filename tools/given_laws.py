@@ -21,6 +21,7 @@ from arguments import arguments
 from export_model import lines_of
 from login_maker import LoginMaker
 from own_folder import NAME, image, own_folder, ran
+from request_maker import RequestMaker
 from store_model import MOST_ZONES, Store
 from trace_lines import ALL_LINES, Outside
 from trace_model import MOST_BYTES, MOST_LINES
@@ -145,9 +146,9 @@ def first_fault(count, seed, fault_in):
     """What fault_in(trace, earlier trace) tells of the first of some random traces of which it tells something, with
     the two inputs; or None."""
     rng, traces = random.Random("given %d" % seed), []
-    maker = LoginMaker(rng, ALL_LINES)
+    makers = [LoginMaker(rng, ALL_LINES), RequestMaker(rng)]
     for number in range(count):
-        data = maker.next(traces)
+        data = rng.choice(makers).next(traces)
         earlier = rng.choice(traces) if traces and rng.random() < 0.5 else b""
         if 0 < len(data) < 20000:
             traces = (traces + [data])[-200:]

@@ -8,7 +8,7 @@ bytes of all records stay, also of those that a later one replaces, so that the 
 import dataclasses
 
 from config_model import Config
-from pool_model import Denied, Need
+from pool_model import YES, Denied, Need
 from store_reader import uuid_of
 from trace_lines import LAST_NUMBER
 
@@ -70,7 +70,7 @@ class Store:
             return self.serial + 1
 
         pools = ["zones"] * is_new + ["paths"] * is_elsewhere + ["store"]
-        return Need(pools, given, lambda it: it in range(1, LAST_NUMBER + 1) and has_room and not is_full)
+        return Need(pools, given, lambda it: it != YES and 1 <= it <= LAST_NUMBER and has_room and not is_full)
 
     def is_taken(self, path, name):
         """Whether a zone other than the named one has a path."""

@@ -32,7 +32,10 @@ def next_number(numbers, last, used, pool):
 
 def number_need(pool, numbers, last, used):
     """What asks for a number of a pool. One that is stated has to be in range and free."""
-    return Need([pool], lambda: next_number(numbers, last, used, pool), lambda it: it in numbers and it not in used)
+    def may_be(number):
+        return number != YES and number in numbers and number not in used
+
+    return Need([pool], lambda: next_number(numbers, last, used, pool), may_be)
 
 
 @dataclasses.dataclass
