@@ -1,4 +1,5 @@
-"""The rows of crates/zones_docs/data/rows, with which the models of the commands are compared.
+"""The rows of crates/zones_docs/data/rows, and those of this folder, with which the models of the commands are
+compared.
 
 fault() gives what a model answers otherwise than a row has it, or None; tools/fuzz_trace.py --self-test does this. The
 form of the files is told in their README.md.
@@ -7,12 +8,14 @@ form of the files is told in their README.md.
 import dataclasses
 import pathlib
 
+import bulk_model
 import export_model
 import index_model
 import trace_model
 from trace_lines import ALL_LINES
 
-DATA = pathlib.Path(__file__).resolve().parent.parent / "crates/zones_docs/data"
+TOOLS = pathlib.Path(__file__).resolve().parent
+DATA = TOOLS.parent / "crates/zones_docs/data"
 
 
 @dataclasses.dataclass
@@ -67,7 +70,16 @@ def told(row, data):
         return index_model.run(image)
     if row.run == "export":
         return export_model.run(data)
+    if row.run == "bulk" or row.run.startswith("bulk "):
+        return bulk_told(row.run[len("bulk "):], image)
     return index_model.opened(image, lambda store: trace_model.run(data, store, ALL_LINES, row.run))
+
+
+def bulk_told(word, image):
+    """What is told of a script that is made. Words come before the store."""
+    if bulk_model.count_of(word) is None:
+        return bulk_model.run(word)
+    return index_model.opened(image, lambda store: bulk_model.run(word, store))
 
 
 def row_fault(row, chain):
@@ -85,7 +97,8 @@ def row_fault(row, chain):
 
 def fault():
     """What a model answers otherwise than a row has it, or None."""
-    files = {file.name: rows_of(file) for file in sorted((DATA / "rows").glob("*.rows"))}
+    files = [*sorted((DATA / "rows").glob("*.rows")), *sorted(TOOLS.glob("*.rows"))]
+    files = {file.name: rows_of(file) for file in files}
     everywhere = {name: row for rows in files.values() for name, row in rows.items()}
     for file, rows in files.items():
         for row in rows.values():
