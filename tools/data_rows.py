@@ -12,8 +12,10 @@ import bulk_model
 import export_model
 import index_model
 import trace_model
-from trace_lines import ALL_LINES
+from trace_lines import ALL_LINES, is_zone_name
 
+# The commands with one word more, and what that has to be.
+ONE_MORE = {"purge": lambda word: is_zone_name(word.encode()), "bulk": bulk_model.count_of}
 TOOLS = pathlib.Path(__file__).resolve().parent
 DATA = TOOLS.parent / "crates/zones_docs/data"
 
@@ -63,23 +65,25 @@ def before(row, here, elsewhere):
     return before(earlier, here, elsewhere) + [row]
 
 
+def is_form(words):
+    """Whether these are the words of a command."""
+    if words[0] in ONE_MORE:
+        return len(words) == 2 and bool(ONE_MORE[words[0]](words[1]))
+    return len(words) == 1
+
+
 def told(row, data):
-    """The status and both texts that a model gives for the input of a row."""
+    """The status and both texts that a model gives for the input of a row. Words come before the store."""
+    if not is_form(row.run.split(" ")):
+        return 2, b"", bulk_model.USAGE
     image = (DATA / row.disk).read_bytes() if row.disk else b""
     if row.run == "index":
         return index_model.run(image)
     if row.run == "export":
         return export_model.run(data)
-    if row.run == "bulk" or row.run.startswith("bulk "):
-        return bulk_told(row.run[len("bulk "):], image)
+    if row.run.startswith("bulk "):
+        return index_model.opened(image, lambda store: bulk_model.run(row.run.split(" ")[1], store))
     return index_model.opened(image, lambda store: trace_model.run(data, store, ALL_LINES, row.run))
-
-
-def bulk_told(word, image):
-    """What is told of a script that is made. Words come before the store."""
-    if bulk_model.count_of(word) is None:
-        return bulk_model.run(word)
-    return index_model.opened(image, lambda store: bulk_model.run(word, store))
 
 
 def row_fault(row, chain):
