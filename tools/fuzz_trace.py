@@ -26,7 +26,7 @@ then have such lines (zonecfg_maker.py, login_maker.py), and without it none has
 
 `--self-test` compares the model with replies that are known, and looks at what holds of it in random systems
 (data_rows.py, trace_rows.py, object_rows.py, request_rows.py, zonecfg_rows.py, call_rows.py, purge_rows.py,
-index_rows.py, request_laws.py, zonecfg_laws.py, given_laws.py); it needs no program. Nor does `--model-only`, which shows what the
+given_rows.py, index_rows.py, request_laws.py, zonecfg_laws.py, given_laws.py); it needs no program. Nor does `--model-only`, which shows what the
 traces would be answered, and ends at a line that has no form (reply_forms.py).
 """
 
@@ -40,6 +40,7 @@ import time
 import call_rows
 import data_rows
 import given_laws
+import given_rows
 import index_model
 import index_rows
 import object_rows
@@ -116,8 +117,8 @@ def shortest(data, differs):
 
 
 def self_test():
-    parts = [data_rows, trace_rows, object_rows, request_rows, zonecfg_rows, call_rows, purge_rows, index_rows,
-             request_laws, zonecfg_laws, given_laws]
+    parts = [data_rows, trace_rows, object_rows, request_rows, zonecfg_rows, call_rows, purge_rows, given_rows,
+             index_rows, request_laws, zonecfg_laws, given_laws]
     fault = next((it for it in (part.fault() for part in parts) if it is not None), None)
     print("the model answers as it is known to" if fault is None else "the model differs: %s" % fault)
     return 0 if fault is None else 1
