@@ -26,8 +26,8 @@ then have such lines (zonecfg_maker.py, login_maker.py), and without it none has
 
 `--self-test` compares the model with replies that are known, and looks at what holds of it in random systems
 (data_rows.py, trace_rows.py, object_rows.py, request_rows.py, zonecfg_rows.py, call_rows.py, purge_rows.py,
-given_rows.py, index_rows.py, request_laws.py, zonecfg_laws.py, given_laws.py); it needs no program. Nor does `--model-only`, which shows what the
-traces would be answered, and ends at a line that has no form (reply_forms.py).
+given_rows.py, index_rows.py, request_laws.py, zonecfg_laws.py, given_laws.py); it needs no program. Nor does
+`--model-only`, which shows what the traces would be answered, and ends at a line that has no form (reply_forms.py).
 """
 
 import collections
