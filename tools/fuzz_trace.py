@@ -52,14 +52,14 @@ import trace_rows
 import zonecfg_laws
 import zonecfg_rows
 from arguments import arguments
-from grant_maker import Ended, StatedGrants, regranted, shorter
+from grant_maker import StatedGrants, next_of, regranted, shorter
 from login_maker import LoginMaker
 from own_folder import SECONDS, image, own_folder, ran
 from reply_forms import kind_of, kind_of_line, misformed, misgranted
 from request_maker import RequestMaker
 from store_reader import bodies
 from told_records import LoggedStore
-from trace_lines import ALL_LINES, KINDS_OF_LINES, Refused, is_zone_name
+from trace_lines import ALL_LINES, KINDS_OF_LINES, is_zone_name
 from zonecfg_maker import ZonecfgMaker
 
 
@@ -150,16 +150,6 @@ def difference(number, data, command, wanted, got):
     pathlib.Path("fuzz-trace.input").write_bytes(data)
     return "input %d of `%s` differs, in short (kept in fuzz-trace.input): %r\nmodel:   %r\nprogram: %r" % (
         number, command, data, wanted(data, command), got(data, command))
-
-
-def next_of(maker, traces):
-    """The next input. Where lines state grants, it ends where it would go on with what a grant denied."""
-    try:
-        return maker.next(traces)
-    except (Ended, LookupError, Refused):
-        if maker.stated is None:
-            raise
-        return maker.data()
 
 
 def compared(maker, args, wanted, got):

@@ -2,13 +2,14 @@
 """Looks whether what `zones purge` leaves of random traces is answered by `zones given` as it was there: for each zone
 that a trace has something of, the replies of the zone and of the whole system, and what is stored of the zone.
 
-    tools/given_laws.py [--count N] [--seed S] [--program FILE]
-    tools/given_laws.py --model-only [--count N] [--seed S]
+    tools/given_laws.py [--stated] [--count N] [--seed S] [--program FILE]
+    tools/given_laws.py --model-only [--stated] [--count N] [--seed S]
 
 Half of the traces find what another trace has stored before. The lines of one zone are run over what was stored then,
-and in the model also over what was stored of that zone alone. With `--model-only` the plain model in trace_model.py is
-looked at, and no program is needed; else the program is. Where a purged line is longer than a line may be, the zone is
-passed over. It is no part of the gate.
+and in the model also over what was stored of that zone alone. With `--stated` the traces are inputs of `given` already,
+whose grants fit and aren't always those that are due (grant_maker.py), and the lines of other zones are taken out. With
+`--model-only` the plain model in trace_model.py is looked at, and no program is needed; else the program is. Where a
+purged line is longer than a line may be, the zone is passed over. It is no part of the gate.
 """
 
 import copy
@@ -19,11 +20,12 @@ import sys
 import trace_model as model
 from arguments import arguments
 from export_model import lines_of
+from grant_maker import StatedGrants, next_of
 from login_maker import LoginMaker
 from own_folder import NAME, image, own_folder, ran
 from request_maker import RequestMaker
 from store_model import MOST_ZONES, Store
-from trace_lines import ALL_LINES, Outside
+from trace_lines import ALL_LINES, Outside, is_no_event
 from trace_model import MOST_BYTES, MOST_LINES
 
 WHOLE = b"*"
@@ -42,17 +44,17 @@ def is_purgeable(text):
 
 # The model.
 
-def answered(data, store):
-    """What the events of a trace are answered, up to its end or to the line that ends it."""
+def answered(data, store, command):
+    """What the events of an input are answered, up to its end or to the line that ends it."""
     host, said = model.Host(store=store, known=ALL_LINES), []
     for number, line in enumerate(lines_of(data), 1):
         if number > MOST_LINES or len(line) > MOST_BYTES:
             break
         try:
-            event = host.read(line)
+            found = model.read(host, line, command)
+            said += [] if found is None else [host.answer(*found)]
         except Outside:
             break
-        said += [] if event is None else [host.answer(event)]
     return said
 
 
@@ -69,12 +71,12 @@ def stores_for(before, zone):
     return [copy.deepcopy(store) for store in (before, alone) if len(store.records.keys() - {zone}) < MOST_ZONES]
 
 
-def model_fault(data, earlier):
-    """What a zone is answered otherwise in the model, or None."""
+def model_fault(data, earlier, command="trace"):
+    """What a zone is answered otherwise in the model than by `trace` or `given`, or None."""
     before = Store()
-    model.run(earlier, before, ALL_LINES)
+    model.run(earlier, before, ALL_LINES, command)
     after = copy.deepcopy(before)
-    said = answered(data, after)
+    said = answered(data, after, command)
     for zone in sorted({it.subject for it in said} - set(NO_ZONES)):
         kept = [it for it in said if it.subject in (zone, WHOLE)]
         text = b"".join(it.granted() for it in kept)
@@ -119,15 +121,24 @@ def runs_on(program, store, words, data):
         return said, ran(program, "index", b"", folder)[1]
 
 
-def program_fault(program, data, earlier):
-    """What a zone is answered otherwise by the program, or None."""
+def taken_out(data, replies, zone):
+    """What `given` reads of one zone and of the whole system: each reply is to the next line that is an event."""
+    events = [line for line in lines_of(data) if not is_no_event(line)]
+    return b"".join(line + b"\n" for line, (subject, _) in zip(events, replies) if subject in (zone, WHOLE))
+
+
+def program_fault(program, data, earlier, command="trace"):
+    """What a zone is answered otherwise by the program than by `trace` or `given`, or None."""
     with own_folder() as folder:
-        ran(program, "trace", earlier, folder)
+        ran(program, command, earlier, folder)
         before = image(folder)
-    (status, out, err), index = runs_on(program, before, "trace", data)
+    (status, out, err), index = runs_on(program, before, command, data)
     replies = replies_in(out)
     for zone in sorted({subject for subject, _ in replies} - set(NO_ZONES)):
-        (purged, text, told), _ = runs_on(program, before, "purge " + zone.decode(), data)
+        if command == "given":
+            purged, text, told = status, taken_out(data, replies, zone), err
+        else:
+            (purged, text, told), _ = runs_on(program, before, "purge " + zone.decode(), data)
         if (purged, told) != (status, err):
             return "purge %s: status %d, %r, and of the trace %d, %r" % (zone.decode(), purged, told, status, err)
         if not is_purgeable(text):
@@ -142,17 +153,19 @@ def program_fault(program, data, earlier):
 
 # Random traces.
 
-def first_fault(count, seed, fault_in):
-    """What fault_in(trace, earlier trace) tells of the first of some random traces of which it tells something, with
-    the two inputs; or None."""
+def first_fault(count, seed, command, fault_in):
+    """What fault_in(input, earlier input, command) tells of the first of some random inputs of which it tells something,
+    with the two inputs; or None."""
     rng, traces = random.Random("given %d" % seed), []
-    makers = [LoginMaker(rng, ALL_LINES), RequestMaker(rng)]
+    makers = [LoginMaker(rng, ALL_LINES, command), RequestMaker(rng)]
+    for maker in makers if command == "given" else []:
+        maker.stated = StatedGrants(rng, wrong=[0])
     for number in range(count):
-        data = rng.choice(makers).next(traces)
+        data = next_of(rng.choice(makers), traces)
         earlier = rng.choice(traces) if traces and rng.random() < 0.5 else b""
         if 0 < len(data) < 20000:
             traces = (traces + [data])[-200:]
-        found = fault_in(data, earlier)
+        found = fault_in(data, earlier, command)
         if found is not None:
             return "trace %d: %s" % (number, found), data, earlier
     return None
@@ -160,14 +173,14 @@ def first_fault(count, seed, fault_in):
 
 def fault(count=60, seed=1):
     """What the model answers otherwise in one of some random traces, or None."""
-    found = first_fault(count, seed, model_fault)
+    found = first_fault(count, seed, "trace", model_fault) or first_fault(count, seed, "given", model_fault)
     return found and found[0]
 
 
 def main():
-    args = arguments(__doc__, "model-only")
-    found = first_fault(args.count, args.seed, model_fault if args.model_only else (
-        lambda data, earlier: program_fault(args.program, data, earlier)))
+    args = arguments(__doc__, "model-only", "stated")
+    fault_in = model_fault if args.model_only else (lambda *inputs: program_fault(args.program, *inputs))
+    found = first_fault(args.count, args.seed, "given" if args.stated else "trace", fault_in)
     if found is None:
         print("%d traces: each zone is answered as it was" % args.count)
         return 0

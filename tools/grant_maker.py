@@ -10,7 +10,7 @@ import trace_model as model
 from pool_model import allowed, fits
 from store_model import MOST_ZONES
 from system_model import PIDS, ZIDS
-from trace_lines import LAST_NUMBER, POOLS, Outside, is_no_event
+from trace_lines import LAST_NUMBER, POOLS, Outside, Refused, is_no_event
 from trace_model import MOST_BYTES
 
 # What doesn't begin a line as a grant does.
@@ -52,13 +52,13 @@ class StatedGrants:
     """Writes lines with their grants. How many of these are others than are due, and how many don't fit, differs from
     trace to trace; at the first one that doesn't fit a trace ends."""
 
-    def __init__(self, rng):
-        self.rng = rng
+    def __init__(self, rng, wrong=(0, 0, 0, 0.003, 0.03, 0.2)):
+        self.rng, self.shares = rng, wrong
         self.begin()
 
     def begin(self):
         self.other = self.rng.choice([0, 0.02, 0.1, 0.5])
-        self.wrong = self.rng.choice([0, 0, 0, 0.003, 0.03, 0.2])
+        self.wrong = self.rng.choice(self.shares)
         self.left = MOST_LINES
 
     def choose(self, host, need):
@@ -103,6 +103,16 @@ class StatedGrants:
         except Outside:
             self.left = min(self.left, MOST_AFTER)
         return "@%s %s" % (host.grants.said[-1], text)
+
+
+def next_of(maker, traces):
+    """The next input of a maker. Where lines state grants, it ends where it would go on with what a grant denied."""
+    try:
+        return maker.next(traces)
+    except (Ended, LookupError, Refused):
+        if maker.stated is None:
+            raise
+        return maker.data()
 
 
 def shorter(text):
