@@ -16,7 +16,7 @@ import sys
 
 from arguments import arguments
 from own_folder import NAME, image, own_folder
-from store_reader import HEADER, body
+from store_reader import HEADER, body, uuid_of
 
 LINES = {
     0: rb"",
@@ -55,7 +55,7 @@ STORES = [
     HEADER + b"\0",
     HEADER + b"".join(
         b"\1" + len(it).to_bytes(4, "big") + it
-        for it in (body(zone, "installed", number, number, EXPORT % zone) for number, zone in enumerate("abc", 1))
+        for it in (body(zone, "installed", uuid_of(zone, number), number, EXPORT % zone) for number, zone in enumerate("abc", 1))
     ) + b"\0",
 ]
 

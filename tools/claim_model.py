@@ -6,7 +6,7 @@ Claims stand in one list, in the order in which they were made; each question lo
 
 import re
 
-from pool_model import Denied
+from pool_model import YES, Denied, Need
 from trace_lines import Refused
 
 MOST_DECLARED = 1024
@@ -58,13 +58,21 @@ class Items:
             raise Refused("27 TooMany %d" % MOST_DECLARED)
         self.declared[kind][item] = True
 
+    def need(self, kind, item):
+        """What a claim asks, which is given where the item is declared and no zone has it. A `yes` that is stated has to
+        be right."""
+        is_free = item in self.declared[kind] and all(claim != [kind, item] for _, *claim in self.claims)
+
+        def given():
+            if not is_free:
+                raise Denied(POOLS[kind])
+            return YES
+
+        return Need([POOLS[kind]], given, lambda it: it == YES and is_free)
+
     def claim(self, zone, kind, item):
-        """Gives a zone an item that is declared and that no other zone has."""
-        holders = [holder for holder, *claim in self.claims if claim == [kind, item]]
-        if item not in self.declared[kind] or holders:
-            raise Denied(POOLS[kind])
+        """Gives a zone an item."""
         self.claims.append((zone, kind, item))
-        return "yes"
 
     def held(self, zone, kind=None):
         """(kind, item) of each claim of a zone, in the order of claim; of one kind, or of all of them."""

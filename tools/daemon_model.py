@@ -138,7 +138,7 @@ class Daemon:
         system.change(name, dataclasses.replace(record, config=config), commit=True)
 
     def step_source(self, name, system, source):
-        system.grants.ask(system.let_clone, source.encode())
+        system.ask_source(source.encode())
 
     def step_zid(self, name, system, _):
         return system.give_zid(name)

@@ -1,4 +1,5 @@
-"""The rows of crates/zones_docs/data/rows, with which the models of the commands are compared.
+"""The rows of crates/zones_docs/data/rows, and those of this folder, with which the models of the commands are
+compared.
 
 fault() gives what a model answers otherwise than a row has it, or None; tools/fuzz_trace.py --self-test does this. The
 form of the files is told in their README.md.
@@ -7,12 +8,16 @@ form of the files is told in their README.md.
 import dataclasses
 import pathlib
 
+import bulk_model
 import export_model
 import index_model
 import trace_model
-from trace_lines import ALL_LINES
+from trace_lines import ALL_LINES, is_zone_name
 
-DATA = pathlib.Path(__file__).resolve().parent.parent / "crates/zones_docs/data"
+# The commands with one word more, and what that has to be.
+ONE_MORE = {"purge": lambda word: is_zone_name(word.encode()), "bulk": bulk_model.count_of}
+TOOLS = pathlib.Path(__file__).resolve().parent
+DATA = TOOLS.parent / "crates/zones_docs/data"
 
 
 @dataclasses.dataclass
@@ -60,13 +65,24 @@ def before(row, here, elsewhere):
     return before(earlier, here, elsewhere) + [row]
 
 
+def is_form(words):
+    """Whether these are the words of a command."""
+    if words[0] in ONE_MORE:
+        return len(words) == 2 and bool(ONE_MORE[words[0]](words[1]))
+    return len(words) == 1
+
+
 def told(row, data):
-    """The status and both texts that a model gives for the input of a row."""
+    """The status and both texts that a model gives for the input of a row. Words come before the store."""
+    if not is_form(row.run.split(" ")):
+        return 2, b"", bulk_model.USAGE
     image = (DATA / row.disk).read_bytes() if row.disk else b""
     if row.run == "index":
         return index_model.run(image)
     if row.run == "export":
         return export_model.run(data)
+    if row.run.startswith("bulk "):
+        return index_model.opened(image, lambda store: bulk_model.run(row.run.split(" ")[1], store))
     return index_model.opened(image, lambda store: trace_model.run(data, store, ALL_LINES, row.run))
 
 
@@ -85,7 +101,8 @@ def row_fault(row, chain):
 
 def fault():
     """What a model answers otherwise than a row has it, or None."""
-    files = {file.name: rows_of(file) for file in sorted((DATA / "rows").glob("*.rows"))}
+    files = [*sorted((DATA / "rows").glob("*.rows")), *sorted(TOOLS.glob("*.rows"))]
+    files = {file.name: rows_of(file) for file in files}
     everywhere = {name: row for rows in files.values() for name, row in rows.items()}
     for file, rows in files.items():
         for row in rows.values():

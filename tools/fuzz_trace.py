@@ -1,18 +1,23 @@
 #!/usr/bin/env python3
-"""Compares `zones trace`, `zones script` or `zones purge` with the plain model in trace_model.py over random inputs.
+"""Compares `zones trace`, `zones script`, `zones purge` or `zones given` with the plain model in trace_model.py over
+random inputs.
 
-    tools/fuzz_trace.py [--requests] [--twice] [--index] [--command script|purge] [--lines KINDS] [--count N]
-        [--seed S] [--program FILE]
+    tools/fuzz_trace.py [--requests] [--twice] [--index] [--store] [--command script|purge|given] [--purged]
+        [--lines KINDS] [--count N] [--seed S] [--program FILE]
     tools/fuzz_trace.py --self-test
-    tools/fuzz_trace.py --model-only [--requests] [--twice] [--command script|purge] [--lines KINDS] [--count N]
-        [--seed S]
+    tools/fuzz_trace.py --model-only [--requests] [--twice] [--command script|purge|given] [--purged] [--lines KINDS]
+        [--count N] [--seed S]
 
 Traces are made along the grammar (trace_maker.py, process_maker.py, object_maker.py, request_maker.py), with the model
 at hand so that most events do something, and then some are cut, joined or have bytes changed. With `--requests` they
 are all of requests of zoneadm(8). The first input that differs is made as short as dropping lines and bytes makes it,
 and kept in fuzz-trace.input. Each trace has a store of its own; with `--twice` it is run on it a second time, and
-compared then. With `--index` what `zones index` tells of the store after that is compared too. With `--command purge`
-the entries of one zone are purged, mostly of one that the trace names. It is no part of the gate.
+compared then. With `--index` what `zones index` tells of the store after that is compared too, and with `--store` the
+records in it, as with `given` they always are. With `--command purge` the entries of one zone are purged, mostly of one
+that the trace names. With `--command given` each line states a grant (grant_maker.py): mostly the one that is due, at
+times another that fits, and in some traces one that doesn't. With `--purged` the inputs of `given` are what `purge`
+makes of traces, by the program where there is one, some of them with other grants in a few lines. It is no part of the
+gate.
 
 `--lines` names kinds of lines that the program answers beside the older ones, with commas between them: zonecfg (a line
 of subcommands that makes, edits or deletes a zone), edit (sessions that edit), list, verify, help, restart, zlogin
@@ -21,20 +26,21 @@ then have such lines (zonecfg_maker.py, login_maker.py), and without it none has
 
 `--self-test` compares the model with replies that are known, and looks at what holds of it in random systems
 (data_rows.py, trace_rows.py, object_rows.py, request_rows.py, zonecfg_rows.py, call_rows.py, purge_rows.py,
-index_rows.py, request_laws.py, zonecfg_laws.py); it needs no program. Nor does `--model-only`, which shows what the
-traces would be answered, and ends at a line that has no form (reply_forms.py).
+given_rows.py, index_rows.py, request_laws.py, zonecfg_laws.py, given_laws.py); it needs no program. Nor does
+`--model-only`, which shows what the traces would be answered, and ends at a line that has no form (reply_forms.py).
 """
 
 import collections
 import pathlib
 import random
 import re
-import subprocess
 import sys
 import time
 
 import call_rows
 import data_rows
+import given_laws
+import given_rows
 import index_model
 import index_rows
 import object_rows
@@ -46,42 +52,38 @@ import trace_rows
 import zonecfg_laws
 import zonecfg_rows
 from arguments import arguments
+from grant_maker import StatedGrants, next_of, regranted, shorter
 from login_maker import LoginMaker
-from own_folder import own_folder
+from own_folder import SECONDS, image, own_folder, ran
 from reply_forms import kind_of, kind_of_line, misformed, misgranted
 from request_maker import RequestMaker
-from store_model import Store
+from store_reader import bodies
+from told_records import LoggedStore
 from trace_lines import ALL_LINES, KINDS_OF_LINES, is_zone_name
 from zonecfg_maker import ZonecfgMaker
 
 
-SECONDS = 600
-COMMANDS = ("trace", "script", "purge")
+COMMANDS = ("trace", "script", "purge", "given")
 NAMED = re.compile(rb"(?:-z|zlogin|^D|^P) +([^ \n]+)", re.M)
-
-
-def ran(program, command, data, folder):
-    """The status and both texts of the program with the words of a command, over an input."""
-    done = subprocess.run([pathlib.Path(program).resolve(), *command.split(" ")], input=data, capture_output=True,
-                          timeout=SECONDS, cwd=folder)
-    return done.returncode, done.stdout, done.stderr
 
 
 def answer_of(data, command, args):
     """The status and both texts of the program over an input, the last of its runs over one store, which is empty
-    before; and perhaps those of `index` after it."""
+    before; perhaps those of `index` after it; and perhaps the records."""
     with own_folder() as folder:
         runs = [(command, data)] * (2 if args.twice else 1) + [("index", b"")] * args.index
         said = [ran(args.program, words, text, folder) for words, text in runs]
-    return sum(said[-2:] if args.index else said[-1:], ())
+        records = (bodies(image(folder)),) if args.store else ()
+    return sum(said[-2:] if args.index else said[-1:], ()) + records
 
 
 def told_of(data, command, args, known):
     """What the model says that is, where such kinds of lines are known."""
-    store = Store()
+    store = LoggedStore()
     for _ in range(2 if args.twice else 1):
         said = model.run(data, store, known, command)
-    return said + ((0, index_model.text_of(store), b"") if args.index else ())
+    index = (0, index_model.text_of(store), b"") if args.index else ()
+    return said + index + ((store.bodies,) if args.store else ())
 
 
 def words_of(rng, command, data):
@@ -115,8 +117,8 @@ def shortest(data, differs):
 
 
 def self_test():
-    parts = [data_rows, trace_rows, object_rows, request_rows, zonecfg_rows, call_rows, purge_rows, index_rows,
-             request_laws, zonecfg_laws]
+    parts = [data_rows, trace_rows, object_rows, request_rows, zonecfg_rows, call_rows, purge_rows, given_rows,
+             index_rows, request_laws, zonecfg_laws, given_laws]
     fault = next((it for it in (part.fault() for part in parts) if it is not None), None)
     print("the model answers as it is known to" if fault is None else "the model differs: %s" % fault)
     return 0 if fault is None else 1
@@ -153,18 +155,31 @@ def difference(number, data, command, wanted, got):
 def compared(maker, args, wanted, got):
     """What is wrong with the first trace of a run that isn't as it should be, or None, and what was counted."""
     traces, counts, zones = [], Counts(), random.Random("zones %d" % args.seed)
-    fault_in = misgranted if args.command == "purge" else misformed
+
+    def run(number, data, command):
+        """What is wrong with the answer to an input, or None, and what is written."""
+        want = wanted(data, command)
+        fault = (misgranted if command.startswith("purge ") else misformed)(want[1])
+        if fault is not None:
+            return "input %d is answered by a line without a form: %r" % (number, fault), b""
+        if got is not None and got(data, command) != want:
+            return difference(number, data, command, wanted, got), b""
+        if command.split(" ")[0] == args.command:
+            counts.add(*want[:3])
+        return None, want[1]
+
     for number in range(args.count):
-        data = maker.next(traces)
+        data = next_of(maker, traces)
         if 0 < len(data) < 20000:
             traces = (traces + [data])[-200:]
-        command = words_of(zones, args.command, data)
-        want = wanted(data, command)
-        if fault_in(want[1]) is not None:
-            return "input %d is answered by a line without a form: %r" % (number, fault_in(want[1])), counts
-        if got is not None and got(data, command) != want:
-            return difference(number, data, command, wanted, got), counts
-        counts.add(*want[:3])
+        fault = None
+        if args.purged:
+            fault, data = run(number, data, words_of(zones, "purge", data))
+            data = shorter(data) if zones.random() < 0.8 else data
+            data = regranted(zones, data) if zones.random() < 0.4 else data
+        fault = fault or run(number, data, words_of(zones, args.command, data))[0]
+        if fault is not None:
+            return fault, counts
     return None, counts
 
 
@@ -180,20 +195,28 @@ def kinds_in(text):
 def maker_of(rng, known, command="trace", share=0.3):
     """What makes the inputs of a command where such kinds of lines are known."""
     if known & {"zlogin", "console", "enter"}:
-        return LoginMaker(rng, known, command)
-    maker = ZonecfgMaker(rng, known) if known else RequestMaker(rng, share)
+        maker = LoginMaker(rng, known, command)
+    else:
+        maker = ZonecfgMaker(rng, known) if known else RequestMaker(rng, share)
     maker.command = command
+    if command == "given":
+        maker.stated = StatedGrants(rng)
     return maker
 
 
 def main():
-    args = arguments(__doc__, "self-test", "model-only", "requests", "twice", "index", options=["lines", "command"])
+    args = arguments(__doc__, "self-test", "model-only", "requests", "twice", "index", "store", "purged",
+                     options=["lines", "command"])
     args.command, known = args.command or "trace", kinds_in(args.lines)
     if args.command not in COMMANDS:
         raise SystemExit("the command is one of %s" % ", ".join(COMMANDS))
+    if args.purged and args.command != "given":
+        raise SystemExit("what is purged is an input of `given`")
+    args.store = args.store or args.command == "given"
     if args.self_test:
         return self_test()
-    maker = maker_of(random.Random(args.seed), known, args.command, 1 if args.requests else 0.3)
+    command = "trace" if args.purged else args.command
+    maker = maker_of(random.Random(args.seed), known, command, 1 if args.requests else 0.3)
     got = None if args.model_only else (lambda data, command: answer_of(data, command, args))
     fault, counts = compared(maker, args, lambda data, command: told_of(data, command, args, known), got)
     if fault is not None:

@@ -9,7 +9,7 @@ import export_model
 from config_model import Config
 from list_model import escaped
 from store_model import AROUND, MOST_BYTES, MOST_ZONES, Record, Store
-from store_reader import HEADER, body, is_unformatted, uuid_of
+from store_reader import HEADER, body, is_unformatted
 from trace_lines import LAST_NUMBER, name_fault
 
 BEGIN = len(HEADER)
@@ -17,7 +17,8 @@ BEGIN = len(HEADER)
 BANK = 9
 SECOND_BANK = 0x42
 
-BODY = re.compile(rb"zone ([^\n]*)\nstate ([a-z]+)\nuuid [^\n]*\nrevision ([0-9]{10})\n(.*)", re.S)
+BODY = re.compile(
+    rb"zone ([^\n]*)\nstate ([a-z]+)\nuuid ([0-9a-f]{8}(?:-[0-9a-f]{4}){3}-[0-9a-f]{12})\nrevision ([0-9]{10})\n(.*)", re.S)
 REMOVAL = re.compile(rb"zone ([^\n]*)\nstate none\n")
 STORED = (b"configured", b"incomplete", b"installed")
 
@@ -62,14 +63,14 @@ def config_of(text):
     return None if editor.config is None or editor.scope is not None else Config(editor.config)
 
 
-def record_of(found, made):
-    """The record of a body, of a zone that the record of a number made, or None where the body has another form."""
-    name, state, revision, text = found.groups()
+def record_of(found):
+    """The record of a body, or None where the body has another form."""
+    name, state, uuid, revision, text = found.groups()
     config = config_of(text)
     if state not in STORED or not 1 <= int(revision) <= LAST_NUMBER or config is None or not config.path:
         return None
-    record = Record(state.decode(), config, int(revision), made)
-    whole = body(name.decode(), record.state, made, record.revision, config.text())
+    record = Record(state.decode(), config, int(revision), uuid.decode())
+    whole = body(name.decode(), record.state, record.uuid, record.revision, config.text())
     return record if whole == found.group(0) else None
 
 
@@ -82,8 +83,7 @@ def take(store, body_text):
     store.serial += 1
     if gone:
         return store.records.pop(name, None) is not None
-    made = store.records[name].made if name in store.records else store.serial
-    record = record_of(found, made)
+    record = record_of(found)
     if record is None or name not in store.records and len(store.records) == MOST_ZONES:
         return False
     store.records[name] = record
@@ -91,7 +91,7 @@ def take(store, body_text):
 
 
 def store_of(image):
-    """The store that an image is. Each zone's UUID has to be the one that its first record gave it."""
+    """The store that an image is. A zone's UUID is the one that its last record has."""
     store = Store()
     for serial, body_text in enumerate(bodies_of(image), 1):
         if not take(store, body_text):
@@ -111,7 +111,7 @@ def text_of(store):
     lines = []
     for name, record in store.records.items():
         head = (name.decode(), record.state, escaped(record.config.path))
-        lines.append("%s:%s:%s:%s\n" % (*head, uuid_of(name.decode(), record.made)))
+        lines.append("%s:%s:%s:%s\n" % (*head, record.uuid))
     return "".join(lines).encode()
 
 

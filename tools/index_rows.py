@@ -13,7 +13,7 @@ NAMES = ["z%d" % number for number in range(257)]
 def configured(name, number, path=None, state="configured"):
     """The body of a zone that the record of a number made."""
     config = Config.of(zonepath=path or "/zones/" + name, brand="ipkg")
-    return body(name, state, number, number, config.text())
+    return body(name, state, uuid_of(name, number), number, config.text())
 
 
 def line(name, number, path=None, state="configured"):

@@ -4,8 +4,6 @@ A list of all zones has the running ones; with -i those too that are installed, 
 them. The global zone comes first, unless -n leaves it out, and the others stand in the order in which they were made.
 """
 
-from store_reader import uuid_of
-
 HELP = "attach boot clone detach halt help install list mark move ready reboot uninstall verify"
 HEADER = ("ID", "NAME", "STATUS", "PATH", "BRAND", "IP")
 WIDTHS = (4, 16, 10, 30, 8, 6)
@@ -19,7 +17,7 @@ def row_of(host, name):
     record = host.store.records[name]
     network = "excl" if record.config.values["ip-type"] == "exclusive" else "shared"
     return (str(host.zids.get(name, "-")), name.decode(), host.state(name), record.config.path,
-            str(uuid_of(name.decode(), record.made)), record.config.brand, network)
+            record.uuid, record.config.brand, network)
 
 
 def columns(row):

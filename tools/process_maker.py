@@ -301,7 +301,7 @@ class ProcessMaker(Maker):
         name, session = self.names[0], self.sessions[0]
         self.type_lines(running(name, session))
         filler = rng.choice(["P %s 2 fork x" % name, "P %s 2 true" % name, "S %d kill 0 2" % session])
-        self.lines += [filler] * (rng.choice([199999, 200000, 200001]) - len(self.lines))
+        self.lines += [self.headed(filler)] * (rng.choice([199999, 200000, 200001]) - len(self.lines))
         return self.data()
 
     def next(self, traces):

@@ -8,7 +8,9 @@ bytes of all records stay, also of those that a later one replaces, so that the 
 import dataclasses
 
 from config_model import Config
-from pool_model import Denied
+from pool_model import YES, Denied, Need
+from store_reader import uuid_of
+from trace_lines import LAST_NUMBER
 
 MOST_ZONES = 256
 MOST_BYTES = 33554432
@@ -19,12 +21,12 @@ AROUND = 5
 @dataclasses.dataclass
 class Record:
     """What is stored of a zone: beside its state and configuration the number of the configuration's last change, and
-    that of the record that made the zone, from which its UUID comes."""
+    the zone's UUID."""
 
     state: str
     config: Config
     revision: int = 0
-    made: int = 0
+    uuid: str = ""
 
     def size(self, name):
         """The bytes of its body, in which a UUID has 36 and a revision ten digits."""
@@ -37,35 +39,51 @@ def removal_size(name):
     return len("zone %s\nstate none\n" % name.decode())
 
 
+def size_of(name, record):
+    """The bytes of a record's body, or where it is None, of the zone's removal."""
+    return removal_size(name) if record is None else record.size(name)
+
+
 class Store:
     """The zones that are stored, and the bytes that are used."""
 
     def __init__(self):
         self.records, self.serial, self.used = {}, 0, 1
 
-    def change(self, name, record, commit=False):
-        """Stores a record and answers its number, or tells which pool denies it; None removes the zone. A commit and a
-        move count as a change of the configuration, and may give the zone another path."""
+    def need(self, name, record):
+        """What a record asks, which is None where the zone is removed: the number of zones where it makes one, the path
+        where that is a new one, and the room. Its number counts all records from the first one on; one that is stated
+        may be any that the form of a record has, and the path isn't looked at."""
         old = self.records.get(name)
-        if record is None:
-            number = self.take(removal_size(name))
-            del self.records[name]
-            return number
-        if old is None and len(self.records) == MOST_ZONES:
-            raise Denied("zones")
-        others = [it.config.path for other, it in self.records.items() if other != name]
-        if (old is None or old.config.path != record.config.path) and record.config.path in others:
-            raise Denied("paths")
-        number = self.take(record.size(name))
-        made = number if old is None else old.made
-        revision = number if commit else record.revision
-        self.records[name] = dataclasses.replace(record, made=made, revision=revision)
-        return number
+        is_new = record is not None and old is None
+        is_elsewhere = is_new or record is not None and old.config.path != record.config.path
+        is_full = is_new and len(self.records) == MOST_ZONES
+        has_room = self.used + AROUND + size_of(name, record) <= MOST_BYTES
 
-    def take(self, size):
-        """Takes the room of one more record, and answers its number, which counts all records from the first one on."""
-        if self.used + AROUND + size > MOST_BYTES:
-            raise Denied("store")
-        self.used += AROUND + size
+        def given():
+            if is_full:
+                raise Denied("zones")
+            if is_elsewhere and self.is_taken(record.config.path, name):
+                raise Denied("paths")
+            if not has_room:
+                raise Denied("store")
+            return self.serial + 1
+
+        pools = ["zones"] * is_new + ["paths"] * is_elsewhere + ["store"]
+        return Need(pools, given, lambda it: it != YES and 1 <= it <= LAST_NUMBER and has_room and not is_full)
+
+    def is_taken(self, path, name):
+        """Whether a zone other than the named one has a path."""
+        return any(it.config.path == path for other, it in self.records.items() if other != name)
+
+    def change(self, name, record, number, commit=False):
+        """Stores a record that was given a number; None removes the zone. A commit and a move count as a change of the
+        configuration, which has then this number, and the number of a new zone's first record goes into its UUID."""
+        self.used += AROUND + size_of(name, record)
         self.serial += 1
-        return self.serial
+        if record is None:
+            del self.records[name]
+            return
+        old = self.records.get(name)
+        uuid = str(uuid_of(name.decode(), number)) if old is None else old.uuid
+        self.records[name] = dataclasses.replace(record, uuid=uuid, revision=number if commit else record.revision)

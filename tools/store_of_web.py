@@ -8,7 +8,7 @@ Without words it is `web`, which is configured.
 
 import sys
 
-from store_reader import HEADER, body
+from store_reader import HEADER, body, uuid_of
 
 EXPORT = "create -b\nset zonepath=/zones/%s\nset brand=ipkg\nset autoboot=false\nset ip-type=shared\n"
 
@@ -19,7 +19,7 @@ def store(bodies):
 
 def main():
     zone, state = sys.argv[1:] or ("web", "configured")
-    sys.stdout.buffer.write(store([body(zone, state, 1, 1, EXPORT % zone)]))
+    sys.stdout.buffer.write(store([body(zone, state, uuid_of(zone, 1), 1, EXPORT % zone)]))
 
 
 if __name__ == "__main__":

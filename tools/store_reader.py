@@ -31,10 +31,9 @@ def uuid_of(zone, number):
     return uuid.uuid5(NAMESPACE, "%s:%d" % (zone, number))
 
 
-def body(zone, state, number, revision, export):
-    """The body of a zone that the record of a number made."""
-    head = (zone, state, uuid_of(zone, number), revision, export)
-    return ("zone %s\nstate %s\nuuid %s\nrevision %010d\n%s" % head).encode()
+def body(zone, state, uuid, revision, export):
+    """The body of a record."""
+    return ("zone %s\nstate %s\nuuid %s\nrevision %010d\n%s" % (zone, state, uuid, revision, export)).encode()
 
 
 def removal(zone):

@@ -14,7 +14,7 @@ from config_model import DEFAULT
 from console_model import Console
 from mount_model import Mounts
 from plan_model import BRANDS
-from pool_model import Denied, Grants
+from pool_model import YES, Denied, Grants, Need
 from store_model import Store
 from trace_lines import Refused
 
@@ -28,6 +28,14 @@ def next_number(numbers, last, used, pool):
         raise Denied(pool)
     above = range(max(last + 1, numbers.start), numbers.stop)
     return next(number for number in itertools.chain(above, numbers) if number not in used)
+
+
+def number_need(pool, numbers, last, used):
+    """What asks for a number of a pool. One that is stated has to be in range and free."""
+    def may_be(number):
+        return number != YES and number in numbers and number not in used
+
+    return Need([pool], lambda: next_number(numbers, last, used, pool), may_be)
 
 
 @dataclasses.dataclass
@@ -92,7 +100,7 @@ class System:
             del self.active[name]
 
     def give_zid(self, name):
-        self.last_zid = self.grants.ask(next_number, ZIDS, self.last_zid, self.zids.values(), "zids")
+        self.last_zid = self.grants.ask(number_need("zids", ZIDS, self.last_zid, self.zids.values()))
         self.zids[name] = self.last_zid
         return self.last_zid
 
@@ -103,16 +111,20 @@ class System:
 
     def change(self, name, record, commit=False):
         """Stores a record of a zone, or where it is None removes the zone."""
-        self.grants.ask(self.store.change, name, record, commit)
+        self.store.change(name, record, self.grants.ask(self.store.need(name, record)), commit)
 
     def claim(self, name, kind, item):
-        self.grants.ask(self.items.claim, name, kind, item)
+        self.grants.ask(self.items.need(kind, item))
+        self.items.claim(name, kind, item)
 
-    def let_clone(self, source):
-        """Gives a zone to be cloned, which has to be installed."""
-        if self.state(source) != "installed":
-            raise Denied("source")
-        return "yes"
+    def ask_source(self, source):
+        """Asks for a zone to be cloned, which is given where it is installed. A `yes` that is stated is always right."""
+        def given():
+            if self.state(source) != "installed":
+                raise Denied("source")
+            return YES
+
+        self.grants.ask(Need(["source"], given, lambda it: it == YES))
 
     # Processes.
 
@@ -125,7 +137,7 @@ class System:
         most = self.limits[process.zone].most
         if most is not None and len(self.pids(process.zone)) == most:
             raise Refused("EAGAIN")
-        self.last_pid = self.grants.ask(next_number, PIDS, self.last_pid, self.processes, "pids")
+        self.last_pid = self.grants.ask(number_need("pids", PIDS, self.last_pid, self.processes))
         self.processes[self.last_pid] = process
         return self.last_pid
 

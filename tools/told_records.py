@@ -17,13 +17,12 @@ class LoggedStore(Store):
         for change in changes:
             self.change(*change)
 
-    def change(self, name, record, commit=False):
-        number = super().change(name, record, commit)
-        self.changes.append((name, record, commit))
+    def change(self, name, record, number, commit=False):
+        super().change(name, record, number, commit)
+        self.changes.append((name, record, number, commit))
         now, zone = self.records.get(name), name.decode()
         self.bodies.append(
-            removal(zone) if now is None else body(zone, now.state, now.made, now.revision, now.config.text()))
-        return number
+            removal(zone) if now is None else body(zone, now.state, now.uuid, now.revision, now.config.text()))
 
 
 class Told:

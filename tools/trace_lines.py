@@ -1,9 +1,9 @@
 """The lines of a trace, as the model in trace_model.py reads them: events and calls of processes. What an idle session
 types is read by typed_lines.py.
 
-event_of(line, started, known) reads one line, and spelled(event) writes it. `known` are the kinds of lines that are
-read beside those that always are; a line of a kind that isn't among them is none of the grammar, or is no line that a
-session may type.
+event_of(line, started, known) reads one line, granted_event_of() one that states the grant of its event, and
+spelled(event) writes it. `known` are the kinds of lines that are read beside those that always are; a line of a kind
+that isn't among them is none of the grammar, or is no line that a session may type.
 """
 
 import re
@@ -19,6 +19,9 @@ ALL_LINES = frozenset(KINDS_OF_LINES)
 OLD_LINES = frozenset()
 
 LAST_NUMBER = 4294967295
+POOLS = ("pids", "zids", "zones", "paths", "store", "links", "addresses", "datasets", "source")
+# What an event was given, where its line states it.
+GRANT = re.compile(rb"@(?P<grant>-|yes|no (?:%s)|(?P<number>0|[1-9][0-9]*)) " % "|".join(POOLS).encode())
 SESSIONS = {b"%d" % number: number for number in range(1, 65)}
 
 # The privileges in their order, each with its class: D default, R required, O optional, P prohibited.
@@ -58,10 +61,10 @@ def bad_word(place):
 
 
 class Words:
-    """The words of a line, read one after the other, each after one space."""
+    """The words of a line from a place on, read one after the other, each after one space."""
 
-    def __init__(self, line):
-        self.line, self.place = line, 0
+    def __init__(self, line, place=0):
+        self.line, self.place = line, place
 
     def next(self, is_right):
         """The next word, which has to be there and to be a right one."""
@@ -184,17 +187,36 @@ def declaration_of(words, started):
     return ("Y", kind.decode(), item.decode())
 
 
+def is_no_event(line):
+    """Whether a line is blank or a comment."""
+    return line.strip(b" ") == b"" or line[:1] == b"#"
+
+
 def event_of(line, started=False, known=OLD_LINES):
     """("S", number, text), ("D", name), ("P", name, pid, words of the call), ("Y", kind, item), ("R",) for a restart,
     or None for a line that is no event. `started` is whether an event other than a declaration came before."""
-    if line.strip(b" ") == b"" or line[:1] == b"#":
+    return None if is_no_event(line) else event_at(line, 0, started, known)
+
+
+def granted_event_of(line, started=False, known=OLD_LINES):
+    """The event of a line and its grant, or None for a line that is no event. The grant begins the line, a space comes
+    behind it, and then an event."""
+    if is_no_event(line):
         return None
-    if line[:1] == b"@":
+    found = GRANT.match(line)
+    if found is None or int(found.group("number") or 0) > LAST_NUMBER:
+        raise Outside("103 GrantForm")
+    return event_at(line, found.end(), started, known), found.group("grant").decode()
+
+
+def event_at(line, place, started, known):
+    """The event that a line has from a place on. Places of wrong words count from the beginning of the line."""
+    if line[place:place + 1] == b"@":
         raise Outside("103 GrantForm")
     tags = (b"S", b"D", b"P", b"Y", b"R") if "restart" in known else (b"S", b"D", b"P", b"Y")
-    if line.split(b" ", 1)[0] not in tags:
+    if line[place:].split(b" ", 1)[0] not in tags:
         raise Outside("101 BadTag")
-    words = Words(line)
+    words = Words(line, place)
     tag = words.next(lambda word: True)
     if tag == b"Y":
         return declaration_of(words, started)

@@ -68,6 +68,8 @@ class Maker:
     # The kinds of lines that are known beside those that always are, and the command whose input is made.
     known = trace_lines.OLD_LINES
     command = "trace"
+    # What states the grant of each line, where lines state them.
+    stated = None
 
     def __init__(self, rng):
         self.rng = rng
@@ -76,11 +78,16 @@ class Maker:
     def begin(self, names, sessions):
         self.host = model.Host(known=self.known)
         self.lines = []
+        if self.stated is not None:
+            self.stated.begin()
         self.names = names
         self.sessions = self.rng.sample(range(1, 65), sessions)
 
     def line(self, text):
         if self.is_needless(text):
+            return
+        if self.stated is not None:
+            self.lines.append(self.stated.line(self.host, text))
             return
         self.lines.append(text)
         try:
@@ -264,7 +271,7 @@ class Maker:
         rng = self.rng
         most = rng.choice([4095, 4096, 4097, 4098, 8192])
         self.trace()
-        head = rng.choice(self.heads)
+        head = self.headed(rng.choice(self.heads))
         fill = rng.choice([" ", "a", "#", "/", "\xff"]) if rng.random() < 0.5 else head[-1]
         tail = rng.choice(["", "", "; set brand=ipkg", "zoneadm -z web install"])
         line = head + fill * (most - len(head) - len(tail)) + tail
@@ -279,8 +286,12 @@ class Maker:
         self.queue()
         room = count - len(self.lines)
         place = rng.choice([0, len(self.lines)])
-        self.lines[place:place] = [filler] * room
+        self.lines[place:place] = [self.headed(filler)] * room
         return self.data()
+
+    def headed(self, text):
+        """The beginning of a line that isn't run, with what stands before it where lines state grants."""
+        return text if self.stated is None or text in ("", "#") else self.stated.head() + text
 
     def mutated(self, traces):
         rng = self.rng

@@ -1,5 +1,5 @@
-"""A plain, slow model of `zones trace`, `zones script` and `zones purge`, written from their rules, and not from the
-program.
+"""A plain, slow model of `zones trace`, `zones script`, `zones purge` and `zones given`, written from their rules, and
+not from the program.
 
 run(data) gives (status, standard output, standard error) for a whole input. It shares no code with the
 program and is meant for comparing the two; tools/fuzz_trace.py does that, and tools/trace_rows.py,
@@ -23,9 +23,11 @@ from config_model import Config
 from daemon_model import Daemon, Request
 from edit_model import Edit
 from mount_model import Mount
+from pool_model import allowed
 from store_model import Record
 from system_model import Process, System
-from trace_lines import OLD_LINES, PRIVILEGES, Outside, Refused, event_of, name_fault, spelled
+from trace_lines import (OLD_LINES, PRIVILEGES, Outside, Refused, event_of, granted_event_of, name_fault,
+                         spelled)
 from typed_lines import typed
 
 MOST_LINES = 200000
@@ -68,11 +70,16 @@ class Host(System):
         """The event of a line that comes next, or None where it is none."""
         return event_of(line, self.started, self.known)
 
-    def answer(self, event):
-        """What an event is answered."""
+    def read_granted(self, line):
+        """The event of a line that comes next with the grant that the line states, or None where it is none."""
+        return granted_event_of(line, self.started, self.known)
+
+    def answer(self, event, choose=allowed):
+        """What an event is answered under the grant that is chosen where it asks for one: the one that is due, or one
+        that is stated. Where that doesn't fit, Misfit is raised, and no record was stored."""
         self.started = self.started or event[0] != "Y"
         subject = self.subject(event)
-        self.grants.begin()
+        self.grants.begin(choose)
         try:
             lines = self.obey(event)
         except Refused as refused:
@@ -320,9 +327,18 @@ class Host(System):
 
 # The whole run.
 
-def answers(host, event, command):
+def read(host, line, command):
+    """The event of a line and what tells its grant, or None where the line is none."""
+    if command != "given":
+        event = host.read(line)
+        return None if event is None else (event, allowed)
+    found = host.read_granted(line)
+    return None if found is None else (found[0], lambda need: found[1])
+
+
+def answers(host, event, command, choose=allowed):
     """What an event is answered. In a script a daemon that is asked takes turns, until it has answered or is stuck."""
-    said = [host.answer(event)]
+    said = [host.answer(event, choose)]
     if command == "script" and said[0].lines[0].startswith("ticket "):
         _, number, _ = event
         while number in host.tickets and not said[-1].lines[0].startswith("stuck "):
@@ -340,17 +356,18 @@ def written(answer, command):
 
 def run(data, store=None, known=OLD_LINES, command="trace"):
     """The status and both texts of a command over an input, on a store that it changes or, without one, on an empty
-    one. The command is `trace`, `script` or `purge ZONE`."""
+    one. The command is `trace`, `script`, `purge ZONE` or `given`."""
     host = Host(store=store, known=known)
     out, first = [], None
     for number, line in enumerate(export_model.lines_of(data), 1):
         if number > MOST_LINES or len(line) > MOST_BYTES:
             return 8, b"".join(out), b"limit at line %d\n" % number
         try:
-            event = host.read(line)
+            found = read(host, line, command)
+            said = [] if found is None else answers(host, found[0], command, found[1])
         except Outside as fault:
             return 3, b"".join(out), ("line %d: %s\n" % (number, fault)).encode()
-        for answer in answers(host, event, command) if event is not None else []:
+        for answer in said:
             out.append(written(answer, command))
             if answer.is_refused() and first is None:
                 first = number

@@ -17,6 +17,7 @@ from grant_laws import given_so_far, wrong_with_grant
 from login_maker import LoginMaker
 from request_laws import TABLE, Watched, brands_of, wrong_with
 from store_model import AROUND, MOST_BYTES, removal_size
+from store_reader import uuid_of
 from trace_lines import KINDS_OF_LINES
 
 MOST_TEXT = 32768
@@ -27,7 +28,7 @@ def record_of(host, name):
     record = host.store.records.get(name)
     if record is None:
         return None
-    return (record.state, record.revision, record.made, record.config.text())
+    return (record.state, record.revision, record.uuid, record.config.text())
 
 
 def sessions_of(host, name):
@@ -128,7 +129,8 @@ class LawfulMaker(LoginMaker):
         if record is None:
             return None if event[0] == "S" else "a zone that a daemon removed"
         was = records.get(name)
-        if record.made != (was.made if was else now.serial) or len(record.config.text()) > MOST_TEXT:
+        uuid = was.uuid if was else str(uuid_of(name.decode(), now.serial))
+        if record.uuid != uuid or len(record.config.text()) > MOST_TEXT:
             return "a record that may not be"
         is_edited = event[0] == "S" or head == "step record moved"
         if record.revision != (now.serial if is_edited else was.revision):

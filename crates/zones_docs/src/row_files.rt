@@ -28,6 +28,7 @@ const FILES: &[(&str, &str)] = &[
     ("indexes", "rows/indexes.rows"),
     ("calls_alone", "rows/calls_alone.rows"),
     ("purges", "rows/purges.rows"),
+    ("givens", "rows/givens.rows"),
 ];
 
 // The first line in which two texts differ, as each of them has it; a text that ends before has nothing.
