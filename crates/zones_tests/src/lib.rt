@@ -16,6 +16,8 @@ mod entries;
 #[cfg(test)]
 mod exports;
 #[cfg(test)]
+mod given_lines;
+#[cfg(test)]
 mod kept;
 #[cfg(test)]
 mod limits;
