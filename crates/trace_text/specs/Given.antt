@@ -84,7 +84,7 @@ given_by started (Some split) = behind split.0 (length (grant_text split.0) + 1)
 abbrev pub given_of : (started : Bool) → List ℕ → Given
 given_of started line = if is_no_event line then Ok None else given_by started (stated line)
 
--- the texts in an event are those that the types of a text and of a zone's name have
+-- what a session types is printable, and a zone has the name of one
 abbrev pub HasTexts : Event → Type 0
 HasTexts (Session number text) = IsTrue (list_all is_text_byte text)
 HasTexts (Turn zone) = IsTrue (is_name zone)
