@@ -1,5 +1,5 @@
 -- What is printed of an event and a grant is printable.
-use Rattle.std.proofs.Common.{◌≡◌, ◌≤◌, ◌∙◌, ◌+◌, ℕ, Bool, true, false, cond, not, ◌&&◌, nat_lt, List, [], ◌∷◌, ◌++◌, length, Option, Some, None, IsTrue, refl, arith}
+use Rattle.std.proofs.Common.{◌≡◌, ◌≤◌, ◌∙◌, ◌+◌, ℕ, Bool, true, false, cond, not, ◌&&◌, nat_lt, List, [], ◌∷◌, ◌++◌, length, Option, Some, None, IsTrue, refl, ap, arith}
 use Rattle.std.specs.Prelude.{is_ok, nat_le, position}
 use Rattle.std.specs.Char.{is_ascii_digit, is_ascii_graphic}
 use Rattle.std.specs.Fmt.{decimal}
@@ -7,6 +7,7 @@ use Rattle.std.specs.List.{list_all, position_or_len}
 use Rattle.std.proofs.lemmas.Bool.{and_from, and_parts, leb-true, ltb-true}
 use Rattle.std.proofs.lemmas.Bool.Decides.{nat_tests}
 use Rattle.std.proofs.lemmas.List.Folds.{list_all-append}
+use Rattle.zn_base.specs.Lines.{is_newline, lines_of, newline, with_first}
 use Rattle.zn_base.specs.Names.{is_letter_or_digit, is_name, is_name_byte}
 use Rattle.zn_base.specs.Path.{is_path}
 use Rattle.zn_base.specs.Text.{is_text, is_text_byte, text_unless}
@@ -33,8 +34,8 @@ use Rattle.zone_cases.specs.declared.events.Event.TheVariants.{Process, Restart,
 use Rattle.datalink_table.specs.declared.claims.ClaimKind.TheVariants.{Address, Dataset, Link}
 use Rattle.trace_text.proofs.Items.{item_printable}
 use Rattle.trace_text.specs.Declarations.{declaration_text, is_declaration}
-use Rattle.trace_text.specs.Given.{GivenArePrintable, LinesArePrintable}
-use Rattle.trace_text.specs.Lines.{line_text, typed_text}
+use Rattle.trace_text.specs.Given.{GivenAreCut, GivenArePrintable, LinesAreCut, LinesArePrintable}
+use Rattle.trace_text.specs.Lines.{given_text, line_text, typed_text}
 
 abbrev pub IsPrinted : List ℕ → Type 0
 IsPrinted bytes = list_all is_text_byte bytes ≡ true
@@ -173,3 +174,19 @@ grant_printable (Denied pool) right = pool_printable pool
 
 pub given_printable : GivenArePrintable
 given_printable grant event is right = both (grant_text grant) (32 ∷ line_text event) (grant_printable grant is) (line_printable event right)
+
+-- printable bytes are cut nowhere, and a newline behind them ends their line
+not_newline : (b : ℕ) → is_text_byte b ≡ true → is_newline b ≡ false
+not_newline b h = grind (arith, nat_tests)
+
+cut_behind : (line more : List ℕ) → IsPrinted line → lines_of (line ++ newline ∷ more) ≡ line ∷ lines_of more
+cut_behind [] more is = refl
+cut_behind (b ∷ line) more is =
+    let parts = and_parts (is_text_byte b) (list_all is_text_byte line) is in
+    rw (not_newline b parts.0) (ap (with_first b) (cut_behind line more parts.1))
+
+pub line_cut : LinesAreCut
+line_cut event more right = cut_behind (line_text event) more (line_printable event right)
+
+pub given_cut : GivenAreCut
+given_cut grant event more is right = cut_behind (given_text grant event) more (given_printable grant event is right)

@@ -1,7 +1,8 @@
 -- What a line says whose event is behind what it was given, and what such lines are.
-use Rattle.std.specs.Prelude.{◌≡◌, ◌≤◌, ◌+◌, ℕ, List, [], ◌∷◌, drop, length, Bool, false, IsTrue, Option, Some, None, Ok, Err, bytes_eq, codes, find, option_map, if◌then◌else◌, Result}
+use Rattle.std.specs.Prelude.{◌≡◌, ◌≤◌, ◌++◌, ◌+◌, ℕ, List, [], ◌∷◌, drop, length, Bool, false, IsTrue, Option, Some, None, Ok, Err, bytes_eq, codes, find, option_map, if◌then◌else◌, Result}
 use Rattle.std.specs.List.{list_all}
 use Rattle.zn_base.specs.Decimals.{decimal_of}
+use Rattle.zn_base.specs.Lines.{lines_of, newline}
 use Rattle.zn_base.specs.Names.{is_name}
 use Rattle.zn_base.specs.Text.{is_text_byte}
 use Rattle.zone_pools.specs.declared.grant.Grant.{Grant}
@@ -135,9 +136,17 @@ PlacesAreWithin = (started : Bool) (line : List ℕ) (fault : LineFault) → eve
 abbrev pub GivenPlacesAreWithin : Type 0
 GivenPlacesAreWithin = (started : Bool) (line : List ℕ) (fault : LineFault) → given_of started line ≡ Err fault → IsAt (length line) fault
 
--- laws: an event's line is of printable bytes, so it has no newline, also behind a grant
+-- laws: an event's line is of printable bytes, also behind a grant
 abbrev pub LinesArePrintable : Type 0
 LinesArePrintable = (event : Event) → IsRight event → IsTrue (list_all is_text_byte (line_text event))
 
 abbrev pub GivenArePrintable : Type 0
 GivenArePrintable = (grant : Grant) (event : Event) → IsTrue (is_grant grant) → IsRight event → IsTrue (list_all is_text_byte (given_text grant event))
+
+-- laws: so it has no newline, and a text that it begins, with a newline behind it, is cut just there
+abbrev pub LinesAreCut : Type 0
+LinesAreCut = (event : Event) (more : List ℕ) → IsRight event → lines_of (line_text event ++ newline ∷ more) ≡ line_text event ∷ lines_of more
+
+abbrev pub GivenAreCut : Type 0
+GivenAreCut = (grant : Grant) (event : Event) (more : List ℕ) → IsTrue (is_grant grant) → IsRight event
+    → lines_of (given_text grant event ++ newline ∷ more) ≡ given_text grant event ∷ lines_of more

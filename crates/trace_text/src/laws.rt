@@ -1,5 +1,5 @@
 //! Laws of lines and of what they say. Each is the contract of a function that does nothing.
-ghost use Rattle.trace_text.specs.Given.{EventReadBack, EventsAreRight, GivenArePrintable, GivenAreRight, GivenPlacesAreWithin, GivenReadBack, LinesArePrintable, PlacesAreWithin, StatesItsSplit, StatesJustSplits};
+ghost use Rattle.trace_text.specs.Given.{EventReadBack, EventsAreRight, GivenAreCut, GivenArePrintable, GivenAreRight, GivenPlacesAreWithin, GivenReadBack, LinesAreCut, LinesArePrintable, PlacesAreWithin, StatesItsSplit, StatesJustSplits};
 
 /// A law: what is written of an event that a line can say, behind a grant, is read back as that grant and that event, and
 /// alone as the event; a declaration only where no other event has come.
@@ -27,9 +27,11 @@ pub fn places_are_within_lines()
     ensures event { PlacesAreWithin }
 {}
 
-/// A law: what is written of an event that a line can say, with a grant or without, is of printable bytes, so it has no
-/// newline. A text of such lines is cut just where they were put together.
+/// Laws: what is written of an event that a line can say, with a grant or without, is of printable bytes; so it has no
+/// newline, and a text of such lines is cut just where they were put together.
 pub fn printed_events_are_lines()
     ensures given { GivenArePrintable }
     ensures event { LinesArePrintable }
+    ensures given_cut { GivenAreCut }
+    ensures event_cut { LinesAreCut }
 {}
