@@ -1,4 +1,4 @@
-use Rattle.std.proofs.Common.{None, ap}
+use Rattle.std.proofs.Common.{ap}
 use Rattle.zone_machine.proofs.Acting.{on_ok_always}
 use Rattle.zone_machine.proofs.Banking.{keeps-whole}
 use Rattle.zone_machine.proofs.Results.{if_err}
@@ -12,7 +12,7 @@ returns-in-System-clause-ready g c =
 
 pub returns-in-System-clause-bodies : goal.returns-in-System-clause-bodies
 returns-in-System-clause-bodies g c =
-    on_ok_always c.answer_system.result _ (keeps-whole None c.args.self.now c.args.event.now c.args.bank.now.records (ap (subject_in c.args.self.now.shared) c.in-System.is))
+    on_ok_always c.answer_system.result _ (keeps-whole c.args.stated c.args.self.now c.args.event.now c.args.bank.now.records (ap (subject_in c.args.self.now.shared) c.in-System.is))
 
 pub returns-in-System-clause-left : goal.returns-in-System-clause-left
 returns-in-System-clause-left g c =
