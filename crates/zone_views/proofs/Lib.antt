@@ -15,6 +15,10 @@ pub mod Whole
 pub mod Claiming
 pub mod Declared_few
 pub mod Mounts_few
+pub mod Small_numbers
+pub mod Kept_entries
+pub mod Placing
+pub mod Kept_grants
 mod Edits
 mod Logins
 mod Consoles

@@ -34,25 +34,28 @@ use Rattle.brand_hooks.specs.Brands.{Tabled}
 use Rattle.commit_journal.specs.declared.records.Commit.{Commit}
 use Rattle.commit_journal.specs.declared.records.Record.{Record}
 
--- a state that entries of z and of the whole system alone have reached: no other zone has a session or a process. The
--- processes count because a signal's zone is looked for among all of them
+-- a state that entries of z and of the whole system alone have reached: no other zone has a session, a process, an id or a
+-- claim. The processes count because a signal's zone is looked for among all of them, and with the ids and the claims because of
+-- what the pools may give
 pub record IsBare (w : World) : Type 0 where
   pub sessions : (n : ℕ) → w.sessions n ≡ None
   pub processes : w.processes ≡ []
+  pub ids : w.ids ≡ []
+  pub claims : w.claims ≡ []
 
 abbrev pub IsPurged : Name → State → Type 0
 IsPurged z S = (y : Name) → y ≢ z → IsBare (world y S)
 
 pub IsPurged-opening : (z : Name) (brands : List Tabled) (commits : List Commit) → IsPurged z (opening brands commits)
-IsPurged-opening z brands commits y other = record { sessions = λ n. refl; processes = refl }
+IsPurged-opening z brands commits y other = record { sessions = λ n. refl; processes = refl; ids = refl; claims = refl }
 
 -- an event of the whole system adds none
 IsBare-whole : (w : World) (e : Event) → IsBare w → IsBare (whole_world e w)
-IsBare-whole w (Session n text) h = record { sessions = h.sessions; processes = h.processes }
-IsBare-whole w (Turn z) h = record { sessions = h.sessions; processes = h.processes }
-IsBare-whole w (Call_of z pid c) h = record { sessions = h.sessions; processes = h.processes }
-IsBare-whole w (System what) h = record { sessions = h.sessions; processes = h.processes }
-IsBare-whole w Restart h = record { sessions = λ n. refl; processes = refl }
+IsBare-whole w (Session n text) h = record { sessions = h.sessions; processes = h.processes; ids = h.ids; claims = h.claims }
+IsBare-whole w (Turn z) h = record { sessions = h.sessions; processes = h.processes; ids = h.ids; claims = h.claims }
+IsBare-whole w (Call_of z pid c) h = record { sessions = h.sessions; processes = h.processes; ids = h.ids; claims = h.claims }
+IsBare-whole w (System what) h = record { sessions = h.sessions; processes = h.processes; ids = h.ids; claims = h.claims }
+IsBare-whole w Restart h = record { sessions = λ n. refl; processes = refl; ids = refl; claims = refl }
 
 IsPurged-one : (z : Name) (S : State) (e : Event) (g : Grant) → concerns z (subject S e) ≡ true → IsPurged z S → IsPurged z (one S e g).state
 IsPurged-one z S e g h is y other = subst IsBare (sym (world-one y S e g)) (at_subject (subject S e) h)
@@ -138,7 +141,7 @@ subjects z S T (System what) a h = refl
 subjects z S T Restart a h = refl
 
 -- a step of both
-kept_step : (z : Name) (S T : State) (e : Event) (g : Grant) → Agree z S T → concerns z (subject S e) ≡ true
+pub kept_step : (z : Name) (S T : State) (e : Event) (g : Grant) → Agree z S T → concerns z (subject S e) ≡ true
     → Agree z (one S e g).state (one T e g).state × (is_of z (subject S e) ≡ true → (one S e g).reply ≡ (one T e g).reply)
 kept_step z S T e g a h = (record { world = worlds; purged = purged }, at_subject (subject S e) refl)
   where
@@ -209,7 +212,7 @@ opening-agree z brands commits others h = record {
 }
 
 -- a history is the run of its own events
-told_entry : (S : State) (e : Entry) → is_told S e ≡ true → entry_at S e.event e.grant ≡ e
+pub told_entry : (S : State) (e : Entry) → is_told S e ≡ true → entry_at S e.event e.grant ≡ e
 told_entry S e h =
     let parts = and_parts (same_subject e.subject (subject S e.event)) (same_reply e.reply (one S e.event e.grant).reply) h in
     let subject : subject S e.event ≡ e.subject = sym ((subject-Decides e.subject (subject S e.event)).0 parts.0) in

@@ -10,7 +10,7 @@ use Rattle.zone_machine.specs.Machine.Pools.{allowed}
 use Rattle.zone_cases.specs.State.{State}
 use Rattle.zone_cases.specs.declared.events.Event.{Event}
 
-told-entry_at : (S : State) (e : Event) (g : Grant) → is_told S (entry_at S e g) ≡ true
+pub told-entry_at : (S : State) (e : Event) (g : Grant) → is_told S (entry_at S e g) ≡ true
 told-entry_at S e g = and_from _ _ ((subject-Decides (subject S e) (subject S e)).1 refl) ((reply-Decides (one S e g).reply (one S e g).reply).1 refl)
 
 pub legal-history : (S : State) (es : List Event) → is_legal S (history S es) ≡ true

@@ -1,8 +1,10 @@
--- What a store may hold.
-use Rattle.std.specs.Prelude.{List, Bool, true, false, not, Option, Some, None}
+-- What a store may hold, and how many zones.
+use Rattle.std.specs.Prelude.{ℕ, List, length, Bool, true, false, not, Option, Some, None}
 use Rattle.std.specs.List.{list_all}
+use Rattle.zn_base.specs.Names.{Name}
 use Rattle.zn_base.specs.States.{is_stored}
 use Rattle.zn_base.specs.declared.state.ZoneState.{ZoneState}
+use Rattle.commit_journal.specs.Stored.{stored, without}
 use Rattle.commit_journal.specs.declared.records.Commit.{Commit}
 use Rattle.commit_journal.specs.declared.records.Record.{Record}
 
@@ -17,3 +19,7 @@ are_storable commits = list_all (λ c. is_storable c.stored) commits
 abbrev pub ends_with_a_restart : Option ZoneState → Bool
 ends_with_a_restart None = false
 ends_with_a_restart (Some s) = not (is_stored s)
+
+-- how many zones besides z some commits leave
+abbrev pub zones_besides : Name → List Commit → ℕ
+zones_besides z commits = length (without z (stored commits))

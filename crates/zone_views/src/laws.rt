@@ -1,16 +1,19 @@
 //! The laws, over every state or every history.
 ghost use Rattle.std.specs.Prelude.{◌≡◌, ◌≢◌, ◌≤◌, ◌⊎◌, Bool, List, None, Option, Some, false, is_some, length, true, ℕ};
-ghost use Rattle.std.specs.List.{list_all};
+ghost use Rattle.std.specs.List.{list_all, list_any};
 ghost use Rattle.zn_base.specs.Moves.{may_move};
 ghost use Rattle.zn_base.specs.Names.{Name};
 ghost use Rattle.zn_base.specs.declared.state.ZoneState.TheVariants.{Installed};
+ghost use Rattle.zone_pools.specs.Pools.{is_pool};
 ghost use Rattle.zone_pools.specs.declared.grant.Grant.{Grant};
+ghost use Rattle.zone_pools.specs.declared.grant.Grant.TheVariants.{Number};
+ghost use Rattle.zone_pools.specs.declared.grant.Pool.TheVariants.{Pids, Zids};
 ghost use Rattle.zone_machine.specs.Machine.Common.{HoldOnce, common};
 ghost use Rattle.zone_machine.specs.Machine.Local.{is_local, job_has_record};
 ghost use Rattle.zone_machine.specs.Machine.Histories.{after, any_grant, asked, concerns, history, is_history, is_legal, only, replay, replies, run};
 ghost use Rattle.zone_machine.specs.Machine.{need, one, opening, subject};
 ghost use Rattle.zone_machine.specs.Machine.Pools.{allowed, fits};
-ghost use Rattle.zone_cases.specs.State.{At, At_console, Awaiting, Idle, Logged_in, State, stored, zone_state};
+ghost use Rattle.zone_cases.specs.State.{At, At_console, Awaiting, Idle, Logged_in, State, bytes_used, stored, zone_state};
 ghost use Rattle.zone_cases.specs.State.Decisions.{says};
 ghost use Rattle.zone_cases.specs.State.Worlds.{objects_of, world};
 ghost use Rattle.zoneadmd_steps.specs.Objects.{kernel_of};
@@ -27,8 +30,8 @@ ghost use Rattle.datalink_table.specs.declared.claims.Claim.{Claim};
 ghost use Rattle.brand_hooks.specs.Brands.{Tabled};
 ghost use Rattle.commit_journal.specs.declared.records.Commit.{Commit};
 ghost use Rattle.zone_views.specs.Edits.{EditsDenoted};
-ghost use Rattle.zone_views.specs.Numbers.{AllDiffer, pids, zids};
-ghost use Rattle.zone_views.specs.Storable.{are_storable, ends_with_a_restart};
+ghost use Rattle.zone_views.specs.Numbers.{AllDiffer, is_small, pids, zids};
+ghost use Rattle.zone_views.specs.Storable.{are_storable, ends_with_a_restart, zones_besides};
 ghost use Rattle.zone_views.specs.Tickets.{is_open};
 ghost use Rattle.zone_views.specs.Whole.{is_whole, whole_replies};
 
@@ -97,6 +100,19 @@ pub fn numbers_are_held_once()
         → is_history fits (opening brands commits) h ≡ true → AllDiffer (zids (after (opening brands commits) h)) }
 {}
 
+/// In every state, a number that is given for a process is 29,999 at most and one for a zone is 9,999, whether the pools
+/// give it or it fits as it is stated. Of a record's number this is said where the pools give it: any number that is
+/// stated fits a record, from 1 on.
+pub fn numbers_given_are_small()
+    ensures pids { (S : State) (e : Event) (n : ℕ) → list_any (is_pool Pids) (need S e) ≡ true
+        → (allowed S e ≡ Number n) ⊎ (fits S e (Number n) ≡ true) → n ≤ 29999 }
+    ensures zids { (S : State) (e : Event) (n : ℕ) → list_any (is_pool Zids) (need S e) ≡ true
+        → (allowed S e ≡ Number n) ⊎ (fits S e (Number n) ≡ true) → n ≤ 9999 }
+    ensures all { (S : State) (e : Event) (n : ℕ) → allowed S e ≡ Number n → n ≤ 4294967295 }
+    // So each number of a legal history has a text that is read again.
+    ensures legal { (S : State) (h : List Entry) → is_legal S h ≡ true → list_all (λ entry. is_small entry.grant) h ≡ true }
+{}
+
 /// After any history whose grants fit, one zone at most has a process of a number. The laws of `zone_machine` ask this
 /// that say whose an event is, and what it is allowed, by what zones share.
 pub fn zones_share_no_process_number()
@@ -120,6 +136,27 @@ pub fn purging_keeps_replies()
     ensures whole { (z : Name) (permits : State → Event → Grant → Bool) (brands : List Tabled) (commits others : List Commit) (h : List Entry)
         → is_history permits (opening brands commits) h ≡ true
         → whole_replies h ≡ whole_replies (run (opening brands others) (asked (only z h))) }
+{}
+
+/// The entries of a zone and of the whole system, run again from what is stored of the zone, under the grants that stand
+/// in them, are just these entries: each event keeps its subject and its reply, whatever else is stored.
+pub fn kept_entries_stay()
+    ensures { (z : Name) (permits : State → Event → Grant → Bool) (brands : List Tabled) (commits others : List Commit) (h : List Entry)
+        → is_history permits (opening brands commits) h ≡ true
+        → stored z commits ≡ stored z others → run (opening brands others) (asked (only z h)) ≡ only z h }
+{}
+
+/// Where the grants of a history fit, those of a zone's entries and of the whole system's fit without the other
+/// entries too, where 255 zones besides it are stored at most: the zone itself may have to be made anew.
+pub fn kept_grants_fit()
+    ensures fit { (z : Name) (brands : List Tabled) (commits : List Commit) (h : List Entry)
+        → is_history fits (opening brands commits) h ≡ true → zones_besides z commits ≤ 255
+        → is_history fits (opening brands commits) (only z h) ≡ true }
+    // They fit from other records too that store the same of the zone, and are no more and no longer than those.
+    ensures elsewhere { (z : Name) (brands : List Tabled) (commits others : List Commit) (h : List Entry)
+        → is_history fits (opening brands commits) h ≡ true
+        → stored z commits ≡ stored z others → zones_besides z others ≤ 255 → length others ≤ length commits → bytes_used others ≤ bytes_used commits
+        → is_history fits (opening brands others) (only z h) ≡ true }
 {}
 
 /// The world of a zone after a history is what its own entries and those of the whole system make of the
