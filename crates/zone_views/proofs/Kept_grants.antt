@@ -1,15 +1,15 @@
 -- Where only what z has is there besides the records, the pools give z's events no less: what fits in a state fits there too.
 use Rattle.std.proofs.Common.{◌≡◌, ◌∷◌, ◌+◌, ◌≤◌, ◌<◌, ◌&&◌, ◌||◌, [], ℕ, List, Bool, true, false, not, Option, Some, None, ap, arith, length, refl, subst, sym, ◌∙◌}
-use Rattle.std.specs.Prelude.{◌≢◌, bytes_eq, nat_le, if◌then◌else◌}
+use Rattle.std.specs.Prelude.{◌≢◌, bytes_eq, nat_le}
 use Rattle.std.specs.List.{list_all, list_any}
 use Rattle.std.proofs.lemmas.Bool.{and_from, and_parts, false≢true, le-leb, leb-true, lt-ltb, ltb-true, not-true, not_from_false}
 use Rattle.zn_base.specs.Names.{Name}
 use Rattle.commit_journal.specs.Journal.{body_size, fits_after}
-use Rattle.commit_journal.specs.Store.{change_text, row_of}
+use Rattle.commit_journal.specs.Store.{row_of}
 use Rattle.commit_journal.specs.Stored as rows
 use Rattle.commit_journal.specs.Stored.{Rows, with_stored, without}
 use Rattle.commit_journal.specs.declared.records.Record.{Record}
-use Rattle.datalink_table.specs.Claims.{claim_of, holds, same_claim}
+use Rattle.datalink_table.specs.Claims.{claim_of, holds}
 use Rattle.datalink_table.specs.declared.claims.Claim.{Claim}
 use Rattle.datalink_table.specs.declared.claims.ClaimKind.{ClaimKind}
 use Rattle.kernel_objects.specs.Processes.{has_pid}
@@ -37,7 +37,7 @@ use Rattle.zone_cases.specs.declared.events.Event.TheVariants.{Process as Call_o
 use Rattle.zone_cases.specs.declared.events.Subject.{Subject}
 use Rattle.zone_cases.specs.declared.events.Subject.TheVariants.{Zone, Global, Whole}
 use Rattle.zone_machine.proofs.Common_laws.{any_mine, any_own, common-global, common-one, common-whole}
-use Rattle.zone_machine.proofs.Own_worlds.{decide-world, leaves, view-world}
+use Rattle.zone_machine.proofs.Own_worlds.{decide-world, leaves}
 use Rattle.zone_machine.specs.Machine.Common.{Common, came_common, common, whole_common}
 use Rattle.zone_machine.specs.Machine.Histories.{after_entry, concerns, entry_at, is_history, is_told, only}
 use Rattle.zone_machine.specs.Machine.Pools.{fits, fits_of, held_elsewhere, kind_of, may_hold, of_kind, pools_of}

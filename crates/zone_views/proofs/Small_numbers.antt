@@ -1,24 +1,20 @@
 -- No pool gives a number above its greatest, in any state.
-use Rattle.std.proofs.Common.{◌≡◌, ◌∷◌, ◌+◌, ◌-◌, ◌<◌, ◌≤◌, ◌&&◌, ◌⊎◌, [], ℕ, zero, suc, List, Bool, true, false, not, Option, Some, None, ap, arith, inl, inr, refl, subst, sym, ◌∙◌}
+use Rattle.std.proofs.Common.{◌≡◌, ◌∷◌, ◌+◌, ◌-◌, ◌<◌, ◌≤◌, ◌&&◌, ◌⊎◌, [], ℕ, zero, suc, List, Bool, true, false, not, Option, Some, None, ap, arith, inl, inr, refl, sym, ◌∙◌}
 use Rattle.std.specs.Prelude.{nat_le, if◌then◌else◌}
 use Rattle.std.specs.List.{list_all, list_any}
 use Rattle.std.proofs.lemmas.Bool.{and_from, and_parts, false≢true, le-leb, leb-true, ltb-true}
 use Rattle.zn_base.specs.Names.{Name}
-use Rattle.datalink_table.specs.Claims.{pool_of}
-use Rattle.datalink_table.specs.declared.claims.Claim.{Claim}
-use Rattle.datalink_table.specs.declared.claims.ClaimKind.{ClaimKind}
-use Rattle.datalink_table.specs.declared.claims.ClaimKind.TheVariants.{Address, Dataset, Link}
 use Rattle.zone_pools.proofs.Pools_laws.{said_one}
 use Rattle.zone_pools.proofs.Same_laws.{grant-Decides}
 use Rattle.zone_pools.specs.Asked.{A_path, A_pid, A_serial, A_source, A_zid, A_zone, An_item, Asked}
 use Rattle.zone_pools.specs.Decisions.{Ask, Just, asked_of}
-use Rattle.zone_pools.specs.Pools.{Pools, first_free, fits_asked, fits_pool, has_place, has_room, has_serial, is_pool, next_free, numbered, or_else, said_by, said_by_all}
+use Rattle.zone_pools.specs.Pools.{Pools, first_free, fits_asked, has_place, has_room, has_serial, is_pool, next_free, numbered, or_else, said_by_all}
 use Rattle.zone_pools.specs.declared.grant.Grant.{Grant}
 use Rattle.zone_pools.specs.declared.grant.Grant.TheVariants.{Denied, Nothing, Number, Yes}
 use Rattle.zone_pools.specs.declared.grant.Pool.{Pool}
 use Rattle.zone_pools.specs.declared.grant.Pool.TheVariants.{Paths, Pids, Source, Store, Zids, Zones}
 use Rattle.zone_pools.specs.declared.limits.TheConstants.{PID_MAX, PID_MIN, SERIAL_MAX, ZID_MAX, ZID_MIN}
-use Rattle.zoneadmd_steps.proofs.Of_turns.{asked_item, is_asked_for}
+use Rattle.zoneadmd_steps.proofs.Of_turns.{is_asked_for}
 use Rattle.zoneadmd_steps.specs.Arrivals.{A_claim, A_process, A_record, An_id, Comes, No_thing}
 use Rattle.zone_cases.specs.State.{State}
 use Rattle.zone_cases.specs.State.Decisions.{Decision}

@@ -14,8 +14,8 @@ pub use laws::{
     declarations_are_common, each_item_has_one_holder, kept_entries_stay, kept_grants_fit,
     local_turns_leave_what_is_common, logins_have_their_process, mounts_are_few,
     no_turn_is_idle_while_a_session_waits, numbers_are_held_once, numbers_given_are_small,
-    others_change_nothing, own_world_decides, purging_keeps_replies,
-    requests_are_of_stored_zones, runs_are_histories, sessions_edit_what_was_said,
-    sets_lie_within_limits, states_move_along_the_table, subjects_agree, worlds_are_replayed,
+    others_change_nothing, own_world_decides, purging_keeps_replies, requests_are_of_stored_zones,
+    runs_are_histories, sessions_edit_what_was_said, sets_lie_within_limits,
+    states_move_along_the_table, subjects_agree, worlds_are_replayed,
     zones_share_no_process_number,
 };
