@@ -12,7 +12,7 @@ use Rattle.zone_disk.specs.Bank.{Account}
 use Rattle.zone_disk.specs.Image.{Stands as Image_stands}
 use Rattle.zone_machine.specs.Code.Decided.{entry_by}
 use Rattle.zone_machine.specs.Code.Records.{BankLeft, GoesUnder, IsReady, Passes, taken}
-use Rattle.zone_machine.specs.Code.Restarts.{BankLeftAny, FindsAgain, LeavesAny, RestartLeft}
+use Rattle.zone_machine.specs.Code.Restarts.{BankLeftAny, FindsAgain, LeavesAny, LeavesRestart, RestartLeft}
 use Rattle.zone_machine.specs.Code.Cells.{Stands}
 use Rattle.zone_machine.specs.Code.Steps.{AsItWas, FitsIn, Leaves, StepsUnder, Takes}
 use Rattle.zone_cases.specs.Events.{is_restart}
@@ -31,7 +31,9 @@ use Rattle.zone_machine.specs.declared.machine.Machine.{Machine}
 use Rattle.zone_machine.specs.declared.machine.parts.Parts.{Parts}
 use Rattle.zone_machine.specs.declared.machine.shared.Shared.{Shared}
 use Rattle.zone_machine.specs.Code.Openings.{StandsFor}
-use Rattle.zones_run.specs.Answering.{FailsLine, IsAnswered, Steps, Stops}
+use Rattle.zones_run.specs.Answering.{Fails, FailsLine, IsAnswered, LeavesText, Steps, Stops, StopsText}
+use Rattle.zones_run.specs.declared.fault.RunFault.{RunFault}
+use Rattle.zones_run.specs.declared.fault.Stop.TheVariants.{Fault}
 use Rattle.zones_run.specs.Scripts.{Says, entry_for, fits_stated, said_by, state_for}
 use Rattle.zones_run.specs.declared.due.Due.{Due}
 use Rattle.zones_run.specs.declared.fault.Stop.{Stop}
@@ -195,3 +197,15 @@ fails_nothing same S (Err fault) v w left = left
 -- the event that a line was read as was not answered
 pub stops_event : (stop : Stop) (same : Type 0) (S : State) (mode : Mode) (started : Bool) (line : List ℕ) (d : Due) (v w : View) → started ≡ S.started → said_by mode started line ≡ Ok (Some d) → Stops stop same S (Ok (Some d)) v w → Stops stop same S (said_by mode S.started line) v w
 stops_event stop same S mode started line d v w is says stops = subst (λ said. Stops stop same S said v w) (sym says ∙ ap (λ b. said_by mode b line) is) stops
+
+-- a restart whose memory ran out fits
+pub fits_left : (fault : StepFault) (stated : Option Grant) (t u : Parts) (e : Event) → is_restart e ≡ true → fault ≡ No_memory → LeavesAny fault stated t e u → FitsIn stated t e
+fits_left fault stated t u e h is left =
+    subst (FitsIn stated t) (sym (restart_is e h)) (subst (λ f. LeavesRestart f stated t u) is (subst (λ x. LeavesAny fault stated t x u) (restart_is e h) left)).1
+
+-- a run that a fault ended
+pub fails_of : (stop : Stop) (fault : RunFault) (same : Type 0) (S : State) (d : Due) (v w : View) → stop ≡ Fault fault → Stops stop same S (Ok (Some d)) v w → Fails fault same S d v w
+fails_of stop fault same S d v w is stops = subst (λ s. Stops s same S (Ok (Some d)) v w) is stops
+
+pub leaves_of : (stop : Stop) (fault : RunFault) (holds now : Option (List ℕ)) (waiting left : List ℕ) → stop ≡ Fault fault → StopsText stop holds now waiting left → LeavesText fault holds now waiting left
+leaves_of stop fault holds now waiting left is text = subst (λ s. StopsText s holds now waiting left) is text

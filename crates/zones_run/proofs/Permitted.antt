@@ -18,7 +18,7 @@ use Rattle.zones_run.specs.declared.due.Due.{Due}
 use Rattle.zones_run.specs.declared.words.Mode.{Mode}
 use Rattle.zones_run.specs.declared.words.Mode.TheVariants.{Purged, Replies, Stated, WithTurns}
 use Rattle.zones_run.proofs.Histories.{Suits, due-told, permits-due, suits_said}
-use Rattle.zones_run.proofs.Putting.{NoneStated, none_of, nothing_put}
+use Rattle.zones_run.proofs.Putting.{NoneStated, nothing_put}
 
 -- no line states a grant
 none_due : (said : Said) (n : ℕ) (more : Script) → NoneStated more.events → NoneStated (with_line n (due_said said) more).events

@@ -8,7 +8,7 @@ ghost use Rattle.zone_machine.specs.Machine.Images.{IsStoreOf};
 ghost use Rattle.zone_machine.specs.Code.Decided.{AsksBrands, MayGoOn, entry_by};
 ghost use Rattle.zone_machine.specs.Code.Openings.{StandsFor};
 ghost use Rattle.zone_machine.specs.Code.Records.{Passes};
-ghost use Rattle.zones_run.specs.Answering.{refused_with, taken_by};
+ghost use Rattle.zones_run.specs.Answering.{IsFault, refused_with, taken_by};
 ghost use Rattle.zones_run.specs.Midway.{Follows, Left, none_put, puts_after, puts_until};
 ghost use Rattle.zones_run.specs.Recording.{RanAs};
 ghost use Rattle.zones_run.specs.Scripting.{is_last, opened, ticket_by, zone_by};
@@ -107,6 +107,17 @@ fn is_last(ticket: u32, head: &Head) -> bool
     }
 }
 
+// The fault that ended a run, where nothing else may.
+fn fault_in(stop: Stop) -> RunFault
+    requires { IsFault stop }
+    ensures { stop ≡ Stop.Fault result }
+{
+    match stop {
+        Stop::Fault(fault) => fault,
+        Stop::Grammar(_) | Stop::BadGrant | Stop::NoStore(_) => unreachable!(),
+    }
+}
+
 // Gives a zone's daemon turns until its ticket is answered or a turn is stuck. They count for the line of this number.
 fn until_answered<D: Disk, F: Fn(&Change) -> HookAnswer, K: Sink>(
     alloc: Global,
@@ -150,8 +161,7 @@ fn until_answered<D: Disk, F: Fn(&Change) -> HookAnswer, K: Sink>(
                     return Ok(refused);
                 }
             }
-            Err(Stop::Fault(fault)) => return Err(fault),
-            Err(Stop::Grammar(_) | Stop::BadGrant | Stop::NoStore(_)) => unreachable!(),
+            Err(stop) => return Err(fault_in(stop)),
         }
     }
     Ok(refused)

@@ -6,8 +6,8 @@ use Rattle.zones_run.specs.declared.fault.Stop.{Stop}
 use Rattle.zones_run.proofs.Answered.{if_err_fails, if_ok_steps, leaves_other, left_other, stands_on, steps_later, stops_later, would_as, would_same}
 use Rattle.zones_run.proofs.answers.answer_after_waiting.Goals as goal
 
-pub returns-in-Err-WouldRecord-in-Ok-clause-steps : goal.returns-in-Err-WouldRecord-in-Ok-clause-steps
-returns-in-Err-WouldRecord-in-Ok-clause-steps g c =
+pub returns-in-Ok-write_waiting-clause-steps : goal.returns-in-Ok-write_waiting-clause-steps
+returns-in-Ok-write_waiting-clause-steps g c =
     let old = c.args.machine.now in
     let mid = c.answer.new.self in
     let last = c.answer_recording.new.machine in
@@ -18,8 +18,8 @@ returns-in-Err-WouldRecord-in-Ok-clause-steps g c =
     (λ (answer : Answer) steps (S : State) stands. steps_later g.D.Disk.view S d answer (λ T. StandsFor T last) old.bank mid.bank (g.D.Disk.view last.bank.disk) same
     (steps S (stands_on S old mid (would_as fault.field-0 d.stated old.parts mid.parts d.event fault.field-0-is (leaves_other fault.field-0 d.stated old.parts mid.parts d.event c.requires.stays fault.ensures.fault)) same stands))) c.answer_recording.ensures.steps
 
-pub returns-in-Err-WouldRecord-in-Ok-clause-kept : goal.returns-in-Err-WouldRecord-in-Ok-clause-kept
-returns-in-Err-WouldRecord-in-Ok-clause-kept g c =
+pub returns-in-Ok-write_waiting-clause-kept : goal.returns-in-Ok-write_waiting-clause-kept
+returns-in-Ok-write_waiting-clause-kept g c =
     let old = c.args.machine.now in
     let mid = c.answer.new.self in
     let last = c.answer_recording.new.machine in

@@ -1,6 +1,6 @@
 use Rattle.std.proofs.Common.{inr, refl}
 use Rattle.zone_machine.specs.Code.Openings.{StandsFor}
-use Rattle.zones_run.proofs.Answered.{finds_restart, fits_in, is_answered, restart_goes, steps_by}
+use Rattle.zones_run.proofs.Answered.{finds_restart, fits_in, fits_left, is_answered, restart_goes, steps_by}
 use Rattle.zones_run.proofs.Fronts.{after_known-nil}
 use Rattle.zones_run.proofs.trace.restart.Goals as goal
 
@@ -17,7 +17,7 @@ returns-in-Ok-put_told-clause-answered g c = λ S stands well.
     (rw (c.write_waiting.ensures.none, after_known-nil (g.K.Sink.holds c.write_waiting.new.out)) c.in_default.ensures.all) c.in-Ok-put_told.ensures.text refl
 
 pub returns-in-Err-put_told-clause-stopped : goal.returns-in-Err-put_told-clause-stopped
-returns-in-Err-put_told-clause-stopped g c = λ S stands. inr (fits_in _ _ _ S FITS stands.parts, restart_goes S c.args.due.now c.requires.is c.args.machine.now _ _ stands c.answer.ensures.goes c.answer.ensures.passes)
+returns-in-Err-put_told-clause-stopped g c = λ S stands. inr (fits_in _ _ _ S c.in-Ok.ensures.fits stands.parts, restart_goes S c.args.due.now c.requires.is c.args.machine.now _ _ stands c.answer.ensures.goes c.answer.ensures.passes)
 
 pub returns-in-Err-Memory-clause-stopped : goal.returns-in-Err-Memory-clause-stopped
-returns-in-Err-Memory-clause-stopped g c = λ S stands. inr (fits_in _ _ _ S FITS stands.parts, restart_goes S c.args.due.now c.requires.is c.args.machine.now _ _ stands c.answer.ensures.goes c.answer.ensures.passes)
+returns-in-Err-Memory-clause-stopped g c = λ S stands. inr (fits_in _ _ _ S (fits_left c.in-Err-Memory.field-0 c.args.due.now.stated c.args.machine.now.parts c.answer.new.self.parts c.args.due.now.event c.requires.is c.in-Err-Memory.field-0-is c.in-Err-Memory.ensures.fault) stands.parts, restart_goes S c.args.due.now c.requires.is c.args.machine.now _ _ stands c.answer.ensures.goes c.answer.ensures.passes)

@@ -1,14 +1,14 @@
-use Rattle.std.proofs.Common.{◌≡◌, ◌+◌, ◌-◌, ◌∙◌, zero, suc, false, true, arith, refl, subst, sym}
+use Rattle.std.proofs.Common.{◌≡◌, ◌+◌, ◌-◌, ◌∙◌, zero, suc, false, true, ap, arith, refl, subst, sym}
 use Rattle.zone_disk.specs.Bank.{Account}
 use Rattle.zone_machine.specs.Code.Openings.{StandsFor}
 use Rattle.zn_io.specs.Streams.{after_known}
 use Rattle.zone_cases.specs.Events.{is_restart}
 use Rattle.zone_cases.specs.declared.events.Event.TheVariants.{Turn}
-use Rattle.zones_run.specs.Answering.{IsAnswered, Stops}
+use Rattle.zones_run.specs.Answering.{Fails, IsAnswered}
 use Rattle.zones_run.specs.declared.due.Due.{Due}
 use Rattle.zones_run.specs.Midway.{Left, puts_until}
 use Rattle.zones_run.specs.declared.words.Mode.TheVariants.{WithTurns}
-use Rattle.zones_run.proofs.Answered.{passes_on}
+use Rattle.zones_run.proofs.Answered.{fails_of, leaves_of, passes_on}
 use Rattle.zones_run.proofs.Keeping.{keeps_step}
 use Rattle.zones_run.proofs.Putting.{next_put, puts_turns}
 use Rattle.zones_run.proofs.TraceEnds.{ends_midway, nothing_written, written_on}
@@ -50,21 +50,31 @@ returns-then-is_last-clause-none g c = λ failed. absurd (never_failed _ failed)
 pub returns-then-is_last-clause-passes : goal.returns-then-is_last-clause-passes
 returns-then-is_last-clause-passes g c = passes_on _ _ _ c.loop-given.invariant.passes c.answer.ensures.passes
 
+pub fault_in-requires : goal.fault_in-requires
+fault_in-requires g c = c.in-Err.ensures.unstated (ap (λ (d : Due). d.stated) c.loop-given.invariant.due)
+
 pub returns-in-Err-clause-ended : goal.returns-in-Err-clause-ended
 returns-in-Err-clause-ended g c = λ brands R first held bytes input f left written piece.
     let more = 10000000 - (c.loop-given.given + 1) in
+    let text = leaves_of c.in-Err.stop c.fault_in.result _ _ _ _ c.fault_in.ensures c.in-Err.ensures.text in
     let now = follows_some (10000000 - c.loop-given.given) (suc more) c.args.opened brands R _ _ _ _ _ _ _ _ _ (omega (arith, c.loop-given-test.true)) (c.loop-given.invariant.run brands R first held bytes input f) in
-    ends_midway (puts_until (suc more) c.args.opened c.args.number) brands R (λ S. StandsFor S c.loop-given.machine) c.in-Err.fault _ _ _ _ _ _ _ _ _ _ now.run (puts_turns (suc more) c.args.opened c.args.number now.run.state)
-    (written_on _ _ _ written c.loop-given.invariant.written) c.in-Err.ensures.text piece
+    ends_midway (puts_until (suc more) c.args.opened c.args.number) brands R (λ S. StandsFor S c.loop-given.machine) c.fault_in.result _ _ _ _ _ _ _ _ _ _ now.run (puts_turns (suc more) c.args.opened c.args.number now.run.state)
+    (written_on _ _ _ written c.loop-given.invariant.written) text piece
 
 pub returns-in-Err-clause-recorded : goal.returns-in-Err-clause-recorded
 returns-in-Err-clause-recorded g c = λ brands R first held bytes input f is.
     let view = g.D.Disk.view in
+    let v = view c.loop-given.machine.bank.disk in
+    let w = view c.answer.new.machine.bank.disk in
     let more = 10000000 - (c.loop-given.given + 1) in
+    let same = c.answer.new.machine.bank ≡ c.loop-given.machine.bank in
+    let text = leaves_of c.in-Err.stop c.fault_in.result _ _ _ _ c.fault_in.ensures c.in-Err.ensures.text in
     let now = follows_some (10000000 - c.loop-given.given) (suc more) c.args.opened brands R _ _ _ _ _ _ _ _ _ (omega (arith, c.loop-given-test.true)) (c.loop-given.invariant.run brands R first held bytes input f) in
-    ran_left WithTurns brands R c.in-Err.fault _ _ _ _ _ _ (view first) (view c.answer.new.machine.bank.disk) c.in-Err.ensures.text
-    (ran_turn (puts_until (suc more) c.args.opened c.args.number) brands R (λ S. StandsFor S c.loop-given.machine) (view first) (view c.loop-given.machine.bank.disk) (view c.answer.new.machine.bank.disk) _ c.args.number _ _ _ _ _ c.in-Err.fault (c.answer.new.machine.bank ≡ c.loop-given.machine.bank) (Turn c.args.opened.zone) _ now is
-    (next_put more c.args.opened c.args.number now.run.state) (λ S stood. subst (λ (e : Event). Fails c.in-Err.fault (c.answer.new.machine.bank ≡ c.loop-given.machine.bank) S e (view c.loop-given.machine.bank.disk) (view c.answer.new.machine.bank.disk)) c.loop-given.invariant.event (c.in-Err.ensures.kept S stood)) (λ e P x. subst (λ (b : Account g.row.D.Denot). P (view b.disk)) (sym e) x))
+    ran_left WithTurns brands R c.fault_in.result _ _ _ _ _ _ (view first) w text
+    (ran_turn (puts_until (suc more) c.args.opened c.args.number) brands R (λ S. StandsFor S c.loop-given.machine) (view first) v w _ c.args.number _ _ _ _ _ c.fault_in.result same (Turn c.args.opened.zone) _ now is
+    (next_put more c.args.opened c.args.number now.run.state)
+    (λ S stood. subst (λ (d : Due). Fails c.fault_in.result same S d v w) c.loop-given.invariant.due (fails_of c.in-Err.stop c.fault_in.result same S _ v w c.fault_in.ensures (c.in-Err.ensures.kept S stood)))
+    (λ e P x. subst (λ (b : Account g.row.D.Denot). P (view b.disk)) (sym e) x))
 
 pub returns-in-Err-clause-written : goal.returns-in-Err-clause-written
 returns-in-Err-clause-written g c = written_on _ _ _ c.loop-given.invariant.written c.answer.ensures.written
