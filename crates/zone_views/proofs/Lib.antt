@@ -15,6 +15,8 @@ pub mod Whole
 pub mod Claiming
 pub mod Declared_few
 pub mod Mounts_few
+pub mod Sound_configs
+pub mod Sound_edits
 mod Edits
 mod Logins
 mod Consoles

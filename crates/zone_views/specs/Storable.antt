@@ -1,10 +1,11 @@
 -- What a store may hold.
-use Rattle.std.specs.Prelude.{List, Bool, true, false, not, Option, Some, None}
+use Rattle.std.specs.Prelude.{List, Bool, IsTrue, true, false, not, Option, Some, None}
 use Rattle.std.specs.List.{list_all}
 use Rattle.zn_base.specs.States.{is_stored}
 use Rattle.zn_base.specs.declared.state.ZoneState.{ZoneState}
 use Rattle.commit_journal.specs.declared.records.Commit.{Commit}
 use Rattle.commit_journal.specs.declared.records.Record.{Record}
+use Rattle.zone_config.specs.Sound.{IsSound}
 
 abbrev pub is_storable : Option Record → Bool
 is_storable None = true
@@ -17,3 +18,8 @@ are_storable commits = list_all (λ c. is_storable c.stored) commits
 abbrev pub ends_with_a_restart : Option ZoneState → Bool
 ends_with_a_restart None = false
 ends_with_a_restart (Some s) = not (is_stored s)
+
+-- a record that a store may hold, whatever its number: its state is one of these, and its configuration is sound
+pub record IsRight (row : Record) : Type 0 where
+  pub state : IsTrue (is_stored row.state)
+  pub config : IsSound row.config
