@@ -17,6 +17,9 @@ pub mod Declared_few
 pub mod Mounts_few
 pub mod Sound_configs
 pub mod Sound_edits
+pub mod Belonging
+pub mod Alike
+pub mod Rights
 mod Edits
 mod Logins
 mod Consoles

@@ -1,7 +1,7 @@
 -- The objects that a zone has, and those that a reply to it names.
 use Rattle.std.specs.Prelude.{ℕ, List, [], ◌∷◌, ◌++◌, Bool, true, false, ◌||◌, Option, Some, None, decimal, is_some, map, nat_eq, not, if◌then◌else◌}
 use Rattle.std.specs.List.{All, Contains, flat_map}
-use Rattle.console_link.specs.Consoles.{Console}
+use Rattle.console_link.specs.Consoles.{Console as Console_kept}
 use Rattle.datalink_table.specs.declared.claims.Claim.{Claim}
 use Rattle.datalink_table.specs.declared.claims.ClaimKind as claims
 use Rattle.datalink_table.specs.declared.claims.ClaimKind.TheVariants.{Address as Address_claim, Dataset as Dataset_claim, Link as Link_claim}
@@ -70,10 +70,10 @@ tables z o =
     ++ map (λ i. id z i.zid) o.ids
 
 -- a console is an object while something is kept of it or a session has it
-abbrev pub is_in_use : Console → Bool
+abbrev pub is_in_use : Console_kept → Bool
 is_in_use c = not (is_nil c.output) || is_some c.holder
 
-abbrev pub consoles : Name → Console → List Object
+abbrev pub consoles : Name → Console_kept → List Object
 consoles z c = if is_in_use c then object z Console [] ∷ [] else []
 
 -- the objects of z, by its world
