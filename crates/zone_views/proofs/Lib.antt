@@ -19,7 +19,11 @@ pub mod Sound_configs
 pub mod Sound_edits
 pub mod Belonging
 pub mod Alike
+pub mod Naming_turns
 pub mod Rights
+pub mod Settled
+pub mod Naming_cases
+pub mod Naming_laws
 mod Edits
 mod Logins
 mod Consoles

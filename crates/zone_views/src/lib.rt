@@ -1,5 +1,6 @@
 //! What a zone learns of the others: the laws of the zone machine's definitions. Removing all other zones'
-//! entries, grants kept, changes no reply of a zone and none of the whole system; what is declared changes by
+//! entries, grants kept, changes no reply of a zone and none of the whole system; a reply to a zone names the zone's own
+//! objects alone; what is declared changes by
 //! declarations alone; from records that a store may hold, zones move only along the transition table; each
 //! process's privileges lie within its zone's limit set; a zone has 128 mounts at most; a session that is logged in has its process, one at a
 //! console holds it, and no turn is idle of a daemon that a session waits for; and where the grants fit, those that
@@ -14,7 +15,8 @@ pub use laws::{
     declarations_are_common, each_item_has_one_holder, local_turns_leave_what_is_common,
     logins_have_their_process, mounts_are_few, no_turn_is_idle_while_a_session_waits,
     numbers_are_held_once, others_change_nothing, own_world_decides, purging_keeps_replies,
-    requests_are_of_stored_zones, runs_are_histories, sessions_edit_what_was_said,
-    sets_lie_within_limits, states_move_along_the_table, subjects_agree, worlds_are_replayed,
+    replies_name_own_objects, requests_are_of_stored_zones, runs_are_histories,
+    sessions_edit_what_was_said, sets_lie_within_limits, states_move_along_the_table,
+    stores_hold_records, subjects_agree, tables_agree_with_daemons, worlds_are_replayed,
     zones_share_no_process_number,
 };
