@@ -8,6 +8,7 @@ use Rattle.commit_journal.specs.declared.records.Commit.{Commit}
 use Rattle.zone_pools.proofs.Owned_laws.{same_self}
 use Rattle.zone_pools.specs.declared.grant.Grant.{Grant}
 use Rattle.zoneadmd_laws.specs.Agreement.{Agrees}
+use Rattle.zoneadmd_steps.specs.Arrivals.{Arrival}
 use Rattle.zoneadmd_steps.specs.Turns.{Seen}
 use Rattle.zone_machine.proofs.Own_worlds.{view-world, world-one}
 use Rattle.zone_machine.proofs.Turned_laws.{decide-turn, in-act, turn_act}
@@ -15,7 +16,7 @@ use Rattle.zone_machine.specs.Code.Works.{turned_act}
 use Rattle.zone_machine.specs.Machine.{Answered, decide, done_by, one, one_of, opening, session_number, subject}
 use Rattle.zone_machine.specs.Machine.Histories.{after, world_by}
 use Rattle.zone_cases.specs.State.{State, stored}
-use Rattle.zone_cases.specs.State.Decisions.{Act, act_of, acts_world}
+use Rattle.zone_cases.specs.State.Decisions.{Act, Effect, act_of, acts_world}
 use Rattle.zone_cases.specs.State.Worlds.{View, World, objects_of, seen_of, view, view_of, world}
 use Rattle.zone_cases.specs.declared.events.Entry.{Entry}
 use Rattle.zone_cases.specs.declared.events.Event.{Event}
@@ -66,7 +67,10 @@ module _ (z : Name) (w : World) (s : Settled w) (g : Grant) where
           ]) good.named in
       subst (λ (b : Act). AllByRecursion (λ o. IsIn o (own_by z w (acts_world None b w) b)) (names z b.effect.reply)) (sym same) (each-both _ _ [] told tt)
 
-  of_case : (e : Event) → AllByRecursion (λ o. IsIn o (tables z (objects_of w)) ⊎ IsIn o (granted z (act e).came)) (names z (act e).effect.reply) → Own e
+  abbrev Told : Option Arrival → Effect → Type 0
+  Told came e = AllByRecursion (λ o. IsIn o (tables z (objects_of w)) ⊎ IsIn o (granted z came)) (names z e.reply)
+
+  of_case : (e : Event) → Told (act e).came (act e).effect → Own e
   of_case e told = each-so _ (λ o. IsIn o (own_by z w (left_by e) (act e))) (names z (act e).effect.reply)
       (λ o k. elim k [
         | inl old ↦ before z w (left_by e) (act e) o old
@@ -74,10 +78,10 @@ module _ (z : Name) (w : World) (s : Settled w) (g : Grant) where
       ]) told
 
   of_event : (e : Event) → Own e
-  of_event (Session n text) = of_case (Session n text) (in-act _ (decide (view_of z w) (Session n text)) g (case_told z w s.parents (Session n text) refl))
-  of_event (Call_of y pid c) = of_case (Call_of y pid c) (in-act _ (decide (view_of z w) (Call_of y pid c)) g (case_told z w s.parents (Call_of y pid c) refl))
-  of_event (System what) = of_case (System what) (in-act _ (decide (view_of z w) (System what)) g (case_told z w s.parents (System what) refl))
-  of_event Restart = of_case Restart (in-act _ (decide (view_of z w) Restart) g (case_told z w s.parents Restart refl))
+  of_event (Session n text) = of_case (Session n text) (in-act Told (decide (view_of z w) (Session n text)) g (case_told z w s.parents (Session n text) refl))
+  of_event (Call_of y pid c) = of_case (Call_of y pid c) (in-act Told (decide (view_of z w) (Call_of y pid c)) g (case_told z w s.parents (Call_of y pid c) refl))
+  of_event (System what) = of_case (System what) (in-act Told (decide (view_of z w) (System what)) g (case_told z w s.parents (System what) refl))
+  of_event Restart = of_case Restart (in-act Told (decide (view_of z w) Restart) g (case_told z w s.parents Restart refl))
   of_event (Turn y) = of_turn (act (Turn y)) (decide-turn z y w g)
 
 -- of a state
