@@ -1,6 +1,7 @@
 -- What a reply to a zone names is one of the zone's own objects.
-use Rattle.std.proofs.Common.{◌≡◌, ◌⊎◌, ◌∷◌, ◌++◌, [], ◌∙◌, ℕ, List, Bool, Option, Some, None, true, false, inl, inr, ap, refl, subst, sym}
-use Rattle.std.specs.Prelude.{IfSome, bytes_eq, if◌then◌else◌}
+use Rattle.std.proofs.Common.{◌≡◌, ◌⊎◌, ◌∷◌, ◌++◌, [], ◌&&◌, ◌∙◌, ℕ, List, Bool, Option, Some, None, true, false, inl, inr, ap, refl, subst, sym}
+use Rattle.std.specs.Prelude.{IfSome, if◌then◌else◌}
+use Rattle.std.proofs.lemmas.Bool.{and_parts}
 use Rattle.std.specs.List.{All, AllByRecursion, Contains}
 use Rattle.zn_base.specs.Names.{Name}
 use Rattle.brand_hooks.specs.Brands.{Tabled}
@@ -11,10 +12,12 @@ use Rattle.zoneadmd_laws.specs.Agreement.{Agrees}
 use Rattle.zoneadmd_steps.specs.Arrivals.{Arrival}
 use Rattle.zoneadmd_steps.specs.Turns.{Seen}
 use Rattle.zone_machine.proofs.Own_worlds.{view-world, world-one}
+use Rattle.zone_machine.proofs.Same_laws.{reply-Decides, subject-Decides}
 use Rattle.zone_machine.proofs.Turned_laws.{decide-turn, in-act, turn_act}
 use Rattle.zone_machine.specs.Code.Works.{turned_act}
 use Rattle.zone_machine.specs.Machine.{Answered, decide, done_by, one, one_of, opening, session_number, subject}
-use Rattle.zone_machine.specs.Machine.Histories.{after, world_by}
+use Rattle.zone_machine.specs.Machine.Histories.{after, after_entry, is_history, is_told, world_by}
+use Rattle.zone_machine.specs.Machine.Same.{same_reply, same_subject}
 use Rattle.zone_cases.specs.State.{State, stored}
 use Rattle.zone_cases.specs.State.Decisions.{Act, Effect, act_of, acts_world}
 use Rattle.zone_cases.specs.State.Worlds.{View, World, objects_of, seen_of, view, view_of, world}
@@ -105,6 +108,22 @@ names-own z brands commits h e g right is =
         (λ o k. contained o (own z S e g) (subst (IsIn o) (sym (ap (λ v. objects z w ++ objects z v ++ granted z (act_of (decide (view z S) e) g).came) (left-by z S e g is) ∙ ap (λ v. objects z w ++ objects z (acts_world (session_number e) (act_of (decide (view_of z w) e) g) w) ++ granted z (act_of (decide v e) g).came) (view-world z S))) k)) told)
     in
     all-of (Contains (own z S e g)) (names z (one S e g).reply) among
+
+-- what an entry of a history says is so
+told-at : (permits : State → Event → Grant → Bool) (S : State) (h more : List Entry) (e : Entry) → is_history permits S (h ++ e ∷ more) ≡ true → is_told (after S h) e ≡ true
+told-at permits S [] more e is =
+    let parts = and_parts (is_told S e && permits S e.event e.grant) (is_history permits (after_entry S e) more) is in (and_parts (is_told S e) (permits S e.event e.grant) parts.0).0
+told-at permits S (x ∷ h) more e is =
+    let parts = and_parts (is_told S x && permits S x.event x.grant) (is_history permits (after_entry S x) (h ++ e ∷ more)) is in told-at permits (after_entry S x) h more e parts.1
+
+pub entries-own : (z : Name) (permits : State → Event → Grant → Bool) (brands : List Tabled) (commits : List Commit) (h more : List Entry) (e : Entry) → IfSome (stored z commits) IsRight
+    → is_history permits (opening brands commits) (h ++ e ∷ more) ≡ true → e.subject ≡ Zone z → AreAmong (names z e.reply) (own z (after (opening brands commits) h) e.event e.grant)
+entries-own z permits brands commits h more e right is of =
+    let S = after (opening brands commits) h in
+    let told = and_parts (same_subject e.subject (subject S e.event)) (same_reply e.reply (one S e.event e.grant).reply) (told-at permits (opening brands commits) h more e is) in
+    let same = (subject-Decides e.subject (subject S e.event)).0 told.0 in
+    subst (λ (r : Reply). AreAmong (names z r) (own z S e.event e.grant)) (sym ((reply-Decides e.reply (one S e.event e.grant).reply).0 told.1))
+    (names-own z brands commits h e.event e.grant right (sym same ∙ of))
 
 pub records-right : (z : Name) (brands : List Tabled) (commits : List Commit) (h : List Entry) → IfSome (stored z commits) IsRight → IfSome (stored z (after (opening brands commits) h).commits) IsRight
 records-right z brands commits h right = (settled-after z brands commits h right).right.stored

@@ -1,5 +1,5 @@
 //! The laws, over every state or every history.
-ghost use Rattle.std.specs.Prelude.{◌≡◌, ◌≢◌, ◌≤◌, ◌⊎◌, Bool, IfSome, List, None, Option, Some, false, is_some, length, true, ℕ};
+ghost use Rattle.std.specs.Prelude.{◌≡◌, ◌≢◌, ◌≤◌, ◌⊎◌, ◌++◌, ◌∷◌, Bool, IfSome, List, None, Option, Some, false, is_some, length, true, ℕ};
 ghost use Rattle.std.specs.List.{list_all};
 ghost use Rattle.zn_base.specs.Moves.{may_move};
 ghost use Rattle.zn_base.specs.Names.{Name};
@@ -241,7 +241,11 @@ pub fn tables_agree_with_daemons()
 /// the zone at the start is right: the zone has it before the event or after it, or it is the process or the id whose number the
 /// event's grant gives.
 pub fn replies_name_own_objects()
-    ensures { (z : Name) (brands : List Tabled) (commits : List Commit) (h : List Entry) (e : Event) (g : Grant) → IfSome (stored z commits) IsRight
+    ensures events { (z : Name) (brands : List Tabled) (commits : List Commit) (h : List Entry) (e : Event) (g : Grant) → IfSome (stored z commits) IsRight
         → let S = after (opening brands commits) h in
         subject S e ≡ Zone z → AreAmong (names z (one S e g).reply) (own z S e g) }
+    // So it is of each entry of the zone in a history, a legal one or one of stated grants.
+    ensures entries { (z : Name) (permits : State → Event → Grant → Bool) (brands : List Tabled) (commits : List Commit) (h more : List Entry) (e : Entry)
+        → IfSome (stored z commits) IsRight → is_history permits (opening brands commits) (h ++ e ∷ more) ≡ true
+        → e.subject ≡ Zone z → AreAmong (names z e.reply) (own z (after (opening brands commits) h) e.event e.grant) }
 {}
