@@ -1,4 +1,5 @@
 mod Examples
+mod Naming_examples
 pub mod Purge
 pub mod Runs
 pub mod Deciding
