@@ -1,11 +1,11 @@
 -- The agreement of a zone's tables with its daemon stays where its id, its claims, its devices and its state stay, and where a
 -- zone without processes gets none and keeps its mounts, held or not; and where a process comes to a zone that runs.
-use Rattle.std.proofs.Common.{◌≡◌, ◌∷◌, [], ◌∙◌, ℕ, List, Bool, Option, Some, None, true, false, ap, refl, subst, sym}
+use Rattle.std.proofs.Common.{◌≡◌, ◌∷◌, [], ◌∙◌, List, Bool, Option, Some, None, true, ap, refl, subst, sym}
 use Rattle.std.specs.Prelude.{is_some}
 use Rattle.std.proofs.lemmas.Bool.{false≢true}
 use Rattle.kernel_objects.specs.Processes.{Process}
 use Rattle.zn_base.specs.declared.state.ZoneState.{ZoneState}
-use Rattle.zn_base.specs.declared.state.ZoneState.TheVariants.{Configured, Down, Incomplete, Installed, Ready as Is_ready, Running as Is_running}
+use Rattle.zn_base.specs.declared.state.ZoneState.TheVariants.{Down, Installed, Ready as Is_ready, Running as Is_running}
 use Rattle.zone_config.specs.declared.terms.Contents.{Contents}
 use Rattle.zone_pools.specs.Firsts.{is_nil}
 use Rattle.zoneadmd_laws.proofs.Making.{freed, no_mounts}

@@ -1,20 +1,18 @@
 -- What a case names that is no turn of the daemon: what is in the zone's tables, or the process that comes.
-use Rattle.std.proofs.Common.{◌≡◌, ◌⊎◌, ◌∷◌, ◌++◌, [], ◌&&◌, ◌||◌, ◌==◌, ℕ, List, Bool, Option, Some, None, Result, Ok as Right, Err, true, false, inl, inr, ap, codes, filter, map, nat_eq, refl, subst, sym}
+use Rattle.std.proofs.Common.{◌≡◌, ◌⊎◌, ◌∷◌, ◌++◌, [], ◌&&◌, ◌||◌, ◌==◌, ℕ, List, Bool, Option, Some, None, Result, Ok as Right, Err, true, false, inl, inr, ap, filter, map, nat_eq, refl, subst}
 use Rattle.std.specs.Prelude.{if◌then◌else◌}
 use Rattle.std.specs.List.{AllByRecursion}
 use Rattle.brand_hooks.specs.Brands.{tabled_names}
 use Rattle.commit_journal.specs.declared.records.Record.{Record}
 use Rattle.config_verify.specs.Flaws.{first, flaws}
 use Rattle.config_verify.specs.declared.flaw.Flaw.{Flaw}
-use Rattle.console_link.specs.Consoles as consoles
 use Rattle.datalink_table.specs.Claims.{is_of, items_of}
 use Rattle.datalink_table.specs.declared.claims.Claim.{Claim}
 use Rattle.datalink_table.specs.declared.claims.ClaimKind.{ClaimKind}
 use Rattle.datalink_table.specs.declared.claims.ClaimKind.TheVariants as kind
 use Rattle.kernel_objects.specs.Kernel.{at_limit, entered, fork_set, fs_allowed_of}
-use Rattle.kernel_objects.specs.Processes.{Process, below, ends, may_exec, may_mount, row_of}
+use Rattle.kernel_objects.specs.Processes.{Process, below, may_exec, may_mount, row_of}
 use Rattle.kernel_objects.specs.declared.faults.Errno.{Errno}
-use Rattle.kernel_objects.specs.declared.faults.Errno.TheVariants.{EAGAIN, EPERM}
 use Rattle.kernel_objects.specs.declared.objects.ProcRow.{ProcRow}
 use Rattle.kernel_objects.specs.declared.objects.Signal.{Signal}
 use Rattle.loopback_mounts.specs.Mounts.{listed, mount_answer, mount_at, unmount_answer}
@@ -34,7 +32,6 @@ use Rattle.zone_config.specs.Same.{same_contents}
 use Rattle.zone_config.specs.declared.terms.Contents.{Contents}
 use Rattle.zone_pools.specs.Decisions.{Ask, Just}
 use Rattle.zone_pools.specs.Firsts.{is_nil}
-use Rattle.zone_pools.specs.Owned_lists.{put}
 use Rattle.zonecfg_lines.specs.Runs.{Run}
 use Rattle.zonecfg_lines.specs.declared.refusal.LineRefusal.{LineRefusal}
 use Rattle.zonecfg_lines.specs.declared.reply.Ending.{Ending}
@@ -43,16 +40,16 @@ use Rattle.zonecfg_scopes.specs.Edited.{is_changed, revision_of}
 use Rattle.zonecfg_scopes.specs.OpenOf.{config_of}
 use Rattle.zoneadmd_steps.specs.Arrivals.{Arrival, New_process}
 use Rattle.zoneadmd_steps.specs.Desks.{Desk, has_request, is_full, state_now}
-use Rattle.zoneadmd_steps.specs.Objects.{Objects, kernel_of}
+use Rattle.zoneadmd_steps.specs.Objects.{kernel_of}
 use Rattle.zoneadmd_steps.specs.declared.requests.Request.{Request}
 use Rattle.zoneadmd_steps.specs.declared.requests.Request.TheVariants as request
 use Rattle.zone_machine.proofs.Turned_laws.{In}
 use Rattle.zone_machine.specs.Machine.{decide}
-use Rattle.zone_cases.specs.Calls.{called, calls, calls_if_there, ending as ending_of, execs, forks, is_by_process, mount_of, mounts, mounts_if_free, mounts_special, signals, tells_place, unmounts, unmounts_if_free}
-use Rattle.zone_cases.specs.Session.Commits.{Hearer, Typist, A_session, Of_its_own, commit, commit_over, commit_unless, commits, delete, delete_seen, edits_line, ended, ends as ends_line, is_configured, keeps_place, leaves, records, removes, revision_now, said_alone, said_to, typist, zonecfg}
+use Rattle.zone_cases.specs.Calls.{called, calls, calls_if_there, execs, forks, is_by_process, mount_of, mounts, mounts_if_free, mounts_special, signals, tells_place, unmounts, unmounts_if_free}
+use Rattle.zone_cases.specs.Session.Commits.{Hearer, Typist, A_session, Of_its_own, commit, commit_over, commit_unless, commits, delete, delete_seen, ended, ends as ends_line, is_configured, keeps_place, leaves, revision_now, said_alone, said_to, typist}
 use Rattle.zone_cases.specs.Session.Lines.{Ask as Asks, Blank, Clone, Command, Console, Edit, Enter, Help, Hold, Kill, Line, List_one, List_zones, Login, Release, Unforced, Unknown, Verify, Zonecfg, line_of}
 use Rattle.zone_cases.specs.Session.Listed.{config_refusal, list_one_reply, verify_reply}
-use Rattle.zone_cases.specs.Session.Logins.{alone, call_word, console_line, console_refusal, entered_line, entry_refusal, enters, errand, escapes, holds_console, logged_line, login_of, logs_in, passed_as, passed_on, said_in, status_of, unless, with_newcomer, with_status}
+use Rattle.zone_cases.specs.Session.Logins.{alone, call_word, console_line, console_refusal, entered_line, entry_refusal, enters, errand, escapes, holds_console, logged_line, login_of, logs_in, passed_as, passed_on, said_in, status_of, unless, with_newcomer}
 use Rattle.zone_cases.specs.Session.Typed.{held_answer, holding_at, holds, idle_line, put_clone, put_request, typed}
 use Rattle.zone_cases.specs.State.{At_console, Awaiting, Doing, Editing, Logged_in}
 use Rattle.zone_cases.specs.State.Decisions.{Decision, Effect, head_of, says}
@@ -146,9 +143,9 @@ module _ (z : Name) (w : World) (look : ℕ → Option Process) (pid : ℕ) (p :
 
   items_told : (k : ClaimKind) (shows : List ℕ → Object) → ((c : Claim) → is_of k c ≡ true → claim z c ≡ shows c.item) → AllByRecursion (There None) (map shows (items_of k w.claims))
   items_told k shows same = each-map (There None) shows (items_of k w.claims) (λ item h.
-    let back = of-map (λ (c : Claim). c.item) item (filter (is_of k) w.claims) h in
-    let found = of-filter (is_of k) back.0 w.claims back.1 in
-    inl (subst (λ item. T (shows item)) back.2 (subst T (same back.0 found.1) (has_claim back.0 found.0))))
+      let back = of-map (λ (c : Claim). c.item) item (filter (is_of k) w.claims) h in
+      let found = of-filter (is_of k) back.0 w.claims back.1 in
+      inl (subst (λ item. T (shows item)) back.2 (subst T (same back.0 found.1) (has_claim back.0 found.0))))
 
   of_link : (k : ClaimKind) (item : List ℕ) → is_of kind.Link (record { kind = k; item = item }) ≡ true → claim z (record { kind = k; item = item }) ≡ object z Link item
   of_link kind.Link item h = refl

@@ -1,8 +1,8 @@
 -- What a reply to a zone names is one of the zone's own objects.
-use Rattle.std.proofs.Common.{◌≡◌, ◌⊎◌, ◌∷◌, ◌++◌, [], ◌&&◌, ◌∙◌, ℕ, List, Bool, Option, Some, None, true, false, inl, inr, ap, refl, subst, sym}
+use Rattle.std.proofs.Common.{◌≡◌, ◌⊎◌, ◌∷◌, ◌++◌, [], ◌&&◌, ◌∙◌, List, Bool, Option, None, true, inl, inr, ap, refl, subst, sym}
 use Rattle.std.specs.Prelude.{IfSome, if◌then◌else◌}
 use Rattle.std.proofs.lemmas.Bool.{and_parts}
-use Rattle.std.specs.List.{All, AllByRecursion, Contains}
+use Rattle.std.specs.List.{AllByRecursion, Contains}
 use Rattle.zn_base.specs.Names.{Name}
 use Rattle.brand_hooks.specs.Brands.{Tabled}
 use Rattle.commit_journal.specs.declared.records.Commit.{Commit}
@@ -15,12 +15,12 @@ use Rattle.zone_machine.proofs.Own_worlds.{view-world, world-one}
 use Rattle.zone_machine.proofs.Same_laws.{reply-Decides, subject-Decides}
 use Rattle.zone_machine.proofs.Turned_laws.{decide-turn, in-act, turn_act}
 use Rattle.zone_machine.specs.Code.Works.{turned_act}
-use Rattle.zone_machine.specs.Machine.{Answered, decide, done_by, one, one_of, opening, session_number, subject}
+use Rattle.zone_machine.specs.Machine.{decide, one, one_of, opening, session_number, subject}
 use Rattle.zone_machine.specs.Machine.Histories.{after, after_entry, is_history, is_told, world_by}
 use Rattle.zone_machine.specs.Machine.Same.{same_reply, same_subject}
 use Rattle.zone_cases.specs.State.{State, stored}
 use Rattle.zone_cases.specs.State.Decisions.{Act, Effect, act_of, acts_world}
-use Rattle.zone_cases.specs.State.Worlds.{View, World, objects_of, seen_of, view, view_of, world}
+use Rattle.zone_cases.specs.State.Worlds.{World, objects_of, seen_of, view, view_of, world}
 use Rattle.zone_cases.specs.declared.events.Entry.{Entry}
 use Rattle.zone_cases.specs.declared.events.Event.{Event}
 use Rattle.zone_cases.specs.declared.events.Event.TheVariants.{Process as Call_of, Restart, Session, System, Turn}
@@ -64,10 +64,10 @@ module _ (z : Name) (w : World) (s : Settled w) (g : Grant) where
       let turned = turned_act (turn_act w g) in
       let v = acts_world None turned w in
       let told = each-so _ (λ o. IsIn o (own_by z w v turned)) (named_by_turn z (turn_act w g).effect.reply)
-          (λ o k. elim k [
-            | inl old ↦ before z w v turned o old
-            | inr new ↦ later z w v turned o (subst (λ (x : Seen). IsIn o (tables z x.objects)) (sym (seen-turn w g)) new)
-          ]) good.named in
+      (λ o k. elim k [
+        | inl old ↦ before z w v turned o old
+        | inr new ↦ later z w v turned o (subst (λ (x : Seen). IsIn o (tables z x.objects)) (sym (seen-turn w g)) new)
+      ]) good.named in
       subst (λ (b : Act). AllByRecursion (λ o. IsIn o (own_by z w (acts_world None b w) b)) (names z b.effect.reply)) (sym same) (each-both _ _ [] told tt)
 
   abbrev Told : Option Arrival → Effect → Type 0
@@ -103,9 +103,9 @@ names-own z brands commits h e g right is =
     let s = settled-after z brands commits h right in
     let told = of_event z w s g e in
     let among : AllByRecursion (Contains (own z S e g)) (names z (one S e g).reply) =
-        subst (λ (r : Reply). AllByRecursion (Contains (own z S e g)) (names z r)) (sym (reply-by z S e g is))
-        (each-so _ (Contains (own z S e g)) (names z (act_of (decide (view_of z w) e) g).effect.reply)
-        (λ o k. contained o (own z S e g) (subst (IsIn o) (sym (ap (λ v. objects z w ++ objects z v ++ granted z (act_of (decide (view z S) e) g).came) (left-by z S e g is) ∙ ap (λ v. objects z w ++ objects z (acts_world (session_number e) (act_of (decide (view_of z w) e) g) w) ++ granted z (act_of (decide v e) g).came) (view-world z S))) k)) told)
+    subst (λ (r : Reply). AllByRecursion (Contains (own z S e g)) (names z r)) (sym (reply-by z S e g is))
+    (each-so _ (Contains (own z S e g)) (names z (act_of (decide (view_of z w) e) g).effect.reply)
+    (λ o k. contained o (own z S e g) (subst (IsIn o) (sym (ap (λ v. objects z w ++ objects z v ++ granted z (act_of (decide (view z S) e) g).came) (left-by z S e g is) ∙ ap (λ v. objects z w ++ objects z (acts_world (session_number e) (act_of (decide (view_of z w) e) g) w) ++ granted z (act_of (decide v e) g).came) (view-world z S))) k)) told)
     in
     all-of (Contains (own z S e g)) (names z (one S e g).reply) among
 

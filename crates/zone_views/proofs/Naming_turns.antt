@@ -1,9 +1,9 @@
 -- What a turn of a zone's daemon names is in the zone's tables before or after it, where these agree with the daemon. And it keeps
 -- what is told of ids and of parents, and that what is stored is right.
-use Rattle.std.proofs.Common.{◌≡◌, ◌⊎◌, ◌∷◌, ◌++◌, [], ◌∙◌, ℕ, List, Bool, Option, Some, None, Result, Ok, Err, true, false, inl, inr, ap, filter, not, map, refl, subst, sym, true≢false}
+use Rattle.std.proofs.Common.{◌≡◌, ◌⊎◌, ◌∷◌, [], ◌∙◌, ℕ, List, Bool, Option, Some, None, Result, Ok, Err, true, false, inl, inr, ap, filter, not, refl, subst, sym}
 use Rattle.std.specs.Prelude.{IfSome, codes, is_ok, is_some, if◌then◌else◌}
 use Rattle.std.specs.List.{AllByRecursion}
-use Rattle.brand_hooks.specs.Brands.{Tabled, answer_of}
+use Rattle.brand_hooks.specs.Brands.{answer_of}
 use Rattle.brand_hooks.specs.declared.change.Change.{Change}
 use Rattle.brand_hooks.specs.declared.table.HookAnswer.{HookAnswer}
 use Rattle.brand_hooks.specs.declared.table.HookAnswer.TheVariants.{Proceed, Refuse}
@@ -34,9 +34,9 @@ use Rattle.zoneadmd_laws.specs.Afters.{After, after, done}
 use Rattle.zoneadmd_laws.specs.Agreement.{Agrees, Ahead, Cleared, Has_made, Idless, Killed, Making, Off, Phase, Ready, Released, Running, Stands, Started, Stopping, Unmounted, is_making, made_claims, made_mounts, walks}
 use Rattle.zoneadmd_steps.specs.Configs.{fs_mount, limits_by, root_dir, root_mount, with_zonepath}
 use Rattle.zoneadmd_steps.specs.Desks.{Desk, Fails, Goes, Job, Progress, Stage, state_now}
-use Rattle.zoneadmd_steps.specs.Objects.{Devices_are, Ids_change, Ids_go, Object_edit, Of_mounts, all_of, keeping_zid, zid_of}
-use Rattle.zoneadmd_steps.specs.Plans.{kind_of, made_after, refusal}
-use Rattle.zoneadmd_steps.specs.Turns.{A_step, Next, Seen, advance, begin, bootargs_of, claim_or, failed, hooked, init_process, local_turn, mount_or, mounting, new_path, next, next_request, over, record_config, record_moved, record_state, started, stuck, turn, undone, unmount_last}
+use Rattle.zoneadmd_steps.specs.Objects.{Ids_go, Of_mounts, all_of, keeping_zid, zid_of}
+use Rattle.zoneadmd_steps.specs.Plans.{kind_of, refusal}
+use Rattle.zoneadmd_steps.specs.Turns.{A_step, Seen, advance, bootargs_of, claim_or, failed, hooked, init_process, local_turn, mount_or, mounting, new_path, next, next_request, over, record_config, record_moved, record_state, started, stuck, turn, undone, unmount_last}
 use Rattle.zoneadmd_steps.specs.declared.requests.Outcome.{Outcome}
 use Rattle.zoneadmd_steps.specs.declared.requests.Request.{Request}
 use Rattle.zoneadmd_steps.specs.declared.requests.Request.TheVariants as request
@@ -45,7 +45,7 @@ use Rattle.zoneadmd_steps.specs.declared.requests.TurnReply.TheVariants.{Idle}
 use Rattle.zoneadmd_steps.specs.declared.requests.Step.TheVariants as step
 use Rattle.zone_views.proofs.Belonging.{IsIn, has-claim, has-id, has-mount, has-process, in-put, in-put-other, in-right, of-map, of-put}
 use Rattle.zone_views.proofs.Sound_configs.{with-property-sound}
-use Rattle.zone_views.specs.Naming.{Object, claim, id, mount, named_by_step, named_by_turn, process, tables}
+use Rattle.zone_views.specs.Naming.{Object, mount, named_by_step, named_by_turn, tables}
 use Rattle.zone_views.specs.Storable.{IsRight}
 
 -- each parent is none, or a process of the zone

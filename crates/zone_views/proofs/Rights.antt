@@ -1,5 +1,5 @@
 -- What is stored of a zone stays right, and what its sessions edit stays sound.
-use Rattle.std.proofs.Common.{◌≡◌, ◌+◌, ◌∷◌, [], ℕ, List, Bool, Option, Some, None, true, false, refl, subst, sym}
+use Rattle.std.proofs.Common.{◌≡◌, ◌+◌, ℕ, List, Bool, Option, Some, None, true, false, refl, subst, sym}
 use Rattle.std.specs.Prelude.{IfSome}
 use Rattle.std.specs.Option.{option_map}
 use Rattle.zn_base.specs.Names.{Name}
@@ -13,14 +13,12 @@ use Rattle.zoneadmd_steps.specs.Arrivals.{Arrival, New_record}
 use Rattle.zoneadmd_steps.specs.Objects.{Object_edit, Process_goes, Processes_go}
 use Rattle.zone_machine.proofs.Turned_laws.{turn_act}
 use Rattle.zone_machine.specs.Code.Works.{turned_act}
-use Rattle.zone_machine.specs.Machine.{decide, session_number}
-use Rattle.zone_cases.specs.Session.Commits.{base_now, base_of, committed_record, said_alone, said_to}
+use Rattle.zone_cases.specs.Session.Commits.{base_now, base_of, committed_record, said_to}
 use Rattle.zone_cases.specs.State.{At_console, Awaiting, Doing, Editing, Logged_in}
-use Rattle.zone_cases.specs.State.Decisions.{act_of, acts_world, after_came_world, ticket_ended}
+use Rattle.zone_cases.specs.State.Decisions.{acts_world, after_came_world, ticket_ended}
 use Rattle.zone_cases.specs.State.Edits.{Edit, Of_objects, comes_world, console_gone_world, edit_world, edits_world, keeps_console, login_ended, logins_ended}
 use Rattle.zone_cases.specs.State.Worlds.{World, view_of}
-use Rattle.zone_cases.specs.declared.events.Event.{Event}
-use Rattle.zone_views.proofs.Deciding.{Alone_says, Attaches, Called, Calls, Comes, Consoled, Consoles, Detaches, Does, Drops, Edits, Enters, Forks, Goes, Is_seated, Leaves_off, Opens, Puts, Records, Remounts, Removes, Renames, Saying, Says, Seat, Seated, Session_says, Stores, Takes, Tells, Unseated, Writes, kept_turn, of_any}
+use Rattle.zone_views.proofs.Deciding.{Alone_says, Attaches, Called, Calls, Comes, Consoled, Consoles, Detaches, Does, Drops, Edits, Enters, Forks, Goes, Is_seated, Leaves_off, Opens, Puts, Records, Remounts, Removes, Renames, Saying, Says, Seat, Seated, Session_says, Stores, Takes, Tells, Unseated, Writes, kept_turn}
 use Rattle.zone_views.proofs.Seating.{kept-gone, kept-here, kept-sweep, login-ends, logins-end, ticket-ends}
 use Rattle.zone_views.proofs.Sound_edits.{IsBaseSound, IsOpenSound, alone-sound, config-sound, line-sound, opened-sound}
 use Rattle.zone_views.specs.Storable.{IsRight}

@@ -5,7 +5,7 @@ use Rattle.std.specs.Prelude.{IfSome, is_some, unwrap_or, if◌then◌else◌}
 use Rattle.std.proofs.lemmas.Bool.{false≢true, true≢false}
 use Rattle.zn_base.specs.Names.{Name}
 use Rattle.zn_base.specs.declared.state.ZoneState.{ZoneState}
-use Rattle.zn_base.specs.declared.state.ZoneState.TheVariants.{Configured, Ready as Is_ready, Running as Is_running}
+use Rattle.zn_base.specs.declared.state.ZoneState.TheVariants.{Ready as Is_ready, Running as Is_running}
 use Rattle.brand_hooks.specs.Brands.{Tabled}
 use Rattle.commit_journal.specs.declared.records.Commit.{Commit}
 use Rattle.commit_journal.specs.declared.records.Record.{Record}
@@ -14,15 +14,14 @@ use Rattle.kernel_objects.specs.Processes.{Process, adopted, at_pid, below, drop
 use Rattle.loopback_mounts.specs.Mounts.{at_dir, is_at, with_hold}
 use Rattle.loopback_mounts.specs.declared.mount.MountEntry.{MountEntry}
 use Rattle.zone_config.specs.declared.terms.Contents.{Contents}
-use Rattle.zone_pools.specs.Decisions as decisions
-use Rattle.zone_pools.specs.Firsts.{first_of, is_nil}
+use Rattle.zone_pools.specs.Firsts.{first_of}
 use Rattle.zone_pools.specs.Owned_lists.{Change as Change_all, List_edit, edited, put}
 use Rattle.zone_pools.specs.declared.grant.Grant.{Grant}
 use Rattle.zoneadmd_laws.proofs.Agreeing.{turn_agrees}
 use Rattle.zoneadmd_laws.proofs.Making.{freed}
-use Rattle.zoneadmd_laws.specs.Afters.{After, after, come, edits as edits_of}
-use Rattle.zoneadmd_laws.specs.Agreement.{Agrees, At_job, Has_nothing, Is_kept, Rests, is_installed, is_state_installed}
-use Rattle.zoneadmd_steps.specs.Arrivals.{Arrival, New_process, New_record}
+use Rattle.zoneadmd_laws.specs.Afters.{after, come, edits as edits_of}
+use Rattle.zoneadmd_laws.specs.Agreement.{Agrees, At_job, Has_nothing, Is_kept, Rests, is_installed}
+use Rattle.zoneadmd_steps.specs.Arrivals.{Arrival, New_record}
 use Rattle.zoneadmd_steps.specs.Desks.{Desk, Job, has_request, state_now, with_request}
 use Rattle.zoneadmd_steps.specs.Objects.{Object_edit, Processes_go, keeping_pid, kernel_of, zid_of}
 use Rattle.zoneadmd_steps.specs.Turns.{Seen, turn}
@@ -32,20 +31,19 @@ use Rattle.zone_machine.specs.Code.Works.{turned_act}
 use Rattle.zone_machine.specs.Machine.{decide, opening, session_number}
 use Rattle.zone_machine.specs.Machine.Histories.{after as after_history}
 use Rattle.zone_cases.specs.Session.Commits.{committed_record, is_configured}
-use Rattle.zone_cases.specs.State.{Doing, stored}
+use Rattle.zone_cases.specs.State.{stored}
 use Rattle.zone_cases.specs.State.Decisions.{Act, act_of, acts_world, after_came_world, sweeps}
 use Rattle.zone_cases.specs.State.Edits.{Edit, Of_objects, Set_desk, console_gone_world, edit_world, edits_world, keeps_console}
 use Rattle.zone_cases.specs.State.Worlds.{World, objects_of, seen_of, view_of, world}
 use Rattle.zone_cases.specs.declared.events.Entry.{Entry}
 use Rattle.zone_cases.specs.declared.events.Event.{Event}
 use Rattle.zone_cases.specs.declared.events.Event.TheVariants.{Turn}
-use Rattle.console_link.specs.Consoles.{Console}
-use Rattle.zone_views.proofs.Alike.{Alike, job_entered, job_still}
+use Rattle.zone_views.proofs.Alike.{job_entered, job_still}
 use Rattle.zone_views.proofs.Belonging.{IsIn, in-filter, in-map, of-filter, of-map}
 use Rattle.zone_views.proofs.Deciding.{Called, Comes, Does, Drops, Enters, Forks, Goes, Holds, Mounted, Mounts, Renames, Unmounts, of_any, of_does}
 use Rattle.zone_views.proofs.Keeping.{kept-of}
 use Rattle.zone_views.proofs.Limits.{Limited, desk_stands, limited-does, limited-event, runs_only}
-use Rattle.zone_views.proofs.Naming_turns.{Good, HasPid, Job_zid, Parents, parents-put, turn-good}
+use Rattle.zone_views.proofs.Naming_turns.{HasPid, Job_zid, Parents, parents-put, turn-good}
 use Rattle.zone_views.proofs.Rights.{RightWorld, does-right, turned-sound}
 use Rattle.zone_views.specs.Storable.{IsRight}
 

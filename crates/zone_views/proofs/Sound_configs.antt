@@ -3,7 +3,7 @@ use Rattle.std.proofs.Common.{◌≡◌, ◌≤◌, ◌<◌, ◌-◌, ◌∙◌,
 use Rattle.std.specs.Prelude.{codes, nat_lt, option_map, remove, slice_get, if◌then◌else◌}
 use Rattle.std.proofs.lemmas.Bool.Decides.{nat_tests}
 use Rattle.config_terms.specs.declared.fault.ConfigFault.{ConfigFault}
-use Rattle.config_terms.specs.declared.fault.ConfigFault.TheVariants.{AliasHeld, BadValue, NoMatch, TooLarge, TooMany}
+use Rattle.config_terms.specs.declared.fault.ConfigFault.TheVariants.{AliasHeld, BadValue, NoMatch, TooLarge}
 use Rattle.config_terms.specs.declared.terms.Kind.{Kind}
 use Rattle.config_terms.specs.declared.terms.Kind.TheVariants as kind
 use Rattle.config_terms.specs.declared.terms.Resource.{Resource}
@@ -20,7 +20,7 @@ use Rattle.zone_config.specs.declared.terms.Property.{Property}
 use Rattle.zone_config.specs.declared.terms.Property.TheVariants.{Brand}
 use Rattle.zone_config.specs.declared.terms.Setting.{Setting}
 use Rattle.zone_config.specs.declared.terms.Setting.TheVariants.{Aliased, Kept}
-use Rattle.zone_config.specs.Edits.{alias_cleared, alias_rctl, alias_set, is_held, limit_set, named_cleared, named_set, place_of, property_set, rctl_put, setting_cleared, setting_set, value_set, with_property, without_property, without_rctl}
+use Rattle.zone_config.specs.Edits.{alias_cleared, alias_rctl, alias_set, is_held, limit_set, named_cleared, named_set, place_of, property_set, rctl_put, with_property, without_property, without_rctl}
 use Rattle.zone_config.specs.Export.{export_text, sized}
 use Rattle.zone_config.specs.Property.{blank, property_rule, setting_named, unset_text, with_value, without_value}
 use Rattle.zone_config.specs.Removal.{given, matches_at, unless_none, without_all, without_found, without_match_at, without_matches, without_place}

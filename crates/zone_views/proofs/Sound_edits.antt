@@ -6,14 +6,12 @@ use Rattle.config_terms.specs.declared.fault.ConfigFault.{ConfigFault}
 use Rattle.config_terms.specs.declared.terms.Resource.{Resource}
 use Rattle.config_verify.specs.declared.flaw.Flaw.{Flaw}
 use Rattle.zone_config.specs.Edits.{with_property, without_property}
-use Rattle.zone_config.specs.Resources.{with_replaced, with_resource}
 use Rattle.zone_config.specs.Sound.{IsSound}
 use Rattle.zone_config.specs.declared.terms.Contents.{Contents}
 use Rattle.zonecfg_lex.specs.Subcommands.{subcommands_of}
 use Rattle.zonecfg_lex.specs.declared.fault.LexFault.{LexFault}
 use Rattle.zonecfg_scopes.specs.Commands.{list_name}
-use Rattle.zonecfg_scopes.specs.Edited as edited
-use Rattle.zonecfg_scopes.specs.Edited.{Edited, after_command, answer_of, opened_on, or_stay, reply_of}
+use Rattle.zonecfg_scopes.specs.Edited.{Edited, after_command, answer_of, opened_on, or_stay}
 use Rattle.zonecfg_scopes.specs.Forms.{command_of}
 use Rattle.zonecfg_scopes.specs.Open.{Inside, Nothing as Closed, Open, Whole}
 use Rattle.zonecfg_scopes.specs.OpenOf.{config_of}
