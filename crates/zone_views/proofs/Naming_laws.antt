@@ -5,7 +5,9 @@ use Rattle.std.proofs.lemmas.Bool.{and_parts}
 use Rattle.std.specs.List.{AllByRecursion, Contains}
 use Rattle.zn_base.specs.Names.{Name}
 use Rattle.brand_hooks.specs.Brands.{Tabled}
+use Rattle.commit_journal.specs.Bodies.{IsRecord}
 use Rattle.commit_journal.specs.declared.records.Commit.{Commit}
+use Rattle.commit_journal.specs.declared.records.Record.{Record}
 use Rattle.zone_pools.proofs.Owned_laws.{same_self}
 use Rattle.zone_pools.specs.declared.grant.Grant.{Grant}
 use Rattle.zoneadmd_laws.specs.Agreement.{Agrees}
@@ -124,6 +126,10 @@ entries-own z permits brands commits h more e right is of =
     let same = (subject-Decides e.subject (subject S e.event)).0 told.0 in
     subst (λ (r : Reply). AreAmong (names z r) (own z S e.event e.grant)) (sym ((reply-Decides e.reply (one S e.event e.grant).reply).0 told.1))
     (names-own z brands commits h e.event e.grant right (sym same ∙ of))
+
+-- what is stored, and the tables
+pub record-right : (row : Record) → IsRecord row → IsRight row
+record-right row is = record { state = is.state; config = is.config }
 
 pub records-right : (z : Name) (brands : List Tabled) (commits : List Commit) (h : List Entry) → IfSome (stored z commits) IsRight → IfSome (stored z (after (opening brands commits) h).commits) IsRight
 records-right z brands commits h right = (settled-after z brands commits h right).right.stored

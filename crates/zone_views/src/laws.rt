@@ -26,7 +26,9 @@ ghost use Rattle.zone_cases.specs.declared.replies.Head.TheVariants.{Turned};
 ghost use Rattle.datalink_table.specs.Claims.{each_once, holds};
 ghost use Rattle.datalink_table.specs.declared.claims.Claim.{Claim};
 ghost use Rattle.brand_hooks.specs.Brands.{Tabled};
+ghost use Rattle.commit_journal.specs.Bodies.{IsRecord};
 ghost use Rattle.commit_journal.specs.declared.records.Commit.{Commit};
+ghost use Rattle.commit_journal.specs.declared.records.Record.{Record};
 ghost use Rattle.zone_views.specs.Edits.{EditsDenoted};
 ghost use Rattle.zone_views.specs.Naming.{AreAmong, names, own};
 ghost use Rattle.zone_views.specs.Numbers.{AllDiffer, pids, zids};
@@ -225,8 +227,10 @@ pub fn mounts_are_few()
 /// After any history, whatever was granted, what is stored of a zone is right, where it was so at the start: its state is
 /// configured, incomplete or installed, and its configuration is sound (zonecfg(8)).
 pub fn stores_hold_records()
-    ensures { (z : Name) (brands : List Tabled) (commits : List Commit) (h : List Entry) → IfSome (stored z commits) IsRight
+    ensures after { (z : Name) (brands : List Tabled) (commits : List Commit) (h : List Entry) → IfSome (stored z commits) IsRight
         → IfSome (stored z (after (opening brands commits) h).commits) IsRight }
+    // What a store's form allows is right.
+    ensures form { (row : Record) → IsRecord row → IsRight row }
 {}
 
 /// After any history, whatever was granted, a zone's tables agree with its daemon (zoneadmd(8)), where what was stored of the
