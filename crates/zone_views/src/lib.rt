@@ -1,11 +1,11 @@
-//! What a zone learns of the others: the laws of the zone machine's definitions. Removing all other zones'
-//! entries, grants kept, changes no reply of a zone and none of the whole system; a reply to a zone names the zone's own
-//! objects alone; what is declared changes by
-//! declarations alone; from records that a store may hold, zones move only along the transition table; each
-//! process's privileges lie within its zone's limit set; a zone has 128 mounts at most; a session that is logged in has its process, one at a
-//! console holds it, and no turn is idle of a daemon that a session waits for; and where the grants fit, those that
-//! the pools give fit too, each process and zone number is held once, and each item that a zone claims is declared, and
-//! claimed by no other. Each law is the contract of a function that does nothing.
+//! What a zone learns of the others: the laws of the zone machine's definitions. Removing all other zones' entries,
+//! grants kept, changes no reply of a zone and none of the whole system; a reply to a zone names the zone's own objects
+//! alone; what is declared changes by declarations alone; from records that a store may hold, zones move only along the
+//! transition table; each process's privileges lie within its zone's limit set; a zone has 128 mounts at most; a
+//! session that is logged in has its process, one at a console holds it, and no turn is idle of a daemon that a session
+//! waits for; and where the grants fit, those that the pools give fit too, each process and zone number is held once,
+//! and each item that a zone claims is declared, and claimed by no other. Each law is the contract of a function that
+//! does nothing.
 #![tactic(auto)]
 
 mod laws;
