@@ -104,7 +104,7 @@ module _ (z : Name) (w : World) (h : Held w) where
   idle_away k idle = ap is_there idle
 
   seat_away : (k : ℕ) (d : Option Doing) → Seat z w k d → (is_there d ≡ false) × (is_there (w.sessions k) ≡ false)
-  seat_away k _ (Opens base idle) = (refl, idle_away k idle)
+  seat_away k _ (Opens base is idle) = (refl, idle_away k idle)
   seat_away k _ (Leaves_off e there) = (refl, ap is_there there)
   seat_away k _ (Says e text there) = (refl, ap is_there there)
   seat_away k _ (Stores e text config m there ends shown) = (refl, ap is_there there)
@@ -141,7 +141,7 @@ module _ (z : Name) (w : World) (h : Held w) where
   does_held : (n : Option ℕ) (c : Option Arrival) (es : List Edit) → Does z w n c es → Held (edits_world n es (after_came_world c w))
   does_held _ _ _ (Tells n) = h
   does_held _ _ _ (Edits k es s) = seated_held k es s w (λ a. a) h
-  does_held _ _ _ (Records k stored config m es is s) = let row = Some (committed_record z stored config m) in at_keeps row (keeps_console row)
+  does_held _ _ _ (Records k stored config m es is says s) = let row = Some (committed_record z stored config m) in at_keeps row (keeps_console row)
     where
       at_keeps : (row : Option Record) (keeps : Bool) → Held (edits_world (Some k) es (console_gone_world keeps (record w { stored = row })))
       at_keeps row true = seated_held k es s (record w { stored = row }) (λ a. a) h

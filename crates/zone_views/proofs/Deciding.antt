@@ -1,7 +1,7 @@
 -- What an event of a zone leaves of the zone's world.
 use Rattle.std.specs.Prelude.{is_some, ◌&&◌, ◌||◌, ◌==◌, Result, Ok as Right, Err, if◌then◌else◌}
 use Rattle.kernel_objects.specs.Kernel.{at_limit, entered, fork_set, forked, fs_allowed_of}
-use Rattle.kernel_objects.specs.Processes.{Process, at_pid, dropping, ends, may_exec, may_mount, renamed, with_pid}
+use Rattle.kernel_objects.specs.Processes.{Process, at_pid, below, dropping, ends, may_exec, may_mount, renamed, with_pid}
 use Rattle.kernel_objects.specs.declared.faults.Errno.{Errno}
 use Rattle.kernel_objects.specs.declared.faults.Errno.TheVariants.{EAGAIN}
 use Rattle.kernel_objects.specs.declared.objects.Signal.{Signal}
@@ -16,8 +16,9 @@ use Rattle.loopback_mounts.specs.declared.faults.HoldFault.{HoldFault}
 use Rattle.loopback_mounts.specs.declared.faults.MountFault.{MountFault}
 use Rattle.loopback_mounts.specs.declared.mount.Mount.{Mount}
 use Rattle.loopback_mounts.specs.declared.mount.MountEntry.{MountEntry}
+use Rattle.std.specs.Option.{option_map}
 use Rattle.zone_cases.specs.Calls.{called, calls, calls_if_there, ending, execs, forks, is_by_process, mount_of, mounts, mounts_if_free, mounts_special, signals, tells_place, unmounts, unmounts_if_free}
-use Rattle.std.proofs.Common.{◌≡◌, ◌+◌, ◌∷◌, ◌++◌, [], map, ℕ, List, Bool, Option, Some, None, true, false, codes, refl, subst, sym}
+use Rattle.std.proofs.Common.{◌≡◌, ◌+◌, ◌∷◌, ◌++◌, [], map, ℕ, List, Bool, Option, Some, None, true, false, codes, ap, refl, subst, sym, ◌∙◌}
 use Rattle.console_link.specs.Consoles as consoles
 use Rattle.console_link.specs.Consoles.{new_console}
 use Rattle.zn_base.specs.Lines.{lines_of}
@@ -42,7 +43,7 @@ use Rattle.zone_pools.specs.declared.grant.Grant.{Grant}
 use Rattle.zone_machine.specs.Code.Works.{turned_act}
 use Rattle.zone_machine.proofs.Turned_laws.{In, decide-turn, has-turned, in-act, stored_after, turn_act}
 use Rattle.zone_machine.proofs.Doing_laws.{edits-then}
-use Rattle.zone_pools.specs.Owned_lists.{Change, Go, List_edit, Put, edited}
+use Rattle.zone_pools.specs.Owned_lists.{Change, Go, List_edit, Put, edited, put}
 use Rattle.zoneadmd_steps.specs.Objects.{Object_edit, Of_mounts, Process_goes, Processes_change, kernel_of, mounts_after}
 use Rattle.zoneadmd_steps.specs.Arrivals.{Arrival, New_process, New_record}
 use Rattle.zone_cases.specs.State.Decisions.{Act, Decision, Effect, act_of, acts_world, after_came_world, done_saying, sweeps, ticket_ended, told}
@@ -53,7 +54,7 @@ use Rattle.zone_cases.specs.Session.Logins.{alone, call_word, entered_line, entr
 use Rattle.zone_cases.specs.Session.Lines.{Ask as Asks, Blank, Clone, Command, Console, Edit, Enter, Help, Hold, Kill, Line, List_one, List_zones, Login, Release, Unforced, Unknown, Verify, Zonecfg, line_of}
 use Rattle.zone_machine.specs.Machine.{decide, session_number}
 use Rattle.zone_cases.specs.State.{At_console, Awaiting, Doing, Editing, Logged_in}
-use Rattle.zone_cases.specs.Session.Commits.{A_session, Alone, Goes_on, Hearer, Leaves, Of_its_own, Typist, base_now, based, commit, commit_over, commit_unless, commits, committed_record, delete, delete_seen, edits_line, ended, goes, goes_over, is_configured, keeps_place, leaves, line_refusal, records, refuses, removes, revision_now, said_alone, said_to, telling, typist, zonecfg}
+use Rattle.zone_cases.specs.Session.Commits.{A_session, Alone, Goes_on, Hearer, Leaves, Of_its_own, Typist, base_now, base_of, based, commit, commit_over, commit_unless, commits, committed_record, delete, delete_seen, edits_line, ended, goes, goes_over, is_configured, keeps_place, leaves, line_refusal, records, refuses, removes, revision_now, said_alone, said_to, telling, typist, zonecfg}
 use Rattle.zone_cases.specs.Session.Typed.{held_answer, holding_at, holds, idle_line, put_clone, put_request, typed}
 use Rattle.zone_cases.specs.State.Worlds.{View, World, objects_of, view_of}
 use Rattle.zoneadmd_steps.specs.declared.requests.Request.{Request}
@@ -86,10 +87,10 @@ pub data Called (w : World) : Option ℕ → Option Arrival → List Zone_edit �
   Drops : (n : Option ℕ) (pid number : ℕ) → Called w n None (Of_objects (Processes_change (at_pid pid (dropping number))) ∷ [])
 
 -- what a call of a zone's process does to the zone's mounts, or a hold from the global zone
-pub data Mounted (ms : List MountEntry) : List_edit MountEntry → Type 0 where
-  Mounts : (m : Mount) → mount_answer m.dir ms ≡ Right tt → Mounted ms (Put (before m.dir) (record { mount = m; held = false }))
-  Unmounts : (dir : List ℕ) → Mounted ms (Go (is_at dir))
-  Holds : (dir : List ℕ) (held : Bool) → Mounted ms (Change (at_dir dir (with_hold held)))
+pub data Mounted (ps : List Process) (ms : List MountEntry) : List_edit MountEntry → Type 0 where
+  Mounts : (m : Mount) → (ps ≡ [] → ⊥) → mount_answer m.dir ms ≡ Right tt → Mounted ps ms (Put (before m.dir) (record { mount = m; held = false }))
+  Unmounts : (dir : List ℕ) → (ps ≡ [] → ⊥) → Mounted ps ms (Go (is_at dir))
+  Holds : (dir : List ℕ) (held : Bool) → Mounted ps ms (Change (at_dir dir (with_hold held)))
 
 -- what becomes of the zone's console, and of the session that has it from now on, or has it no more
 pub data Consoled (w : World) : Option ℕ → List Zone_edit → Type 0 where
@@ -102,12 +103,12 @@ pub data Consoled (w : World) : Option ℕ → List Zone_edit → Type 0 where
 pub data Unasked (w : World) : Option ℕ → List Zone_edit → Type 0 where
   Says_only : (n : Option ℕ) → Unasked w n []
   Changes : (n : Option ℕ) (es : List Zone_edit) → Called w n None es → Unasked w n es
-  Mounts_on : (n : Option ℕ) (e : List_edit MountEntry) → Mounted w.mounts e → Unasked w n (Of_objects (Of_mounts e) ∷ [])
+  Mounts_on : (n : Option ℕ) (e : List_edit MountEntry) → Mounted w.processes w.mounts e → Unasked w n (Of_objects (Of_mounts e) ∷ [])
   Tells_console : (n : Option ℕ) (text : List ℕ) → Unasked w n (Of_console (Line_of text) ∷ [])
 
 -- what a session of z edits from now on that types a line of zonecfg(8), or that it leaves its editor
 pub data Seat (z : Name) (w : World) (k : ℕ) : Option Doing → Type 0 where
-  Opens : (base : Option Base) → w.sessions k ≡ None → Seat z w k (Some (Editing (opened_on z base)))
+  Opens : (base : Option Base) → base ≡ option_map base_of w.stored → w.sessions k ≡ None → Seat z w k (Some (Editing (opened_on z base)))
   Leaves_off : (e : Edited) → w.sessions k ≡ Some (Editing e) → Seat z w k None
   Says : (e : Edited) (text : List ℕ) → w.sessions k ≡ Some (Editing e) → Seat z w k (Some (Editing (said_to (view_of z w) e text).edited))
   Stores : (e : Edited) (text : List ℕ) (config : Contents) (m : ℕ) → w.sessions k ≡ Some (Editing e) → (said_to (view_of z w) e text).end ≡ Right ending.Commit
@@ -118,20 +119,25 @@ pub data Seated (z : Name) (w : World) (k : ℕ) : List Zone_edit → Type 0 whe
   Unseated : Seated z w k []
   Is_seated : (d : Option Doing) → Seat z w k d → Seated z w k (Here d ∷ [])
 
+-- whose configuration a line of the session k commits: that of a line that is a session of its own, or what the session edits
+pub data Saying (z : Name) (w : World) (k : ℕ) (config : Contents) : Type 0 where
+  Alone_says : (text : List ℕ) → config_of (said_alone (view_of z w) text).edited.opened ≡ Some config → Saying z w k config
+  Session_says : (e : Edited) (text : List ℕ) → w.sessions k ≡ Some (Editing e) → config_of (said_to (view_of z w) e text).edited.opened ≡ Some config → Saying z w k config
+
 -- what an event of z does that is no turn of its daemon: what comes with a grant, and the edits. It tells something, or a line is
 -- said to an editor; a configuration is recorded over what is stored, or the zone is removed; a request is put on the desk; a
 -- call, a signal, a hold or a login does something; or the console has another line or another holder
 pub data Does (z : Name) (w : World) : Option ℕ → Option Arrival → List Zone_edit → Type 0 where
   Tells : (n : Option ℕ) → Does z w n None []
   Edits : (k : ℕ) (es : List Zone_edit) → Seated z w k es → Does z w (Some k) None es
-  Records : (k : ℕ) (stored : Option Record) (config : Contents) (m : ℕ) (es : List Zone_edit) → w.stored ≡ stored → Seated z w k es
+  Records : (k : ℕ) (stored : Option Record) (config : Contents) (m : ℕ) (es : List Zone_edit) → w.stored ≡ stored → Saying z w k config → Seated z w k es
       → Does z w (Some k) (Some (New_record (Some (committed_record z stored config m)))) es
   Removes : (k : ℕ) (row : Record) (es : List Zone_edit) → w.stored ≡ Some row → is_configured (state_now row w.desk) ≡ true → has_request w.desk ≡ false → Seated z w k es
       → Does z w (Some k) (Some (New_record None)) es
   Puts : (k : ℕ) (r : Request) (row : Record) → w.stored ≡ Some row → w.sessions k ≡ None
       → Does z w (Some k) None (Set_desk (with_request w.desk r) ∷ Here (Some (Awaiting (w.desk.last + 1))) ∷ [])
   Calls : (n : Option ℕ) (c : Option Arrival) (es : List Zone_edit) → Called w n c es → Does z w n c es
-  Remounts : (n : Option ℕ) (e : List_edit MountEntry) → Mounted w.mounts e → Does z w n None (Of_objects (Of_mounts e) ∷ [])
+  Remounts : (n : Option ℕ) (e : List_edit MountEntry) → Mounted w.processes w.mounts e → Does z w n None (Of_objects (Of_mounts e) ∷ [])
   Consoles : (n : Option ℕ) (es : List Zone_edit) → Consoled w n es → Does z w n None es
 
 -- what an event of z does that is no turn of its daemon: one of these; or a process comes, does what a call does that asks for no
@@ -141,6 +147,15 @@ pub data Acts (z : Name) (w : World) : Option ℕ → Option Arrival → List Zo
   Errand : (k pid : ℕ) (name : List ℕ) (es : List Zone_edit) → w.desk.active ≡ Some Running
       → Unasked (comes_world (New_process (entered (kernel_of (objects_of w)) name false pid)) w) (Some k) es
       → Acts z w (Some k) (Some (New_process (entered (kernel_of (objects_of w)) name false pid))) (es ++ Of_objects (Process_goes pid) ∷ [])
+
+-- a list into which something was put is not empty
+some-put : (q : Process → Bool) (p : Process) (ps : List Process) → put q p ps ≡ [] → ⊥
+some-put q p [] h = absurd (cc)
+some-put q p (x ∷ ps) h = at_test (q x) h
+  where
+    at_test : (b : Bool) → (if b then x ∷ put q p ps else p ∷ x ∷ ps) ≡ [] → ⊥
+    at_test true h = absurd (cc)
+    at_test false h = absurd (cc)
 
 -- what a call of a process comes to, by what the zone has and whom it finds
 module _ (z : Name) (w : World) (look : ℕ → Option Process) (n : Option ℕ) (pid : ℕ) (p : Process) where
@@ -170,27 +185,27 @@ module _ (z : Name) (w : World) (look : ℕ → Option Process) (n : Option ℕ)
       at_test true e = simp e (Changes n _ (Renames n pid name))
       at_test false e = simp e (Says_only n)
 
-  of_free : (mount : Mount) (answer : Result (Unit {0}) MountFault) → mount_answer mount.dir w.mounts ≡ answer → In Lone (mounts_if_free mount answer)
-  of_free mount (Err fault) is = Says_only n
-  of_free mount (Right free) is = Mounts_on n _ (Mounts mount is)
+  of_free : (w.processes ≡ [] → ⊥) → (mount : Mount) (answer : Result (Unit {0}) MountFault) → mount_answer mount.dir w.mounts ≡ answer → In Lone (mounts_if_free mount answer)
+  of_free some mount (Err fault) is = Says_only n
+  of_free some mount (Right free) is = Mounts_on n _ (Mounts mount some is)
 
-  of_special : (c : MountCall) (special : Result (List ℕ) MountFault) → In Lone (mounts_special c w.mounts special)
-  of_special c (Err fault) = Says_only n
-  of_special c (Right special) = of_free (mount_of c special) (mount_answer c.dir w.mounts) refl
+  of_special : (w.processes ≡ [] → ⊥) → (c : MountCall) (special : Result (List ℕ) MountFault) → In Lone (mounts_special c w.mounts special)
+  of_special some c (Err fault) = Says_only n
+  of_special some c (Right special) = of_free some (mount_of c special) (mount_answer c.dir w.mounts) refl
 
-  of_mount : (allowed : Option (List ℕ)) (c : MountCall) → In Lone (mounts p allowed c w.mounts)
-  of_mount allowed c = at_test (may_mount p && may_mount_type allowed c.fstype) refl
+  of_mount : (w.processes ≡ [] → ⊥) → (allowed : Option (List ℕ)) (c : MountCall) → In Lone (mounts p allowed c w.mounts)
+  of_mount some allowed c = at_test (may_mount p && may_mount_type allowed c.fstype) refl
     where
       at_test : (b : Bool) → (may_mount p && may_mount_type allowed c.fstype) ≡ b → In Lone (mounts p allowed c w.mounts)
-      at_test true e = rw e (of_special c (special_at w.mounts c.fstype c.special))
+      at_test true e = rw e (of_special some c (special_at w.mounts c.fstype c.special))
       at_test false e = rw e (Says_only n)
 
-  of_unmount : (dir : List ℕ) → In Lone (unmounts p dir w.mounts)
-  of_unmount dir = at_test (may_mount p && is_by_process (mount_at dir w.mounts)) refl
+  of_unmount : (w.processes ≡ [] → ⊥) → (dir : List ℕ) → In Lone (unmounts p dir w.mounts)
+  of_unmount some dir = at_test (may_mount p && is_by_process (mount_at dir w.mounts)) refl
     where
       at_answer : (answer : Result Mount MountFault) → In Lone (unmounts_if_free dir answer)
       at_answer (Err fault) = Says_only n
-      at_answer (Right mount) = Mounts_on n _ (Unmounts dir)
+      at_answer (Right mount) = Mounts_on n _ (Unmounts dir some)
 
       at_test : (b : Bool) → (may_mount p && is_by_process (mount_at dir w.mounts)) ≡ b → In Lone (unmounts p dir w.mounts)
       at_test true e = rw e (at_answer (unmount_answer dir w.mounts))
@@ -200,18 +215,18 @@ module _ (z : Name) (w : World) (look : ℕ → Option Process) (n : Option ℕ)
   of_place (Err fault) = Says_only n
   of_place (Right place) = Says_only n
 
-  of_calls : (c : Call) → In Lone (calls v pid p c)
-  of_calls (call.Fork name) = of_fork name (fork_set (Some p) (at_limit (kernel_of (objects_of w))))
-  of_calls (call.Exec name) = of_exec name
-  of_calls call.Exit = Changes n _ (Goes n pid)
-  of_calls (call.Kill signal target) = signalled true signal target (look target)
-  of_calls (call.Drop number) = Changes n _ (Drops n pid number)
-  of_calls (call.Mount c) = of_mount (fs_allowed_of (kernel_of (objects_of w)).id) c
-  of_calls (call.Umount dir) = of_unmount dir
-  of_calls (call.Read path) = of_place (place_at w.mounts path false)
-  of_calls (call.Write path) = of_place (place_at w.mounts path true)
-  of_calls (call.Cons text) = Tells_console n text
-  of_calls _ = Says_only n
+  of_calls : (w.processes ≡ [] → ⊥) → (c : Call) → In Lone (calls v pid p c)
+  of_calls some (call.Fork name) = of_fork name (fork_set (Some p) (at_limit (kernel_of (objects_of w))))
+  of_calls some (call.Exec name) = of_exec name
+  of_calls some call.Exit = Changes n _ (Goes n pid)
+  of_calls some (call.Kill signal target) = signalled true signal target (look target)
+  of_calls some (call.Drop number) = Changes n _ (Drops n pid number)
+  of_calls some (call.Mount c) = of_mount some (fs_allowed_of (kernel_of (objects_of w)).id) c
+  of_calls some (call.Umount dir) = of_unmount some dir
+  of_calls some (call.Read path) = of_place (place_at w.mounts path false)
+  of_calls some (call.Write path) = of_place (place_at w.mounts path true)
+  of_calls some (call.Cons text) = Tells_console n text
+  of_calls some _ = Says_only n
 
   -- by one that gets no second number
   alone_does : (d : Decision) → In Lone d → Unasked w n (alone d).edits
@@ -262,28 +277,29 @@ module _ (z : Name) (w : World) where
     of_done : (t : Typist) (told : List (List ℕ)) → Sits t → Did (Some k) None (telling (goes t) Ok told)
     of_done t told s = Edits k _ (seated_done t s)
 
-    of_record : (stored : Option Record) → w.stored ≡ stored → (config : Contents) (told : List (List ℕ)) (t : Typist) → Sits t → Stored_sits (Some config) t → DidHere (records z stored config told t)
-    of_record stored is config told t s b = (λ pool. of_refused t (Denied pool) told s, λ m. Records k stored config m _ is (at_typist t m s b))
+    of_record : (stored : Option Record) → w.stored ≡ stored → (config : Contents) → Saying z w k config → (told : List (List ℕ)) (t : Typist) → Sits t → Stored_sits (Some config) t → DidHere (records z stored config told t)
+    of_record stored is config says told t s b = (λ pool. of_refused t (Denied pool) told s, λ m. Records k stored config m _ is says (at_typist t m s b))
       where
         at_typist : (t : Typist) (m : ℕ) → Sits t → Stored_sits (Some config) t → Seated z w k (goes_over config m t)
         at_typist Alone m s b = Unseated
         at_typist (Goes_on e) m s b = Is_seated _ (b config m refl)
         at_typist (Leaves e) m s b = Is_seated _ s.1
 
-    of_over : (stored : Option Record) → w.stored ≡ stored → (d : Desk) (config : Contents) (told : List (List ℕ)) (t : Typist) → Sits t → Stored_sits (Some config) t → DidHere (commit_over z d stored config told t)
-    of_over None is d config told t s b = of_record None is config told t s b
-    of_over (Some row) is d config told t s b =
+    of_over : (stored : Option Record) → w.stored ≡ stored → (d : Desk) (config : Contents) → Saying z w k config → (told : List (List ℕ)) (t : Typist) → Sits t → Stored_sits (Some config) t → DidHere (commit_over z d stored config told t)
+    of_over None is d config says told t s b = of_record None is config says told t s b
+    of_over (Some row) is d config says told t s b =
         of_either (Some k) (same_contents config row.config) _ _ (of_done t told s)
-        (of_either (Some k) (keeps_place row config || is_configured (state_now row d)) _ _ (of_record (Some row) is config told t s b) (of_refused t (WrongState (state_now row d)) told s))
+        (of_either (Some k) (keeps_place row config || is_configured (state_now row d)) _ _ (of_record (Some row) is config says told t s b) (of_refused t (WrongState (state_now row d)) told s))
 
-    of_unless : (r : Result (Unit {0}) Flaw) (seen : ℕ) (config : Contents) (told : List (List ℕ)) (t : Typist) → Sits t → Stored_sits (Some config) t → DidHere (commit_unless r seen z w.desk w.stored config told t)
-    of_unless (Err flaw) seen config told t s b = of_refused t (Flawed flaw) told s
-    of_unless (Right fine) seen config told t s b = of_either (Some k) (revision_now w.stored == seen) _ _ (of_over w.stored refl w.desk config told t s b) (of_refused t (Changed seen (revision_now w.stored)) told s)
+    of_unless : (r : Result (Unit {0}) Flaw) (seen : ℕ) (config : Contents) → Saying z w k config → (told : List (List ℕ)) (t : Typist) → Sits t → Stored_sits (Some config) t → DidHere (commit_unless r seen z w.desk w.stored config told t)
+    of_unless (Err flaw) seen config says told t s b = of_refused t (Flawed flaw) told s
+    of_unless (Right fine) seen config says told t s b = of_either (Some k) (revision_now w.stored == seen) _ _ (of_over w.stored refl w.desk config says told t s b) (of_refused t (Changed seen (revision_now w.stored)) told s)
 
-    of_commit : (seen : ℕ) (o : Option Contents) (told : List (List ℕ)) (t : Typist) → Sits t → Stored_sits o t → DidHere (commit (view_of z w) seen o told t)
+    of_commit : (seen : ℕ) (o : Option Contents) → ((config : Contents) → o ≡ Some config → Saying z w k config) → (told : List (List ℕ)) (t : Typist) → Sits t → Stored_sits o t
+        → DidHere (commit (view_of z w) seen o told t)
     unfolding view_of
-    of_commit seen None told t s b = of_done t told s
-    of_commit seen (Some config) told t s b = of_unless (first (flaws (tabled_names w.brands) config)) seen config told t s b
+    of_commit seen None says told t s b = of_done t told s
+    of_commit seen (Some config) says told t s b = of_unless (first (flaws (tabled_names w.brands) config)) seen config (says config refl) told t s b
 
     of_removal : (row : Record) → w.stored ≡ Some row → is_configured (state_now row w.desk) ≡ true → has_request w.desk ≡ false → (told : List (List ℕ)) (t : Typist) → Sits t → DidHere (removes told t)
     of_removal row is e f told t s = (λ pool. of_refused t (Denied pool) told s, λ m. Removes k row _ is e f (seated_done t s))
@@ -305,25 +321,25 @@ module _ (z : Name) (w : World) where
     of_leaves seen ending.Nothing told t s = of_done t told s
 
     -- by what the line's session may do after it, whatever its end, and after a commit that doesn't leave
-    of_ended : (h : Hearer) (run : Run) (r : Result Ending LineRefusal) → ((e : Ending) → Sits (typist h e run.edited))
+    of_ended : (h : Hearer) (run : Run) (r : Result Ending LineRefusal) → ((config : Contents) → config_of run.edited.opened ≡ Some config → Saying z w k config) → ((e : Ending) → Sits (typist h e run.edited))
         → (r ≡ Right ending.Commit → Stored_sits (config_of run.edited.opened) (typist h ending.Commit run.edited))
         → ((force : Bool) → Stored_sits (config_of run.edited.opened) (typist h (ending.Exit force) run.edited)) → DidHere (ended (view_of z w) h run r)
-    of_ended h run (Err refusal) s b x = of_refused (typist h ending.Nothing run.edited) (line_refusal refusal) run.told (s ending.Nothing)
-    of_ended h run (Right ending.Commit) s b x =
-        of_commit (revision_of run.edited.base) (config_of run.edited.opened) run.told (typist h ending.Commit run.edited) (s ending.Commit) (b refl)
-    of_ended h run (Right (ending.Exit force)) s b x =
+    of_ended h run (Err refusal) says s b x = of_refused (typist h ending.Nothing run.edited) (line_refusal refusal) run.told (s ending.Nothing)
+    of_ended h run (Right ending.Commit) says s b x =
+        of_commit (revision_of run.edited.base) (config_of run.edited.opened) says run.told (typist h ending.Commit run.edited) (s ending.Commit) (b refl)
+    of_ended h run (Right (ending.Exit force)) says s b x =
         let seen = revision_of run.edited.base in let t = typist h (ending.Exit force) run.edited in
-        of_either (Some k) (commits (ending.Exit force) (is_changed run.edited)) _ _ (of_commit seen (config_of run.edited.opened) run.told t (s (ending.Exit force)) (x force))
+        of_either (Some k) (commits (ending.Exit force) (is_changed run.edited)) _ _ (of_commit seen (config_of run.edited.opened) says run.told t (s (ending.Exit force)) (x force))
         (of_leaves seen (ending.Exit force) run.told t (s (ending.Exit force)))
-    of_ended h run (Right ending.Delete) s b x = of_leaves (revision_of run.edited.base) ending.Delete run.told (typist h ending.Delete run.edited) (s ending.Delete)
-    of_ended h run (Right ending.Nothing) s b x = of_leaves (revision_of run.edited.base) ending.Nothing run.told (typist h ending.Nothing run.edited) (s ending.Nothing)
+    of_ended h run (Right ending.Delete) says s b x = of_leaves (revision_of run.edited.base) ending.Delete run.told (typist h ending.Delete run.edited) (s ending.Delete)
+    of_ended h run (Right ending.Nothing) says s b x = of_leaves (revision_of run.edited.base) ending.Nothing run.told (typist h ending.Nothing run.edited) (s ending.Nothing)
 
     -- a line that is a session of its own, and one of a session that edits
     of_alone : (text : List ℕ) → DidHere (zonecfg (view_of z w) text)
-    of_alone text = of_ended Of_its_own (said_alone (view_of z w) text) (said_alone (view_of z w) text).end (λ e. tt) (λ is. tt) (λ force. tt)
+    of_alone text = of_ended Of_its_own (said_alone (view_of z w) text) (said_alone (view_of z w) text).end (λ config shown. Alone_says text shown) (λ e. tt) (λ is. tt) (λ force. tt)
 
     of_edits : (e : Edited) (text : List ℕ) → w.sessions k ≡ Some (Editing e) → DidHere (edits_line (view_of z w) e text)
-    of_edits e text there = of_ended A_session (said_to (view_of z w) e text) (said_to (view_of z w) e text).end sits (λ is config c shown. Stores e text config c there is shown) (λ force. tt)
+    of_edits e text there = of_ended A_session (said_to (view_of z w) e text) (said_to (view_of z w) e text).end (λ config shown. Session_says e text there shown) sits (λ is config c shown. Stores e text config c there is shown) (λ force. tt)
       where
         sits : (ending : Ending) → Sits (typist A_session ending (said_to (view_of z w) e text).edited)
         sits ending.Commit = Says e text there
@@ -364,7 +380,7 @@ module _ (z : Name) (w : World) where
 
     of_call : (pid : ℕ) (p : Process) (c : Call) → with_pid pid w.processes ≡ Some p → In (Did n) (calls (view_of z w) pid p c)
     unfolding view_of
-    of_call pid p c is = of_lone pid p (calls (view_of z w) pid p c) is (of_calls z w (λ target. with_pid target w.processes) n pid p c)
+    of_call pid p c is = of_lone pid p (calls (view_of z w) pid p c) is (of_calls z w (λ target. with_pid target w.processes) n pid p (λ e. let none : None ≡ Some p = sym (ap (with_pid pid) e) ∙ is in cc) c)
 
     of_called : (pid : ℕ) (p : Option Process) (c : Call) → with_pid pid w.processes ≡ p → In (Did n) (calls_if_there (view_of z w) pid p c)
     of_called pid None c is = Tells n
@@ -435,7 +451,7 @@ module _ (z : Name) (w : World) where
         let p = entered (kernel_of (objects_of w)) (call_word c) false pid in
         let here = comes_world (New_process p) w in
         let look = (with_newcomer p (view_of z w)).process in
-        Errand k pid (call_word c) _ running (alone_does z here look (Some k) pid p (calls (record { zone = z; world = here; process = look }) pid p c) (of_calls z here look (Some k) pid p c)),
+        Errand k pid (call_word c) _ running (alone_does z here look (Some k) pid p (calls (record { zone = z; world = here; process = look }) pid p c) (of_calls z here look (Some k) pid p (some-put (below pid) p w.processes) c)),
   )
 
   of_entered : (k : ℕ) (said : Said) → In (Acted (Some k)) (entered_line (view_of z w) said)
@@ -471,7 +487,7 @@ module _ (z : Name) (w : World) where
   of_line k (Login escape) idle = of_login k w.stored escape idle
   of_line k (Console escape) idle = of_console k escape (console_refusal w.stored w.desk w.console) refl idle
   of_line k (Enter text) idle = of_entered k (call_of text)
-  of_line k Edit idle = Edits k _ (Is_seated _ (Opens (base_now (view_of z w)) idle))
+  of_line k Edit idle = Edits k _ (Is_seated _ (Opens (base_now (view_of z w)) refl idle))
   of_line k (Zonecfg text) idle = of_alone k text
   of_line k (Asks r) idle = of_request k r w.stored refl idle
   of_line k (Clone word) idle = of_clone k (name_of word) idle
@@ -525,7 +541,7 @@ module _ (P : World → Type 0) (z : Name) (w : World) (seated : (sessions : ℕ
     → P (record w { stored = None; sessions = sessions; console = console }))
     (asked : (r : Request) (sessions : ℕ → Option Doing) → P (record w { desk = with_request w.desk r; sessions = sessions }))
     (others : (n : Option ℕ) (c : Option Arrival) (es : List Zone_edit) → Called w n c es → P (edits_world n es (after_came_world c w)))
-    (remounted : (e : List_edit MountEntry) → Mounted w.mounts e → P (record w { mounts = edited e w.mounts })) where
+    (remounted : (e : List_edit MountEntry) → Mounted w.processes w.mounts e → P (record w { mounts = edited e w.mounts })) where
   abbrev here : ℕ → Option Doing → ℕ → Option Doing
   here k d = λ j. at_session (Some k) j d (w.sessions j)
 
@@ -539,7 +555,7 @@ module _ (P : World → Type 0) (z : Name) (w : World) (seated : (sessions : ℕ
       at_seat : (es : List Zone_edit) → Seated z w k es → P (edits_world (Some k) es w)
       at_seat _ Unseated = seated w.sessions w.console
       at_seat _ (Is_seated d s) = seated (here k d) w.console
-  of_does _ _ _ (Records k stored config m es is s) = at_seat es s (keeps_console (Some (committed_record z stored config m)))
+  of_does _ _ _ (Records k stored config m es is says s) = at_seat es s (keeps_console (Some (committed_record z stored config m)))
     where
       at_seat : (es : List Zone_edit) → Seated z w k es → (keeps : Bool) → P (edits_world (Some k) es (console_gone_world keeps (record w { stored = Some (committed_record z stored config m) })))
       at_seat _ Unseated true = recorded stored config m w.sessions w.console is

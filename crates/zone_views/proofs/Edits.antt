@@ -149,7 +149,7 @@ stored_denoted config k e (Whole c) is h shown =
 module _ (z : Name) (w : World) (k : ℕ) (h : EditsDenoted (w.sessions k)) where
   seat_denoted : (d : Option Doing) → Seat z w k d → EditsDenoted d
   seat_denoted _ (Leaves_off e there) = tt
-  seat_denoted _ (Opens base idle) = begun z base
+  seat_denoted _ (Opens base is idle) = begun z base
   seat_denoted _ (Says old text there) = line_denoted (base_now (view_of z w)) (tabled_names (view_of z w).world.brands) text old (subst EditsDenoted there h)
   seat_denoted _ (Stores old text config m there ends shown) =
       stored_denoted config m (said_to (view_of z w) old text).edited _ refl (line_whole (base_now (view_of z w)) (tabled_names (view_of z w).world.brands) text old ends) shown
@@ -189,7 +189,7 @@ module _ (z : Name) (w : World) (h : AllDenoted w) where
   does_denoted : (n : Option ℕ) (c : Option Arrival) (es : List Edit) → Does z w n c es → AllDenoted (edits_world n es (after_came_world c w))
   does_denoted _ _ _ (Tells n) = h
   does_denoted _ _ _ (Edits k es s) = seated_denoted k es s w h
-  does_denoted _ _ _ (Records k stored config m es is s) =
+  does_denoted _ _ _ (Records k stored config m es is says s) =
       let row = Some (committed_record z stored config m) in seated_denoted k es s (console_gone_world (keeps_console row) (record w { stored = row })) (kept-gone EditsDenoted tt (keeps_console row) (record w { stored = row }) h)
   does_denoted _ _ _ (Removes k row es is c r s) = seated_denoted k es s (console_gone_world false (record w { stored = None })) (kept-gone EditsDenoted tt false (record w { stored = None }) h)
   does_denoted _ _ _ (Puts k r row is idle) = kept-here EditsDenoted k (Some (Awaiting (w.desk.last + 1))) w.sessions tt h

@@ -39,6 +39,10 @@ module _ (P : World → Type 0) (keeps : (z : Name) (w : World) (e : Event) (g :
       at_test true = keeps z w e g h
       at_test false = h
 
+  -- of one zone, or of each
+  pub kept-of : (z : Name) (S : State) (h : List Entry) → P (world z S) → P (world z (after S h))
+  kept-of z S [] is = is
+  kept-of z S (e ∷ h) is = kept-of z (after_entry S e) h (subst P (sym (world-one z S e.event e.grant)) (kept-by z (subject S e.event) (world z S) e.event e.grant is))
+
   pub kept-after : (S : State) (h : List Entry) → ((z : Name) → P (world z S)) → (z : Name) → P (world z (after S h))
-  kept-after S [] is z = is z
-  kept-after S (e ∷ h) is z = kept-after (after_entry S e) h (λ y. subst P (sym (world-one y S e.event e.grant)) (kept-by y (subject S e.event) (world y S) e.event e.grant (is y))) z
+  kept-after S h is z = kept-of z S h (is z)

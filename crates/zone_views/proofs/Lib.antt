@@ -1,4 +1,5 @@
 mod Examples
+mod Naming_examples
 pub mod Purge
 pub mod Runs
 pub mod Deciding
@@ -19,6 +20,15 @@ pub mod Small_numbers
 pub mod Kept_entries
 pub mod Placing
 pub mod Kept_grants
+pub mod Sound_configs
+pub mod Sound_edits
+pub mod Belonging
+pub mod Alike
+pub mod Naming_turns
+pub mod Rights
+pub mod Settled
+pub mod Naming_cases
+pub mod Naming_laws
 mod Edits
 mod Logins
 mod Consoles

@@ -48,24 +48,24 @@ use Rattle.zone_views.proofs.Deciding.{Called, Comes, Does, Drops, Enters, Forks
 use Rattle.zone_views.proofs.Keeping.{kept-after}
 use Rattle.zone_views.proofs.Nexts.{Holds_next, begins, holds-next}
 
-abbrev is_up : Option ZoneState → Bool
+abbrev pub is_up : Option ZoneState → Bool
 is_up None = false
 is_up (Some Installed) = false
 is_up (Some _) = true
 
 -- a zone whose state is running may have processes
-abbrev runs_only : (may : Bool) → (active : Option ZoneState) → Bool
+abbrev pub runs_only : (may : Bool) → (active : Option ZoneState) → Bool
 runs_only true active = true
 runs_only false (Some Running) = false
 runs_only false active = true
 
 -- a zone that may have processes is active, and a failure undoes nothing
-abbrev stands : (may : Bool) → (active : Option ZoneState) → (clean : Bool) → Bool
+abbrev pub stands : (may : Bool) → (active : Option ZoneState) → (clean : Bool) → Bool
 stands may active clean = not may || (is_up active && clean)
 
 -- so it is where a step may fail and at the end of a plan, which changes the limits only where there are no processes, and
 -- keeps that a running zone may have them
-abbrev plan_stands : (may : Bool) → (active : Option ZoneState) → (clean : Bool) → List Step → Bool
+abbrev pub plan_stands : (may : Bool) → (active : Option ZoneState) → (clean : Bool) → List Step → Bool
 plan_stands may active clean [] = stands may active true
 plan_stands may active clean (Hook change ∷ rest) = stands may active clean && plan_stands may active clean rest
 plan_stands may active clean (Record_step s ∷ rest) = stands may active clean && plan_stands may active clean rest
@@ -85,24 +85,24 @@ plan_stands may active clean (Clear ∷ rest) = not may && plan_stands may activ
 plan_stands may active clean (ZidBack id ∷ rest) = not may && plan_stands may active clean rest
 plan_stands may active clean (_ ∷ rest) = plan_stands may active clean rest
 
-abbrev stage_stands : (may : Bool) → (active : Option ZoneState) → (made : List Step) → Stage → Bool
+abbrev pub stage_stands : (may : Bool) → (active : Option ZoneState) → (made : List Step) → Stage → Bool
 stage_stands may active made (Goes_on left) = plan_stands may active (is_nil made) left
 stage_stands may active made (Fails outcome undo) = stands may active (is_nil undo)
 
-abbrev desk_stands : Bool → Option ZoneState → Option Job → Bool
+abbrev pub desk_stands : Bool → Option ZoneState → Option Job → Bool
 desk_stands may active None = stands may active true
 desk_stands may active (Some j) = stage_stands may active j.done.made j.stage
 
 -- what a zone keeps that has these processes and ids and whose desk says this
-record IsLimited (ps : List Process) (is : List Id) (active : Option ZoneState) (job : Option Job) : Type 0 where
+pub record IsLimited (ps : List Process) (is : List Id) (active : Option ZoneState) (job : Option Job) : Type 0 where
   -- whether the zone may have processes
-  may : Bool
-  none : may ≡ false → ps ≡ []
-  within : within_limit (kernel_of (record { processes = ps; mounts = []; claims = []; devices = []; ids = is })) ≡ true
-  runs : runs_only may active ≡ true
-  desk : desk_stands may active job ≡ true
+  pub may : Bool
+  pub none : may ≡ false → ps ≡ []
+  pub within : within_limit (kernel_of (record { processes = ps; mounts = []; claims = []; devices = []; ids = is })) ≡ true
+  pub runs : runs_only may active ≡ true
+  pub desk : desk_stands may active job ≡ true
 
-abbrev Limited : World → Type 0
+abbrev pub Limited : World → Type 0
 Limited w = IsLimited w.processes w.ids w.desk.active w.desk.job
 
 -- the ready part of a zone without processes, before what comes after it
@@ -350,12 +350,12 @@ module _ (w : World) (may : Bool) (none : may ≡ false → w.processes ≡ []) 
   limited_called _ _ _ (Renames n pid name) h = limited_change pid (renamed name) (λ p. refl) (within-renamed (kernel_of (objects_of w)) pid name within) h
   limited_called _ _ _ (Drops n pid number) h = limited_change pid (dropping number) (λ p. refl) (within-dropped (kernel_of (objects_of w)) pid number within) h
 
-limited-does : (z : Name) (w : World) → Limited w → (n : Option ℕ) (c : Option Arrival) (es : List Edit) → Does z w n c es → Limited (edits_world n es (after_came_world c w))
+pub limited-does : (z : Name) (w : World) → Limited w → (n : Option ℕ) (c : Option Arrival) (es : List Edit) → Does z w n c es → Limited (edits_world n es (after_came_world c w))
 limited-does z w is =
     of_does Limited z w (λ sessions console. is) (λ stored config k sessions console same. is) (λ row sessions console same configured idle. is) (λ r sessions. is)
     (λ n c es called. limited_called w is.may is.none is.within is.runs n c es called is.desk) (λ e mounted. record { may = is.may; none = is.none; within = is.within; runs = is.runs; desk = is.desk })
 
-limited-event : (z : Name) (w : World) (e : Event) (g : Grant) → Limited w → Limited (acts_world (session_number e) (act_of (decide (view_of z w) e) g) w)
+pub limited-event : (z : Name) (w : World) (e : Event) (g : Grant) → Limited w → Limited (acts_world (session_number e) (act_of (decide (view_of z w) e) g) w)
 limited-event z w e g is =
     let turned = in-act (Leaves w is.may is.none is.within is.runs) (turn (seen_of w)) g (limited_turn w is.may is.none is.within is.runs is.desk) in
     of_any z w Limited (λ v h. limited-does z v h) is g turned e

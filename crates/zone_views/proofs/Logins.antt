@@ -95,7 +95,7 @@ comes_left c w h = h
 -- any other event
 module _ (z : Name) (w : World) (h : HaveLogins w) where
   seat_left : (ps : List Process) (k : ℕ) (d : Option Doing) → Seat z w k d → HasLogin ps d
-  seat_left ps k _ (Opens base idle) = tt
+  seat_left ps k _ (Opens base is idle) = tt
   seat_left ps k _ (Leaves_off e there) = tt
   seat_left ps k _ (Says e text there) = tt
   seat_left ps k _ (Stores e text config m there ends shown) = tt
@@ -123,7 +123,7 @@ module _ (z : Name) (w : World) (h : HaveLogins w) where
   does_left : (n : Option ℕ) (c : Option Arrival) (es : List Edit) → Does z w n c es → HaveLogins (edits_world n es (after_came_world c w))
   does_left _ _ _ (Tells n) = h
   does_left _ _ _ (Edits k es s) = seated_left k es s w h
-  does_left _ _ _ (Records k stored config m es is s) =
+  does_left _ _ _ (Records k stored config m es is says s) =
       let row = Some (committed_record z stored config m) in let keeps = keeps_console row in
       seated_left k es s (console_gone_world keeps (record w { stored = row })) (gone_left keeps (record w { stored = row }) h)
   does_left _ _ _ (Removes k row es is c r s) = seated_left k es s (console_gone_world false (record w { stored = None })) (gone_left false (record w { stored = None }) h)

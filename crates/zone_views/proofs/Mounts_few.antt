@@ -11,6 +11,7 @@ use Rattle.brand_hooks.specs.declared.table.HookAnswer.TheVariants.{Proceed, Ref
 use Rattle.commit_journal.specs.declared.records.Commit.{Commit}
 use Rattle.commit_journal.specs.declared.records.Record.{Record}
 use Rattle.config_terms.specs.declared.fault.ConfigFault.{ConfigFault}
+use Rattle.kernel_objects.specs.Processes.{Process}
 use Rattle.loopback_mounts.specs.Mounts.{at_dir, before, is_at, is_held, mount_answer, mount_at, with_hold}
 use Rattle.loopback_mounts.specs.declared.limits.TheConstants.{MOUNTS_MAX}
 use Rattle.loopback_mounts.specs.declared.mount.Mount.{Mount}
@@ -72,10 +73,10 @@ one-more : (m : Mount) (ms : List MountEntry) → is_ok (mount_answer m.dir ms) 
 one-more m ms h = let room = has-room m.dir ms h in let more = put-one (before m.dir) (record { mount = m; held = false }) ms in omega (arith, room, more)
 
 -- what a call of a process does to the mounts, or a hold
-mounted-few : (ms : List MountEntry) (e : List_edit MountEntry) → Mounted_by ms e → AreFew ms → AreFew (edited e ms)
-mounted-few ms _ (Mounts m ok) h = one-more m ms (ap is_ok ok)
-mounted-few ms _ (Unmounts dir) h = fewer (is_at dir) ms h
-mounted-few ms _ (Holds dir held) h = let same = same-length (at_dir dir (with_hold held)) ms in omega (arith, same, h)
+mounted-few : (ps : List Process) (ms : List MountEntry) (e : List_edit MountEntry) → Mounted_by ps ms e → AreFew ms → AreFew (edited e ms)
+mounted-few ps ms _ (Mounts m some ok) h = one-more m ms (ap is_ok ok)
+mounted-few ps ms _ (Unmounts dir some) h = fewer (is_at dir) ms h
+mounted-few ps ms _ (Holds dir held) h = let same = same-length (at_dir dir (with_hold held)) ms in omega (arith, same, h)
 
 -- a turn
 module _ (o : Objects) (declared : List (List ℕ)) (brands : List Tabled) (d : Desk) (h : AreFew o.mounts) where
@@ -185,7 +186,7 @@ called-few w _ _ _ (Renames n pid name) h = h
 called-few w _ _ _ (Drops n pid number) h = h
 
 does-few : (z : Name) (w : World) → AreFew w.mounts → (n : Option ℕ) (c : Option Arrival) (es : List Edit) → Does z w n c es → AreFew (edits_world n es (after_came_world c w)).mounts
-does-few z w h n c es does = of_does (λ v. AreFew v.mounts) z w (λ sessions console. h) (λ stored config m sessions console is. h) (λ row sessions console is e f. h) (λ r sessions. h) (λ n c es called. called-few w n c es called h) (λ e mounted. mounted-few w.mounts e mounted h) n c es does
+does-few z w h n c es does = of_does (λ v. AreFew v.mounts) z w (λ sessions console. h) (λ stored config m sessions console is. h) (λ row sessions console is e f. h) (λ r sessions. h) (λ n c es called. called-few w n c es called h) (λ e mounted. mounted-few w.processes w.mounts e mounted h) n c es does
 
 pub few-after : (z : Name) (brands : List Tabled) (commits : List Commit) (h : List Entry) → length (world z (after (opening brands commits) h)).mounts ≤ 128
 few-after z brands commits h = kept-after (λ w. AreFew w.mounts)

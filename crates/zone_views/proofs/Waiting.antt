@@ -277,7 +277,7 @@ new_open d r = at_job (is_under_way (d.last + 1) d.job)
 -- any other event
 module _ (z : Name) (w : World) (h : Served w) where
   seat_open : (k : ℕ) (e : Desk) (d : Option Doing) → Seat z w k d → IsOpen e d
-  seat_open k e _ (Opens_editor base idle) = tt
+  seat_open k e _ (Opens_editor base is idle) = tt
   seat_open k e _ (Leaves_off c there) = tt
   seat_open k e _ (Says c text there) = tt
   seat_open k e _ (Stores c text config m there ends shown) = tt
@@ -310,7 +310,7 @@ module _ (z : Name) (w : World) (h : Served w) where
   does_served : (n : Option ℕ) (c : Option Arrival) (es : List Edit) → Does z w n c es → Served (edits_world n es (after_came_world c w))
   does_served _ _ _ (Tells n) = h
   does_served _ _ _ (Edits k es s) = seated_served k es s w h
-  does_served _ _ _ (Records k stored config m es is s) =
+  does_served _ _ _ (Records k stored config m es is says s) =
       let row = committed_record z stored config m in let keeps = keeps_console (Some row) in
       seated_served k es s (console_gone_world keeps (record w { stored = Some row })) (recorded_served row keeps)
   does_served _ _ _ (Removes k row es is c none s) = seated_served k es s (console_gone_world false (record w { stored = None })) (removed_served none)

@@ -3,3 +3,4 @@ pub mod Numbers
 pub mod Whole
 pub mod Edits
 pub mod Tickets
+pub mod Naming

@@ -1,5 +1,5 @@
 //! The laws, over every state or every history.
-ghost use Rattle.std.specs.Prelude.{◌≡◌, ◌≢◌, ◌≤◌, ◌⊎◌, Bool, List, None, Option, Some, false, is_some, length, true, ℕ};
+ghost use Rattle.std.specs.Prelude.{◌≡◌, ◌≢◌, ◌≤◌, ◌⊎◌, ◌++◌, ◌∷◌, Bool, IfSome, List, None, Option, Some, false, is_some, length, true, ℕ};
 ghost use Rattle.std.specs.List.{list_all, list_any};
 ghost use Rattle.zn_base.specs.Moves.{may_move};
 ghost use Rattle.zn_base.specs.Names.{Name};
@@ -15,7 +15,8 @@ ghost use Rattle.zone_machine.specs.Machine.{need, one, opening, subject};
 ghost use Rattle.zone_machine.specs.Machine.Pools.{allowed, fits};
 ghost use Rattle.zone_cases.specs.State.{At, At_console, Awaiting, Idle, Logged_in, State, bytes_used, stored, zone_state};
 ghost use Rattle.zone_cases.specs.State.Decisions.{says};
-ghost use Rattle.zone_cases.specs.State.Worlds.{objects_of, world};
+ghost use Rattle.zone_cases.specs.State.Worlds.{objects_of, seen_of, world};
+ghost use Rattle.zoneadmd_laws.specs.Agreement.{Agrees};
 ghost use Rattle.zoneadmd_steps.specs.Objects.{kernel_of};
 ghost use Rattle.zoneadmd_steps.specs.declared.requests.TurnReply.TheVariants.{Idle as No_work};
 ghost use Rattle.kernel_objects.specs.Kernel.{within_limit};
@@ -28,10 +29,13 @@ ghost use Rattle.zone_cases.specs.declared.replies.Head.TheVariants.{Turned};
 ghost use Rattle.datalink_table.specs.Claims.{each_once, holds};
 ghost use Rattle.datalink_table.specs.declared.claims.Claim.{Claim};
 ghost use Rattle.brand_hooks.specs.Brands.{Tabled};
+ghost use Rattle.commit_journal.specs.Bodies.{IsRecord};
 ghost use Rattle.commit_journal.specs.declared.records.Commit.{Commit};
+ghost use Rattle.commit_journal.specs.declared.records.Record.{Record};
 ghost use Rattle.zone_views.specs.Edits.{EditsDenoted};
+ghost use Rattle.zone_views.specs.Naming.{AreAmong, names, own};
 ghost use Rattle.zone_views.specs.Numbers.{AllDiffer, is_small, pids, zids};
-ghost use Rattle.zone_views.specs.Storable.{are_storable, ends_with_a_restart, zones_besides};
+ghost use Rattle.zone_views.specs.Storable.{IsRight, are_storable, ends_with_a_restart, zones_besides};
 ghost use Rattle.zone_views.specs.Tickets.{is_open};
 ghost use Rattle.zone_views.specs.Whole.{is_whole, whole_replies};
 
@@ -255,4 +259,34 @@ pub fn claimed_items_are_declared()
 pub fn mounts_are_few()
     ensures { (z : Name) (brands : List Tabled) (commits : List Commit) (h : List Entry)
         → length (world z (after (opening brands commits) h)).mounts ≤ 128 }
+{}
+
+/// After any history, whatever was granted, what is stored of a zone is right, where it was so at the start: its state is
+/// configured, incomplete or installed, and its configuration is sound (zonecfg(8)).
+pub fn stores_hold_records()
+    ensures after { (z : Name) (brands : List Tabled) (commits : List Commit) (h : List Entry) → IfSome (stored z commits) IsRight
+        → IfSome (stored z (after (opening brands commits) h).commits) IsRight }
+    // What a store's form allows is right.
+    ensures form { (row : Record) → IsRecord row → IsRight row }
+{}
+
+/// After any history, whatever was granted, a zone's tables agree with its daemon (zoneadmd(8)), where what was stored of the
+/// zone at the start is right. So a zone has what the steps of the request under way made, as far as they are done and not undone,
+/// and what the next step mounts or claims is not there yet.
+pub fn tables_agree_with_daemons()
+    ensures { (z : Name) (brands : List Tabled) (commits : List Commit) (h : List Entry) → IfSome (stored z commits) IsRight
+        → Agrees (seen_of (world z (after (opening brands commits) h))) }
+{}
+
+/// After any history, whatever was granted, each object that a reply to a zone names is the zone's own, where what was stored of
+/// the zone at the start is right: the zone has it before the event or after it, or it is the process or the id whose number the
+/// event's grant gives.
+pub fn replies_name_own_objects()
+    ensures events { (z : Name) (brands : List Tabled) (commits : List Commit) (h : List Entry) (e : Event) (g : Grant) → IfSome (stored z commits) IsRight
+        → let S = after (opening brands commits) h in
+        subject S e ≡ Zone z → AreAmong (names z (one S e g).reply) (own z S e g) }
+    // So it is of each entry of the zone in a history, a legal one or one of stated grants.
+    ensures entries { (z : Name) (permits : State → Event → Grant → Bool) (brands : List Tabled) (commits : List Commit) (h more : List Entry) (e : Entry)
+        → IfSome (stored z commits) IsRight → is_history permits (opening brands commits) (h ++ e ∷ more) ≡ true
+        → e.subject ≡ Zone z → AreAmong (names z e.reply) (own z (after (opening brands commits) h) e.event e.grant) }
 {}
