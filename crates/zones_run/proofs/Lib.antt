@@ -14,6 +14,7 @@ pub mod TraceEnds
 pub mod TraceStarts
 pub mod Histories
 pub mod Permitted
+pub mod Purged_runs
 pub mod Keeping
 pub mod TraceRecords
 pub mod Stopping

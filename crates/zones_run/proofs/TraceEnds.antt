@@ -53,7 +53,7 @@ no_more mode done refused n S lines ending is =
     ap (with_script done refused S) is ∙ ap (λ entries. ended_run entries (or_else refused None) ending) (append-nil done) ∙ ap (λ first. ended_run done first ending) (or_else-None refused)
 
 -- every ending has the text of its entries
-told-out : (mode : Mode) (done : List Entry) (refused : Option ℕ) (ending : Ending) → (told mode (ended_run done refused ending)).out ≡ entries_text mode done
+pub told-out : (mode : Mode) (done : List Entry) (refused : Option ℕ) (ending : Ending) → (told mode (ended_run done refused ending)).out ≡ entries_text mode done
 told-out mode done None At_end = refl
 told-out mode done (Some n) At_end = refl
 told-out mode done refused (At_fault n fault) = refl

@@ -22,6 +22,7 @@ pub mod Turns_end
 pub mod Resting
 pub mod Declarations
 pub mod Permitted
+pub mod Purged
 pub mod Program
 pub mod Run
 pub mod Denoted

@@ -4,6 +4,7 @@ ghost use Rattle.zones_run.specs.Declarations.{DeclaresFirst};
 ghost use Rattle.zones_run.specs.Denoted.{ExportsWhatIsDenoted, RefusesAtWhatIsDenoted};
 ghost use Rattle.zones_run.specs.Resting.{CrashesLeaveStoredStates};
 ghost use Rattle.zones_run.specs.Permitted.{EntriesAreTheMachines, LinesAreTheEvents};
+ghost use Rattle.zones_run.specs.Purged.{PurgedRunsAsGiven};
 ghost use Rattle.zones_run.specs.Turns_end.{TurnsEnd};
 
 /// A law: where `export` ends with status 0, it has written the export text of the configuration that the
@@ -38,6 +39,13 @@ pub fn only_script_puts_in()
 /// grants, under one that fits.
 pub fn entries_are_the_machines()
     ensures { EntriesAreTheMachines }
+{}
+
+/// A law: where a trace ends with status 0 or 1, `given` over what `purge` writes of it for a zone comes to its end, over any store
+/// with the same record of the zone that is no fuller and has 255 other zones at most, unless a line of it is past the limit. It
+/// answers just the entries that were kept, and writes just the reply lines of the zone and of the whole system.
+pub fn purged_traces_are_answered_alike()
+    ensures { PurgedRunsAsGiven }
 {}
 
 /// A law: where a zone's daemon has fewer turns left than may be put in, and the zone stays small, the last turn that is put in
