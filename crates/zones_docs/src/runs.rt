@@ -21,13 +21,13 @@ pub struct Ended {
 
 // How much a disk may take.
 const DISK: Room = Room {
-    length: 65_536,
-    calls: 1024,
-    written: 65_536,
+    length: 262_144,
+    calls: 4096,
+    written: 262_144,
 };
 
 fn disk_of(alloc: Global, bytes: Vec<u8>) -> Result<MemDisk, AllocError> {
-    if bytes.len() > 65_536 {
+    if bytes.len() > 262_144 {
         return Err(AllocError);
     }
     MemDisk::new(alloc, bytes, DISK, Vec::new(alloc), None)
