@@ -19,3 +19,5 @@ mod Edits
 mod Logins
 mod Consoles
 mod Waiting
+mod Decimal_texts
+mod Views

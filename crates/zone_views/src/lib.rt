@@ -8,6 +8,8 @@
 #![tactic(auto)]
 
 mod laws;
+mod runs;
+mod viewing;
 
 pub use laws::{
     allowed_grants_fit, claimed_items_are_declared, consoles_are_held_by_who_is_there,
@@ -18,3 +20,5 @@ pub use laws::{
     sets_lie_within_limits, states_move_along_the_table, subjects_agree, worlds_are_replayed,
     zones_share_no_process_number,
 };
+pub use runs::{only, replies_of, run, run_purged};
+pub use viewing::{Object, ObjectKind, view};
