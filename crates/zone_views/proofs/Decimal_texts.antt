@@ -1,5 +1,5 @@
 -- Decimals are texts.
-use Rattle.std.proofs.Common.{◌≡◌, ◌+◌, ◌<◌, ◌^◌, ◌∷◌, [], ℕ, List, true, refl, arith, ◌∙◌}
+use Rattle.std.proofs.Common.{◌≡◌, ◌+◌, ◌<◌, ◌^◌, ◌%◌, ◌∷◌, [], ℕ, List, true, refl, arith, ◌∙◌}
 use Rattle.std.specs.Prelude.{decimal}
 use Rattle.std.specs.List.{list_all}
 use Rattle.std.proofs.lemmas.Bool.{and_from}
@@ -15,7 +15,7 @@ digit n small = grind (arith, nat_tests)
 printable : (n : ℕ) → n < 2 ^ 64 → list_all is_text_byte (decimal n) ≡ true
 printable = decimal_by_steps (λ n ds. list_all is_text_byte ds ≡ true)
     (λ n small. and_from _ _ (digit n small) refl)
-    (λ n ds large h. list_all-append is_text_byte ds _ ∙ and_from _ _ h (and_from _ _ (digit _ (omega arith)) refl))
+    (λ n ds large h. list_all-append is_text_byte ds ((48 + n % 10) ∷ []) ∙ and_from _ _ h (and_from _ _ (digit (n % 10) (omega arith)) refl))
 
 pub decimal_text : (n : ℕ) → n < 2 ^ 32 → is_text (decimal n) ≡ true
 decimal_text n h =

@@ -21,3 +21,4 @@ mod Consoles
 mod Waiting
 mod Decimal_texts
 mod Views
+mod Running_laws

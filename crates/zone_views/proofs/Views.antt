@@ -1,7 +1,8 @@
 -- What is told of a zone kind by kind is what it has, and the order in which it is told.
-use Rattle.std.proofs.Common.{◌≡◌, [], ◌∷◌, ◌++◌, ◌∙◌, ℕ, Bool, List, Option, Some, None, append_assoc, ap, sym, subst, map, refl}
+use Rattle.std.proofs.Common.{◌≡◌, [], ◌∷◌, ◌++◌, ◌∙◌, ℕ, Bool, false, List, Option, Some, None, append_assoc, ap, arith, sym, subst, map, refl}
 use Rattle.std.specs.Prelude.{IsPermutation, is_some, length, not, ◌==◌, ◌||◌, if◌then◌else◌}
 use Rattle.std.specs.Cmp.{IsTotalOrder}
+use Rattle.std.proofs.lemmas.Bool.Decides.{nat_tests}
 use Rattle.std.proofs.lemmas.Cmp.{nat_cmp_total, nat_list_cmp_total, on_total, then_total}
 use Rattle.std.proofs.lemmas.List.Sorted.{IsPermutation-append_left, IsPermutation-append_right, IsPermutation-cons, IsPermutation-middle, IsPermutation-refl, IsPermutation-sym, IsPermutation-trans}
 use Rattle.console_link.specs.Consoles as kept
@@ -30,14 +31,24 @@ use Rattle.zone_views.specs.Viewing.{all_told, claims_told, console_told, id_tol
 pub object_cmp-total : IsTotalOrder object_cmp
 object_cmp-total = then_total (on_total (λ (o : Object). kind_place o.kind) nat_cmp_total) (on_total (λ (o : Object). o.key) nat_list_cmp_total)
 
+-- what is put last after a list, part by part
+pub three_parts : {X : Type 0} (a b c d : List X) {ab abc abcd : List X} → ab ≡ a ++ b → abc ≡ ab ++ c → abcd ≡ abc ++ d → abcd ≡ a ++ (b ++ (c ++ d))
+three_parts a b c d p q r = r ∙ (ap (λ l. l ++ d) (q ∙ ap (λ l. l ++ c) p) ∙ (append_assoc (a ++ b) c d ∙ append_assoc a b (c ++ d)))
+
+pub six_parts : {X : Type 0} (a b c d e f : List X) {ab abc abcd abcde abcdef : List X}
+    → ab ≡ a ++ b → abc ≡ ab ++ c → abcd ≡ abc ++ d → abcde ≡ abcd ++ e → abcdef ≡ abcde ++ f → abcdef ≡ a ++ (b ++ (c ++ (d ++ (e ++ f))))
+six_parts a b c d e f p q r s t =
+    t ∙ (ap (λ l. l ++ f) (s ∙ ap (λ l. l ++ e) (r ∙ ap (λ l. l ++ d) (q ∙ ap (λ l. l ++ c) p)))
+    ∙ (append_assoc (((a ++ b) ++ c) ++ d) e f ∙ (append_assoc ((a ++ b) ++ c) d (e ++ f) ∙ (append_assoc (a ++ b) c (d ++ (e ++ f)) ∙ append_assoc a b (c ++ (d ++ (e ++ f)))))))
+
 module _ (z : Name) where
-  links : List Claim → List Object
+  abbrev links : List Claim → List Object
   links cs = map (object z Link) (items_of claims.Link cs)
 
-  addresses : List Claim → List Object
+  abbrev addresses : List Claim → List Object
   addresses cs = map (object z Address) (items_of claims.Address cs)
 
-  datasets : List Claim → List Object
+  abbrev datasets : List Claim → List Object
   datasets cs = map (object z Dataset) (items_of claims.Dataset cs)
 
   -- the claims, kind by kind
@@ -77,7 +88,7 @@ module _ (z : Name) where
 
   in_use : (output : List ℕ) (holder : Option ℕ) → (not (is_nil output) || is_some holder) ≡ (not (length output == 0) || is_some holder)
   in_use [] holder = refl
-  in_use (b ∷ output) holder = refl
+  in_use (b ∷ output) holder = let some : (length (b ∷ output) == 0) ≡ false = grind (arith, nat_tests) in rw some refl
 
   console-told : (c : kept.Console) → consoles z c ≡ console_told z (kept.is_in_use c)
   console-told c = ap (console_told z) (in_use c.output c.holder)
@@ -92,9 +103,7 @@ module _ (z : Name) where
       let ds = map (object z Device) w.devices in
       let is = map (λ (i : Zone_id). id z i.zid) w.ids in
       let k = consoles z w.console in
-      let flat : objects z w ≡ ps ++ (ms ++ (cs ++ (ds ++ (is ++ k)))) =
-          append_assoc ps (ms ++ (cs ++ (ds ++ is))) k
-          ∙ ap (λ l. ps ++ l) (append_assoc ms (cs ++ (ds ++ is)) k ∙ ap (λ l. ms ++ l) (append_assoc cs (ds ++ is) k ∙ ap (λ l. cs ++ l) (append_assoc ds is k))) in
+      let flat : objects z w ≡ ps ++ (ms ++ (cs ++ (ds ++ (is ++ k)))) = six_parts ps ms cs ds is k refl refl refl refl refl in
       let moved : IsPermutation (ps ++ (ms ++ (cs ++ (ds ++ (is ++ k))))) (ps ++ (ms ++ (claims_told z w ++ (ds ++ (is ++ k))))) =
           IsPermutation-append_right ps _ _ (IsPermutation-append_right ms _ _ (IsPermutation-append_left (ds ++ (is ++ k)) _ _ (claims-by_kind w.claims))) in
       let same : ps ++ (ms ++ (claims_told z w ++ (ds ++ (is ++ k)))) ≡ all_told z w =

@@ -1,5 +1,5 @@
 -- Runs of a machine: of events under the grants that the pools give, and of events under stated grants.
-use Rattle.std.specs.Prelude.{◌≡◌, ℕ, List, [], ◌∷◌, Bool, true, ◌&&◌, take}
+use Rattle.std.specs.Prelude.{◌≡◌, List, [], ◌∷◌, ◌++◌, Bool, true, ◌&&◌}
 use Rattle.zone_cases.specs.State.{State}
 use Rattle.zone_cases.specs.declared.events.Entry.{Entry}
 use Rattle.zone_cases.specs.declared.events.Event.{Event}
@@ -18,10 +18,12 @@ pub record HasRun {D F : Type 0} (S : State) (es : List Event) (h : List Entry) 
   pub legal : is_legal S h ≡ true
   pub stands : StandsFor (after S h) m
 
--- some of the events were answered, the first ones, and the machine's parts stand for the state after these
+-- the first of the events were answered, and the machine's parts stand for the state after these
 pub record HasRunSome (S : State) (es : List Event) (p : Parts) : Type 0 where
-  pub count : ℕ
-  pub stands : Stands (after S (history S (take count es))) p
+  pub done : List Event
+  pub rest : List Event
+  pub all : es ≡ done ++ rest
+  pub stands : Stands (after S (history S done)) p
 
 -- whether stated grants fit, each in the state that those before it leave
 abbrev pub all_fit : State → List (Event × Grant) → Bool
@@ -35,5 +37,7 @@ pub record HasRunGiven {D F : Type 0} (S : State) (es h : List Entry) (m : Machi
   pub stands : StandsFor (after S h) m
 
 pub record HasRunSomeGiven (S : State) (es : List Entry) (p : Parts) : Type 0 where
-  pub count : ℕ
-  pub stands : Stands (after S (run S (asked (take count es)))) p
+  pub done : List Entry
+  pub rest : List Entry
+  pub all : es ≡ done ++ rest
+  pub stands : Stands (after S (run S (asked done))) p

@@ -4,11 +4,12 @@
 //! process's privileges lie within its zone's limit set; a zone has 128 mounts at most; a session that is logged in has its process, one at a
 //! console holds it, and no turn is idle of a daemon that a session waits for; and where the grants fit, those that
 //! the pools give fit too, each process and zone number is held once, and each item that a zone claims is declared, and
-//! claimed by no other. Each law is the contract of a function that does nothing.
+//! claimed by no other. Each law is the contract of a function that does nothing. `view` tells the objects that a zone has,
+//! and `run_purged` answers a zone's events again without those of other zones.
 #![tactic(auto)]
 
 mod laws;
-mod runs;
+mod purging;
 mod viewing;
 
 pub use laws::{
@@ -20,5 +21,5 @@ pub use laws::{
     sets_lie_within_limits, states_move_along_the_table, subjects_agree, worlds_are_replayed,
     zones_share_no_process_number,
 };
-pub use runs::{only, replies_of, run, run_purged};
+pub use purging::{only, replies_of, run, run_purged};
 pub use viewing::{Object, ObjectKind, view};

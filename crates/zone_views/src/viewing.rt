@@ -1,5 +1,5 @@
 //! The objects that a zone has.
-ghost use Rattle.std.specs.Prelude.{◌≡◌, ◌++◌, ◌⊎◌, IfOk, IsOkUnless, OnOk, decimal, map};
+ghost use Rattle.std.specs.Prelude.{◌≡◌, ◌++◌, ◌∷◌, [], IfOk, IsOkUnless, OnOk, decimal, map};
 ghost use Rattle.zone_cases.specs.State.{State};
 ghost use Rattle.zone_cases.specs.State.Worlds.{world};
 ghost use Rattle.zone_machine.specs.Code.Cells.{Stands};

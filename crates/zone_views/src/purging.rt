@@ -4,7 +4,7 @@ ghost use Rattle.zone_cases.specs.State.{State};
 ghost use Rattle.zone_machine.specs.Code.Decided.{AsksBrands, MayGoOn};
 ghost use Rattle.zone_machine.specs.Code.Openings.{StandsFor};
 ghost use Rattle.zone_machine.specs.Code.Records.{Passes};
-ghost use Rattle.zone_machine.specs.Machine.Histories.{after, asked, concerns, is_of, only, replies, run};
+ghost use Rattle.zone_machine.specs.Machine.Histories.{asked, concerns, is_of, only, replies, run};
 ghost use Rattle.zone_views.specs.Running.{HasRun, HasRunGiven, HasRunSome, HasRunSomeGiven, all_fit};
 
 use brand_hooks::{Change, HookAnswer};
@@ -130,7 +130,7 @@ pub fn run_purged<D: Disk, F: Fn(&Change) -> HookAnswer>(
     requires asks { AsksBrands F.Fn machine.old }
     requires ready { MayGoOn D.view machine.old }
     ensures ok { (D.view machine.old.bank.disk).Keeps → IfOk result (λ list. (S : State) → StandsFor S machine.old → list.items ≡ replies zone.now (run S (asked (only zone.now entries.now)))) }
-    ensures stands { (D.view machine.old.bank.disk).Keeps → OnOk result ((S : State) → StandsFor S machine.old → StandsFor (after S (run S (asked (only zone.now entries.now)))) machine.new) }
+    ensures stands { (D.view machine.old.bank.disk).Keeps → OnOk result ((S : State) → StandsFor S machine.old → HasRunGiven S (only zone.now entries.now) (run S (asked (only zone.now entries.now))) machine.new) }
     ensures memory { (D.view machine.old.bank.disk).Keeps → IsErrOf result StepFault.Memory → (S : State) → StandsFor S machine.old → HasRunSomeGiven S (only zone.now entries.now) machine.new.parts }
     ensures misfit { (D.view machine.old.bank.disk).Keeps → IsErrOf result StepFault.BadGrant → (S : State) → StandsFor S machine.old → all_fit S (asked (only zone.now entries.now)) ≡ false }
     ensures ready { OnOk result (MayGoOn D.view machine.new) }
