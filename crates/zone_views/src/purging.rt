@@ -13,6 +13,7 @@ use zn_base::ZoneName;
 use zn_io::Disk;
 use zone_cases::{Entry, Event, Reply, Subject};
 use zone_machine::{Machine, StepFault};
+use zone_pools::Grant;
 
 // Whether an entry of this subject is one of a zone.
 fn is_of(zone: &ZoneName, subject: &Subject) -> bool
@@ -89,6 +90,20 @@ pub fn run<D: Disk, F: Fn(&Change) -> HookAnswer>(
     Ok(entries)
 }
 
+// What an entry's event was, and what the pools gave it. What it was answered is let go.
+fn into_asked(entry: Entry) -> (Event, Grant)
+    ensures event { result.0 ≡ entry.event }
+    ensures grant { result.1 ≡ entry.grant }
+{
+    let Entry {
+        event,
+        subject: _subject,
+        grant,
+        reply: _reply,
+    } = entry;
+    (event, grant)
+}
+
 // The same of the events of entries, under their grants.
 fn run_given<D: Disk, F: Fn(&Change) -> HookAnswer>(
     alloc: Global,
@@ -106,14 +121,9 @@ fn run_given<D: Disk, F: Fn(&Change) -> HookAnswer>(
 {
     let mut answered = Vec::new(alloc);
     for entry in entries {
-        let Entry {
-            event,
-            subject: _subject,
-            grant,
-            reply: _reply,
-        } = entry;
-        let entry = machine.step_given(alloc, event, grant)?;
-        answered.push(entry)?;
+        let (event, grant) = into_asked(entry);
+        let answer = machine.step_given(alloc, event, grant)?;
+        answered.push(answer)?;
     }
     Ok(answered)
 }
