@@ -14,6 +14,7 @@ use Rattle.zone_machine.specs.Machine.Histories.{after, after_entry, asked, entr
 use Rattle.zone_machine.specs.Machine.Pools.{allowed, fits}
 use Rattle.zone_machine.specs.Machine.{one}
 use Rattle.zone_machine.specs.declared.machine.Machine.{Machine}
+use Rattle.zone_pools.specs.declared.grant.Grant.{Grant}
 use Rattle.zone_views.proofs.Runs.{legal-history}
 use Rattle.zone_views.specs.Running.{HasRun, HasRunGiven, HasRunSome, HasRunSomeGiven, all_fit}
 
@@ -37,7 +38,7 @@ fit-next S [] e all fit = and_from _ _ fit refl
 fit-next S (x ∷ es) e all fit = at_test (fits S x.event x.grant) (λ all. fit-next (one S x.event x.grant).state es e all fit) all
   where
     at_test : (b : Bool) → (all_fit (one S x.event x.grant).state (asked es) ≡ true → all_fit (one S x.event x.grant).state (asked (es ++ e ∷ [])) ≡ true)
-      → (b && all_fit (one S x.event x.grant).state (asked es)) ≡ true → (b && all_fit (one S x.event x.grant).state (asked (es ++ e ∷ []))) ≡ true
+        → (b && all_fit (one S x.event x.grant).state (asked es)) ≡ true → (b && all_fit (one S x.event x.grant).state (asked (es ++ e ∷ []))) ≡ true
     at_test true more all = more all
     at_test false more all = all
 
@@ -102,14 +103,15 @@ pub HasRunSomeGiven-now : {D F : Type 0} (S : State) (es done rest h : List Entr
 HasRunSomeGiven-now S es done rest h m all so = record { done = done; rest = rest; all = all; stands = subst (λ l. Stands (after S l) m.parts) so.entries so.stands.parts }
 
 -- the next grant doesn't fit
-pub misfit-now : {D F : Type 0} (S : State) (es done rest h : List Entry) (e : Entry) (m : Machine D F) → es ≡ done ++ e ∷ rest → IsRunningGiven S done h m
-    → fits (after S h) e.event e.grant ≡ false → all_fit S (asked es) ≡ false
-misfit-now S es done rest h e m all so unfit =
-    subst (λ l. all_fit S (asked l) ≡ false) (sym all) (one-misfit S done rest e (subst (λ l. fits (after S l) e.event e.grant ≡ false) so.entries unfit))
+pub misfit-now : {D F : Type 0} (S : State) (es done rest h : List Entry) (e : Entry) (event : Event) (grant : Grant) (m : Machine D F) → es ≡ done ++ e ∷ rest → event ≡ e.event → grant ≡ e.grant
+    → IsRunningGiven S done h m → fits (after S h) event grant ≡ false → all_fit S (asked es) ≡ false
+misfit-now S es done rest h e event grant m all is of so unfit =
+    let unfit_at : fits (after S h) e.event e.grant ≡ false = subst (λ v. fits (after S h) v e.grant ≡ false) is (subst (λ g. fits (after S h) event g ≡ false) of unfit) in
+    subst (λ l. all_fit S (asked l) ≡ false) (sym all) (one-misfit S done rest e (subst (λ l. fits (after S l) e.event e.grant ≡ false) so.entries unfit_at))
 
 module _ {D F : Type 0} (view : D → View) (S : State) (m n : Machine D F) (h : List Entry) (x : Entry) (keeps : (view m.bank.disk).Keeps) where
-  pub IsRunningGiven-next : (done : List Entry) (e : Entry) → IsFittingStepOf view m e.event e.grant x n → KeepsBodiesOf view (Some e.grant) m e.event n
-    → IsRunningGiven S done h m → IsRunningGiven S (done ++ e ∷ []) (h ++ x ∷ []) n
+  IsRunningGiven-next : (done : List Entry) (e : Entry) → IsFittingStepOf view m e.event e.grant x n → KeepsBodiesOf view (Some e.grant) m e.event n
+      → IsRunningGiven S done h m → IsRunningGiven S (done ++ e ∷ []) (h ++ x ∷ []) n
   IsRunningGiven-next done e step bodies so =
       let T : State = after S h in
       let found = finds e.event (view m.bank.disk) m.bank.records T keeps so.stands.bodies in
@@ -122,6 +124,13 @@ module _ {D F : Type 0} (view : D → View) (S : State) (m n : Machine D F) (h :
         fit = fit-next S done e so.fit (subst (λ l. fits (after S l) e.event e.grant ≡ true) so.entries both.0);
         stands = subst (λ T. StandsFor T n) (sym left) after_it;
       }
+
+  pub IsRunningGiven-step : (done : List Entry) (e : Entry) (event : Event) (grant : Grant) → event ≡ e.event → grant ≡ e.grant → IsFittingStepOf view m event grant x n → KeepsBodiesOf view (Some grant) m event n
+      → IsRunningGiven S done h m → IsRunningGiven S (done ++ e ∷ []) (h ++ x ∷ []) n
+  IsRunningGiven-step done e event grant is of step bodies so =
+      IsRunningGiven-next done e
+      (subst (λ v. IsFittingStepOf view m v e.grant x n) is (subst (λ g. IsFittingStepOf view m event g x n) of step))
+      (subst (λ v. KeepsBodiesOf view (Some e.grant) m v n) is (subst (λ g. KeepsBodiesOf view (Some g) m event n) of bodies)) so
 
 -- what is known of the disk of a machine that has gone on
 pub passes-on : (u v w : View) → Passes u v → Passes v w → Passes u w

@@ -53,7 +53,7 @@ module _ (z : Name) where
 
   -- the claims, kind by kind
   more_claims : (k : claim_kinds.ClaimKind) (item : List ℕ) (cs : List Claim) → IsPermutation (map (claim z) cs) (links cs ++ (addresses cs ++ datasets cs))
-    → let c : Claim = record { kind = k; item = item } in IsPermutation (map (claim z) (c ∷ cs)) (links (c ∷ cs) ++ (addresses (c ∷ cs) ++ datasets (c ∷ cs)))
+      → let c : Claim = record { kind = k; item = item } in IsPermutation (map (claim z) (c ∷ cs)) (links (c ∷ cs) ++ (addresses (c ∷ cs) ++ datasets (c ∷ cs)))
   more_claims claims.Link item cs h = IsPermutation-cons _ _ _ h
   more_claims claims.Address item cs h =
       IsPermutation-trans _ _ _ (IsPermutation-cons (object z Address item) _ _ h) (IsPermutation-sym _ _ (IsPermutation-middle (links cs) (object z Address item) (addresses cs ++ datasets cs)))
@@ -105,10 +105,10 @@ module _ (z : Name) where
       let k = consoles z w.console in
       let flat : objects z w ≡ ps ++ (ms ++ (cs ++ (ds ++ (is ++ k)))) = six_parts ps ms cs ds is k refl refl refl refl refl in
       let moved : IsPermutation (ps ++ (ms ++ (cs ++ (ds ++ (is ++ k))))) (ps ++ (ms ++ (claims_told z w ++ (ds ++ (is ++ k))))) =
-          IsPermutation-append_right ps _ _ (IsPermutation-append_right ms _ _ (IsPermutation-append_left (ds ++ (is ++ k)) _ _ (claims-by_kind w.claims))) in
+      IsPermutation-append_right ps _ _ (IsPermutation-append_right ms _ _ (IsPermutation-append_left (ds ++ (is ++ k)) _ _ (claims-by_kind w.claims))) in
       let same : ps ++ (ms ++ (claims_told z w ++ (ds ++ (is ++ k)))) ≡ all_told z w =
-          ap (λ l. l ++ (ms ++ (claims_told z w ++ (ds ++ (is ++ k))))) (processes-told w.processes)
-          ∙ ap (λ l. processes_told z (told.processes w) ++ l)
-              (ap (λ l. l ++ (claims_told z w ++ (ds ++ (is ++ k)))) (mounts-told w.mounts)
-              ∙ ap (λ l. mounts_told z (told.mounts w) ++ (claims_told z w ++ (ds ++ l))) (ap (λ l. l ++ k) (ids-told S p h) ∙ ap (λ l. id_told z (told.zid_of w) ++ l) (console-told w.console))) in
+      ap (λ l. l ++ (ms ++ (claims_told z w ++ (ds ++ (is ++ k))))) (processes-told w.processes)
+      ∙ ap (λ l. processes_told z (told.processes w) ++ l)
+      (ap (λ l. l ++ (claims_told z w ++ (ds ++ (is ++ k)))) (mounts-told w.mounts)
+      ∙ ap (λ l. mounts_told z (told.mounts w) ++ (claims_told z w ++ (ds ++ l))) (ap (λ l. l ++ k) (ids-told S p h) ∙ ap (λ l. id_told z (told.zid_of w) ++ l) (console-told w.console))) in
       subst (λ l. IsPermutation l (all_told z w)) (sym flat) (subst (λ l. IsPermutation (ps ++ (ms ++ (cs ++ (ds ++ (is ++ k))))) l) same moved)

@@ -141,7 +141,13 @@ fn push_devices(
     ensures { OnOk result (objects.new.items ≡ objects.old.items ++ map (object zone.now ObjectKind.Device) paths.now) }
 {
     for path in paths {
-        push(alloc, objects, zone, ObjectKind::Device, path_text(alloc, path)?)?;
+        push(
+            alloc,
+            objects,
+            zone,
+            ObjectKind::Device,
+            path_text(alloc, path)?,
+        )?;
     }
     Ok(())
 }
@@ -155,7 +161,13 @@ fn push_id(
     ensures { OnOk result (objects.new.items ≡ objects.old.items ++ id_told zone.now zid) }
 {
     match zid {
-        Some(zid) => push(alloc, objects, zone, ObjectKind::Id, decimal_text(alloc, zid)?),
+        Some(zid) => push(
+            alloc,
+            objects,
+            zone,
+            ObjectKind::Id,
+            decimal_text(alloc, zid)?,
+        ),
         None => Ok(()),
     }
 }
@@ -169,7 +181,13 @@ fn push_console(
     ensures { OnOk result (objects.new.items ≡ objects.old.items ++ console_told zone.now in_use) }
 {
     if in_use {
-        push(alloc, objects, zone, ObjectKind::Console, Text::empty(alloc))
+        push(
+            alloc,
+            objects,
+            zone,
+            ObjectKind::Console,
+            Text::empty(alloc),
+        )
     } else {
         Ok(())
     }

@@ -27,8 +27,8 @@ returns-in_err-push-clause-memory g c = λ keeps is S h.
     let at = c.loop-event in
     let e = c.in-Some.event in
     HasRunSome-now S c.args.events.items (at.yielded ++ e ∷ []) (into_iter_items c.next.new.self) _ c.step.new.self
-        (sym (all-next at.yielded _ _ _ e at.invariant.all c.in-Some.ensures.steps.0 ∙ c.into_iter-event-iterator.ensures.into_iter_gives.0))
-        (IsRunning-next g.D.Disk.view S at.machine c.step.new.self at.entries.items c.in_ok-entry.entry (at.invariant.passes.model.0 keeps) at.yielded e c.in_ok-entry.ensures.ok c.in_ok-entry.ensures.bodies (at.invariant.runs keeps S h))
+    (sym (all-next at.yielded _ _ _ e at.invariant.all c.in-Some.ensures.steps.0 ∙ c.into_iter-event-iterator.ensures.into_iter_gives.0))
+    (IsRunning-next g.D.Disk.view S at.machine c.step.new.self at.entries.items c.in_ok-entry.entry (at.invariant.passes.model.0 keeps) at.yielded e c.in_ok-entry.ensures.ok c.in_ok-entry.ensures.bodies (at.invariant.runs keeps S h))
 
 pub returns-clause-ok : goal.returns-clause-ok
 returns-clause-ok g c = λ keeps S h.
