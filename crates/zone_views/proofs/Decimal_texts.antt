@@ -1,12 +1,12 @@
 -- Decimals are texts.
-use Rattle.std.proofs.Common.{◌≡◌, ◌+◌, ◌<◌, ◌^◌, ◌%◌, ◌∷◌, [], ℕ, List, true, refl, arith, ◌∙◌}
+use Rattle.std.proofs.Common.{◌≡◌, ◌+◌, ◌<◌, ◌^◌, ◌%◌, ◌∷◌, [], ℕ, true, refl, arith, ◌∙◌}
 use Rattle.std.specs.Prelude.{decimal}
 use Rattle.std.specs.List.{list_all}
 use Rattle.std.proofs.lemmas.Bool.{and_from}
 use Rattle.std.proofs.lemmas.Bool.Decides.{nat_tests}
 use Rattle.std.proofs.lemmas.Fmt.{decimal_by_steps, length-decimal-le}
 use Rattle.std.proofs.lemmas.List.Folds.{list_all-append}
-use Rattle.loopback_mounts.proofs.Rests.{Printable, to_text}
+use Rattle.loopback_mounts.proofs.Rests.{to_text}
 use Rattle.zn_base.specs.Text.{is_text, is_text_byte}
 
 digit : (n : ℕ) → n < 10 → is_text_byte (48 + n) ≡ true

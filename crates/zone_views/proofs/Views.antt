@@ -1,6 +1,6 @@
 -- What is told of a zone kind by kind is what it has, and the order in which it is told.
-use Rattle.std.proofs.Common.{◌≡◌, [], ◌∷◌, ◌++◌, ◌∙◌, ℕ, Bool, false, List, Option, Some, None, append_assoc, ap, arith, sym, subst, map, refl}
-use Rattle.std.specs.Prelude.{IsPermutation, is_some, length, not, ◌==◌, ◌||◌, if◌then◌else◌}
+use Rattle.std.proofs.Common.{◌≡◌, [], ◌∷◌, ◌++◌, ◌∙◌, ℕ, false, List, Option, Some, None, append_assoc, ap, arith, sym, subst, map, refl}
+use Rattle.std.specs.Prelude.{IsPermutation, is_some, length, not, ◌==◌, ◌||◌}
 use Rattle.std.specs.Cmp.{IsTotalOrder}
 use Rattle.std.proofs.lemmas.Bool.Decides.{nat_tests}
 use Rattle.std.proofs.lemmas.Cmp.{nat_cmp_total, nat_list_cmp_total, on_total, then_total}
@@ -25,7 +25,7 @@ use Rattle.zone_machine.specs.Machine.Told as told
 use Rattle.zone_machine.specs.declared.machine.parts.Parts.{Parts}
 use Rattle.zone_pools.specs.Firsts.{is_nil}
 use Rattle.zoneadmd_steps.specs.Objects.{ids_of, zid_of}
-use Rattle.zone_views.specs.Naming.{Address, Dataset, Device, Link, Object, claim, consoles, id, is_in_use, mount, object, objects, process}
+use Rattle.zone_views.specs.Naming.{Address, Dataset, Device, Link, Object, claim, consoles, id, mount, object, objects, process}
 use Rattle.zone_views.specs.Viewing.{all_told, claims_told, console_told, id_told, kind_place, mounts_told, object_cmp, processes_told}
 
 pub object_cmp-total : IsTotalOrder object_cmp

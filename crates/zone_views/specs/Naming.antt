@@ -1,5 +1,5 @@
 -- The objects that a zone has, and those that a reply to it names.
-use Rattle.std.specs.Prelude.{ℕ, List, [], ◌∷◌, ◌++◌, Bool, true, false, ◌||◌, Option, Some, None, decimal, is_some, map, nat_eq, not, if◌then◌else◌}
+use Rattle.std.specs.Prelude.{ℕ, List, [], ◌∷◌, ◌++◌, Bool, ◌||◌, Option, Some, decimal, is_some, map, nat_eq, not, if◌then◌else◌}
 use Rattle.std.specs.List.{All, Contains, flat_map}
 use Rattle.console_link.specs.Consoles.{Console as Console_kept}
 use Rattle.datalink_table.specs.declared.claims.Claim.{Claim}

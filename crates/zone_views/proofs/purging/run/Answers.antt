@@ -1,4 +1,4 @@
-use Rattle.std.proofs.Common.{◌≡◌, ◌∷◌, [], ◌++◌, ◌∙◌, append-nil, ap, arith, length, rules, subst, sym}
+use Rattle.std.proofs.Common.{◌≡◌, ◌∷◌, [], ◌++◌, ◌∙◌, append-nil, ap, arith, length, subst, sym}
 use Rattle.std.specs.Vec.Iter.{into_iter_items}
 use Rattle.zone_views.proofs.Running_laws.{HasRun-end, HasRunSome-now, IsRunning, IsRunning-next, all-next, nothing-left, passes-on}
 use Rattle.zone_views.proofs.purging.run.Goals as goal
