@@ -7,6 +7,7 @@
 mod calls;
 mod cases;
 mod cell;
+mod copies;
 mod events;
 mod maps;
 mod replies;

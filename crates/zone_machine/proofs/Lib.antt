@@ -28,6 +28,7 @@ pub mod Kernel_doing
 pub mod Rooms_laws
 pub mod Standing
 pub mod Stepping
+mod Telling
 pub mod Banking
 pub mod Claim_doing
 pub mod Roomy

@@ -1,5 +1,6 @@
 -- What the code's values stand for, and what its steps do to them.
 pub mod Listed
+pub mod Told
 pub mod Cells
 pub mod Reads
 pub mod Needs

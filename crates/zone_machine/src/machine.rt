@@ -39,6 +39,7 @@ pub(crate) mod shared;
 pub(crate) mod sitting;
 pub(crate) mod steps;
 pub(crate) mod storing;
+pub(crate) mod telling;
 pub(crate) mod ups;
 pub(crate) mod work;
 pub(crate) mod zone_events;

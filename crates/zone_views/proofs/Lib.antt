@@ -33,3 +33,6 @@ mod Edits
 mod Logins
 mod Consoles
 mod Waiting
+mod Decimal_texts
+mod Views
+mod Running_laws

@@ -4,3 +4,5 @@ pub mod Whole
 pub mod Edits
 pub mod Tickets
 pub mod Naming
+pub mod Viewing
+pub mod Running

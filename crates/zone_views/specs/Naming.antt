@@ -26,23 +26,11 @@ use Rattle.zone_cases.specs.declared.replies.Head.{Head}
 use Rattle.zone_cases.specs.declared.replies.Head.TheVariants.{Turned}
 use Rattle.zone_cases.specs.declared.replies.Reply.{Reply}
 use Rattle.zone_machine.specs.Machine.{decide, one}
-
-pub data Kind : Type 0 where
-  Process : Kind
-  Mount : Kind
-  Link : Kind
-  Address : Kind
-  Dataset : Kind
-  Device : Kind
-  Console : Kind
-  Id : Kind
+pub use Rattle.zone_views.specs.declared.viewing.Object.{Object}
+pub use Rattle.zone_views.specs.declared.viewing.ObjectKind.{ObjectKind as Kind}
+pub use Rattle.zone_views.specs.declared.viewing.ObjectKind.TheVariants.{Address, Console, Dataset, Device, Id, Link, Mount, Process}
 
 -- an object of a zone. Its key is its number in decimal, its directory, its item or its path; a console has an empty one
-pub record Object : Type 0 where
-  pub zone : Name
-  pub kind : Kind
-  pub key : List ℕ
-
 abbrev pub object : Name → Kind → List ℕ → Object
 object z kind key = record { zone = z; kind = kind; key = key }
 

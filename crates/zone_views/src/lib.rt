@@ -5,10 +5,13 @@
 //! session that is logged in has its process, one at a console holds it, and no turn is idle of a daemon that a session waits
 //! for; no number that is given is above the greatest of its pool; and where the grants fit, those that the pools give fit too,
 //! each process and zone number is held once, and each item that a zone claims is declared, and claimed by no other. Each law
-//! is the contract of a function that does nothing.
+//! is the contract of a function that does nothing. `view` tells the objects that a zone has, and `run_purged` answers a zone's
+//! events again without those of other zones.
 #![tactic(auto)]
 
 mod laws;
+mod purging;
+mod viewing;
 
 pub use laws::{
     allowed_grants_fit, claimed_items_are_declared, consoles_are_held_by_who_is_there,
@@ -21,3 +24,5 @@ pub use laws::{
     tables_agree_with_daemons, worlds_are_replayed,
     zones_share_no_process_number,
 };
+pub use purging::{only, replies_of, run, run_purged};
+pub use viewing::{Object, ObjectKind, view};

@@ -1,0 +1,176 @@
+//! Two zones, `a` and `b`, are made, installed and booted, and their processes fork: what a machine then tells of `b`, and
+//! what is left of the run without the entries of `a`.
+ghost use Rattle.zone_machine.specs.Code.Decided.{AsksBrands, MayGoOn};
+
+use crate::events::two_zones;
+use crate::machines::{Hook, empty_disk, make_brands, opened, proceeds};
+use brand_hooks::{Change, HookAnswer};
+use datalink_table::ClaimKind;
+use kernel_objects::ProcRow;
+use std::alloc::Global;
+use std::process::Abort;
+use std::test::Fail;
+use zn_base::{Listing, ZoneName};
+use zn_io::Disk;
+use zone_cases::{Body, Entry, Event, Head, Reply};
+use zone_machine::Machine;
+use zone_views::{Object, ObjectKind, only, replies_of, run, run_purged, view};
+
+// A process by its number, its parent's and its name.
+type Row = (u32, u32, &'static [u8]);
+
+const ROWS: &[Row] = &[(3, 0, b"init"), (5, 3, b"y")];
+
+fn is_row(row: &ProcRow, wanted: &Row) -> bool {
+    let (pid, parent, name) = wanted;
+    row.pid == *pid && row.parent == *parent && row.name.bytes() == *name
+}
+
+fn are_rows(rows: &[ProcRow]) -> bool {
+    match (rows, ROWS) {
+        ([first, second], [init, child]) => is_row(first, init) && is_row(second, child),
+        _ => false,
+    }
+}
+
+// The processes and the mounts of `b`, and that it holds nothing and was given nothing.
+fn tells<D: Disk, F: Fn(&Change) -> HookAnswer>(
+    alloc: Global,
+    machine: &Machine<'_, D, F>,
+) -> Result<bool, Fail> {
+    let zone = ZoneName::read(alloc, b"b")?;
+    let rows = machine.processes(alloc, &zone)?;
+    let mounts = machine.mounts(alloc, &zone)?;
+    let links = machine.claims(alloc, &zone, ClaimKind::Link)?;
+    let devices = machine.devices(alloc, &zone)?;
+    let is_root = match mounts.as_slice() {
+        [mount] => mount.dir.bytes() == b"/".as_slice() && mount.fstype.bytes() == b"root".as_slice(),
+        _ => false,
+    };
+    Ok(
+        is_root
+            && are_rows(&rows)
+            && links.is_empty()
+            && devices.is_empty()
+            && !machine.console_in_use(&zone)
+            && machine.zid_of(&zone) == Some(2),
+    )
+}
+
+fn is_object(object: &Object, kind: ObjectKind, key: &[u8]) -> bool {
+    object.zone.bytes() == b"b".as_slice() && object.kind == kind && object.key.bytes() == key
+}
+
+fn views<D: Disk, F: Fn(&Change) -> HookAnswer>(
+    alloc: Global,
+    machine: &Machine<'_, D, F>,
+) -> Result<bool, Fail> {
+    let zone = ZoneName::read(alloc, b"b")?;
+    let objects = view(alloc, machine, &zone)?;
+    Ok(match objects.as_slice() {
+        [init, child, root, id] => {
+            is_object(init, ObjectKind::Process, b"3")
+                && is_object(child, ObjectKind::Process, b"5")
+                && is_object(root, ObjectKind::Mount, b"/")
+                && is_object(id, ObjectKind::Id, b"2")
+        }
+        _ => false,
+    })
+}
+
+// Whether the last two replies tell of the child and of the processes.
+fn ends_so(replies: &[Reply]) -> bool {
+    match replies {
+        [.., fork, ps] => matches!(fork.body, Body::Child(5)) && lists(&ps.body),
+        _ => false,
+    }
+}
+
+fn lists(body: &Body) -> bool {
+    match body {
+        Body::Processes(rows) => are_rows(rows.as_slice()),
+        _ => false,
+    }
+}
+
+// A copy of the last entry is as it.
+fn is_copied(alloc: Global, entries: &[Entry]) -> Result<bool, Fail> {
+    let [.., last] = entries else {
+        return Ok(false);
+    };
+    let copy = last.copy(alloc)?;
+    let event = last.event.copy(alloc)?;
+    let reply = last.reply.copy(alloc)?;
+    Ok(
+        is_ps(&copy.event)
+            && is_ps(&event)
+            && copy.grant == last.grant
+            && lists(&copy.reply.body)
+            && lists(&reply.body),
+    )
+}
+
+fn is_ps(event: &Event) -> bool {
+    match event {
+        Event::Process { zone, pid, .. } => zone.bytes() == b"b".as_slice() && *pid == 3,
+        _ => false,
+    }
+}
+
+// What is left of the run without the entries of `a`: 28 entries, all of them of `b`.
+fn keeps(alloc: Global, entries: &[Entry]) -> Result<bool, Fail> {
+    let zone = ZoneName::read(alloc, b"b")?;
+    let kept = only(alloc, entries, &zone)?;
+    let replies = replies_of(alloc, entries, &zone)?;
+    Ok(entries.len() == 55 && kept.len() == 28 && replies.len() == 28 && ends_so(&replies))
+}
+
+// The same events again, on another machine, without those of `a`.
+fn purges<D: Disk, F: Fn(&Change) -> HookAnswer>(
+    alloc: Global,
+    machine: &mut Machine<'_, D, F>,
+    entries: &[Entry],
+) -> Result<bool, Fail>
+    requires asks { AsksBrands F.Fn machine.old }
+    requires ready { MayGoOn D.view machine.old }
+{
+    let zone = ZoneName::read(alloc, b"b")?;
+    let replies = run_purged(alloc, machine, entries, &zone)?;
+    Ok(replies.len() == 28 && ends_so(&replies))
+}
+
+// The entries of the run.
+fn ran<D: Disk, F: Fn(&Change) -> HookAnswer>(
+    alloc: Global,
+    machine: &mut Machine<'_, D, F>,
+) -> Result<Vec<Entry>, Fail>
+    requires asks { AsksBrands F.Fn machine.old }
+    requires ready { MayGoOn D.view machine.old }
+{
+    let events = two_zones(alloc)?;
+    Ok(run(alloc, machine, events)?)
+}
+
+#[test]
+fn a_zone_is_told_and_viewed(rt: HostRuntime) -> Result<(), Fail> {
+    let ipkg: Hook = proceeds;
+    let brands = make_brands(rt.alloc(), ipkg)?;
+    let mut machine = opened(rt.alloc(), empty_disk(rt.alloc())?, &brands)?;
+    let _entries = ran(rt.alloc(), &mut machine)?;
+    assert!(rt; tells(rt.alloc(), &machine)?, "told");
+    assert!(rt; views(rt.alloc(), &machine)?, "viewed");
+    Ok(())
+}
+
+#[test]
+fn a_purged_run_answers_alike(rt: HostRuntime) -> Result<(), Fail> {
+    let ipkg: Hook = proceeds;
+    let brands = make_brands(rt.alloc(), ipkg)?;
+    let mut machine = opened(rt.alloc(), empty_disk(rt.alloc())?, &brands)?;
+    let entries = ran(rt.alloc(), &mut machine)?;
+    assert!(rt; is_copied(rt.alloc(), &entries)?, "copied");
+    assert!(rt; keeps(rt.alloc(), &entries)?, "kept");
+    let mut again = opened(rt.alloc(), empty_disk(rt.alloc())?, &brands)?;
+    assert!(rt; purges(rt.alloc(), &mut again, &entries)?, "purged");
+    Ok(())
+}
