@@ -44,7 +44,8 @@ fn tells<D: Disk, F: Fn(&Change) -> HookAnswer>(
     let links = machine.claims(alloc, &zone, ClaimKind::Link)?;
     let devices = machine.devices(alloc, &zone)?;
     let is_root = match mounts.as_slice() {
-        [mount] => mount.dir.bytes() == b"/".as_slice() && mount.fstype.bytes() == b"root".as_slice(),
+        [mount] => mount.dir.bytes() == b"/".as_slice()
+            && mount.fstype.bytes() == b"root".as_slice(),
         _ => false,
     };
     Ok(

@@ -303,20 +303,20 @@ purged_runs brands R others zone bytes low short stands =
     let legal : is_legal (opening brands R) h ≡ true = entries_permitted Replies brands R bytes in
     let fitting = legal-fits brands R h legal in
     let text : (traced (Purged zone) brands R bytes).out ≡ text_of kept =
-        ap (λ (r : Run). (told (Purged zone) r).out) same ∙ told-out (Purged zone) h traced_run.refused traced_run.ending ∙ kept_text zone h in
+    ap (λ (r : Run). (told (Purged zone) r).out) same ∙ told-out (Purged zone) h traced_run.refused traced_run.ending ∙ kept_text zone h in
     let fine : AreFine false h = subst (AreFine false) (sym entries_plain) (fine_script false 1 (lines_of bytes) (opening brands R)) in
     let again = are_again false kept (fine_kept zone false false h (λ b. b) fine) (small_kept zone h (small-legal (opening brands R) h legal)) in
     let lines : lines_of (text_of kept) ≡ map line_of kept = cut_lines false kept again in
     let few : 1 + length kept ≤ 200001 =
-        (let less = fewer_kept zone h in
-        let most = few_events false 1 (lines_of bytes) (omega arith) in
-        let count : length h ≡ length script.events = ap length entries_plain ∙ as_many (opening brands R) (map (λ (x : ℕ × Due). x.1) script.events) ∙ as_many_events script.events in
-        omega (arith, less, most, count)) in
+    (let less = fewer_kept zone h in
+    let most = few_events false 1 (lines_of bytes) (omega arith) in
+    let count : length h ≡ length script.events = ap length entries_plain ∙ as_many (opening brands R) (map (λ (x : ℕ × Due). x.1) script.events) ∙ as_many_events script.events in
+    omega (arith, less, most, count)) in
     let read : script_of Stated (text_of kept) ≡ whole 1 kept =
-        ap (script_from Stated false 1) lines ∙ stated_script false 1 kept again (subst (All (λ (line : List ℕ). length line ≤ 4096)) (ap lines_of text ∙ lines) short) few in
+    ap (script_from Stated false 1) lines ∙ stated_script false 1 kept again (subst (All (λ (line : List ℕ). length line ≤ 4096)) (ap lines_of text ∙ lines) short) few in
     let put : with_turns Stated S (script_of Stated (text_of kept)) ≡ whole 1 kept = ap (with_turns Stated S) read ∙ put_whole 1 S kept (fits_kept zone brands R others h fitting stands) in
     let entries : (run_of Stated brands others (text_of kept)).entries ≡ kept =
-        ap (λ (s : Script). entries_from S (map (λ (x : ℕ × Due). x.1) s.events)) put ∙ entries_run 1 S kept ∙ stay_kept zone brands R others h legal stands in
+    ap (λ (s : Script). entries_from S (map (λ (x : ℕ × Due). x.1) s.events)) put ∙ entries_run 1 S kept ∙ stay_kept zone brands R others h legal stands in
     let ending : (run_of Stated brands others (text_of kept)).ending ≡ At_end = ap (λ (s : Script). s.ending) put in
     let given_run = run_of Stated brands others (text_of kept) in
     subst (λ t. RunsAsKept zone brands others t traced_run) (sym text) (record {
