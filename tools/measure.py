@@ -137,6 +137,17 @@ def calls(lines):
     return ("\n".join(line_of("z", 1, it) for it in typed) + "\n").encode()
 
 
+def purged(program):
+    """What `purge` writes of the trace of one zone."""
+    def text(lines):
+        with own_folder() as folder:
+            run = subprocess.run([pathlib.Path(program).resolve(), "purge", "z0"], input=trace(1)(lines), capture_output=True,
+                                 cwd=folder, check=True)
+        return run.stdout
+
+    return text
+
+
 def instructions(program, command, data):
     with tempfile.TemporaryFile() as given, own_folder() as folder:
         given.write(data)
@@ -157,6 +168,7 @@ def speed(text, args):
         ("the same of 60 zones that take turns", "trace", trace(60)),
         ("the same of 250 zones, one after the other", "trace", trace(250)),
         ("a line of `purge` of the trace of one zone, all of whose lines it keeps", "purge z0", trace(1)),
+        ("the same of `given`, of what that writes", "given", purged(args.program)),
         ("a line of `script` in which a process enters a zone for the call `true`", "script", calls),
     ]
     made = []
