@@ -14,8 +14,14 @@ enum Next {
 
 // `a` and `b` are made and installed, `a` boots before `b`, and so its first process is 2 and that of `b` is 3.
 const NEXT: &[Next] = &[
-    Next::Line(1, b"zonecfg -z a create -b; set zonepath=/zones/a; set brand=ipkg"),
-    Next::Line(1, b"zonecfg -z b create -b; set zonepath=/zones/b; set brand=ipkg"),
+    Next::Line(
+        1,
+        b"zonecfg -z a create -b; set zonepath=/zones/a; set brand=ipkg",
+    ),
+    Next::Line(
+        1,
+        b"zonecfg -z b create -b; set zonepath=/zones/b; set brand=ipkg",
+    ),
     Next::Line(1, b"zoneadm -z a install"),
     Next::Turns(b"a", 10),
     Next::Line(2, b"zoneadm -z b install"),
@@ -29,12 +35,7 @@ const NEXT: &[Next] = &[
     Next::Call(b"b", 3, b"ps"),
 ];
 
-fn push_line(
-    alloc: Global,
-    events: &mut Vec<Event>,
-    number: u8,
-    line: &[u8],
-) -> Result<(), Fail> {
+fn push_line(alloc: Global, events: &mut Vec<Event>, number: u8, line: &[u8]) -> Result<(), Fail> {
     let text = Text::read(alloc, line)?;
     events.push(Event::Session { number, text })?;
     Ok(())
