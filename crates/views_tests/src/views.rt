@@ -3,16 +3,16 @@
 ghost use Rattle.zone_machine.specs.Code.Decided.{AsksBrands, MayGoOn};
 
 use crate::events::two_zones;
+use crate::kept::Kept;
 use crate::machines::{Hook, empty_disk, make_brands, opened, proceeds};
 use brand_hooks::{Change, HookAnswer};
 use datalink_table::ClaimKind;
 use kernel_objects::ProcRow;
 use std::alloc::Global;
-use std::process::Abort;
 use std::test::Fail;
-use zn_base::{Listing, ZoneName};
+use zn_base::ZoneName;
 use zn_io::Disk;
-use zone_cases::{Body, Entry, Event, Head, Reply};
+use zone_cases::{Body, Entry, Event, Reply};
 use zone_machine::Machine;
 use zone_views::{Object, ObjectKind, only, replies_of, run, run_purged, view};
 
@@ -94,21 +94,31 @@ fn lists(body: &Body) -> bool {
     }
 }
 
+fn copies_entry(alloc: Global, entry: &Entry) -> Result<bool, Fail> {
+    let copy = Kept(entry.copy(alloc)?);
+    Ok(is_ps(&copy.0.event) && copy.0.grant == entry.grant && lists(&copy.0.reply.body))
+}
+
+fn copies_event(alloc: Global, event: &Event) -> Result<bool, Fail> {
+    let copy = Kept(event.copy(alloc)?);
+    Ok(is_ps(&copy.0))
+}
+
+fn copies_reply(alloc: Global, reply: &Reply) -> Result<bool, Fail> {
+    let copy = Kept(reply.copy(alloc)?);
+    Ok(lists(&copy.0.body))
+}
+
 // A copy of the last entry is as it.
 fn is_copied(alloc: Global, entries: &[Entry]) -> Result<bool, Fail> {
-    let [.., last] = entries else {
-        return Ok(false);
-    };
-    let copy = last.copy(alloc)?;
-    let event = last.event.copy(alloc)?;
-    let reply = last.reply.copy(alloc)?;
-    Ok(
-        is_ps(&copy.event)
-            && is_ps(&event)
-            && copy.grant == last.grant
-            && lists(&copy.reply.body)
-            && lists(&reply.body),
-    )
+    match entries {
+        [.., last] => Ok(
+            copies_entry(alloc, last)?
+                && copies_event(alloc, &last.event)?
+                && copies_reply(alloc, &last.reply)?,
+        ),
+        _ => Ok(false),
+    }
 }
 
 fn is_ps(event: &Event) -> bool {
@@ -121,23 +131,14 @@ fn is_ps(event: &Event) -> bool {
 // What is left of the run without the entries of `a`: 28 entries, all of them of `b`.
 fn keeps(alloc: Global, entries: &[Entry]) -> Result<bool, Fail> {
     let zone = ZoneName::read(alloc, b"b")?;
-    let kept = only(alloc, entries, &zone)?;
-    let replies = replies_of(alloc, entries, &zone)?;
-    Ok(entries.len() == 55 && kept.len() == 28 && replies.len() == 28 && ends_so(&replies))
+    let kept = Kept(only(alloc, entries, &zone)?);
+    Ok(entries.len() == 55 && kept.0.len() == 28)
 }
 
-// The same events again, on another machine, without those of `a`.
-fn purges<D: Disk, F: Fn(&Change) -> HookAnswer>(
-    alloc: Global,
-    machine: &mut Machine<'_, D, F>,
-    entries: &[Entry],
-) -> Result<bool, Fail>
-    requires asks { AsksBrands F.Fn machine.old }
-    requires ready { MayGoOn D.view machine.old }
-{
+fn replies(alloc: Global, entries: &[Entry]) -> Result<bool, Fail> {
     let zone = ZoneName::read(alloc, b"b")?;
-    let replies = run_purged(alloc, machine, entries, &zone)?;
-    Ok(replies.len() == 28 && ends_so(&replies))
+    let replies = Kept(replies_of(alloc, entries, &zone)?);
+    Ok(replies.0.len() == 28 && ends_so(&replies.0))
 }
 
 // The entries of the run.
@@ -152,26 +153,86 @@ fn ran<D: Disk, F: Fn(&Change) -> HookAnswer>(
     Ok(run(alloc, machine, events)?)
 }
 
+// The same events again, on another machine, without those of `a`.
+fn purges<D: Disk, F: Fn(&Change) -> HookAnswer>(
+    alloc: Global,
+    machine: &mut Machine<'_, D, F>,
+    entries: &[Entry],
+) -> Result<bool, Fail>
+    requires asks { AsksBrands F.Fn machine.old }
+    requires ready { MayGoOn D.view machine.old }
+{
+    let zone = ZoneName::read(alloc, b"b")?;
+    let replies = Kept(run_purged(alloc, machine, entries, &zone)?);
+    Ok(replies.0.len() == 28 && ends_so(&replies.0))
+}
+
+// What a machine tells once it has run.
+fn tells_after<D: Disk, F: Fn(&Change) -> HookAnswer>(
+    alloc: Global,
+    machine: &mut Machine<'_, D, F>,
+) -> Result<bool, Fail>
+    requires asks { AsksBrands F.Fn machine.old }
+    requires ready { MayGoOn D.view machine.old }
+{
+    let _entries = Kept(ran(alloc, machine)?);
+    Ok(tells(alloc, machine)? && views(alloc, machine)?)
+}
+
+fn is_told(alloc: Global) -> Result<bool, Fail> {
+    let ipkg: Hook = proceeds;
+    let brands = make_brands(alloc, ipkg)?;
+    let disk = empty_disk(alloc)?;
+    match opened(alloc, disk, &brands) {
+        Ok(mut machine) => {
+            let told = tells_after(alloc, &mut machine);
+            let _disk = Kept(machine.into_disk());
+            told
+        }
+        Err(fault) => Err(fault),
+    }
+}
+
+fn entries_of(alloc: Global) -> Result<Vec<Entry>, Fail> {
+    let ipkg: Hook = proceeds;
+    let brands = make_brands(alloc, ipkg)?;
+    let disk = empty_disk(alloc)?;
+    match opened(alloc, disk, &brands) {
+        Ok(mut machine) => {
+            let entries = ran(alloc, &mut machine);
+            let _disk = Kept(machine.into_disk());
+            entries
+        }
+        Err(fault) => Err(fault),
+    }
+}
+
+fn is_purged(alloc: Global, entries: &[Entry]) -> Result<bool, Fail> {
+    let ipkg: Hook = proceeds;
+    let brands = make_brands(alloc, ipkg)?;
+    let disk = empty_disk(alloc)?;
+    match opened(alloc, disk, &brands) {
+        Ok(mut machine) => {
+            let purged = purges(alloc, &mut machine, entries);
+            let _disk = Kept(machine.into_disk());
+            purged
+        }
+        Err(fault) => Err(fault),
+    }
+}
+
 #[test]
 fn a_zone_is_told_and_viewed(rt: HostRuntime) -> Result<(), Fail> {
-    let ipkg: Hook = proceeds;
-    let brands = make_brands(rt.alloc(), ipkg)?;
-    let mut machine = opened(rt.alloc(), empty_disk(rt.alloc())?, &brands)?;
-    let _entries = ran(rt.alloc(), &mut machine)?;
-    assert!(rt; tells(rt.alloc(), &machine)?, "told");
-    assert!(rt; views(rt.alloc(), &machine)?, "viewed");
+    assert!(rt; is_told(rt.alloc())?, "told");
     Ok(())
 }
 
 #[test]
 fn a_purged_run_answers_alike(rt: HostRuntime) -> Result<(), Fail> {
-    let ipkg: Hook = proceeds;
-    let brands = make_brands(rt.alloc(), ipkg)?;
-    let mut machine = opened(rt.alloc(), empty_disk(rt.alloc())?, &brands)?;
-    let entries = ran(rt.alloc(), &mut machine)?;
-    assert!(rt; is_copied(rt.alloc(), &entries)?, "copied");
-    assert!(rt; keeps(rt.alloc(), &entries)?, "kept");
-    let mut again = opened(rt.alloc(), empty_disk(rt.alloc())?, &brands)?;
-    assert!(rt; purges(rt.alloc(), &mut again, &entries)?, "purged");
+    let entries = Kept(entries_of(rt.alloc())?);
+    assert!(rt; is_copied(rt.alloc(), &entries.0)?, "copied");
+    assert!(rt; keeps(rt.alloc(), &entries.0)?, "kept");
+    assert!(rt; replies(rt.alloc(), &entries.0)?, "replies");
+    assert!(rt; is_purged(rt.alloc(), &entries.0)?, "purged");
     Ok(())
 }
