@@ -2,7 +2,10 @@
 use Rattle.std.proofs.Common.{◌≡◌, [], ◌∷◌, ◌++◌, ◌&&◌, ◌∙◌, ℕ, Bool, true, false, List, None, Some, append_assoc, ap, arith, length, refl, subst, sym}
 use Rattle.std.proofs.lemmas.Bool.{and_from}
 use Rattle.zn_io.specs.Disk.{View}
-use Rattle.zone_cases.specs.State.{State, bodies_of}
+use Rattle.brand_hooks.specs.Brands.{Tabled}
+use Rattle.commit_journal.specs.declared.records.Commit.{Commit}
+use Rattle.zn_base.specs.Names.{Name}
+use Rattle.zone_cases.specs.State.{State, bodies_of, stored}
 use Rattle.zone_cases.specs.declared.events.Entry.{Entry}
 use Rattle.zone_cases.specs.declared.events.Event.{Event}
 use Rattle.zone_cases.specs.declared.events.Event.TheVariants.{Process, Restart, Session, System, Turn}
@@ -10,11 +13,12 @@ use Rattle.zone_machine.specs.Code.Cells.{Stands}
 use Rattle.zone_machine.specs.Code.Openings.{StandsFor}
 use Rattle.zone_machine.specs.Code.Records.{Passes}
 use Rattle.zone_machine.specs.Code.Restarts.{FindsAgain, IsAllowedStepOf, IsFittingStepOf, KeepsBodiesOf}
-use Rattle.zone_machine.specs.Machine.Histories.{after, after_entry, asked, entry_at, history, run}
+use Rattle.zone_machine.specs.Machine.Histories.{after, after_entry, asked, entry_at, history, is_history, only, replies, run}
 use Rattle.zone_machine.specs.Machine.Pools.{allowed, fits}
-use Rattle.zone_machine.specs.Machine.{one}
+use Rattle.zone_machine.specs.Machine.{one, opening}
 use Rattle.zone_machine.specs.declared.machine.Machine.{Machine}
 use Rattle.zone_pools.specs.declared.grant.Grant.{Grant}
+use Rattle.zone_views.proofs.Purge.{opening-agree, purge, run-asked}
 use Rattle.zone_views.proofs.Runs.{legal-history}
 use Rattle.zone_views.specs.Running.{HasRun, HasRunGiven, HasRunSome, HasRunSomeGiven, all_fit}
 
@@ -143,3 +147,10 @@ all-next done left rest all x is steps = append_assoc done (x ∷ []) rest ∙ (
 pub nothing-left : {X : Type 0} (l : List X) (n : ℕ) → n ≡ length l → n ≡ 0 → l ≡ []
 nothing-left [] n is none = refl
 nothing-left (x ∷ l) n is none = absurd (omega (arith, is, none))
+
+-- without other zones' entries a zone is answered what it was answered among them
+pub purged-alike : (z : Name) (permits : State → Event → Grant → Bool) (brands : List Tabled) (commits others : List Commit) (h : List Entry)
+    → is_history permits (opening brands commits) h ≡ true → stored z commits ≡ stored z others → replies z (run (opening brands others) (asked (only z h))) ≡ replies z h
+purged-alike z permits brands commits others h is same =
+    sym (subst (λ k. replies z k ≡ replies z (run (opening brands others) (asked (only z k)))) (run-asked permits (opening brands commits) h is)
+    (purge z (asked h) (opening brands commits) (opening brands others) (opening-agree z brands commits others same)))

@@ -1,10 +1,15 @@
 //! Runs of a machine, and what is left of them where all other zones' entries are removed.
-ghost use Rattle.std.specs.Prelude.{◌≡◌, ◌⊎◌, ◌≢◌, IfErr, IfOk, IsErrOf, OnOk, false};
-ghost use Rattle.zone_cases.specs.State.{State};
+ghost use Rattle.std.specs.Prelude.{◌≡◌, ◌⊎◌, Bool, IfErr, IfOk, IsErrOf, List, OnOk, false, true};
+ghost use Rattle.brand_hooks.specs.Brands.{Tabled};
+ghost use Rattle.commit_journal.specs.declared.records.Commit.{Commit};
+ghost use Rattle.zone_cases.specs.State.{State, stored};
+ghost use Rattle.zone_cases.specs.declared.events.Event as event_types;
+ghost use Rattle.zone_pools.specs.declared.grant.Grant as grant_types;
 ghost use Rattle.zone_machine.specs.Code.Decided.{AsksBrands, MayGoOn};
 ghost use Rattle.zone_machine.specs.Code.Openings.{StandsFor};
 ghost use Rattle.zone_machine.specs.Code.Records.{Passes};
-ghost use Rattle.zone_machine.specs.Machine.Histories.{asked, concerns, is_of, only, replies, run};
+ghost use Rattle.zone_machine.specs.Machine.Histories.{asked, concerns, is_history, is_of, only, replies, run};
+ghost use Rattle.zone_machine.specs.Machine.{opening};
 ghost use Rattle.zone_views.specs.Running.{HasRun, HasRunGiven, HasRunSome, HasRunSomeGiven, all_fit};
 
 use brand_hooks::{Change, HookAnswer};
@@ -129,8 +134,8 @@ fn run_given<D: Disk, F: Fn(&Change) -> HookAnswer>(
 }
 
 /// The events of a zone and of the whole system among some entries are answered again, under their grants and without those of
-/// other zones: the replies of the zone. After a fault the steps before it stand. A grant may not fit any more; by the laws of this
-/// crate it changes no reply where all do.
+/// other zones: the replies of the zone. After a fault the steps before it stand. A grant may not fit any more; where all do, the
+/// zone is answered what it was answered among the others.
 pub fn run_purged<D: Disk, F: Fn(&Change) -> HookAnswer>(
     alloc: Global,
     machine: &mut Machine<'_, D, F>,
@@ -140,6 +145,10 @@ pub fn run_purged<D: Disk, F: Fn(&Change) -> HookAnswer>(
     requires asks { AsksBrands F.Fn machine.old }
     requires ready { MayGoOn D.view machine.old }
     ensures ok { (D.view machine.old.bank.disk).Keeps → IfOk result (λ list. (S : State) → StandsFor S machine.old → list.items ≡ replies zone.now (run S (asked (only zone.now entries.now)))) }
+    // Where the entries are a history from other records, which have the same of the zone, these are the replies that it has there.
+    ensures alike { (D.view machine.old.bank.disk).Keeps → IfOk result (λ list. (permits : State → event_types.Event → grant_types.Grant → Bool) (brands : List Tabled) (commits others : List Commit)
+        → StandsFor (opening brands others) machine.old → is_history permits (opening brands commits) entries.now ≡ true → stored zone.now commits ≡ stored zone.now others
+        → list.items ≡ replies zone.now entries.now) }
     ensures stands { (D.view machine.old.bank.disk).Keeps → OnOk result ((S : State) → StandsFor S machine.old → HasRunGiven S (only zone.now entries.now) (run S (asked (only zone.now entries.now))) machine.new) }
     ensures memory { (D.view machine.old.bank.disk).Keeps → IsErrOf result StepFault.Memory → (S : State) → StandsFor S machine.old → HasRunSomeGiven S (only zone.now entries.now) machine.new.parts }
     ensures misfit { (D.view machine.old.bank.disk).Keeps → IsErrOf result StepFault.BadGrant → (S : State) → StandsFor S machine.old → all_fit S (asked (only zone.now entries.now)) ≡ false }

@@ -1,4 +1,4 @@
-use Rattle.std.proofs.Common.{◌∷◌, [], ℕ, zero, suc, arith}
+use Rattle.std.proofs.Common.{◌∷◌, [], zero, suc, arith}
 use Rattle.std.specs.List.{All}
 use Rattle.brand_hooks.specs.Hooks.{Follows}
 use Rattle.views_tests.proofs.machines.make_brands.Goals as goal
