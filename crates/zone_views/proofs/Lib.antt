@@ -29,6 +29,7 @@ pub mod Rights
 pub mod Settled
 pub mod Naming_cases
 pub mod Naming_laws
+pub mod Small_zones
 mod Edits
 mod Logins
 mod Consoles
