@@ -5,7 +5,7 @@ ghost use Rattle.zones_run.specs.Denoted.{ExportsWhatIsDenoted, RefusesAtWhatIsD
 ghost use Rattle.zones_run.specs.Resting.{CrashesLeaveStoredStates};
 ghost use Rattle.zones_run.specs.Permitted.{EntriesAreTheMachines, LinesAreTheEvents};
 ghost use Rattle.zones_run.specs.Purged.{PurgedRunsAsGiven};
-ghost use Rattle.zones_run.specs.Turns_end.{ScriptTurnsEnd, TurnsEnd};
+ghost use Rattle.zones_run.specs.Turns_end.{ScriptTicketsEnd, ScriptTurnsEnd, TurnsEnd};
 
 /// A law: where `export` ends with status 0, it has written the export text of the configuration that the
 /// subcommands of its input denote, with scopes as brackets in their list, and that has no flaw.
@@ -54,9 +54,10 @@ pub fn turns_that_are_put_in_end()
     ensures { TurnsEnd }
 {}
 
-/// A law: after any history whose grants fit, so after any that a run comes to, the last turn that is put in after a line answers
-/// the line's ticket, or the daemon is stuck or has nothing to do. What was stored of the zone at the start is to be right, as a
-/// store's form has it.
+/// A law: after any history whose grants fit, the last turn that is put in after a line answers the line's ticket, or the daemon is
+/// stuck or has nothing to do, where what was stored of the zone at the start is right.
 pub fn script_turns_end()
-    ensures { ScriptTurnsEnd }
+    ensures turns { ScriptTurnsEnd }
+    // So in the whole run of a script each entry that opens a ticket is followed by such turns.
+    ensures runs { ScriptTicketsEnd }
 {}
