@@ -147,7 +147,7 @@ module _ (z : Name) (w : World) (h : Held w) where
       at_keeps row true = seated_held k es s (record w { stored = row }) (λ a. a) h
       at_keeps row false = seated_held k es s (console_gone_world false (record w { stored = row })) (λ a. nobody_there (w.sessions k)) (gone_held false (record w { stored = row }) h)
   does_held _ _ _ (Removes k row es is c r s) = seated_held k es s (console_gone_world false (record w { stored = None })) (λ a. nobody_there (w.sessions k)) (gone_held false (record w { stored = None }) h)
-  does_held _ _ _ (Puts k r row is idle) = here_held k (Some (Awaiting (w.desk.last + 1))) w refl (idle_away k idle) h
+  does_held _ _ _ (Puts k r row is idle room) = here_held k (Some (Awaiting (w.desk.last + 1))) w refl (idle_away k idle) h
   does_held _ _ _ (Calls n c es called) = called_held n c es called
   does_held _ _ _ (Remounts n e mounted) = h
   does_held _ _ _ (Consoles n es consoled) = consoled_held n es consoled

@@ -134,7 +134,7 @@ pub data Does (z : Name) (w : World) : Option ℕ → Option Arrival → List Zo
       → Does z w (Some k) (Some (New_record (Some (committed_record z stored config m)))) es
   Removes : (k : ℕ) (row : Record) (es : List Zone_edit) → w.stored ≡ Some row → is_configured (state_now row w.desk) ≡ true → has_request w.desk ≡ false → Seated z w k es
       → Does z w (Some k) (Some (New_record None)) es
-  Puts : (k : ℕ) (r : Request) (row : Record) → w.stored ≡ Some row → w.sessions k ≡ None
+  Puts : (k : ℕ) (r : Request) (row : Record) → w.stored ≡ Some row → w.sessions k ≡ None → is_full w.desk ≡ false
       → Does z w (Some k) None (Set_desk (with_request w.desk r) ∷ Here (Some (Awaiting (w.desk.last + 1))) ∷ [])
   Calls : (n : Option ℕ) (c : Option Arrival) (es : List Zone_edit) → Called w n c es → Does z w n c es
   Remounts : (n : Option ℕ) (e : List_edit MountEntry) → Mounted w.processes w.mounts e → Does z w n None (Of_objects (Of_mounts e) ∷ [])
@@ -353,7 +353,7 @@ module _ (z : Name) (w : World) where
       where
         at_test : (b : Bool) → is_full w.desk ≡ b → Did (Some k) None (put_request w.desk r (Some row))
         at_test true e = simp e (Tells (Some k))
-        at_test false e = simp e (Puts k r row is idle)
+        at_test false e = simp e (Puts k r row is idle e)
 
     of_clone : (r : Result Name NameFault) → w.sessions k ≡ None → Did (Some k) None (put_clone w.desk r w.stored)
     of_clone (Err fault) idle = Tells (Some k)
@@ -539,7 +539,7 @@ module _ (P : World → Type 0) (z : Name) (w : World) (seated : (sessions : ℕ
     → P (record w { stored = Some (committed_record z stored config m); sessions = sessions; console = console }))
     (removed : (row : Record) (sessions : ℕ → Option Doing) (console : consoles.Console) → w.stored ≡ Some row → is_configured (state_now row w.desk) ≡ true → has_request w.desk ≡ false
     → P (record w { stored = None; sessions = sessions; console = console }))
-    (asked : (r : Request) (sessions : ℕ → Option Doing) → P (record w { desk = with_request w.desk r; sessions = sessions }))
+    (asked : (r : Request) (sessions : ℕ → Option Doing) → is_full w.desk ≡ false → P (record w { desk = with_request w.desk r; sessions = sessions }))
     (others : (n : Option ℕ) (c : Option Arrival) (es : List Zone_edit) → Called w n c es → P (edits_world n es (after_came_world c w)))
     (remounted : (e : List_edit MountEntry) → Mounted w.processes w.mounts e → P (record w { mounts = edited e w.mounts })) where
   abbrev here : ℕ → Option Doing → ℕ → Option Doing
@@ -567,7 +567,7 @@ module _ (P : World → Type 0) (z : Name) (w : World) (seated : (sessions : ℕ
       at_seat : (es : List Zone_edit) → Seated z w k es → P (edits_world (Some k) es (console_gone_world false (record w { stored = None })))
       at_seat _ Unseated = removed row (λ j. swept_doing console_left (w.sessions j)) new_console is e f
       at_seat _ (Is_seated d s) = removed row (here_gone k d) new_console is e f
-  of_does _ _ _ (Puts k r row is idle) = asked r (here k (Some (Awaiting (w.desk.last + 1))))
+  of_does _ _ _ (Puts k r row is idle room) = asked r (here k (Some (Awaiting (w.desk.last + 1)))) room
   of_does _ _ _ (Calls n c es called) = others n c es called
   of_does _ _ _ (Remounts n e mounted) = remounted e mounted
   of_does _ _ _ (Consoles n es consoled) = at_console n es consoled

@@ -192,7 +192,7 @@ module _ (z : Name) (w : World) (h : AllDenoted w) where
   does_denoted _ _ _ (Records k stored config m es is says s) =
       let row = Some (committed_record z stored config m) in seated_denoted k es s (console_gone_world (keeps_console row) (record w { stored = row })) (kept-gone EditsDenoted tt (keeps_console row) (record w { stored = row }) h)
   does_denoted _ _ _ (Removes k row es is c r s) = seated_denoted k es s (console_gone_world false (record w { stored = None })) (kept-gone EditsDenoted tt false (record w { stored = None }) h)
-  does_denoted _ _ _ (Puts k r row is idle) = kept-here EditsDenoted k (Some (Awaiting (w.desk.last + 1))) w.sessions tt h
+  does_denoted _ _ _ (Puts k r row is idle room) = kept-here EditsDenoted k (Some (Awaiting (w.desk.last + 1))) w.sessions tt h
   does_denoted _ _ _ (Calls n c es called) = called_denoted n c es called
   does_denoted _ _ _ (Remounts n e mounted) = h
   does_denoted _ _ _ (Consoles n es consoled) = consoled_denoted n es consoled

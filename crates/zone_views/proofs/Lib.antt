@@ -29,6 +29,8 @@ pub mod Rights
 pub mod Settled
 pub mod Naming_cases
 pub mod Naming_laws
+pub mod Small_zones
+pub mod Few_turns
 mod Edits
 mod Logins
 mod Consoles

@@ -352,7 +352,7 @@ module _ (w : World) (may : Bool) (none : may ≡ false → w.processes ≡ []) 
 
 pub limited-does : (z : Name) (w : World) → Limited w → (n : Option ℕ) (c : Option Arrival) (es : List Edit) → Does z w n c es → Limited (edits_world n es (after_came_world c w))
 limited-does z w is =
-    of_does Limited z w (λ sessions console. is) (λ stored config k sessions console same. is) (λ row sessions console same configured idle. is) (λ r sessions. is)
+    of_does Limited z w (λ sessions console. is) (λ stored config k sessions console same. is) (λ row sessions console same configured idle. is) (λ r sessions room. is)
     (λ n c es called. limited_called w is.may is.none is.within is.runs n c es called is.desk) (λ e mounted. record { may = is.may; none = is.none; within = is.within; runs = is.runs; desk = is.desk })
 
 pub limited-event : (z : Name) (w : World) (e : Event) (g : Grant) → Limited w → Limited (acts_world (session_number e) (act_of (decide (view_of z w) e) g) w)

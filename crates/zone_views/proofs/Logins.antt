@@ -127,7 +127,7 @@ module _ (z : Name) (w : World) (h : HaveLogins w) where
       let row = Some (committed_record z stored config m) in let keeps = keeps_console row in
       seated_left k es s (console_gone_world keeps (record w { stored = row })) (gone_left keeps (record w { stored = row }) h)
   does_left _ _ _ (Removes k row es is c r s) = seated_left k es s (console_gone_world false (record w { stored = None })) (gone_left false (record w { stored = None }) h)
-  does_left _ _ _ (Puts k r row is idle) = kept-here (HasLogin w.processes) k (Some (Awaiting (w.desk.last + 1))) w.sessions tt h
+  does_left _ _ _ (Puts k r row is idle room) = kept-here (HasLogin w.processes) k (Some (Awaiting (w.desk.last + 1))) w.sessions tt h
   does_left _ _ _ (Calls n c es called) = called_left n c es called
   does_left _ _ _ (Remounts n e mounted) = h
   does_left _ _ _ (Consoles n es consoled) = consoled_left n es consoled

@@ -186,7 +186,7 @@ called-few w _ _ _ (Renames n pid name) h = h
 called-few w _ _ _ (Drops n pid number) h = h
 
 does-few : (z : Name) (w : World) → AreFew w.mounts → (n : Option ℕ) (c : Option Arrival) (es : List Edit) → Does z w n c es → AreFew (edits_world n es (after_came_world c w)).mounts
-does-few z w h n c es does = of_does (λ v. AreFew v.mounts) z w (λ sessions console. h) (λ stored config m sessions console is. h) (λ row sessions console is e f. h) (λ r sessions. h) (λ n c es called. called-few w n c es called h) (λ e mounted. mounted-few w.processes w.mounts e mounted h) n c es does
+does-few z w h n c es does = of_does (λ v. AreFew v.mounts) z w (λ sessions console. h) (λ stored config m sessions console is. h) (λ row sessions console is e f. h) (λ r sessions room. h) (λ n c es called. called-few w n c es called h) (λ e mounted. mounted-few w.processes w.mounts e mounted h) n c es does
 
 pub few-after : (z : Name) (brands : List Tabled) (commits : List Commit) (h : List Entry) → length (world z (after (opening brands commits) h)).mounts ≤ 128
 few-after z brands commits h = kept-after (λ w. AreFew w.mounts)

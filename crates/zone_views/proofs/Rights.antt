@@ -107,7 +107,7 @@ module _ (z : Name) (w : World) (h : RightWorld w) where
       seated-right k es s (console_gone_world keeps (record w { stored = Some row })) (gone-right keeps (record w { stored = Some row }) (recorded-right stored config m is (saying-sound k config says)))
   does-right _ _ _ (Removes k row es is c none s) =
       seated-right k es s (console_gone_world false (record w { stored = None })) (gone-right false (record w { stored = None }) (record { stored = tt; sessions = h.sessions }))
-  does-right _ _ _ (Puts k r row is idle) = record { stored = h.stored; sessions = kept-here EditsSound k (Some (Awaiting (w.desk.last + 1))) w.sessions tt h.sessions }
+  does-right _ _ _ (Puts k r row is idle room) = record { stored = h.stored; sessions = kept-here EditsSound k (Some (Awaiting (w.desk.last + 1))) w.sessions tt h.sessions }
   does-right _ _ _ (Calls n c es called) = called-right n c es called
   does-right _ _ _ (Remounts n e mounted) = record { stored = h.stored; sessions = h.sessions }
   does-right _ _ _ (Consoles n es consoled) = consoled-right n es consoled

@@ -28,10 +28,11 @@ use Rattle.zoneadmd_steps.specs.Turns.{Seen, turn}
 use Rattle.zoneadmd_steps.specs.declared.requests.Request.{Request}
 use Rattle.zone_machine.proofs.Turned_laws.{decide-turn, turn_act}
 use Rattle.zone_machine.specs.Code.Works.{turned_act}
-use Rattle.zone_machine.specs.Machine.{decide, opening, session_number}
+use Rattle.zone_machine.specs.Machine.{decide, opening, restarted_world, session_number}
 use Rattle.zone_machine.specs.Machine.Histories.{after as after_history}
 use Rattle.zone_cases.specs.Session.Commits.{committed_record, is_configured}
 use Rattle.zone_cases.specs.State.{stored}
+use Rattle.zone_cases.specs.State.Declarations.{Declared}
 use Rattle.zone_cases.specs.State.Decisions.{Act, act_of, acts_world, after_came_world, sweeps}
 use Rattle.zone_cases.specs.State.Edits.{Edit, Of_objects, Set_desk, console_gone_world, edit_world, edits_world, keeps_console}
 use Rattle.zone_cases.specs.State.Worlds.{World, objects_of, seen_of, view_of, world}
@@ -163,7 +164,7 @@ module _ (w : World) (is : Limited w) (h : Agreed w) where
 
   agreed-does : (z : Name) (n : Option ℕ) (c : Option Arrival) (es : List Edit) → Does z w n c es → Agreed (edits_world n es (after_came_world c w))
   agreed-does z n c es does = of_does Agreed z w (λ sessions console. h) (λ stored config m sessions console same. agreed-recorded z stored config m same)
-      (λ row sessions console same c none. agreed-removed row c none) (λ r sessions. agreed-asked r) (λ n c es called. agreed-called n c es called) (λ e mounted. agreed-remounted e mounted) n c es does
+      (λ row sessions console same c none. agreed-removed row c none) (λ r sessions room. agreed-asked r) (λ n c es called. agreed-called n c es called) (λ e mounted. agreed-remounted e mounted) n c es does
 
 -- parents
 parents-change : (f : Process → Process) (ps : List Process) → ((p : Process) → (f p).parent ≡ p.parent) → Parents ps → Parents (map (keeping_pid f) ps)
@@ -236,7 +237,7 @@ parents-called w _ _ _ (Renames n pid name) are = parents-change (at_pid pid (re
 parents-called w _ _ _ (Drops n pid number) are = parents-change (at_pid pid (dropping number)) w.processes (dropping-parent pid number) are
 
 parents-does : (z : Name) (w : World) → Parents w.processes → (n : Option ℕ) (c : Option Arrival) (es : List Edit) → Does z w n c es → Parents (edits_world n es (after_came_world c w)).processes
-parents-does z w are n c es does = of_does (λ v. Parents v.processes) z w (λ sessions console. are) (λ stored config m sessions console same. are) (λ row sessions console same c none. are) (λ r sessions. are)
+parents-does z w are n c es does = of_does (λ v. Parents v.processes) z w (λ sessions console. are) (λ stored config m sessions console same. are) (λ row sessions console same c none. are) (λ r sessions room. are)
     (λ n c es called. parents-called w n c es called are) (λ e mounted. are) n c es does
 
 -- the zone number
@@ -252,7 +253,7 @@ zid-called w _ _ _ (Renames n pid name) h = h
 zid-called w _ _ _ (Drops n pid number) h = h
 
 zid-does : (z : Name) (w : World) → Zid_told w → (n : Option ℕ) (c : Option Arrival) (es : List Edit) → Does z w n c es → Zid_told (edits_world n es (after_came_world c w))
-zid-does z w h n c es does = of_does Zid_told z w (λ sessions console. h) (λ stored config m sessions console same. h) (λ row sessions console same c none. h) (λ r sessions. h)
+zid-does z w h n c es does = of_does Zid_told z w (λ sessions console. h) (λ stored config m sessions console same. h) (λ row sessions console same c none. h) (λ r sessions room. h)
     (λ n c es called. zid-called w n c es called h) (λ e mounted. h) n c es does
 
 pub record Settled (w : World) : Type 0 where
@@ -293,31 +294,36 @@ settled-turned z w g s =
       zid = subst (λ (v : Seen). Job_zid (zid_of v.objects.ids) v.desk.job) (sym here) good.zid;
     }
 
-settled-event : (z : Name) (w : World) (e : Event) (g : Grant) → Settled w → Settled (acts_world (session_number e) (act_of (decide (view_of z w) e) g) w)
+pub settled-event : (z : Name) (w : World) (e : Event) (g : Grant) → Settled w → Settled (acts_world (session_number e) (act_of (decide (view_of z w) e) g) w)
 settled-event z w e g s = of_any z w Settled (λ v s n c es does. settled-does z v s n c es does) s g (settled-turned z w g s) e
+
+pub settled-declared : (w : World) (d : Declared) → Settled w → Settled (record w { declared = d })
+settled-declared w d s = record {
+  right = record { stored = s.right.stored; sessions = s.right.sessions };
+  limited = s.limited;
+  agreed = job_still (seen_of w) (seen_of (record w { declared = d })) (record { active = refl; installed = λ e. e; ids = refl; claims = refl; devices = refl; quiet = λ e. (e, refl) }) w.desk.job s.agreed;
+  parents = s.parents;
+  zid = s.zid;
+}
+
+pub settled-restarted : (w : World) → Settled w → Settled (restarted_world w)
+settled-restarted w s = record {
+  right = record { stored = s.right.stored; sessions = λ n. tt };
+  limited = record { may = false; none = λ e. refl; within = refl; runs = refl; desk = refl };
+  agreed = record { ids = refl; processes = refl; mounts = refl; claims = refl; devices = refl };
+  parents = λ p h. absurd h;
+  zid = tt;
+}
+
+pub settled-opening : (z : Name) (brands : List Tabled) (commits : List Commit) → IfSome (stored z commits) IsRight → Settled (world z (opening brands commits))
+settled-opening z brands commits first = record {
+  right = record { stored = first; sessions = λ n. tt };
+  limited = record { may = false; none = λ e. refl; within = refl; runs = refl; desk = refl };
+  agreed = record { ids = refl; processes = refl; mounts = refl; claims = refl; devices = refl };
+  parents = λ p h. absurd h;
+  zid = tt;
+}
 
 -- after any history, where what is stored of the zone at first is right
 pub settled-after : (z : Name) (brands : List Tabled) (commits : List Commit) (h : List Entry) → IfSome (stored z commits) IsRight → Settled (world z (after_history (opening brands commits) h))
-settled-after z brands commits h first = kept-of Settled settled-event
-    (λ w d s. record {
-      right = record { stored = s.right.stored; sessions = s.right.sessions };
-      limited = s.limited;
-      agreed = job_still (seen_of w) (seen_of (record w { declared = d })) (record { active = refl; installed = λ e. e; ids = refl; claims = refl; devices = refl; quiet = λ e. (e, refl) }) w.desk.job s.agreed;
-      parents = s.parents;
-      zid = s.zid;
-    })
-    (λ w s. record {
-      right = record { stored = s.right.stored; sessions = λ n. tt };
-      limited = record { may = false; none = λ e. refl; within = refl; runs = refl; desk = refl };
-      agreed = record { ids = refl; processes = refl; mounts = refl; claims = refl; devices = refl };
-      parents = λ p h. absurd h;
-      zid = tt;
-    })
-    z (opening brands commits) h
-    (record {
-      right = record { stored = first; sessions = λ n. tt };
-      limited = record { may = false; none = λ e. refl; within = refl; runs = refl; desk = refl };
-      agreed = record { ids = refl; processes = refl; mounts = refl; claims = refl; devices = refl };
-      parents = λ p h. absurd h;
-      zid = tt;
-    })
+settled-after z brands commits h first = kept-of Settled settled-event settled-declared settled-restarted z (opening brands commits) h (settled-opening z brands commits first)

@@ -339,7 +339,7 @@ keeps-event z w e g h =
 
     acts : (n : Option ℕ) (c : Option Arrival) (es : List Edit) → Acts z w n c es → KeepsFrom w (edits_world n es (after_came_world c w))
     acts _ _ _ (Once n c es does) =
-        of_does (KeepsFrom w) z w (λ sessions console. stays) (λ stored config k sessions console is. subst (λ o. Keeps w.stored w.desk (Some (committed_record z o config k)) w.desk) is (keeps-recorded w.stored w.desk z config k h)) (λ row sessions console is c r. subst (λ o. Keeps o w.desk None w.desk) (sym is) (keeps-removed row w.desk (subst (λ o. steady o w.desk ≡ true) is h) c r)) (λ r sessions. keeps-asked w.stored w.desk r h) others (λ e mounted. stays) n c es does
+        of_does (KeepsFrom w) z w (λ sessions console. stays) (λ stored config k sessions console is. subst (λ o. Keeps w.stored w.desk (Some (committed_record z o config k)) w.desk) is (keeps-recorded w.stored w.desk z config k h)) (λ row sessions console is c r. subst (λ o. Keeps o w.desk None w.desk) (sym is) (keeps-removed row w.desk (subst (λ o. steady o w.desk ≡ true) is h) c r)) (λ r sessions room. keeps-asked w.stored w.desk r h) others (λ e mounted. stays) n c es does
     acts _ _ _ (Errand k pid name es running does) = unasked (entered (kernel_of (objects_of w)) name false pid) pid (Some k) es does
 
     turned : let a = turn_act w g in Keeps w.stored w.desk (stored_after a.came w.stored) a.effect.desk

@@ -314,7 +314,7 @@ module _ (z : Name) (w : World) (h : Served w) where
       let row = committed_record z stored config m in let keeps = keeps_console (Some row) in
       seated_served k es s (console_gone_world keeps (record w { stored = Some row })) (recorded_served row keeps)
   does_served _ _ _ (Removes k row es is c none s) = seated_served k es s (console_gone_world false (record w { stored = None })) (removed_served none)
-  does_served _ _ _ (Puts k r row is idle) = record {
+  does_served _ _ _ (Puts k r row is idle room) = record {
     stored = λ q. ap is_some is;
     tickets = kept-here (IsOpen (with_request w.desk r)) k (Some (Awaiting (w.desk.last + 1))) w.sessions (new_open w.desk r) (λ j. put_open w.desk r (w.sessions j) (h.tickets j));
   }

@@ -1,5 +1,5 @@
 //! The laws, over every state or every history.
-ghost use Rattle.std.specs.Prelude.{◌≡◌, ◌≢◌, ◌≤◌, ◌⊎◌, ◌++◌, ◌∷◌, Bool, IfSome, List, None, Option, Some, false, is_some, length, true, ℕ};
+ghost use Rattle.std.specs.Prelude.{◌≡◌, ◌≢◌, ◌≤◌, ◌<◌, ◌⊎◌, ◌++◌, ◌∷◌, Bool, IfSome, List, None, Option, Some, false, is_some, length, true, ℕ};
 ghost use Rattle.std.specs.List.{list_all, list_any};
 ghost use Rattle.zn_base.specs.Moves.{may_move};
 ghost use Rattle.zn_base.specs.Names.{Name};
@@ -17,6 +17,7 @@ ghost use Rattle.zone_cases.specs.State.{At, At_console, Awaiting, Idle, Logged_
 ghost use Rattle.zone_cases.specs.State.Decisions.{says};
 ghost use Rattle.zone_cases.specs.State.Worlds.{objects_of, seen_of, world};
 ghost use Rattle.zoneadmd_laws.specs.Agreement.{Agrees};
+ghost use Rattle.zoneadmd_laws.specs.Turns_left.{IsSmall, turns_left};
 ghost use Rattle.zoneadmd_steps.specs.Objects.{kernel_of};
 ghost use Rattle.zoneadmd_steps.specs.declared.requests.TurnReply.TheVariants.{Idle as No_work};
 ghost use Rattle.kernel_objects.specs.Kernel.{within_limit};
@@ -289,4 +290,14 @@ pub fn replies_name_own_objects()
     ensures entries { (z : Name) (permits : State → Event → Grant → Bool) (brands : List Tabled) (commits : List Commit) (h more : List Entry) (e : Entry)
         → IfSome (stored z commits) IsRight → is_history permits (opening brands commits) (h ++ e ∷ more) ≡ true
         → e.subject ≡ Zone z → AreAmong (names z e.reply) (own z (after (opening brands commits) h) e.event e.grant) }
+{}
+
+/// After any history whose grants fit, so after any legal one, a zone is small, where what was stored of it at the start is right:
+/// what it has and what its record asks for are fewer than 10,000 mounts and claims in all. So its daemon has fewer than 10,000,000
+/// turns left.
+pub fn zones_stay_small()
+    ensures small { (brands : List Tabled) (commits : List Commit) (h : List Entry) (z : Name) → is_history fits (opening brands commits) h ≡ true
+        → IfSome (stored z commits) IsRight → IsSmall (seen_of (world z (after (opening brands commits) h))) }
+    ensures turns { (brands : List Tabled) (commits : List Commit) (h : List Entry) (z : Name) → is_history fits (opening brands commits) h ≡ true
+        → IfSome (stored z commits) IsRight → turns_left (seen_of (world z (after (opening brands commits) h))) < 10000000 }
 {}

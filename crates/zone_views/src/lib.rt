@@ -22,6 +22,7 @@ pub use laws::{
     requests_are_of_stored_zones, runs_are_histories, sessions_edit_what_was_said,
     sets_lie_within_limits, states_move_along_the_table, stores_hold_records, subjects_agree,
     tables_agree_with_daemons, worlds_are_replayed, zones_share_no_process_number,
+    zones_stay_small,
 };
 pub use purging::{only, replies_of, run, run_purged};
 pub use viewing::{Object, ObjectKind, view};

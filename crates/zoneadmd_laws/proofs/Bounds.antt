@@ -35,7 +35,7 @@ module _ (more : ℕ → ℕ → ℕ) (N K : ℕ) (bound : (m k : ℕ) → m + k
 ready_length : (c : Contents) → length (ready_part c) ≡ length (fs_dirs c) + length (claims_of c) + 7
 ready_length c = simp (length-append, length-map) (omega arith)
 
-plan_length : (r : Request) (s : ZoneState) (c : Contents) → length (plan r s c) ≤ length (fs_dirs c) + length (claims_of c) + 12
+pub plan_length : (r : Request) (s : ZoneState) (c : Contents) → length (plan r s c) ≤ length (fs_dirs c) + length (claims_of c) + 12
 plan_length request.Uninstall Incomplete c = omega arith
 plan_length request.Uninstall s c = omega arith
 plan_length request.Ready s c = omega (arith, ready_length c)
@@ -55,7 +55,7 @@ boot_bound args c m k small h =
     both : (a b : ℕ) → a ≤ 90000 → b ≤ 90000 → max a b + 1 ≤ 100000
     both a b h h' = omega arith
 
-after_bound : (row : Record) (r : Request) (m k : ℕ) → length (fs_dirs row.config) + length (claims_of row.config) < 10000 → m + k ≤ 40000 → turns_after (Some row) r m k ≤ 100000
+pub after_bound : (row : Record) (r : Request) (m k : ℕ) → length (fs_dirs row.config) + length (claims_of row.config) < 10000 → m + k ≤ 40000 → turns_after (Some row) r m k ≤ 100000
 after_bound row (request.Reboot args) m k small h = boot_bound args row.config m k small h
 after_bound row r m k small h = omega arith
 

@@ -86,7 +86,7 @@ commits-after S [] = sym (append-nil S.commits)
 commits-after S (e ∷ h) =
     commits-after (after_entry S e) h ∙ ap (λ l. l ++ changes (after_entry S e) h) (commits-entry S e) ∙ append_assoc S.commits (change S e) (changes (after_entry S e) h)
 
-history-push : (permitted : State → Event → Grant → Bool) (S : State) (h : List Entry) (e : Entry) → is_history permitted S h ≡ true → is_history permitted (after S h) (e ∷ []) ≡ true → is_history permitted S (h ++ e ∷ []) ≡ true
+pub history-push : (permitted : State → Event → Grant → Bool) (S : State) (h : List Entry) (e : Entry) → is_history permitted S h ≡ true → is_history permitted (after S h) (e ∷ []) ≡ true → is_history permitted S (h ++ e ∷ []) ≡ true
 history-push permitted S [] e is more = more
 history-push permitted S (d ∷ h) e is more =
     at_test (is_told S d && permitted S d.event d.grant) (is_history permitted (after_entry S d) h) (is_history permitted (after_entry S d) (h ++ e ∷ [])) is (λ rest. history-push permitted (after_entry S d) h e rest more)

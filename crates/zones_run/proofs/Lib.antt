@@ -7,6 +7,7 @@ pub mod Starting
 pub mod Declaring
 pub mod Putting
 pub mod Turns_end
+pub mod Tickets_end
 pub mod Traces
 pub mod TraceRuns
 pub mod Begins

@@ -49,7 +49,7 @@ lines_are_events mode S bytes puts not =
     nothing_put mode S script.events script.ending puts (none_stated mode false 1 (lines_of bytes) not)
 
 -- each of some events states a grant where its run's lines do, and else none
-abbrev AllSuit : Mode → List (ℕ × Due) → Type 0
+abbrev pub AllSuit : Mode → List (ℕ × Due) → Type 0
 AllSuit mode [] = Unit {0}
 AllSuit mode (e ∷ events) = Suits mode e.1 × AllSuit mode events
 
@@ -58,7 +58,7 @@ suit_said mode started line n (Ok (Some d)) more is suit = (suits_said mode star
 suit_said mode started line n (Ok None) more is suit = suit
 suit_said mode started line n (Err fault) more is suit = tt
 
-all_suit : (mode : Mode) (started : Bool) (n : ℕ) (lines : List (List ℕ)) → AllSuit mode (script_from mode started n lines).events
+pub all_suit : (mode : Mode) (started : Bool) (n : ℕ) (lines : List (List ℕ)) → AllSuit mode (script_from mode started n lines).events
 all_suit mode started n [] = tt
 all_suit mode started n (line ∷ lines) =
     let said = said_by mode started line in

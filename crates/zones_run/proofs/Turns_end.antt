@@ -1,7 +1,10 @@
 -- The turns that are put in come to an end.
 use Rattle.std.proofs.Common.{◌≡◌, ◌<◌, ◌++◌, ℕ, zero, suc, Bool, true, false, cond, List, [], ◌∷◌, map, Option, Some, None, Result, Ok as Right, Err, refl, ap, sym, subst, ◌∙◌, arith}
-use Rattle.std.proofs.lemmas.Bool.{true≢false}
+use Rattle.std.specs.Prelude.{IfSome}
+use Rattle.std.proofs.lemmas.Bool.{and_from, true≢false}
 use Rattle.zn_base.specs.Names.{Name}
+use Rattle.brand_hooks.specs.Brands.{Tabled}
+use Rattle.commit_journal.specs.declared.records.Commit.{Commit}
 use Rattle.zone_pools.specs.Decisions as decisions
 use Rattle.zone_pools.specs.Decisions.{Ask, Just, number_in}
 use Rattle.zone_pools.specs.declared.grant.Grant.{Grant}
@@ -17,18 +20,24 @@ use Rattle.zoneadmd_steps.specs.Turns.{Seen, Turn_decision, Turned, turn}
 use Rattle.zoneadmd_steps.specs.declared.requests.TurnReply.{TurnReply}
 use Rattle.zoneadmd_steps.specs.declared.requests.TurnReply.TheVariants.{Began, Failed, Finished, Idle, Stepped, Stuck, Undone}
 use Rattle.zone_machine.proofs.Acts_laws.{own-acts}
-use Rattle.zone_machine.specs.Machine.{decide, one, subject}
-use Rattle.zone_machine.specs.Machine.Histories.{history}
-use Rattle.zone_machine.specs.Machine.Pools.{allowed}
-use Rattle.zone_cases.specs.State.{State}
+use Rattle.zone_machine.specs.Machine.{decide, one, opening, subject}
+use Rattle.zone_machine.specs.Machine.Histories.{after, history, is_history}
+use Rattle.zone_machine.specs.Machine.Pools.{allowed, fits}
+use Rattle.zone_cases.specs.State.{State, stored}
 use Rattle.zone_cases.specs.State.Decisions.{Act, act_of, acts_world, after_came_world, effects, sweeps, turned}
 use Rattle.zone_cases.specs.State.Edits.{Of_objects, Set_desk, console_gone_world, edit_world, edits_world, keeps_console}
 use Rattle.zone_cases.specs.State.Worlds.{World, objects_of, seen_of, view, world}
 use Rattle.zone_cases.specs.declared.events.Entry.{Entry}
 use Rattle.zone_cases.specs.declared.events.Event.TheVariants.{Turn}
 use Rattle.zone_cases.specs.declared.replies.Head.TheVariants.{Turned as Told}
+use Rattle.zone_views.proofs.Few_turns.{turns-few}
+use Rattle.zone_views.proofs.Numbered.{allowed-fits, numbered-history}
+use Rattle.zone_views.proofs.Runs.{told-entry_at}
+use Rattle.zone_views.proofs.Small_zones.{stays-small}
+use Rattle.zone_views.specs.Storable.{IsRight}
+use Rattle.zones_run.proofs.Histories.{after-push, history-push}
 use Rattle.zones_run.specs.Scripting.{entry_in, is_last, is_last_turn, state_after, turns_until}
-use Rattle.zones_run.specs.Turns_end.{EndsFor, TurnsEnd, found_in}
+use Rattle.zones_run.specs.Turns_end.{EndsFor, ScriptTurnsEnd, StaysSmall, TurnsEnd, found_in}
 use Rattle.zones_run.specs.declared.turns.Opened.{Opened}
 
 -- what a turn makes of what the daemon finds is what it makes of the zone's world
@@ -136,3 +145,27 @@ turns_end zero o S small few = absurd (omega (arith, few))
 turns_end (suc more) o S small few =
     ends_next o S (rest_of more o S) (is_last o.ticket (entry_in S (Turn o.zone)).reply.head) refl (last_rest more o S)
     (λ is. let less = fewer_left o S small.0 is in subst (EndsFor o) (sym (later_rest more o S is)) (turns_end more o (state_after S (Turn o.zone)) small.1 (omega (arith, less, few))))
+
+-- a turn under the grant that the pools give goes on a history whose grants fit
+turn_pushed : (z : Name) (brands : List Tabled) (commits : List Commit) (h : List Entry) → is_history fits (opening brands commits) h ≡ true
+    → is_history fits (opening brands commits) (h ++ entry_in (after (opening brands commits) h) (Turn z) ∷ []) ≡ true
+turn_pushed z brands commits h is =
+    let S = after (opening brands commits) h in
+    history-push fits (opening brands commits) h (entry_in S (Turn z)) is
+    (and_from _ _ (and_from _ _ (told-entry_at S (Turn z) (allowed S (Turn z))) (allowed-fits S (Turn z) (numbered-history brands commits h is))) refl)
+
+stays_small : (more : ℕ) (z : Name) (brands : List Tabled) (commits : List Commit) (h : List Entry) → is_history fits (opening brands commits) h ≡ true → IfSome (stored z commits) IsRight
+    → StaysSmall more z (after (opening brands commits) h)
+stays_small zero z brands commits h is first = tt
+stays_small (suc more) z brands commits h is first =
+    let e = entry_in (after (opening brands commits) h) (Turn z) in (
+      stays-small brands commits h z is first,
+      subst (StaysSmall more z) (after-push (opening brands commits) h e) (stays_small more z brands commits (h ++ e ∷ []) (turn_pushed z brands commits h is) first),
+    )
+
+end_within : (more : ℕ) (o : Opened) (brands : List Tabled) (commits : List Commit) (h : List Entry) → is_history fits (opening brands commits) h ≡ true → IfSome (stored o.zone commits) IsRight
+    → (let S = after (opening brands commits) h in turns_left (found_in o.zone S) < more → EndsFor o (history S (turns_until more o S)))
+end_within more o brands commits h is first few = turns_end more o (after (opening brands commits) h) (stays_small more o.zone brands commits h is first) few
+
+pub script_turns_end : ScriptTurnsEnd
+script_turns_end brands commits h o is first = end_within 10000000 o brands commits h is first (turns-few brands commits h o.zone is first)

@@ -5,7 +5,7 @@ ghost use Rattle.zones_run.specs.Denoted.{ExportsWhatIsDenoted, RefusesAtWhatIsD
 ghost use Rattle.zones_run.specs.Resting.{CrashesLeaveStoredStates};
 ghost use Rattle.zones_run.specs.Permitted.{EntriesAreTheMachines, LinesAreTheEvents};
 ghost use Rattle.zones_run.specs.Purged.{PurgedRunsAsGiven};
-ghost use Rattle.zones_run.specs.Turns_end.{TurnsEnd};
+ghost use Rattle.zones_run.specs.Turns_end.{ScriptTicketsEnd, ScriptTurnsEnd, TurnsEnd};
 
 /// A law: where `export` ends with status 0, it has written the export text of the configuration that the
 /// subcommands of its input denote, with scopes as brackets in their list, and that has no flaw.
@@ -52,4 +52,12 @@ pub fn purged_traces_are_answered_alike()
 /// after a line answers the line's ticket, or the daemon is stuck or has nothing to do.
 pub fn turns_that_are_put_in_end()
     ensures { TurnsEnd }
+{}
+
+/// A law: after any history whose grants fit, the last turn that is put in after a line answers the line's ticket, or the daemon is
+/// stuck or has nothing to do, where what was stored of the zone at the start is right.
+pub fn script_turns_end()
+    ensures turns { ScriptTurnsEnd }
+    // So in the whole run of a script each entry that opens a ticket is followed by such turns.
+    ensures runs { ScriptTicketsEnd }
 {}

@@ -23,6 +23,6 @@ pub use fault::RunFault;
 pub use laws::{
     crashes_leave_stored_states, declares_first, entries_are_the_machines, exports_what_is_denoted,
     only_script_puts_in, purged_traces_are_answered_alike, refuses_at_what_is_denoted,
-    turns_that_are_put_in_end,
+    script_turns_end, turns_that_are_put_in_end,
 };
 pub use run::{fail, run_zones};
