@@ -34,7 +34,7 @@ use Rattle.zone_machine.specs.Code.Openings.{StandsFor}
 use Rattle.zones_run.specs.Answering.{Fails, FailsLine, IsAnswered, LeavesText, Steps, Stops, StopsText}
 use Rattle.zones_run.specs.declared.fault.RunFault.{RunFault}
 use Rattle.zones_run.specs.declared.fault.Stop.TheVariants.{Fault}
-use Rattle.zones_run.specs.Scripts.{Says, entry_for, fits_stated, said_by, state_for}
+use Rattle.zones_run.specs.Scripts.{Says, fits_stated, said_by, state_for}
 use Rattle.zones_run.specs.declared.due.Due.{Due}
 use Rattle.zones_run.specs.declared.fault.Stop.{Stop}
 use Rattle.zones_run.specs.Recording.{GoesSurely}

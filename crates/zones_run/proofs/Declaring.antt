@@ -20,10 +20,9 @@ use Rattle.zone_cases.specs.declared.events.Event.{Event}
 use Rattle.zone_cases.specs.declared.events.Event.TheVariants.{System}
 use Rattle.zones_run.specs.Declarations.{DeclaresFirst}
 use Rattle.zones_run.specs.Output.{is_past_limit}
-use Rattle.trace_text.specs.Given.{Given, behind, given_by, given_of, stated}
+use Rattle.trace_text.specs.Given.{Given, behind, given_by, stated}
 use Rattle.zone_pools.specs.declared.grant.Grant.{Grant}
 use Rattle.zones_run.specs.Scripts.{Past_limit, Says, Script, counts, counts_event, due_given, due_said, ends, said_by, script_from, with_line}
-use Rattle.zones_run.specs.declared.due.Due.{Due}
 use Rattle.zones_run.specs.declared.words.Mode.{Mode}
 use Rattle.zones_run.specs.declared.words.Mode.TheVariants.{Purged, Replies, Stated, WithTurns}
 

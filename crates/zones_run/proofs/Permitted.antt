@@ -1,8 +1,6 @@
 -- What a run of lines comes to as a history of the zone machine.
-use Rattle.std.proofs.Common.{◌≡◌, ◌+◌, ◌++◌, ◌||◌, ℕ, Bool, true, false, cond, List, [], ◌∷◌, map, Option, Some, None, Ok, Err, refl, ap, sym, ◌∙◌}
+use Rattle.std.proofs.Common.{◌≡◌, ◌+◌, ◌++◌, ◌||◌, ℕ, Bool, true, false, cond, List, [], ◌∷◌, map, Some, None, Ok, Err, refl}
 use Rattle.std.proofs.lemmas.Bool.{and_from, true≢false}
-use Rattle.brand_hooks.specs.Brands.{Tabled}
-use Rattle.commit_journal.specs.declared.records.Commit.{Commit}
 use Rattle.trace_text.specs.Lines.{Said, event_of}
 use Rattle.zn_base.specs.Lines.{lines_of}
 use Rattle.zone_machine.specs.Machine.{opening}

@@ -1,10 +1,10 @@
 -- What `purge` keeps of a trace, run by `given`.
-use Rattle.std.proofs.Common.{◌≡◌, ◌≤◌, ◌<◌, ◌+◌, ◌++◌, ◌||◌, ◌&&◌, ℕ, zero, suc, Bool, true, false, cond, nat_lt, List, [], ◌∷◌, All, length, map, Option, Some, None, Result, Ok, Err, refl, ap, sym, subst, ◌∙◌, arith, append_assoc, append-nil}
+use Rattle.std.proofs.Common.{◌≡◌, ◌≤◌, ◌+◌, ◌++◌, ◌||◌, ◌&&◌, ℕ, suc, Bool, true, false, cond, List, [], ◌∷◌, All, length, map, Option, Some, None, Ok, Err, refl, ap, sym, subst, ◌∙◌, arith, append_assoc}
 use Rattle.std.proofs.lemmas.Bool.{true≢false}
 use Rattle.std.proofs.Math.Bool.{or-false}
 use Rattle.std.proofs.lemmas.Bool.Decides.{nat_tests}
 use Rattle.std.proofs.lemmas.List.Elements.{All-head, All-tail}
-use Rattle.std.specs.Prelude.{IsTrue, filter, nat_le}
+use Rattle.std.specs.Prelude.{IsTrue, filter}
 use Rattle.std.specs.List.{flat_map, list_all}
 use Rattle.brand_hooks.specs.Brands.{Tabled}
 use Rattle.commit_journal.specs.declared.records.Commit.{Commit}
@@ -27,14 +27,13 @@ use Rattle.zone_pools.specs.declared.grant.Grant.TheVariants.{Denied, Nothing, N
 use Rattle.zone_views.specs.Numbers.{is_small}
 use Rattle.zones_run.specs.Lines.{has_newline}
 use Rattle.zones_run.specs.Output.{is_past_limit}
-use Rattle.zones_run.specs.Purged.{HasShortLines, PurgedRunsAsGiven, RunsAsKept, StandsIn, reply_lines}
+use Rattle.zones_run.specs.Purged.{PurgedRunsAsGiven, RunsAsKept, StandsIn}
 use Rattle.zones_run.specs.Scripting.{put_in, with_turns}
-use Rattle.zones_run.specs.Scripts.{At_end, At_fault, At_misfit, Ending, Past_limit, Says, Script, counts, counts_event, due_given, due_said, ends, entries_from, entry_for, fits_due, permits, said_by, script_from, script_of, state_for, with_due, with_line}
+use Rattle.zones_run.specs.Scripts.{At_end, At_fault, At_misfit, Ending, Past_limit, Says, Script, counts, counts_event, due_given, due_said, ends, entries_from, script_from, script_of, state_for, with_due, with_line}
 use Rattle.zones_run.specs.Statuses.{status_refused}
-use Rattle.zones_run.specs.Tracing.{Run, entries_text, entry_text, run_of, script_run, told, told_ending, traced}
+use Rattle.zones_run.specs.Tracing.{Run, entries_text, run_of, script_run, told, told_ending, traced}
 use Rattle.zones_run.specs.declared.due.Due.{Due}
-use Rattle.zones_run.specs.declared.words.Mode.{Mode}
-use Rattle.zones_run.specs.declared.words.Mode.TheVariants.{Purged, Replies, Stated, WithTurns}
+use Rattle.zones_run.specs.declared.words.Mode.TheVariants.{Purged, Replies, Stated}
 use Rattle.trace_text.proofs.Fair.{events_right}
 use Rattle.trace_text.proofs.Printable.{given_printable}
 use Rattle.trace_text.proofs.Read_back.{given_again}

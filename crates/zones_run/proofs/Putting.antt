@@ -13,7 +13,6 @@ use Rattle.zone_cases.specs.declared.events.Event.{Event}
 use Rattle.zone_cases.specs.declared.events.Event.TheVariants.{Process as Call_of, Restart, Session, System, Turn}
 use Rattle.zn_base.specs.Names.{Name}
 use Rattle.zn_base.specs.declared.name.ZoneName.{ZoneName}
-use Rattle.std.proofs.lemmas.List.{append-nil}
 use Rattle.zone_machine.specs.Code.Decided.{entry_by, subject_by}
 use Rattle.zone_cases.specs.declared.events.Answer.{Answer}
 use Rattle.zone_cases.specs.declared.events.Subject.{Subject}

@@ -16,9 +16,8 @@ use Rattle.zones_run.specs.Reading.{TakesLine}
 use Rattle.zones_run.specs.Recording.{RanAs}
 use Rattle.zones_run.specs.Run.{run_fault_of}
 use Rattle.zones_run.specs.Taking.{TakesPiece}
-use Rattle.zones_run.specs.Scripts.{At_fault, At_misfit, Restarts, Says, fits_due, said_by}
+use Rattle.zones_run.specs.Scripts.{At_fault, At_misfit, Restarts, Says, said_by}
 use Rattle.zones_run.specs.Tracing.{EndsAs, HasWritten}
-use Rattle.zones_run.specs.declared.due.Due.{Due}
 use Rattle.zones_run.specs.declared.fault.RunFault.{RunFault}
 use Rattle.zones_run.specs.declared.fault.RunFault.TheVariants.{Disk, Memory, Read, Write}
 use Rattle.zones_run.specs.declared.lines.ReadFault.{ReadFault}

@@ -17,7 +17,7 @@ use Rattle.zone_pools.specs.Pools.{or_else}
 use Rattle.zone_cases.specs.State.{State}
 use Rattle.zone_cases.specs.declared.events.Entry.{Entry}
 use Rattle.zone_cases.specs.declared.events.Event.{Event}
-use Rattle.zone_cases.specs.declared.events.Event.TheVariants.{Restart, Turn}
+use Rattle.zone_cases.specs.declared.events.Event.TheVariants.{Turn}
 use Rattle.zone_cases.specs.declared.events.Answer.{Answer}
 use Rattle.zone_machine.specs.Code.Decided.{entry_by}
 use Rattle.zn_base.specs.Lines.{is_newline, lines_of, with_first}
@@ -27,7 +27,7 @@ use Rattle.zones_run.specs.Answering.{FindsAlways, IsAnswered, RestartsWell, Res
 use Rattle.zones_run.specs.Midway.{Follows, Knows, RunsOn, lines_from, none_put, puts_after, puts_until, run_on, run_onto}
 use Rattle.zones_run.specs.Recording.{GoesSurely, IsFront}
 use Rattle.zones_run.specs.Scripting.{entry_in, is_last, numbered, opened, puts_in, state_after, state_past, turns_after, turns_until, with_events, with_turns}
-use Rattle.zones_run.specs.Scripts.{Says, entries_from, entry_for, fits_due, has_restart, permits, said_by, script_of, state_for, unstated}
+use Rattle.zones_run.specs.Scripts.{Says, entries_from, entry_for, fits_due, has_restart, said_by, script_of, state_for, unstated}
 use Rattle.zones_run.specs.Tracing.{Run, entries_text, entry_text, is_refusal, run_of}
 use Rattle.zones_run.specs.declared.due.Due.{Due}
 use Rattle.zones_run.specs.declared.turns.Opened.{Opened}

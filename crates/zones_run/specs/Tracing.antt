@@ -1,7 +1,7 @@
 -- What `trace`, `script`, `purge` and `given` write for the whole of their input: its lines are read, their events, with the turns that
 -- are put in, make a history of the zone machine from the commits of its store on, with the brands that there are, and the history's
 -- replies are printed.
-use Rattle.std.specs.Prelude.{All, ◌++◌, ℕ, List, [], ◌∷◌, ◌+◌, ◌≡◌, map, take, Bool, true, false, ◌||◌, Option, Some, None, IfSome, Result, Ok, Err, if◌then◌else◌}
+use Rattle.std.specs.Prelude.{All, ◌++◌, ℕ, List, [], ◌∷◌, ◌≡◌, map, take, Bool, true, false, Option, Some, None, IfSome, Result, Ok, Err, if◌then◌else◌}
 use Rattle.std.specs.List.{flat_map}
 use Rattle.zn_io.specs.Streams.{after_known}
 use Rattle.brand_hooks.specs.Brands.{Tabled}
