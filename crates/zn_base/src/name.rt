@@ -1,5 +1,5 @@
 //! Zone names.
-ghost use Rattle.std.specs.Prelude.{◌≡◌, ◌≤◌, IfOk, IsTrue, None, Some, bytes_eq, codes, if◌then◌else◌, length, nat_eq, not, position};
+ghost use Rattle.std.specs.Prelude.{◌≡◌, ◌≤◌, Err, IfOk, IsTrue, None, OnErr, Some, bytes_eq, codes, if◌then◌else◌, length, nat_eq, not, position};
 ghost use Rattle.std.specs.Cmp.{partial_equiv_from_equiv};
 ghost use Rattle.std.specs.Cmp.Lexicographic.{nat_list_eq_equiv};
 ghost use Rattle.std.specs.Cmp.Rules.{hashing};
@@ -103,9 +103,10 @@ fn is_reserved(bytes: &[u8]) -> bool
 }
 
 impl ZoneName {
-    /// The name that the bytes are.
+    /// The name that the bytes are. Memory runs out for a right name alone.
     pub fn read(alloc: Global, bytes: &[u8]) -> Result<ZoneName, NameFault>
-        ensures { AnswersUnless NameFault.Memory (name_of bytes.now) result }
+        ensures answer { AnswersUnless NameFault.Memory (name_of bytes.now) result }
+        ensures memory { result ≡ Err NameFault.Memory → IsTrue (is_name bytes.now) }
     {
         if bytes.is_empty() {
             return Err(NameFault::Empty);
@@ -124,9 +125,10 @@ impl ZoneName {
         })
     }
 
-    /// The name that the bytes are, or nothing where they are none.
+    /// The name that the bytes are, or nothing where they are none. Memory runs out for a right name alone.
     pub fn read_if_name(alloc: Global, bytes: &[u8]) -> Result<Option<ZoneName>, AllocError>
-        ensures { IfOk result (λ name. name ≡ (if is_name bytes.now then Some bytes.now else None)) }
+        ensures name { IfOk result (λ name. name ≡ (if is_name bytes.now then Some bytes.now else None)) }
+        ensures memory { OnErr result (IsTrue (is_name bytes.now)) }
     {
         match ZoneName::read(alloc, bytes) {
             Ok(name) => Ok(Some(name)),
