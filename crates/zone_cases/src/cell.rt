@@ -5,6 +5,7 @@ ghost use Rattle.zone_cases.specs.Code.Consoles.{console_in};
 ghost use Rattle.zone_cases.specs.Code.Cells.{Outside, cell_objects, cell_world, empty_world};
 ghost use Rattle.zoneadmd_steps.specs.Code.Cases.{next_hook};
 ghost use Rattle.zoneadmd_steps.specs.Code.Desks.{as_desk};
+ghost use Rattle.zoneadmd_steps.specs.Code.Recordings.{records_next};
 
 use crate::session::doings::Doings;
 use brand_hooks::Change;
@@ -83,5 +84,13 @@ impl Cell {
         ensures { result ≡ next_hook (cell_objects self.now) (as_desk self.now.desk).job }
     {
         self.desk.next_hook(&self.mounts, &self.claims)
+    }
+
+    /// Whether the next step of the zone's daemon changes what is stored of the zone. Such a step stores a record, unless that
+    /// is denied or fails.
+    pub fn records_next(&self) -> bool
+        ensures { result ≡ records_next (cell_objects self.now) (as_desk self.now.desk).job }
+    {
+        self.desk.records_next(&self.mounts, &self.claims)
     }
 }

@@ -11,3 +11,4 @@ pub mod Keeping
 pub mod Halting
 pub mod Telling
 pub mod Storing
+pub mod Recording

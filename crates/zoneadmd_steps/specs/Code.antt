@@ -7,3 +7,4 @@ pub mod Works
 pub mod Ahead
 pub mod Locals
 pub mod Shareds
+pub mod Recordings

@@ -1,13 +1,15 @@
 //! What is next for a request under way.
-ghost use Rattle.std.specs.Prelude.{◌≡◌, ◌+◌, ◌<◌, ◌∷◌, Some, drop, length, slice_get};
+ghost use Rattle.std.specs.Prelude.{◌≡◌, ◌+◌, ◌<◌, ◌∷◌, Some, drop, false, length, slice_get};
 ghost use Rattle.zoneadmd_steps.specs.Code.Ahead.{IsAhead, as_next};
 ghost use Rattle.zoneadmd_steps.specs.Code.Cases.{next_hook};
-ghost use Rattle.zoneadmd_steps.specs.Code.Desks.{as_desk};
+ghost use Rattle.zoneadmd_steps.specs.Code.Desks.{as_desk, as_job};
+ghost use Rattle.zoneadmd_steps.specs.Code.Recordings.{StoresNothing, records_next, stage_records};
 ghost use Rattle.zoneadmd_steps.specs.Objects as objects;
-ghost use Rattle.zoneadmd_steps.specs.Turns.{next};
+ghost use Rattle.zoneadmd_steps.specs.Turns.{Seen, next, turn};
 
 use crate::desks::{Desk, Job};
 use crate::requests::Step;
+use crate::shared_cases::is_of_store;
 use brand_hooks::Change;
 use datalink_table::{Claim, ClaimCell};
 use loopback_mounts::{MountCell, MountEntry};
@@ -57,6 +59,19 @@ pub(crate) fn find_ahead<'j>(
     }
 }
 
+// Whether the next step of a request changes what is stored.
+fn job_records(job: &Job, mounts: &MountCell, claims: &ClaimCell) -> bool
+    ensures { (o : objects.Objects) → o.mounts ≡ mounts.now.list → o.claims ≡ claims.now.claims → result ≡ stage_records o (as_job job.now).stage }
+{
+    match job.failure {
+        Some(_) => false,
+        None => match find_ahead(job.steps.as_slice(), job.at, mounts, claims) {
+            Ahead::Step(planned, _) => is_of_store(planned),
+            _ => false,
+        },
+    }
+}
+
 impl Desk {
     /// The change of which the brand of the request under way is asked next, with the brand's place, where it is.
     pub fn next_hook(
@@ -73,6 +88,17 @@ impl Desk {
         match find_ahead(job.steps.as_slice(), job.at, mounts, claims) {
             Ahead::Step(Step::Hook(change), _) => Some((job.brand, *change)),
             _ => None,
+        }
+    }
+    /// Whether the next step of the request under way changes what is stored of the zone. Such a step stores a record, unless
+    /// that is denied or fails; without one a turn stores none.
+    pub fn records_next(&self, mounts: &MountCell, claims: &ClaimCell) -> bool
+        ensures next { (o : objects.Objects) → o.mounts ≡ mounts.now.list → o.claims ≡ claims.now.claims → result ≡ records_next o (as_desk self.now).job }
+        ensures none { result ≡ false → (v : Seen) → v.desk ≡ as_desk self.now → v.objects.mounts ≡ mounts.now.list → v.objects.claims ≡ claims.now.claims → StoresNothing (turn v) }
+    {
+        match &self.job {
+            Some(job) => job_records(job, mounts, claims),
+            None => false,
         }
     }
 }

@@ -369,8 +369,8 @@ fn object_case(
     }
 }
 
-// Whether a step changes what is stored.
-fn is_of_store(planned: &Step) -> bool
+/// Whether a step changes what is stored.
+pub(crate) fn is_of_store(planned: &Step) -> bool
     ensures { result ≡ is_of_store planned.now }
 {
     matches!(planned, Step::Record(_) | Step::Moved)
