@@ -14,6 +14,9 @@ mod Sizes
 mod Numbering
 pub mod Writing
 mod Opening
+mod Partings
+mod Apart
+pub mod Alone
 pub mod Freeing
 pub mod Common_laws
 pub mod Local_laws

@@ -12,5 +12,6 @@ pub mod Steps
 pub mod Cell_steps
 pub mod Local_turns
 pub mod Openings
+pub mod Partings
 pub mod Decided
 pub mod Restarts

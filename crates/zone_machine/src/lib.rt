@@ -9,6 +9,7 @@
 mod faults;
 mod laws;
 mod machine;
+mod worlds;
 
 pub use faults::StepFault;
 pub use laws::{
@@ -16,6 +17,9 @@ pub use laws::{
     is_stored_in_common, local_turns_touch_nothing_common, subject_by_what_is_common,
 };
 pub use machine::Machine;
+pub use machine::apart::{hear, is_busy};
 pub use machine::local_turns::local_turn;
+pub use machine::parting::Parted;
 pub use machine::shared::Shared;
 pub use machine::steps::{cell_step, cell_step_given};
+pub use worlds::{entries_move_worlds, local_turns_are_of_worlds};

@@ -18,6 +18,7 @@ ghost use Rattle.zone_machine.specs.Machine.Indexed.{index_of};
 ghost use Rattle.zone_cases.specs.State.{State};
 
 pub(crate) mod answering;
+pub(crate) mod apart;
 pub(crate) mod comings;
 pub(crate) mod consoles;
 pub(crate) mod declarations;
@@ -28,6 +29,7 @@ pub(crate) mod local_turns;
 pub(crate) mod needs;
 pub(crate) mod objects;
 pub(crate) mod other_events;
+pub(crate) mod parting;
 pub(crate) mod parts;
 pub(crate) mod pools;
 pub(crate) mod reads;
