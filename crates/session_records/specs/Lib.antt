@@ -1,0 +1,4 @@
+pub mod Folds
+pub mod Records
+pub mod Scripts
+pub mod Places

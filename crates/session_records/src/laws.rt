@@ -1,0 +1,29 @@
+//! The laws, over every list of entries.
+ghost use Rattle.std.specs.Prelude.{◌≡◌, List, true, ℕ};
+ghost use Rattle.brand_hooks.specs.Brands.{Tabled};
+ghost use Rattle.commit_journal.specs.declared.records.Commit.{Commit};
+ghost use Rattle.session_records.specs.Records.{IsPartial, IsRecord, IsRunPartial, IsRunRecord, Scripts};
+ghost use Rattle.session_records.specs.Scripts.{IsDone, keeps_scripts};
+ghost use Rattle.zone_cases.specs.State.{State};
+ghost use Rattle.zone_cases.specs.declared.events.Declaration.{Declaration};
+ghost use Rattle.zone_cases.specs.declared.events.Entry.{Entry};
+ghost use Rattle.zone_machine.specs.Machine.{opening};
+ghost use Rattle.zone_machine.specs.Machine.Histories.{is_legal};
+
+/// A legal history is a part of a record of sessions exactly where it keeps to their scripts an entry at a time. It is the whole
+/// where besides each session typed all its lines and waits for nothing.
+pub fn records_keep_to_scripts()
+    ensures part { (S : State) (scripts : Scripts) (h : List Entry) → is_legal S h ≡ true → keeps_scripts scripts h ≡ true → IsPartial S scripts h }
+    ensures keeps { (S : State) (scripts : Scripts) (h : List Entry) → IsPartial S scripts h → keeps_scripts scripts h ≡ true }
+    ensures whole { (S : State) (scripts : Scripts) (h : List Entry) → is_legal S h ≡ true → keeps_scripts scripts h ≡ true
+        → ((n : ℕ) → IsDone scripts h n) → IsRecord S scripts h }
+{}
+
+/// The record of a run, and a part of one, is one legal history from before the first declaration on. So all laws of histories hold
+/// of it.
+pub fn run_records_are_legal()
+    ensures whole { (brands : List Tabled) (R : List Commit) (declared : List Declaration) (scripts : Scripts) (h : List Entry)
+        → IsRunRecord brands R declared scripts h → is_legal (opening brands R) h ≡ true }
+    ensures part { (brands : List Tabled) (R : List Commit) (declared : List Declaration) (scripts : Scripts) (h : List Entry)
+        → IsRunPartial brands R declared scripts h → is_legal (opening brands R) h ≡ true }
+{}
