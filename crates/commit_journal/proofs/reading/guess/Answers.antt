@@ -15,7 +15,7 @@ returns-in_default c = λ d is body. absurd (c.in_default.ensures d.zone (stored
 pub returns-in_default-2 : goal.returns-in_default-2
 returns-in_default-2 c = λ d is body.
     let zone = c.in-Some.ensures d.zone (stored_text d.stored) (name_lacks newline refl d.zone is.zone) (body ∙ body_lines d) in
-    let name = named c.in-Some.zone_line.value.now c.in_ok-zone.field-0 c.in_ok-zone.ensures (subst (λ (l : List ℕ). IsTrue (is_name l)) (sym zone.0) is.zone) in
+    let name = named c.in-Some.zone_line.value.now c.in_ok-zone.field-0 c.in_ok-zone.ensures.name (subst (λ (l : List ℕ). IsTrue (is_name l)) (sym zone.0) is.zone) in
     absurd (cc (c.in_default-2.is, name))
 
 pub returns-in_default-cut_line : goal.returns-in_default-cut_line
@@ -26,7 +26,7 @@ returns-in_default-cut_line c = λ d is body.
 pub returns-then-eq : goal.returns-then-eq
 returns-then-eq c = λ d is body.
     let zone = c.in-Some.ensures d.zone (stored_text d.stored) (name_lacks newline refl d.zone is.zone) (body ∙ body_lines d) in
-    let name : c.in_ok-zone.field-0 ≡ Some c.in-Some.zone_line.value.now = named c.in-Some.zone_line.value.now c.in_ok-zone.field-0 c.in_ok-zone.ensures (subst (λ (l : List ℕ). IsTrue (is_name l)) (sym zone.0) is.zone) in
+    let name : c.in_ok-zone.field-0 ≡ Some c.in-Some.zone_line.value.now = named c.in-Some.zone_line.value.now c.in_ok-zone.field-0 c.in_ok-zone.ensures.name (subst (λ (l : List ℕ). IsTrue (is_name l)) (sym zone.0) is.zone) in
     let named : c.in-Some-2.zone ≡ d.zone = cc (c.in-Some-2.is, name, zone.0) in
     let state = c.in-Some-cut_line.ensures (word_of d.stored) (behind_state d.stored) (word_lacks d.stored) (zone.1 ∙ stored_lines d.stored) in
     let eq : bytes_eq c.in-Some-cut_line.state_line.value.now (codes "none") ≡ true = ap (λ (l : List ℕ). bytes_eq c.in-Some-cut_line.state_line.value.now l) (sym c.as_slice.ensures) ∙ sym c.eq.ensures ∙ c.if-eq.true in
@@ -44,7 +44,7 @@ returns-in_default-3 c = λ d is body.
 pub returns : goal.returns
 returns c = λ d is body.
     let zone = c.in-Some.ensures d.zone (stored_text d.stored) (name_lacks newline refl d.zone is.zone) (body ∙ body_lines d) in
-    let name : c.in_ok-zone.field-0 ≡ Some c.in-Some.zone_line.value.now = named c.in-Some.zone_line.value.now c.in_ok-zone.field-0 c.in_ok-zone.ensures (subst (λ (l : List ℕ). IsTrue (is_name l)) (sym zone.0) is.zone) in
+    let name : c.in_ok-zone.field-0 ≡ Some c.in-Some.zone_line.value.now = named c.in-Some.zone_line.value.now c.in_ok-zone.field-0 c.in_ok-zone.ensures.name (subst (λ (l : List ℕ). IsTrue (is_name l)) (sym zone.0) is.zone) in
     let named : c.in-Some-2.zone ≡ d.zone = cc (c.in-Some-2.is, name, zone.0) in
     let state = c.in-Some-cut_line.ensures (word_of d.stored) (behind_state d.stored) (word_lacks d.stored) (zone.1 ∙ stored_lines d.stored) in
     let eq : bytes_eq c.in-Some-cut_line.state_line.value.now (codes "none") ≡ false = ap (λ (l : List ℕ). bytes_eq c.in-Some-cut_line.state_line.value.now l) (sym c.as_slice.ensures) ∙ sym c.eq.ensures ∙ c.if-eq.false in
