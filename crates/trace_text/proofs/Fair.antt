@@ -29,6 +29,7 @@ use Rattle.trace_text.specs.Given.{EventsAreRight, Given, GivenAreRight, GivenPl
 use Rattle.trace_text.specs.Lines.{Said, after_word, begins_with, call_at, called, declaration_of, declared, event_of, first_word, in_line, is_no_event, item_at, pid_at, pid_by, process_by, process_of, restart_by, session_of, turn_by, turn_of, typed_by, types, types_unless, with_words}
 use Rattle.trace_text.specs.declared.fault.LineFault.{LineFault}
 use Rattle.trace_text.specs.declared.fault.LineFault.TheVariants.{BadTag, BadWord, GrantForm, Memory, SysAfterStart}
+use Rattle.trace_text.proofs.Holds.{by_test, by_words}
 use Rattle.trace_text.proofs.Printable.{none_bad}
 use Rattle.trace_text.proofs.Stated.{not_stated, pick, split_is, stated_is}
 use Rattle.trace_text.proofs.Words.{cut_length, first_word_short}
@@ -41,14 +42,6 @@ abbrev pub IsFair : (started : Bool) (end : ℕ) → Said → Type 0
 IsFair started end (Ok None) = Unit {0}
 IsFair started end (Ok (Some event)) = IsTimely started event
 IsFair started end (Err fault) = IsAt end fault
-
-if_fair : (started : Bool) (end : ℕ) (b : Bool) (r s : Said) → (b ≡ true → IsFair started end r) → (b ≡ false → IsFair started end s) → IsFair started end (if b then r else s)
-if_fair started end true r s f g = f refl
-if_fair started end false r s f g = g refl
-
-with_words_fair : (started : Bool) (end last : ℕ) (said : List ℕ → Said) (words : Option (List ℕ)) → last ≤ end → ((rest : List ℕ) → words ≡ Some rest → IsFair started end (said rest)) → IsFair started end (with_words last said words)
-with_words_fair started end last said None at fair = at
-with_words_fair started end last said (Some rest) at fair = fair rest refl
 
 -- sessions
 session_number : (word : List ℕ) (n : ℕ) → decimal_of 64 word ≡ Some n → (1 ≤ n) × (n ≤ 64)
@@ -128,7 +121,7 @@ pid_fair started end zone place words is within = at_pid (pid_in (first_word wor
     at_pid : (found : Option ℕ) → pid_in (first_word words) ≡ found → IsFair started end (pid_by found zone place (place + length (first_word words)) (after_word words))
     at_pid None e = omega (arith, within)
     at_pid (Some pid) e =
-        with_words_fair started end (place + length (first_word words)) (call_at zone pid (place + length (first_word words) + 1)) (after_word words)
+        by_words (IsFair started end) (place + length (first_word words)) (call_at zone pid (place + length (first_word words) + 1)) (after_word words)
         (omega (arith, within, first_word_short words))
         (λ rest after. let size = cut_length words rest after in call_fair started end zone pid (place + length (first_word words) + 1) rest is (pid_written pid (first_word words) e).0 (omega (arith, within, size)))
 
@@ -138,7 +131,7 @@ process_fair started words = at_name (name_of (first_word words)) refl
     at_name : (named : Result Name NameFault) → name_of (first_word words) ≡ named → IsFair started (2 + length words) (process_by named (2 + length (first_word words)) (after_word words))
     at_name (Err fault) e = omega arith
     at_name (Ok zone) e =
-        with_words_fair started (2 + length words) (2 + length (first_word words)) (pid_at zone (2 + length (first_word words) + 1)) (after_word words)
+        by_words (IsFair started (2 + length words)) (2 + length (first_word words)) (pid_at zone (2 + length (first_word words) + 1)) (after_word words)
         (omega (arith, first_word_short words))
         (λ rest after. let size = cut_length words rest after in pid_fair started (2 + length words) zone (2 + length (first_word words) + 1) rest (name_is (first_word words) zone e) (omega (arith, size)))
 
@@ -150,16 +143,16 @@ declared_fair false end what place None right within = (record { may = right; te
 
 item_fair : (started : Bool) (end : ℕ) (what : List ℕ → Declaration) (place : ℕ) (words : List ℕ) → place + length words ≤ end → IsFair started end (item_at started what place words)
 item_fair started end what place words within =
-    if_fair started end (is_declaration (what (first_word words))) _ _
+    by_test (IsFair started end) (is_declaration (what (first_word words))) _ _
     (λ right. declared_fair started end (what (first_word words)) (place + length (first_word words) + 1) (after_word words) right (λ rest after. let size = cut_length words rest after in omega (arith, size, within)))
     (λ wrong. omega (arith, within))
 
 declaration_fair : (started : Bool) (words : List ℕ) → IsFair started (2 + length words) (declaration_of started words)
 declaration_fair started words =
-    if_fair started (2 + length words) (bytes_eq (first_word words) (codes "link")) _ _ (λ _. items (Item Link))
-    (λ _. if_fair started (2 + length words) (bytes_eq (first_word words) (codes "address")) _ _ (λ _. items (Item Address))
-    (λ _. if_fair started (2 + length words) (bytes_eq (first_word words) (codes "dataset")) _ _ (λ _. items (Item Dataset))
-    (λ _. if_fair started (2 + length words) (bytes_eq (first_word words) (codes "device")) _ _ (λ _. items Device)
+    by_test (IsFair started (2 + length words)) (bytes_eq (first_word words) (codes "link")) _ _ (λ _. items (Item Link))
+    (λ _. by_test (IsFair started (2 + length words)) (bytes_eq (first_word words) (codes "address")) _ _ (λ _. items (Item Address))
+    (λ _. by_test (IsFair started (2 + length words)) (bytes_eq (first_word words) (codes "dataset")) _ _ (λ _. items (Item Dataset))
+    (λ _. by_test (IsFair started (2 + length words)) (bytes_eq (first_word words) (codes "device")) _ _ (λ _. items Device)
     (λ _. omega arith))))
   where
     end : ℕ
@@ -167,24 +160,24 @@ declaration_fair started words =
 
     items : (what : List ℕ → Declaration) → IsFair started (2 + length words) (with_words end (item_at started what (end + 1)) (after_word words))
     items what =
-        with_words_fair started (2 + length words) end (item_at started what (end + 1)) (after_word words) (omega (arith, first_word_short words))
+        by_words (IsFair started (2 + length words)) end (item_at started what (end + 1)) (after_word words) (omega (arith, first_word_short words))
         (λ rest after. let size = cut_length words rest after in item_fair started (2 + length words) what (end + 1) rest (omega (arith, size)))
 
 -- a line
 tagged_fair : (started : Bool) (line tag : List ℕ) (said : List ℕ → Said) → length tag ≡ 1 → first_word line ≡ tag → ((words : List ℕ) → IsFair started (2 + length words) (said words)) → IsFair started (length line) (with_words 1 said (after_word line))
 tagged_fair started line tag said one is fair =
-    with_words_fair started (length line) 1 said (after_word line) (let size = ap length is in omega (arith, first_word_short line, one, size))
+    by_words (IsFair started (length line)) 1 said (after_word line) (let size = ap length is in omega (arith, first_word_short line, one, size))
     (λ rest after. let size = cut_length line rest after in let first = ap length is in let same : 2 + length rest ≡ length line = omega (arith, size, first, one) in subst (λ end. IsFair started end (said rest)) same (fair rest))
 
 event_fair : (started : Bool) (line : List ℕ) → IsFair started (length line) (event_of started line)
 event_fair started line =
-    if_fair started (length line) (is_no_event line) _ _ (λ _. tt)
-    (λ _. if_fair started (length line) (begins_with 64 line) _ _ (λ _. tt)
-    (λ _. if_fair started (length line) (bytes_eq (first_word line) (codes "S")) _ _ (λ e. tagged_fair started line (codes "S") session_of refl (tag_is (codes "S") e) (session_fair started))
-    (λ _. if_fair started (length line) (bytes_eq (first_word line) (codes "D")) _ _ (λ e. tagged_fair started line (codes "D") turn_of refl (tag_is (codes "D") e) (turn_fair started))
-    (λ _. if_fair started (length line) (bytes_eq (first_word line) (codes "P")) _ _ (λ e. tagged_fair started line (codes "P") process_of refl (tag_is (codes "P") e) (process_fair started))
-    (λ _. if_fair started (length line) (bytes_eq (first_word line) (codes "Y")) _ _ (λ e. tagged_fair started line (codes "Y") (declaration_of started) refl (tag_is (codes "Y") e) (declaration_fair started))
-    (λ _. if_fair started (length line) (bytes_eq (first_word line) (codes "R")) _ _ (λ e. restarts (after_word line) refl (tag_is (codes "R") e))
+    by_test (IsFair started (length line)) (is_no_event line) _ _ (λ _. tt)
+    (λ _. by_test (IsFair started (length line)) (begins_with 64 line) _ _ (λ _. tt)
+    (λ _. by_test (IsFair started (length line)) (bytes_eq (first_word line) (codes "S")) _ _ (λ e. tagged_fair started line (codes "S") session_of refl (tag_is (codes "S") e) (session_fair started))
+    (λ _. by_test (IsFair started (length line)) (bytes_eq (first_word line) (codes "D")) _ _ (λ e. tagged_fair started line (codes "D") turn_of refl (tag_is (codes "D") e) (turn_fair started))
+    (λ _. by_test (IsFair started (length line)) (bytes_eq (first_word line) (codes "P")) _ _ (λ e. tagged_fair started line (codes "P") process_of refl (tag_is (codes "P") e) (process_fair started))
+    (λ _. by_test (IsFair started (length line)) (bytes_eq (first_word line) (codes "Y")) _ _ (λ e. tagged_fair started line (codes "Y") (declaration_of started) refl (tag_is (codes "Y") e) (declaration_fair started))
+    (λ _. by_test (IsFair started (length line)) (bytes_eq (first_word line) (codes "R")) _ _ (λ e. restarts (after_word line) refl (tag_is (codes "R") e))
     (λ _. tt)))))))
   where
     tag_is : (tag : List ℕ) → bytes_eq (first_word line) tag ≡ true → first_word line ≡ tag

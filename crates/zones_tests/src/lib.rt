@@ -22,6 +22,8 @@ mod kept;
 #[cfg(test)]
 mod limits;
 #[cfg(test)]
+mod live_lines;
+#[cfg(test)]
 mod machine;
 #[cfg(test)]
 mod replies;

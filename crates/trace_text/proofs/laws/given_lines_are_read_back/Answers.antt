@@ -1,3 +1,4 @@
+use Rattle.trace_text.proofs.Live_lines.{live_again}
 use Rattle.trace_text.proofs.Printed.{event_again}
 use Rattle.trace_text.proofs.Read_back.{given_again}
 use Rattle.trace_text.proofs.laws.given_lines_are_read_back.Goals as goal
@@ -7,3 +8,6 @@ returns-clause-given c = given_again
 
 pub returns-clause-event : goal.returns-clause-event
 returns-clause-event c = event_again
+
+pub returns-clause-live : goal.returns-clause-live
+returns-clause-live c = live_again
