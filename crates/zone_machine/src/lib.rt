@@ -16,10 +16,10 @@ pub use laws::{
     allowed_by_what_is_common, busy_turns_are_not_idle, changes_what_is_common,
     is_stored_in_common, local_turns_touch_nothing_common, subject_by_what_is_common,
 };
-pub use machine::Machine;
 pub use machine::apart::{hear, is_busy};
 pub use machine::local_turns::local_turn;
 pub use machine::parting::Parted;
 pub use machine::shared::Shared;
 pub use machine::steps::{cell_step, cell_step_given};
+pub use machine::{Foreseen, Machine};
 pub use worlds::{entries_move_worlds, local_turns_are_of_worlds};

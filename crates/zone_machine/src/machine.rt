@@ -7,7 +7,7 @@ ghost use Rattle.brand_hooks.specs.Hooks.{AllFollow};
 ghost use Rattle.commit_journal.specs.Store.{OpensStore};
 ghost use Rattle.commit_journal.specs.declared.records.Commit.{Commit};
 ghost use Rattle.zone_machine.specs.Code.Cells.{Stands};
-ghost use Rattle.zone_machine.specs.Code.Decided.{AsksBrands, IsHeard, MayGoOn, entry_by};
+ghost use Rattle.zone_machine.specs.Code.Decided.{AsksBrands, IsHeard, MayGoOn, entry_by, turn_records};
 ghost use Rattle.zone_machine.specs.Code.Openings.{Begins, BeginsAgain, StandsFor};
 ghost use Rattle.zone_machine.specs.Code.Records.{GoesUnder, Passes};
 ghost use Rattle.zone_machine.specs.Code.Restarts.{BankLeftAny, BeginsAgainAfter, IsAllowedStepOf, IsFittingStepOf, IsStepUnderOf, KeepsBodiesOf, LeavesAny, LosesStore};
@@ -59,6 +59,15 @@ use zn_io::Disk;
 use zone_cases::{Answer, Entry, Event, Subject};
 use zone_disk::Bank;
 use zone_pools::Grant;
+
+/// What is known of an event before it is answered.
+#[derive(Clone, Copy)]
+pub struct Foreseen {
+    /// What the brand of a turn's zone answers to the next step of its daemon, where it is asked.
+    pub hook: HookAnswer,
+    /// Whether that step changes what is stored of the zone. It then stores a record, unless that is denied or fails.
+    pub records: bool,
+}
 
 /// The machine of all zones over the records on a disk, and the brands whose hooks it asks. Contracts say what its parts
 /// stand for, and what a crash leaves on the disk.
@@ -167,15 +176,18 @@ impl<'b, D: Disk, F: Fn(&Change) -> HookAnswer> Machine<'b, D, F> {
         self.bank.into_disk()
     }
 
-    // What the brand of a turn's zone answers to the next step of its daemon, where it is asked.
-    fn hear(&self, event: &Event) -> HookAnswer
+    /// What is known of an event before it is answered. It takes no memory.
+    pub fn foresee(&self, event: &Event) -> Foreseen
         requires { AsksBrands F.Fn self.now }
-        ensures { IsHeard self.now.parts event.now result }
+        ensures hook { IsHeard self.now.parts event.now result.hook }
+        ensures records { result.records ≡ turn_records self.now.parts event.now }
     {
-        match self.parts.next_hook(event) {
+        let (asked, records) = self.parts.ahead(event);
+        let hook = match asked {
             Some((brand, change)) => self.brands.answer(brand, &change),
             None => HookAnswer::Proceed,
-        }
+        };
+        Foreseen { hook, records }
     }
 
     /// Whose an event is: of a session the zone in which it waits for a ticket or which it edits, else the zone that the
@@ -194,7 +206,7 @@ impl<'b, D: Disk, F: Fn(&Change) -> HookAnswer> Machine<'b, D, F> {
         ensures ok { IfOk result (IsAllowed self.now.parts event.now) }
         ensures err { IsOkUnless result StepFault.Memory }
     {
-        self.parts.allowed(alloc, event, self.hear(event))
+        self.parts.allowed(alloc, event, self.foresee(event).hook)
     }
 
     /// An event is answered under the grant that the pools give it. A crash at any moment meanwhile leaves the commits from
@@ -218,7 +230,7 @@ impl<'b, D: Disk, F: Fn(&Change) -> HookAnswer> Machine<'b, D, F> {
         if event.is_restart() {
             return self.step_restart(alloc, None);
         }
-        let hook = self.hear(&event);
+        let hook = self.foresee(&event).hook;
         self.parts.step(&mut self.bank, alloc, event, None, hook)
     }
 
@@ -247,10 +259,38 @@ impl<'b, D: Disk, F: Fn(&Change) -> HookAnswer> Machine<'b, D, F> {
         ensures left { IfErr result (λ fault. BankLeftAny may_record event.now fault self.old.bank self.new.bank (D.view self.old.bank.disk) (D.view self.new.bank.disk) self.new.parts.shared) }
         ensures asks { AsksBrands F.Fn self.new }
     {
+        let hook = self.foresee(event).hook;
+        self.answer_heard(alloc, event, stated, hook, may_record)
+    }
+
+    /// The same of an event that was foreseen: the brand of a turn's zone answers `hook`. Whoever has replies that wait can write
+    /// them first where a record is foreseen, so that the event isn't decided twice.
+    pub fn answer_heard(
+        &mut self,
+        alloc: Global,
+        event: &Event,
+        stated: Option<Grant>,
+        hook: HookAnswer,
+        may_record: bool,
+    ) -> Result<Answer, StepFault>
+        requires asks { AsksBrands F.Fn self.old }
+        requires ready { MayGoOn D.view self.old }
+        requires hook { IsHeard self.old.parts event.now hook }
+        ensures ok { IfOk result (λ answer. IsStepUnderOf D.view stated self.old event.now (entry_by event.now answer) self.new) }
+        ensures fits { OnOk result (FitsIn stated self.old.parts event.now) }
+        ensures again { OnOk result (BeginsAgainAfter event.now self.old self.new) }
+        ensures goes { GoesUnder stated self.old.parts event.now self.old.bank.records (D.view self.old.bank.disk) (D.view self.new.bank.disk) }
+        ensures bodies { OnOk result (KeepsBodiesOf D.view stated self.old event.now self.new) }
+        ensures ready { OnOk result (MayGoOn D.view self.new) }
+        ensures passes { Passes (D.view self.old.bank.disk) (D.view self.new.bank.disk) }
+        ensures err { stated ≡ None → IfErr result (λ fault. fault ≢ StepFault.BadGrant) }
+        ensures fault { IfErr result (λ fault. LeavesAny fault stated self.old.parts event.now self.new.parts) }
+        ensures left { IfErr result (λ fault. BankLeftAny may_record event.now fault self.old.bank self.new.bank (D.view self.old.bank.disk) (D.view self.new.bank.disk) self.new.parts.shared) }
+        ensures asks { AsksBrands F.Fn self.new }
+    {
         if event.is_restart() {
             return self.answer_restart(alloc, stated, may_record);
         }
-        let hook = self.hear(event);
         self.parts
             .answer(&mut self.bank, alloc, event, stated, hook, may_record)
     }
@@ -280,7 +320,7 @@ impl<'b, D: Disk, F: Fn(&Change) -> HookAnswer> Machine<'b, D, F> {
         if event.is_restart() {
             return self.step_restart(alloc, Some(grant));
         }
-        let hook = self.hear(&event);
+        let hook = self.foresee(&event).hook;
         self.parts
             .step(&mut self.bank, alloc, event, Some(grant), hook)
     }

@@ -1,5 +1,5 @@
 -- What is known of an event that was decided, and how it is answered.
-use Rattle.std.specs.Prelude.{◌≡◌, ℕ, bytes_eq, slice_get, Option, Some}
+use Rattle.std.specs.Prelude.{◌≡◌, ℕ, bytes_eq, slice_get, Bool, false, Option, Some, None}
 use Rattle.std.specs.Fn.{Shared}
 use denote.Ref.{Bor}
 use Rattle.indexmap.specs.IndexMap.{IsUnique, index_of_by, values}
@@ -25,6 +25,7 @@ use Rattle.zone_machine.specs.Code.Records.{IsReady}
 use Rattle.zn_io.specs.Disk.{View as Disk_view}
 use Rattle.zoneadmd_steps.specs.Code.Cases.{next_hook}
 use Rattle.zoneadmd_steps.specs.Code.Desks.{as_desk}
+use Rattle.zoneadmd_steps.specs.Code.Recordings.{records_next}
 use Rattle.zone_cases.specs.declared.replies.Reply.{Reply}
 use Rattle.zone_pools.specs.declared.grant.Grant.{Grant}
 
@@ -64,6 +65,16 @@ IsHeard t _ answer = Unit {0}
 abbrev pub IsNextHook : Parts → Event → Option (Option ℕ × Change) → Type 0
 IsNextHook t (Turn z) asked = (c : Cell) → cell_at z t ≡ Some c → asked ≡ next_hook (cell_objects c) (as_desk c.desk).job
 IsNextHook t _ asked = Unit {0}
+
+-- whether the next step of a cell's daemon changes what is stored of the zone
+abbrev pub cell_records : Option Cell → Bool
+cell_records None = false
+cell_records (Some c) = records_next (cell_objects c) (as_desk c.desk).job
+
+-- the same of the daemon of a turn's zone; of any other event nothing is told
+abbrev pub turn_records : Parts → Event → Bool
+turn_records t (Turn z) = cell_records (cell_at z t)
+turn_records t _ = false
 
 -- the machine asks brands whose hooks follow their tables, and its parts know these
 abbrev pub AsksBrands : {D F : Type 0} → Shared F (Bor Change × Unit {0}) HookAnswer → Machine D F → Type 0

@@ -3,7 +3,7 @@ ghost use Rattle.std.specs.Prelude.{◌≡◌, ◌<◌, IfOk, IsOkUnless, List, 
 ghost use Rattle.zone_machine.specs.Code.Cells.{Stands, cell_at, outside_in, row_in};
 ghost use Rattle.zone_cases.specs.Code.Cells.{world_or_empty};
 ghost use Rattle.zone_machine.specs.Code.Reads.{IsRightRead, decide_read, is_turn, is_turn_read, subject_in};
-ghost use Rattle.zone_machine.specs.Code.Decided.{IsHeard, IsNextHook};
+ghost use Rattle.zone_machine.specs.Code.Decided.{IsHeard, IsNextHook, turn_records};
 ghost use Rattle.commit_journal.specs.Stored.{stored};
 ghost use Rattle.commit_journal.specs.Zones.{rows_of};
 ghost use Rattle.commit_journal.specs.declared.records.Commit.{Commit};
@@ -66,18 +66,20 @@ impl Parts {
         self.shared.restart(alloc, rows, serial, used);
     }
 
-    /// The place of the brand and the change of which it is asked before an event: at the next step of the daemon of a turn's
-    /// zone, if it is.
-    pub(crate) fn next_hook(&self, event: &Event) -> Option<(Option<usize>, Change)>
-        ensures { IsNextHook self.now event.now result }
+    /// What is next for the daemon of a turn's zone: the place of the brand and the change of which it is asked, if it is, and
+    /// whether the step changes what is stored of the zone.
+    pub(crate) fn ahead(&self, event: &Event) -> (Option<(Option<usize>, Change)>, bool)
+        ensures hook { IsNextHook self.now event.now result.0 }
+        ensures records { result.1 ≡ turn_records self.now event.now }
     {
         match event {
             Event::Turn { zone } => match self.cells.get(zone) {
-                Some(cell) => cell.next_hook(),
-                None => None,
+                Some(cell) => (cell.next_hook(), cell.records_next()),
+                None => (None, false),
             },
-            Event::Session { .. } | Event::Process { .. } | Event::System(_) | Event::Restart =>
-                None,
+            Event::Session { .. } | Event::Process { .. } | Event::System(_) | Event::Restart => (
+                None, false,
+            ),
         }
     }
 
