@@ -121,7 +121,7 @@ by_blank false given un = un
 
 undeclared_due : (mode : Mode) (line : List ℕ) → UndeclaredDue (said_by mode true line)
 undeclared_due Replies line = by_said (event_of true line) (undeclared line)
-undeclared_due WithTurns line = by_said (event_of true line) (undeclared line)
+undeclared_due (WithTurns telling) line = by_said (event_of true line) (undeclared line)
 undeclared_due (Purged zone) line = by_said (event_of true line) (undeclared line)
 undeclared_due Stated line = by_blank (is_no_event line) (given_by true (stated line)) (by_split (stated line))
 

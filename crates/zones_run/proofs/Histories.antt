@@ -107,7 +107,7 @@ allowed-same S d is = ap (λ stated. is_allowed S d.event (taken stated S d.even
 pub permits-due : (mode : Mode) (S : State) (d : Due) → Suits mode d → fits_due S d ≡ true → permits mode S d.event (taken d.stated S d.event) ≡ true
 permits-due Stated S d suits h = ap (λ stated. fits S d.event (taken stated S d.event)) suits.1 ∙ (sym (ap (λ stated. fits_stated stated S d.event) suits.1) ∙ h)
 permits-due Replies S d suits fits = allowed-same S d suits
-permits-due WithTurns S d suits fits = allowed-same S d suits
+permits-due (WithTurns telling) S d suits fits = allowed-same S d suits
 permits-due (Purged zone) S d suits fits = allowed-same S d suits
 
 -- its entry is told
@@ -135,6 +135,6 @@ given_suits (Err fault) d is = absurd (cc)
 
 pub suits_said : (mode : Mode) (started : Bool) (line : List ℕ) (d : Due) → said_by mode started line ≡ Ok (Some d) → Suits mode d
 suits_said Replies started line d is = due_suits Replies (event_of started line) d refl is
-suits_said WithTurns started line d is = due_suits WithTurns (event_of started line) d refl is
+suits_said (WithTurns telling) started line d is = due_suits (WithTurns telling) (event_of started line) d refl is
 suits_said (Purged zone) started line d is = due_suits (Purged zone) (event_of started line) d refl is
 suits_said Stated started line d is = given_suits (given_of started line) d is

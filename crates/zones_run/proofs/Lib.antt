@@ -18,9 +18,13 @@ pub mod Permitted
 pub mod Purged_runs
 pub mod Keeping
 pub mod TraceRecords
+pub mod Standing
 pub mod Stopping
 pub mod Telling
 pub mod Opened
+pub mod Bulk_lines
+pub mod Bulk_texts
+pub mod Bulk_told
 pub mod Commands
 pub mod Tasks
 pub mod Resting

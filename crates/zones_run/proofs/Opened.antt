@@ -22,13 +22,14 @@ use Rattle.zone_machine.specs.declared.machine.Machine.{Machine}
 use Rattle.zones_run.specs.Complaints.{complaint_output, complaint_text}
 use Rattle.zones_run.specs.Opening.{Finds, Found}
 use Rattle.zones_run.specs.Program.{AnswersOn, AnswersOver, RecordsOver, done_on}
-use Rattle.zones_run.specs.Recording.{KeepsStore, RanBy}
+use Rattle.zones_run.specs.Bulk.{bulk_mode, bulk_text}
+use Rattle.zones_run.specs.Recording.{KeepsStore, Ran}
 use Rattle.zones_run.specs.Run.{IsWhole, TellsLine, TellsText, fault_status}
 use Rattle.zones_run.specs.Statuses.{status_write_fault}
 use Rattle.zones_run.specs.Tracing.{run_of}
 use Rattle.zones_run.specs.declared.fault.RunFault.{RunFault}
 use Rattle.zones_run.specs.declared.words.Task.{Task}
-use Rattle.zones_run.specs.declared.words.Task.TheVariants.{Index, Run}
+use Rattle.zones_run.specs.declared.words.Task.TheVariants.{Bulk, Index, Run}
 use Rattle.zones_run.specs.declared.words.Mode.{Mode}
 use Rattle.zones_run.specs.declared.outcome.Complaint.TheVariants.{NotAStore}
 use Rattle.zones_run.proofs.Answered.{ready_holds}
@@ -62,8 +63,8 @@ front_any : (brands : List Tabled) (R : List Commit) (h : List Entry) (image : L
 front_any brands R h image holds = record { front = []; rest = changes (opening brands R) h; whole = refl; holds = subst (λ (l : List Commit). Holds l image) (sym (append-nil R)) holds }
 
 -- what a trace has recorded since the disk was opened
-pub ran_later : (mode : Mode) (brands : List Tabled) (R : List Commit) (status : ℕ) (input held holds : Option (List ℕ)) (u v w : View) → Leaves u v (Holds R) → RanBy mode brands R status input held holds v w → RanBy mode brands R status input held holds u w
-ran_later mode brands R status input held holds u v w past ran =
+ran_later : (mode : Mode) (brands : List Tabled) (R : List Commit) (whole torn told cut : Type 0) (input held holds : Option (List ℕ)) (u v w : View) → Leaves u v (Holds R) → Ran mode brands R whole torn told cut input held holds v w → Ran mode brands R whole torn told cut input held holds u w
+ran_later mode brands R whole torn told cut input held holds u v w past ran =
     let h = ran.answered ++ ran.under_way in
     record {
       answered = ran.answered;
@@ -82,8 +83,8 @@ ran_later mode brands R status input held holds u v w past ran =
     }
 
 -- where the store was not opened nothing was recorded
-pub ran_nothing : (mode : Mode) (brands : List Tabled) (R : List Commit) (status : ℕ) (input held : Option (List ℕ)) (v w : View) → IsSound w → Leaves v w (Holds R) → (IsWhole status → ⊥) → RanBy mode brands R status input held held v w
-ran_nothing mode brands R status input held v w sound past not =
+pub ran_nothing : (mode : Mode) (brands : List Tabled) (R : List Commit) (whole torn told cut : Type 0) (input held : Option (List ℕ)) (v w : View) → IsSound w → Leaves v w (Holds R) → (whole → ⊥) → Ran mode brands R whole torn told cut input held held v w
+ran_nothing mode brands R whole torn told cut input held v w sound past not =
     let nothing : held ≡ after_known held [] = sym (after_known-nil held) in
     record {
       answered = [];
@@ -96,19 +97,21 @@ ran_nothing mode brands R status input held v w sound past not =
         now = λ image now. inl (subst (λ (l : List Commit). Holds l image) (sym (append-nil R)) (past.each image (sound.counts_now v.moment image past.later now)));
       };
       settled = λ clear. refl;
-      all = λ whole. absurd (not whole);
+      all = λ is. absurd (not is);
       replies = λ t. nothing;
       nearly = λ t. nearly_all mode [] held held nothing;
     }
 
 -- nothing was recorded of whatever was to be done
 pub records_nothing : (task : Task) (brands : List Tabled) (R : List Commit) (status : ℕ) (input held : Option (List ℕ)) (v w : View) → IsSound w → Leaves v w (Holds R) → (IsWhole status → ⊥) → RecordsOver task brands R status input held held v w
-records_nothing (Run mode) brands R status input held v w sound past not = ran_nothing mode brands R status input held v w sound past not
+records_nothing (Run mode) brands R status input held v w sound past not = ran_nothing mode brands R _ _ _ _ input held v w sound past not
+records_nothing (Bulk zones) brands R status input held v w sound past not = ran_nothing bulk_mode brands R _ _ _ _ (Some (bulk_text zones)) None v w sound past not
 records_nothing Index brands R status input held v w sound past not = record { any_moment = past; now = λ image now. past.each image (sound.counts_now v.moment image past.later now) }
 
 -- and what was is recorded since the disk was opened
 pub records_later : (task : Task) (brands : List Tabled) (R : List Commit) (status : ℕ) (input held holds : Option (List ℕ)) (u v w : View) → Leaves u v (Holds R) → RecordsOver task brands R status input held holds v w → RecordsOver task brands R status input held holds u w
-records_later (Run mode) brands R status input held holds u v w past ran = ran_later mode brands R status input held holds u v w past ran
+records_later (Run mode) brands R status input held holds u v w past ran = ran_later mode brands R _ _ _ _ input held holds u v w past ran
+records_later (Bulk zones) brands R status input held holds u v w past ran = ran_later bulk_mode brands R _ _ _ _ (Some (bulk_text zones)) None None u v w past ran
 records_later Index brands R status input held holds u v w past kept = record { any_moment = joined u v w (Holds R) past kept.any_moment; now = kept.now }
 
 -- a store that was only read
@@ -131,6 +134,7 @@ answers_none (Run mode) brands R status input held = record {
   read = λ r. no_read mode brands R held input;
 }
 answers_none Index brands R status input held = record { taken = refl; nothing = λ f. refl }
+answers_none (Bulk zones) brands R status input held = record { taken = refl; nothing = λ f. refl }
 
 pub answers_nothing : (task : Task) (brands : List Tabled) (status : ℕ) (input held : Option (List ℕ)) (found : Found) → AnswersOn task brands found status input input held held
 answers_nothing task brands status input held None = tt

@@ -26,7 +26,7 @@ none_due (Err fault) n more none = tt
 
 none_said : (mode : Mode) (started : Bool) (line : List ℕ) (n : ℕ) (more : Script) → states mode ≡ false → NoneStated more.events → NoneStated (with_line n (said_by mode started line) more).events
 none_said Replies started line n more not none = none_due (event_of started line) n more none
-none_said WithTurns started line n more not none = none_due (event_of started line) n more none
+none_said (WithTurns telling) started line n more not none = none_due (event_of started line) n more none
 none_said (Purged zone) started line n more not none = none_due (event_of started line) n more none
 none_said Stated started line n more not none = absurd (true≢false not)
 
@@ -93,7 +93,7 @@ put_makes mode S (e ∷ events) ending suit =
     turns_of Replies S d n events more = more
     turns_of (Purged zone) S d n events more = more
     turns_of Stated S d n events more = more
-    turns_of WithTurns S d n events more = turns_make WithTurns (state_for S d) n (turns_after WithTurns (opened (entry_for S d)) (state_for S d)) events (λ e. refl) more
+    turns_of (WithTurns telling) S d n events more = turns_make (WithTurns telling) (state_for S d) n (turns_after (WithTurns telling) (opened (entry_for S d)) (state_for S d)) events (λ e. refl) more
 
     by_fit : (b : Bool) → fits_due S e.1 ≡ b → (script : Script) → Makes mode (state_for S e.1) script.events → Makes mode S (cond b (with_due e script) (ends (At_misfit e.0))).events
     by_fit true is script more = one_more mode S e.1 (entries_from (state_for S e.1) (map (λ (x : ℕ × Due). x.1) script.events)) suit.0 is more

@@ -78,7 +78,7 @@ kept_text zone (e ∷ es) =
 no_newline : (b : ℕ) → is_text_byte b ≡ true → is_newline b ≡ false
 no_newline b h = grind (arith, nat_tests, h)
 
-clean : (bytes : List ℕ) → list_all is_text_byte bytes ≡ true → has_newline bytes ≡ false
+pub clean : (bytes : List ℕ) → list_all is_text_byte bytes ≡ true → has_newline bytes ≡ false
 clean [] h = refl
 clean (b ∷ bytes) h = both (is_text_byte b) (list_all is_text_byte bytes) h (no_newline b) (clean bytes)
   where

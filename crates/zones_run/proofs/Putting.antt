@@ -39,7 +39,7 @@ pub none_after : (mode : Mode) (S : State) → turns_after mode None S ≡ []
 none_after Replies S = refl
 none_after (Purged zone) S = refl
 none_after Stated S = refl
-none_after WithTurns S = refl
+none_after (WithTurns telling) S = refl
 
 -- a line that is answered by a ticket counts, and so does each turn
 opened_counts : (e : Event) (s : Subject) (h : Head) (o : Opened) → opened_by e s h ≡ Some o → counts_event e ≡ true
@@ -70,8 +70,8 @@ by_ticket : (mode : Mode) (said : Option Opened) (S : State) → ((o : Opened) �
 by_ticket Replies said S begun = refl
 by_ticket (Purged zone) said S begun = refl
 by_ticket Stated said S begun = refl
-by_ticket WithTurns None S begun = refl
-by_ticket WithTurns (Some o) S begun = started_until 10000000 o S (begun o refl) ∙ sym (begun o refl)
+by_ticket (WithTurns telling) None S begun = refl
+by_ticket (WithTurns telling) (Some o) S begun = started_until 10000000 o S (begun o refl) ∙ sym (begun o refl)
 
 -- what the lines after the turns say depends on the line before them alone
 pub started_past : (mode : Mode) (S : State) (d : Due) → (state_past (state_for S d) (turns_after mode (opened (entry_for S d)) (state_for S d))).started ≡ (S.started || counts_event d.event)
@@ -104,8 +104,8 @@ after_rests : (mode : Mode) (said : Option Opened) (S : State) → list_any is_r
 after_rests Replies said S = refl
 after_rests (Purged zone) said S = refl
 after_rests Stated said S = refl
-after_rests WithTurns None S = refl
-after_rests WithTurns (Some o) S = until_rests 10000000 o S
+after_rests (WithTurns telling) None S = refl
+after_rests (WithTurns telling) (Some o) S = until_rests 10000000 o S
 
 or_rest : (a b : Bool) → (a || b) ≡ false → b ≡ false
 or_rest false b h = h
@@ -148,7 +148,7 @@ none_of : (mode : Mode) (said : Option Opened) (S : State) → puts_in mode ≡ 
 none_of Replies said S h = refl
 none_of (Purged zone) said S h = refl
 none_of Stated said S h = refl
-none_of WithTurns said S h = absurd (true≢false h)
+none_of (WithTurns telling) said S h = absurd (true≢false h)
 
 pub puts_none : (mode : Mode) → (mode ≡ Replies) ⊎ (((zone : ZoneName) × (mode ≡ Purged zone)) ⊎ (mode ≡ Stated)) → puts_in mode ≡ false
 puts_none mode (inl is) = ap puts_in is

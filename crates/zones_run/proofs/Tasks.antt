@@ -1,17 +1,21 @@
 -- What each task comes to, where a command has it.
-use Rattle.std.proofs.Common.{◌≡◌, ℕ, List, Option, IfSome, sym, subst}
+use Rattle.std.proofs.Common.{◌≡◌, ◌≤◌, ℕ, List, Option, IfSome, sym, subst}
 use Rattle.zn_io.specs.Disk.{View}
 use Rattle.brand_hooks.specs.Brands.{Tabled}
 use Rattle.commit_journal.specs.declared.records.Commit.{Commit}
 use Rattle.index_file.specs.Index.{index_text}
 use Rattle.zone_machine.specs.Machine.Indexed.{index_of}
 use Rattle.zones_run.specs.Answering.{FindsAlways}
+use Rattle.zones_run.specs.Bulk.{RanBulk, bulked}
 use Rattle.zones_run.specs.Output.{Output, written}
 use Rattle.zones_run.specs.Program.{AnswersOver, AnswersTrace, AsksNothing, FindsStore, RecordsOver, done_over}
 use Rattle.zones_run.specs.Recording.{KeepsStore, RanBy}
+use Rattle.zones_run.specs.Run.{IsWhole}
+use Rattle.zones_run.specs.Statuses.{status_disk_fault}
 use Rattle.zones_run.specs.Tracing.{traced}
+use Rattle.zones_run.specs.Words.{HasFewZones}
 use Rattle.zones_run.specs.declared.words.Task.{Task}
-use Rattle.zones_run.specs.declared.words.Task.TheVariants.{Index, Run}
+use Rattle.zones_run.specs.declared.words.Task.TheVariants.{Bulk, Index, Run}
 use Rattle.zones_run.specs.declared.words.Mode.{Mode}
 use Rattle.zones_run.proofs.Commands.{if_mapped}
 
@@ -37,3 +41,16 @@ module _ (task : Task) (is : task ≡ Index) (brands : List Tabled) (R : List Co
 
   pub index_records : (v w : View) → KeepsStore R v w → RecordsOver task brands R status input held holds v w
   index_records v w kept = subst (λ (t : Task). RecordsOver t brands R status input held holds v w) (sym is) kept
+
+module _ (task : Task) (zones : ℕ) (is : task ≡ Bulk zones) (brands : List Tabled) (R : List Commit) (status : ℕ) (input left held holds : Option (List ℕ)) where
+  pub bulk_few : HasFewZones task → zones ≤ 256
+  bulk_few few = subst HasFewZones is few
+
+  pub bulk_done : (P : Output → Type 0) → P (bulked zones brands R) → IfSome (done_over task brands R input) P
+  bulk_done P h = subst (λ (t : Task). IfSome (done_over t brands R input) P) (sym is) h
+
+  pub bulk_answers : AsksNothing status input left held holds → AnswersOver task brands R status input left held holds
+  bulk_answers asks = subst (λ (t : Task). AnswersOver t brands R status input left held holds) (sym is) asks
+
+  pub bulk_records : (v w : View) → RanBulk zones brands R (IsWhole status) (status ≡ status_disk_fault) v w → RecordsOver task brands R status input held holds v w
+  bulk_records v w ran = subst (λ (t : Task). RecordsOver t brands R status input held holds v w) (sym is) ran

@@ -30,6 +30,7 @@ use Rattle.zones_run.specs.Turns_end.{EndsFor, IsFollowed, ScriptTicketsEnd, Tic
 use Rattle.zones_run.specs.declared.due.Due.{Due}
 use Rattle.zones_run.specs.declared.turns.Opened.{Opened}
 use Rattle.zones_run.specs.declared.words.Mode.TheVariants.{WithTurns}
+use Rattle.zones_run.specs.declared.words.Telling.{Telling}
 
 -- the turns for a ticket are of the zone that gave it, and open none
 abbrev AreOf : Name → List Entry → Type 0
@@ -66,7 +67,7 @@ entries_put : (n : ℕ) (S : State) (turns : List Event) (events : List (ℕ × 
 entries_put n S [] events = refl
 entries_put n S (e ∷ turns) events = ap (λ l. entry_in S e ∷ l) (entries_put n (state_after S e) turns events)
 
-module _ (brands : List Tabled) (R : List Commit) (right : (z : Name) → IfSome (stored z R) IsRight) where
+module _ (telling : Telling) (brands : List Tabled) (R : List Commit) (right : (z : Name) → IfSome (stored z R) IsRight) where
   -- a state that some history reaches, from the opening on, whose grants fit
   record IsReached (S : State) : Type 0 where
     past : List Entry
@@ -89,24 +90,24 @@ module _ (brands : List Tabled) (R : List Commit) (right : (z : Name) → IfSome
   reached_past S [] h = h
   reached_past S (e ∷ turns) h = reached_past (state_after S e) turns (reached_one S (unstated e) refl h)
 
-  ends_at : (o : Opened) (S : State) → IsReached S → EndsFor o (history S (turns_after WithTurns (Some o) S))
-  ends_at o S h = subst (λ T. EndsFor o (history T (turns_after WithTurns (Some o) T))) h.there (script_turns_end brands R h.past o h.fit (right o.zone))
+  ends_at : (o : Opened) (S : State) → IsReached S → EndsFor o (history S (turns_after (WithTurns telling) (Some o) S))
+  ends_at o S h = subst (λ T. EndsFor o (history T (turns_after (WithTurns telling) (Some o) T))) h.there (script_turns_end telling brands R h.past o h.fit (right o.zone))
 
   -- what follows an entry
-  followed : (o : Option Opened) (S : State) (rest : List Entry) → IsReached S → TicketsEnd rest → AreEnded o (history S (turns_after WithTurns o S) ++ rest)
+  followed : (o : Option Opened) (S : State) (rest : List Entry) → IsReached S → TicketsEnd rest → AreEnded o (history S (turns_after (WithTurns telling) o S) ++ rest)
   followed None S rest h more = (tt, more)
   followed (Some o) S rest h more =
       let are = turns_of_zone 10000000 o S in
-      (record { turns = history S (turns_after WithTurns (Some o) S); others = rest; whole = refl; are = are; end = ends_at o S h }, turns_end_none o.zone (history S (turns_after WithTurns (Some o) S)) rest are more)
+      (record { turns = history S (turns_after (WithTurns telling) (Some o) S); others = rest; whole = refl; are = are; end = ends_at o S h }, turns_end_none o.zone (history S (turns_after (WithTurns telling) (Some o) S)) rest are more)
 
-  tickets_end : (S : State) (events : List (ℕ × Due)) (ending : Ending) → AllSuit WithTurns events → IsReached S → TicketsEnd (entries_from S (map (λ (x : ℕ × Due). x.1) (put_in WithTurns S events ending).events))
+  tickets_end : (S : State) (events : List (ℕ × Due)) (ending : Ending) → AllSuit (WithTurns telling) events → IsReached S → TicketsEnd (entries_from S (map (λ (x : ℕ × Due). x.1) (put_in (WithTurns telling) S events ending).events))
   tickets_end S [] ending suit h = tt
   tickets_end S (e ∷ events) ending suit h =
       let T = state_for S e.1 in
-      let turns = turns_after WithTurns (opened (entry_for S e.1)) T in
+      let turns = turns_after (WithTurns telling) (opened (entry_for S e.1)) T in
       let reached = reached_one S e.1 suit.0 h in
-      at_fit (fits_due S e.1) turns (put_in WithTurns (state_past T turns) events ending)
-      (followed (opened (entry_for S e.1)) T (entries_from (state_past T turns) (map (λ (x : ℕ × Due). x.1) (put_in WithTurns (state_past T turns) events ending).events)) reached
+      at_fit (fits_due S e.1) turns (put_in (WithTurns telling) (state_past T turns) events ending)
+      (followed (opened (entry_for S e.1)) T (entries_from (state_past T turns) (map (λ (x : ℕ × Due). x.1) (put_in (WithTurns telling) (state_past T turns) events ending).events)) reached
       (tickets_end (state_past T turns) events ending suit.1 (reached_past T turns reached)))
     where
       at_fit : (b : Bool) (turns : List Event) (script : Script)
@@ -121,7 +122,7 @@ right_of None h = tt
 right_of (Some row) h = record-right row h
 
 pub script_tickets_end : ScriptTicketsEnd
-script_tickets_end brands R image bytes holds =
-    let script = script_of WithTurns bytes in
-    tickets_end brands R (λ z. right_of (stored z R) (record_left z R holds.leave)) (opening brands R) script.events script.ending (all_suit WithTurns false 1 (lines_of bytes))
+script_tickets_end telling brands R image bytes holds =
+    let script = script_of (WithTurns telling) bytes in
+    tickets_end telling brands R (λ z. right_of (stored z R) (record_left z R holds.leave)) (opening brands R) script.events script.ending (all_suit (WithTurns telling) false 1 (lines_of bytes))
     (record { past = []; fit = refl; there = refl })

@@ -29,6 +29,7 @@ use Rattle.zones_run.specs.Midway.{Knows, RunsOn, lines_from, none_put, run_on, 
 use Rattle.zones_run.specs.Scripting.{all_unstated, is_turn, with_turns}
 use Rattle.zones_run.specs.declared.words.Mode.{Mode}
 use Rattle.zones_run.specs.declared.words.Mode.TheVariants.{WithTurns}
+use Rattle.zones_run.specs.declared.words.Telling.{Telling}
 use Rattle.zones_run.specs.declared.outcome.Complaint.{Complaint}
 use Rattle.zones_run.specs.declared.outcome.Complaint.TheVariants.{BadGrant, Grammar as Bad_line, Limit}
 use Rattle.zones_run.specs.declared.fault.RunFault.TheVariants.{Disk, Memory, Read, Write}
@@ -202,16 +203,16 @@ lines_some mode brands R held holds left None lines = tt
 lines_some mode brands R held holds left (Some input) lines = some_of mode brands R held holds left (Some input) lines
 
 -- turns that were put in were answered, and others weren't
-pub answers_some : (to_put : State → List (ℕ × Event)) (brands : List Tabled) (R : List Commit) (stands : State → Type 0) (refused : Option ℕ) (n : ℕ) (held holds bytes left input : Option (List ℕ)) (run : RunsOn WithTurns to_put brands R stands refused n held holds bytes input)
-    → All (λ (x : Entry). is_turn x.event ≡ true) (entries_from run.state (map (λ (e : ℕ × Due). e.1) (all_unstated (to_put run.state) ++ []))) → TakesPiece bytes left → IfSome input (λ _. AnswersSome WithTurns brands R input left held holds)
-answers_some to_put brands R stands refused n held holds bytes left None run are piece = tt
-answers_some to_put brands R stands refused n held holds bytes left (Some input) run are piece =
+pub answers_some : (telling : Telling) (to_put : State → List (ℕ × Event)) (brands : List Tabled) (R : List Commit) (stands : State → Type 0) (refused : Option ℕ) (n : ℕ) (held holds bytes left input : Option (List ℕ)) (run : RunsOn (WithTurns telling) to_put brands R stands refused n held holds bytes input)
+    → All (λ (x : Entry). is_turn x.event ≡ true) (entries_from run.state (map (λ (e : ℕ × Due). e.1) (all_unstated (to_put run.state) ++ []))) → TakesPiece bytes left → IfSome input (λ _. AnswersSome (WithTurns telling) brands R input left held holds)
+answers_some telling to_put brands R stands refused n held holds bytes left None run are piece = tt
+answers_some telling to_put brands R stands refused n held holds bytes left (Some input) run are piece =
     let known = run.known in
     record {
-      runs = takes WithTurns brands R refused (to_put run.state) n run.state run.done bytes left input known piece;
+      runs = takes (WithTurns telling) brands R refused (to_put run.state) n run.state run.done bytes left input known piece;
       told = run.done;
       untold = entries_from run.state (map (λ (e : ℕ × Due). e.1) (all_unstated (to_put run.state) ++ []));
-      whole = ap (λ (r : Run). r.entries) (so_far WithTurns brands R refused (to_put run.state) n run.state run.done bytes input known);
+      whole = ap (λ (r : Run). r.entries) (so_far (WithTurns telling) brands R refused (to_put run.state) n run.state run.done bytes input known);
       are_turns = are;
       alone = λ is. absurd (cc);
       text = run.text;
@@ -395,15 +396,15 @@ ends_failed mode brands R stands Memory refused n held holds now old left input 
 ends_failed mode brands R stands Read refused n held holds now old left input waiting now_waiting run written text piece = absurd text
 
 -- or a fault of a turn that was put in
-pub ends_midway : (to_put : State → List (ℕ × Event)) (brands : List Tabled) (R : List Commit) (stands : State → Type 0) (fault : RunFault) (refused : Option ℕ) (n : ℕ) (held holds now old left input : Option (List ℕ)) (waiting now_waiting : List ℕ)
-    → (run : RunsOn WithTurns to_put brands R stands refused n held (after_known holds waiting) old input) → All (λ (x : Entry). is_turn x.event ≡ true) (entries_from run.state (map (λ (e : ℕ × Due). e.1) (all_unstated (to_put run.state) ++ [])))
-    → HasWritten held holds → LeavesText fault holds now waiting now_waiting → TakesPiece old left → EndsAs WithTurns brands R (Err fault) input left held now (after_known now now_waiting)
-ends_midway to_put brands R stands Write refused n held holds now old left input waiting now_waiting run are written text piece =
-    (flushed_front WithTurns brands R held holds now input waiting written (has_replies WithTurns to_put brands R stands refused n held (after_known holds waiting) old input run) text.0, runs_lines WithTurns to_put brands R stands refused n held (after_known holds waiting) old left input run piece)
-ends_midway to_put brands R stands Disk refused n held holds now old left input waiting now_waiting run are written text piece =
-    subst (λ known. IfSome input (λ bs. HasReplies WithTurns held known (run_of WithTurns brands R bs)) × IfSome input (λ _. AnswersSome WithTurns brands R input left held known)) (sym text.0)
-    (has_replies WithTurns to_put brands R stands refused n held (after_known holds waiting) old input run, answers_some to_put brands R stands refused n held (after_known holds waiting) old left input run are piece)
-ends_midway to_put brands R stands Memory refused n held holds now old left input waiting now_waiting run are written text piece =
-    subst (λ known. IfSome input (λ bs. HasReplies WithTurns held known (run_of WithTurns brands R bs)) × IfSome input (λ _. AnswersSome WithTurns brands R input left held known)) (sym text)
-    (has_replies WithTurns to_put brands R stands refused n held (after_known holds waiting) old input run, answers_some to_put brands R stands refused n held (after_known holds waiting) old left input run are piece)
-ends_midway to_put brands R stands Read refused n held holds now old left input waiting now_waiting run are written text piece = absurd text
+pub ends_midway : (telling : Telling) (to_put : State → List (ℕ × Event)) (brands : List Tabled) (R : List Commit) (stands : State → Type 0) (fault : RunFault) (refused : Option ℕ) (n : ℕ) (held holds now old left input : Option (List ℕ)) (waiting now_waiting : List ℕ)
+    → (run : RunsOn (WithTurns telling) to_put brands R stands refused n held (after_known holds waiting) old input) → All (λ (x : Entry). is_turn x.event ≡ true) (entries_from run.state (map (λ (e : ℕ × Due). e.1) (all_unstated (to_put run.state) ++ [])))
+    → HasWritten held holds → LeavesText fault holds now waiting now_waiting → TakesPiece old left → EndsAs (WithTurns telling) brands R (Err fault) input left held now (after_known now now_waiting)
+ends_midway telling to_put brands R stands Write refused n held holds now old left input waiting now_waiting run are written text piece =
+    (flushed_front (WithTurns telling) brands R held holds now input waiting written (has_replies (WithTurns telling) to_put brands R stands refused n held (after_known holds waiting) old input run) text.0, runs_lines (WithTurns telling) to_put brands R stands refused n held (after_known holds waiting) old left input run piece)
+ends_midway telling to_put brands R stands Disk refused n held holds now old left input waiting now_waiting run are written text piece =
+    subst (λ known. IfSome input (λ bs. HasReplies (WithTurns telling) held known (run_of (WithTurns telling) brands R bs)) × IfSome input (λ _. AnswersSome (WithTurns telling) brands R input left held known)) (sym text.0)
+    (has_replies (WithTurns telling) to_put brands R stands refused n held (after_known holds waiting) old input run, answers_some telling to_put brands R stands refused n held (after_known holds waiting) old left input run are piece)
+ends_midway telling to_put brands R stands Memory refused n held holds now old left input waiting now_waiting run are written text piece =
+    subst (λ known. IfSome input (λ bs. HasReplies (WithTurns telling) held known (run_of (WithTurns telling) brands R bs)) × IfSome input (λ _. AnswersSome (WithTurns telling) brands R input left held known)) (sym text)
+    (has_replies (WithTurns telling) to_put brands R stands refused n held (after_known holds waiting) old input run, answers_some telling to_put brands R stands refused n held (after_known holds waiting) old left input run are piece)
+ends_midway telling to_put brands R stands Read refused n held holds now old left input waiting now_waiting run are written text piece = absurd text

@@ -24,6 +24,7 @@ use Rattle.zones_run.specs.declared.fault.RunFault.TheVariants.{Disk, Memory, Re
 use Rattle.zones_run.specs.declared.outcome.Complaint.{Complaint}
 use Rattle.zones_run.specs.declared.words.Mode.{Mode}
 use Rattle.zones_run.specs.declared.words.Mode.TheVariants.{WithTurns}
+use Rattle.zones_run.specs.declared.words.Telling.{Telling}
 use Rattle.zones_run.proofs.Histories.{Suits, history-entry, suits_said}
 use Rattle.zones_run.proofs.Keeping.{keeps_step, records_all, records_torn}
 use Rattle.zones_run.proofs.TraceEnds.{EndsSo, all_entries, fails_with}
@@ -154,11 +155,11 @@ module _ (mode : Mode) (brands : List Tabled) (R : List Commit) (stands : State 
       (λ fits. begins_entry mode brands R stands refused n held holds d line bytes new input f.run took h k says fits) fails stay
 
 -- at a turn that was put in and could not be answered
-pub ran_turn : (to_put : State → List (ℕ × Event)) (brands : List Tabled) (R : List Commit) (stands : State → Type 0) (v0 v w : View) (refused : Option ℕ) (m n : ℕ) (held holds bytes input : Option (List ℕ)) (fault : RunFault) (same : Type 0) (e : Event) (rest : List (ℕ × Event)) (f : Follows WithTurns to_put brands R stands (Left brands R v0 v) refused n held holds bytes input)
-    → IsStoreOf v0 R → to_put f.run.state ≡ (m, e) ∷ rest → ((S : State) → stands S → Fails fault same S (unstated e) v w) → (same → (P : View → Type 0) → P v → P w) → RanAs WithTurns brands R (Err fault) input held holds v0 w
-ran_turn to_put brands R stands v0 v w refused m n held holds bytes input fault same e rest f is next fails stay =
-    ran_event WithTurns to_put brands R stands v0 v refused n held holds bytes input f is fault same w (unstated e) refl
-    (λ fits. begins_turn WithTurns brands R refused m n f.run.state f.run.done e rest bytes input (subst (λ (l : List (ℕ × Event)). IfSome input (Knows WithTurns brands R refused l n f.run.state f.run.done bytes)) next f.run.known))
+pub ran_turn : (telling : Telling) (to_put : State → List (ℕ × Event)) (brands : List Tabled) (R : List Commit) (stands : State → Type 0) (v0 v w : View) (refused : Option ℕ) (m n : ℕ) (held holds bytes input : Option (List ℕ)) (fault : RunFault) (same : Type 0) (e : Event) (rest : List (ℕ × Event)) (f : Follows (WithTurns telling) to_put brands R stands (Left brands R v0 v) refused n held holds bytes input)
+    → IsStoreOf v0 R → to_put f.run.state ≡ (m, e) ∷ rest → ((S : State) → stands S → Fails fault same S (unstated e) v w) → (same → (P : View → Type 0) → P v → P w) → RanAs (WithTurns telling) brands R (Err fault) input held holds v0 w
+ran_turn telling to_put brands R stands v0 v w refused m n held holds bytes input fault same e rest f is next fails stay =
+    ran_event (WithTurns telling) to_put brands R stands v0 v refused n held holds bytes input f is fault same w (unstated e) refl
+    (λ fits. begins_turn (WithTurns telling) brands R refused m n f.run.state f.run.done e rest bytes input (subst (λ (l : List (ℕ × Event)). IfSome input (Knows (WithTurns telling) brands R refused l n f.run.state f.run.done bytes)) next f.run.known))
     (fails f.run.state f.run.stood) stay
 
 -- with what was written and waits after a line that could not be answered

@@ -34,6 +34,7 @@ use Rattle.zones_run.specs.declared.turns.Opened.{Opened}
 use Rattle.zones_run.specs.declared.turns.Taken.{Taken as Told}
 use Rattle.zones_run.specs.declared.words.Mode.{Mode}
 use Rattle.zones_run.specs.declared.words.Mode.TheVariants.{Purged, Replies, Stated, WithTurns}
+use Rattle.zones_run.specs.declared.words.Telling.{Telling}
 use Rattle.zones_run.proofs.Cuts.{cut_at, cut_whole}
 use Rattle.zones_run.proofs.Fronts.{after_known-append, after_known-nil}
 use Rattle.zones_run.proofs.Histories.{after-push, history-entry, suits_said}
@@ -270,29 +271,29 @@ abbrev pub puts_rest : Bool → ℕ → Opened → ℕ → State → List (ℕ �
 puts_rest last more o m S = numbered m (cond last [] (turns_until more o S))
 
 -- a turn that is put in
-pub follows_turn : (brands : List Tabled) (R : List Commit) (stands now_stands : State → Type 0) (left_by now_left : List Entry → Type 0) (v w : View) (refused now : Option ℕ) (m n more : ℕ) (o : Opened) (a : Answer) (last : Bool) (held holds now_holds bytes input : Option (List ℕ))
-    → Follows WithTurns (puts_until (suc more) o m) brands R stands left_by refused n held holds bytes input → ((S : State) → stands S → IsAnswered WithTurns S (unstated (Turn o.zone)) a now_stands v w holds now_holds)
+pub follows_turn : (telling : Telling) (brands : List Tabled) (R : List Commit) (stands now_stands : State → Type 0) (left_by now_left : List Entry → Type 0) (v w : View) (refused now : Option ℕ) (m n more : ℕ) (o : Opened) (a : Answer) (last : Bool) (held holds now_holds bytes input : Option (List ℕ))
+    → Follows (WithTurns telling) (puts_until (suc more) o m) brands R stands left_by refused n held holds bytes input → ((S : State) → stands S → IsAnswered (WithTurns telling) S (unstated (Turn o.zone)) a now_stands v w holds now_holds)
     → now ≡ refused_with refused m a.reply.head → last ≡ is_last o.ticket a.reply.head
     → ((S : State) (entry : Entry) (h : List Entry) → S ≡ after (opening brands R) h → GoesSurely S.commits (after_entry S entry).commits v w → left_by h → now_left (h ++ entry ∷ []))
-    → Follows WithTurns (puts_rest last more o m) brands R now_stands now_left now n held now_holds bytes input
+    → Follows (WithTurns telling) (puts_rest last more o m) brands R now_stands now_left now n held now_holds bytes input
 unfolding turns_until
-follows_turn brands R stands now_stands left_by now_left v w refused now m n more o a last held holds now_holds bytes input f answers so ends steps =
+follows_turn telling brands R stands now_stands left_by now_left v w refused now m n more o a last held holds now_holds bytes input f answers so ends steps =
     let S = f.run.state in
     let e = Turn o.zone in
     let entry : Entry = entry_in S e in
     let answered = answers S f.run.stood in
     let here : last ≡ is_last o.ticket entry.reply.head = ends ∙ ap (λ (x : Entry). is_last o.ticket x.reply.head) answered.told in
     let told : or_else refused (refused_at_line m entry) ≡ now = refused_as refused m entry ∙ sym (so ∙ ap (λ (x : Entry). refused_with refused m x.reply.head) answered.told) in
-    subst (λ b. Follows WithTurns (puts_rest b more o m) brands R now_stands now_left now n held now_holds bytes input) (sym here) (record {
+    subst (λ b. Follows (WithTurns telling) (puts_rest b more o m) brands R now_stands now_left now n held now_holds bytes input) (sym here) (record {
       run = record {
         state = state_after S e;
         stood = answered.stands;
         done = f.run.done ++ entry ∷ [];
-        text = text-push WithTurns f.run.done entry held holds now_holds f.run.text answered.text;
-        known = turn_known WithTurns brands R f.run.done refused now m n S e (puts_rest (is_last o.ticket entry.reply.head) more o m (state_after S e)) bytes input told f.run.known;
+        text = text-push (WithTurns telling) f.run.done entry held holds now_holds f.run.text answered.text;
+        known = turn_known (WithTurns telling) brands R f.run.done refused now m n S e (puts_rest (is_last o.ticket entry.reply.head) more o m (state_after S e)) bytes input told f.run.known;
       };
       reached = ap (λ (T : State). after_entry T entry) f.reached ∙ sym (after-push (opening brands R) f.run.done entry);
-      legal = history-entry WithTurns (opening brands R) f.run.done S (unstated e) refl refl f.reached f.legal;
+      legal = history-entry (WithTurns telling) (opening brands R) f.run.done S (unstated e) refl refl f.reached f.legal;
       kept = steps S entry f.run.done f.reached answered.goes f.kept;
     })
 
@@ -302,19 +303,19 @@ pub follows_none : (mode : Mode) (said : Option Opened) (brands : List Tabled) (
 follows_none Replies said brands R stands left_by refused m n held holds bytes input h f = f
 follows_none (Purged zone) said brands R stands left_by refused m n held holds bytes input h f = f
 follows_none Stated said brands R stands left_by refused m n held holds bytes input h f = f
-follows_none WithTurns None brands R stands left_by refused m n held holds bytes input h f = f
-follows_none WithTurns (Some o) brands R stands left_by refused m n held holds bytes input (inl h) f = absurd (true≢false h)
-follows_none WithTurns (Some o) brands R stands left_by refused m n held holds bytes input (inr h) f = absurd (cc)
+follows_none (WithTurns telling) None brands R stands left_by refused m n held holds bytes input h f = f
+follows_none (WithTurns telling) (Some o) brands R stands left_by refused m n held holds bytes input (inl h) f = absurd (true≢false h)
+follows_none (WithTurns telling) (Some o) brands R stands left_by refused m n held holds bytes input (inr h) f = absurd (cc)
 
-pub follows_all : (brands : List Tabled) (R : List Commit) (stands : State → Type 0) (left_by : List Entry → Type 0) (refused : Option ℕ) (m n : ℕ) (o : Opened) (held holds bytes input : Option (List ℕ)) → Follows WithTurns (puts_until zero o m) brands R stands left_by refused n held holds bytes input
-    → Follows WithTurns none_put brands R stands left_by refused n held holds bytes input
+pub follows_all : (telling : Telling) (brands : List Tabled) (R : List Commit) (stands : State → Type 0) (left_by : List Entry → Type 0) (refused : Option ℕ) (m n : ℕ) (o : Opened) (held holds bytes input : Option (List ℕ)) → Follows (WithTurns telling) (puts_until zero o m) brands R stands left_by refused n held holds bytes input
+    → Follows (WithTurns telling) none_put brands R stands left_by refused n held holds bytes input
 unfolding turns_until
-follows_all brands R stands left_by refused m n o held holds bytes input f = f
+follows_all telling brands R stands left_by refused m n o held holds bytes input f = f
 
 -- some number of turns that is more than none
-pub follows_some : (k more : ℕ) (o : Opened) (brands : List Tabled) (R : List Commit) (stands : State → Type 0) (left_by : List Entry → Type 0) (refused : Option ℕ) (m n : ℕ) (held holds bytes input : Option (List ℕ)) → k ≡ more
-    → Follows WithTurns (puts_until k o m) brands R stands left_by refused n held holds bytes input → Follows WithTurns (puts_until more o m) brands R stands left_by refused n held holds bytes input
-follows_some k more o brands R stands left_by refused m n held holds bytes input same f = subst (λ j. Follows WithTurns (puts_until j o m) brands R stands left_by refused n held holds bytes input) same f
+pub follows_some : (telling : Telling) (k more : ℕ) (o : Opened) (brands : List Tabled) (R : List Commit) (stands : State → Type 0) (left_by : List Entry → Type 0) (refused : Option ℕ) (m n : ℕ) (held holds bytes input : Option (List ℕ)) → k ≡ more
+    → Follows (WithTurns telling) (puts_until k o m) brands R stands left_by refused n held holds bytes input → Follows (WithTurns telling) (puts_until more o m) brands R stands left_by refused n held holds bytes input
+follows_some telling k more o brands R stands left_by refused m n held holds bytes input same f = subst (λ j. Follows (WithTurns telling) (puts_until j o m) brands R stands left_by refused n held holds bytes input) same f
 
 -- the entries of a run are the first ones of the whole input's
 pub begins_input : (mode : Mode) (brands : List Tabled) (R : List Commit) (refused : Option ℕ) (to_put : List (ℕ × Event)) (n : ℕ) (S : State) (done : List Entry) (bytes input : Option (List ℕ)) → IfSome input (Knows mode brands R refused to_put n S done bytes) → IfSome (option_map (λ bs. (run_of mode brands R bs).entries) input) (IsFront done)

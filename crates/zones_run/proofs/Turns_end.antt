@@ -168,4 +168,4 @@ end_within : (more : ℕ) (o : Opened) (brands : List Tabled) (commits : List Co
 end_within more o brands commits h is first few = turns_end more o (after (opening brands commits) h) (stays_small more o.zone brands commits h is first) few
 
 pub script_turns_end : ScriptTurnsEnd
-script_turns_end brands commits h o is first = end_within 10000000 o brands commits h is first (turns-few brands commits h o.zone is first)
+script_turns_end telling brands commits h o is first = end_within 10000000 o brands commits h is first (turns-few brands commits h o.zone is first)

@@ -26,6 +26,9 @@ help_text = text_of_lines (
     codes "             or of the whole system, each behind what the pools gave it" ∷
     codes "  given      the same as trace, for lines that state what the pools gave their events, as" ∷
     codes "             purge writes them" ∷
+    codes "  bulk N     make N zones, from 1 to 256, by a script that is run as script runs its input," ∷
+    codes "             and write how many events were answered and refused, and how many zones run" ∷
+    codes "             and are installed then" ∷
     codes "  index      write a line for each stored zone" ∷
     codes "  --help     write this text" ∷
     codes "  --version  write the version" ∷

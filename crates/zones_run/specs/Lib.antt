@@ -16,6 +16,7 @@ pub mod Scripting
 pub mod Tracing
 pub mod Opening
 pub mod Recording
+pub mod Bulk
 pub mod Answering
 pub mod Midway
 pub mod Turns_end

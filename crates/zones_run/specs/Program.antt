@@ -15,13 +15,14 @@ use Rattle.zones_run.specs.declared.outcome.Complaint.TheVariants.{NotAStore}
 use Rattle.zones_run.specs.declared.words.Command.{Command}
 use Rattle.zones_run.specs.declared.words.Command.TheVariants.{Export, OnStore, Help, Version}
 use Rattle.zones_run.specs.declared.words.Task.{Task}
-use Rattle.zones_run.specs.declared.words.Task.TheVariants.{Index, Run}
+use Rattle.zones_run.specs.declared.words.Task.TheVariants.{Bulk, Index, Run}
 use Rattle.zones_run.specs.declared.words.Mode.{Mode}
 use Rattle.zones_run.specs.Fixed.{help_text, usage_text, version_text}
 use Rattle.zones_run.specs.Exporting.{exported}
 use Rattle.zones_run.specs.Obeyed.{ObeysLines, ObeysRead}
 use Rattle.zones_run.specs.Opening.{Found}
 use Rattle.zones_run.specs.Output.{Output, written}
+use Rattle.zones_run.specs.Bulk.{RanBulk, bulked}
 use Rattle.zones_run.specs.Recording.{KeepsStore, RanBy}
 use Rattle.zones_run.specs.Run.{IsWhole, TellsLine, TellsText}
 use Rattle.zones_run.specs.Tracing.{AnswersRead, AnswersSome, HasReplies, RunsLines, run_of, traced}
@@ -32,6 +33,7 @@ use Rattle.zones_run.specs.Words.{command_of}
 abbrev pub done_over : Task → List Tabled → List Commit → Option (List ℕ) → Option Output
 done_over (Run mode) brands R input = option_map (traced mode brands R) input
 done_over Index brands R input = Some (written (index_text (index_of R)))
+done_over (Bulk zones) brands R input = Some (bulked zones brands R)
 
 -- over what was found on the disk
 abbrev pub done_on : Task → List Tabled → Found → Option (List ℕ) → Option Output
@@ -50,7 +52,7 @@ output_for brands None found input = Some (record { status = status_usage; out =
 abbrev pub output_of : List Tabled → List (List ℕ) → Found → Option (List ℕ) → Option Output
 output_of brands words found input = output_for brands (command_of words) found input
 
--- words that ask for no input: the index, the help, the version, and what is no form of the command line
+-- words that ask for no input: the index, a large system, the help, the version, and what is no form of the command line
 abbrev pub ReadsNothing : Option Command → Type 0
 ReadsNothing (Some Export) = ⊥
 ReadsNothing (Some (OnStore (Run mode))) = ⊥
@@ -64,7 +66,7 @@ OpensNothing command = Unit {0}
 -- no line of the input restarts the system, or none is read
 abbrev pub RestartsNothing : Task → Option (List ℕ) → Type 0
 RestartsNothing (Run mode) input = (bytes : List ℕ) × (input ≡ Some bytes) × (has_restart mode bytes ≡ false)
-RestartsNothing Index input = Unit {0}
+RestartsNothing task input = Unit {0}
 
 -- each restart finds the store: the disk keeps to its model, or there is none
 abbrev pub FindsStore : Task → View → Option (List ℕ) → Type 0
@@ -86,7 +88,7 @@ pub record AnswersTrace (mode : Mode) (brands : List Tabled) (R : List Commit) (
 
 abbrev pub AnswersOver : Task → List Tabled → List Commit → ℕ → (input left held holds : Option (List ℕ)) → Type 0
 AnswersOver (Run mode) brands R status input left held holds = AnswersTrace mode brands R status input left held holds
-AnswersOver Index brands R status input left held holds = AsksNothing status input left held holds
+AnswersOver task brands R status input left held holds = AsksNothing status input left held holds
 
 -- where the disk is no store, a command over it takes and writes nothing
 pub record AnswersNothing (input left held holds : Option (List ℕ)) : Type 0 where
@@ -130,6 +132,7 @@ HasAnswered brands command found status input left held holds = AsksNothing stat
 abbrev pub RecordsOver : Task → List Tabled → List Commit → ℕ → (input held holds : Option (List ℕ)) → (old new : View) → Type 0
 RecordsOver (Run mode) brands R status input held holds old new = RanBy mode brands R status input held holds old new
 RecordsOver Index brands R status input held holds old new = KeepsStore R old new
+RecordsOver (Bulk zones) brands R status input held holds old new = RanBulk zones brands R (IsWhole status) (status ≡ status_disk_fault) old new
 
 abbrev pub HasRecorded : List Tabled → Option Command → List Commit → ℕ → (input held holds : Option (List ℕ)) → (old new : View) → Type 0
 HasRecorded brands (Some (OnStore task)) R status input held holds old new = RecordsOver task brands R status input held holds old new

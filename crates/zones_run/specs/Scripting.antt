@@ -74,11 +74,11 @@ turns_until (suc more) o S = Turn o.zone ∷ (if is_last o.ticket (entry_in S (T
 
 -- the turns that are put in after a line, in the state that it left: those for its ticket. No daemon has 10,000,000 turns left
 abbrev pub turns_after : Mode → Option Opened → State → List Event
-turns_after WithTurns (Some o) S = turns_until 10000000 o S
+turns_after (WithTurns telling) (Some o) S = turns_until 10000000 o S
 turns_after mode o S = []
 
 abbrev pub puts_in : Mode → Bool
-puts_in WithTurns = true
+puts_in (WithTurns telling) = true
 puts_in mode = false
 
 -- events that count for the line of a number

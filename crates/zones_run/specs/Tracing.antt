@@ -1,14 +1,15 @@
 -- What `trace`, `script`, `purge` and `given` write for the whole of their input: its lines are read, their events, with the turns that
 -- are put in, make a history of the zone machine from the commits of its store on, with the brands that there are, and the history's
 -- replies are printed.
-use Rattle.std.specs.Prelude.{All, ◌++◌, ℕ, List, [], ◌∷◌, ◌≡◌, map, take, Bool, true, false, Option, Some, None, IfSome, Result, Ok, Err, if◌then◌else◌}
+use Rattle.std.specs.Prelude.{All, ◌++◌, ℕ, List, [], ◌∷◌, ◌≡◌, ◌≤◌, map, take, Bool, true, false, Option, Some, None, IfSome, Result, Ok, Err, if◌then◌else◌}
 use Rattle.std.specs.List.{flat_map}
 use Rattle.zn_io.specs.Streams.{after_known}
 use Rattle.brand_hooks.specs.Brands.{Tabled}
 use Rattle.commit_journal.specs.declared.records.Commit.{Commit}
 use Rattle.trace_text.specs.Lines.{given_text}
 use Rattle.trace_text.specs.Replies.{reply_text}
-use Rattle.zone_machine.specs.Machine.Histories.{concerns}
+use Rattle.zone_cases.specs.State.{State}
+use Rattle.zone_machine.specs.Machine.Histories.{after, concerns}
 use Rattle.zone_machine.specs.Machine.{opening}
 use Rattle.zoneadmd_steps.specs.declared.requests.Outcome.{Outcome}
 use Rattle.zoneadmd_steps.specs.declared.requests.Outcome.TheVariants.{Done}
@@ -21,7 +22,8 @@ use Rattle.zones_run.specs.Scripting.{is_turn, puts_in, with_turns}
 use Rattle.zones_run.specs.Scripts.{At_end, At_fault, At_misfit, Ending, Past_limit, Script, entries_from, script_of}
 use Rattle.zones_run.specs.declared.due.Due.{Due}
 use Rattle.zones_run.specs.declared.words.Mode.{Mode}
-use Rattle.zones_run.specs.declared.words.Mode.TheVariants.{Purged}
+use Rattle.zones_run.specs.declared.words.Mode.TheVariants.{Purged, WithTurns}
+use Rattle.zones_run.specs.declared.words.Telling.TheVariants.{Marks}
 use Rattle.zones_run.specs.declared.fault.RunFault.{RunFault}
 use Rattle.zones_run.specs.declared.fault.RunFault.TheVariants.{Read, Write}
 use Rattle.zones_run.specs.Taking.{TakesLines, TakesNoMore}
@@ -30,6 +32,7 @@ use Rattle.zones_run.specs.declared.outcome.Complaint.{Complaint}
 use Rattle.zones_run.specs.declared.outcome.Complaint.TheVariants.{BadGrant, FirstRefused, Grammar as Bad_line}
 use Rattle.zones_run.specs.Output.{Output, written}
 use Rattle.zones_run.specs.Run.{HasFront}
+use Rattle.zones_run.specs.Statuses.{status_refused}
 
 -- a refusal: `err`, `failed`, `finished` other than `ok`, or `stuck`
 abbrev pub is_refused_outcome : Outcome → Bool
@@ -46,6 +49,10 @@ abbrev pub is_refusal : Head → Bool
 is_refusal (Refused refusal) = true
 is_refusal (Turned turn) = is_refused_turn turn
 is_refusal head = false
+
+-- its mark: 1 where it is one, and else 0
+abbrev pub mark : Head → ℕ
+mark head = if is_refusal head then 1 else 0
 
 -- the number of the first line whose entry is a refusal
 abbrev pub first_refused : List (ℕ × Due) → List Entry → Option ℕ
@@ -72,9 +79,10 @@ abbrev pub run_of : Mode → List Tabled → List Commit → List ℕ → Run
 run_of mode brands R bytes = script_run brands R (with_turns mode (opening brands R) (script_of mode bytes))
 
 -- what is told of an entry: its reply; or, where all other zones are purged, the line of an event of the zone or of the whole
--- system, and nothing of any other
+-- system, and nothing of any other; or its mark
 abbrev pub entry_text : Mode → Entry → List ℕ
 entry_text (Purged zone) entry = if concerns zone entry.subject then given_text entry.grant entry.event ++ 10 ∷ [] else []
+entry_text (WithTurns Marks) entry = mark entry.reply.head ∷ []
 entry_text mode entry = reply_text entry.subject entry.reply
 
 abbrev pub entries_text : Mode → List Entry → List ℕ
@@ -108,6 +116,11 @@ left_to_tell (Some complaint) = complaint_output complaint
 pub record Tells (complaint : Option Complaint) (held holds : Option (List ℕ)) (output : Output) : Type 0 where
   pub rest : left_to_tell complaint ≡ record output { out = [] }
   pub taken : holds ≡ after_known held output.out
+
+-- at the end of its lines a machine has come to the state after the entries of the run
+abbrev pub StandsPast : Mode → List Tabled → List Commit → (stands : State → Type 0) → Option Complaint → (input : Option (List ℕ)) → Type 0
+StandsPast mode brands R stands complaint input =
+    (left_to_tell complaint).status ≤ status_refused → IfSome input (λ bytes. stands (after (opening brands R) (run_of mode brands R bytes).entries))
 
 -- some whole replies of a run were taken, from the first one on
 pub record HasReplies (mode : Mode) (held holds : Option (List ℕ)) (run : Run) : Type 0 where

@@ -18,6 +18,7 @@ use Rattle.zones_run.specs.Scripting.{is_last, opened, state_after, turns_after,
 use Rattle.zones_run.specs.Tracing.{run_of}
 use Rattle.zones_run.specs.declared.turns.Opened.{Opened}
 use Rattle.zones_run.specs.declared.words.Mode.TheVariants.{WithTurns}
+use Rattle.zones_run.specs.declared.words.Telling.{Telling}
 
 -- what a zone's daemon finds in a state
 abbrev pub found_in : Name → State → Seen
@@ -43,8 +44,8 @@ TurnsEnd = (more : ℕ) (o : Opened) (S : State) → StaysSmall more o.zone S �
 -- a law: after any history whose grants fit, where what was stored of the zone at the start is right, the last one of the turns that are
 -- put in after a line answers the ticket, or the daemon is stuck or has nothing to do
 abbrev pub ScriptTurnsEnd : Type 0
-ScriptTurnsEnd = (brands : List Tabled) (commits : List Commit) (h : List Entry) (o : Opened) → is_history fits (opening brands commits) h ≡ true → IfSome (stored o.zone commits) IsRight
-    → (let S = after (opening brands commits) h in EndsFor o (history S (turns_after WithTurns (Some o) S)))
+ScriptTurnsEnd = (telling : Telling) (brands : List Tabled) (commits : List Commit) (h : List Entry) (o : Opened) → is_history fits (opening brands commits) h ≡ true → IfSome (stored o.zone commits) IsRight
+    → (let S = after (opening brands commits) h in EndsFor o (history S (turns_after (WithTurns telling) (Some o) S)))
 
 -- the entries after one that opened a ticket begin with turns of that zone's daemon, of which the last is the last turn for the ticket
 pub record HasTurns (o : Opened) (rest : List Entry) : Type 0 where
@@ -65,4 +66,4 @@ TicketsEnd (e ∷ rest) = IsFollowed (opened e) rest × TicketsEnd rest
 
 -- a law: so it is in the whole run of a script, from the commits that the image of a store stands for
 abbrev pub ScriptTicketsEnd : Type 0
-ScriptTicketsEnd = (brands : List Tabled) (R : List Commit) (image : List ℕ) (bytes : List ℕ) → Holds R image → TicketsEnd (run_of WithTurns brands R bytes).entries
+ScriptTicketsEnd = (telling : Telling) (brands : List Tabled) (R : List Commit) (image : List ℕ) (bytes : List ℕ) → Holds R image → TicketsEnd (run_of (WithTurns telling) brands R bytes).entries

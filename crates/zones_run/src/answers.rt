@@ -9,11 +9,11 @@ ghost use Rattle.zone_machine.specs.Code.Records.{Passes};
 ghost use Rattle.zone_machine.specs.Machine.Histories.{concerns};
 ghost use Rattle.zones_run.specs.Answering.{IsAnswered, IsFault, MayStop, Steps, Stops, StopsText};
 ghost use Rattle.zones_run.specs.Run.{HasFront};
-ghost use Rattle.zones_run.specs.Tracing.{HasWritten, entry_text, is_refusal, is_refused_turn};
+ghost use Rattle.zones_run.specs.Tracing.{HasWritten, entry_text, is_refusal, is_refused_turn, mark};
 
 use crate::due::Due;
 use crate::fault::{RunFault, Stop};
-use crate::words::Mode;
+use crate::words::{Mode, Telling};
 use brand_hooks::{Change, HookAnswer};
 use std::alloc::{AllocError, Global};
 use trace_text::{push_answer, push_given};
@@ -44,6 +44,13 @@ pub fn is_refusal(head: &Head) -> bool
         Head::Turned(turn) => is_refused_turn(turn),
         _ => false,
     }
+}
+
+// The mark of an event that was answered.
+fn mark(head: &Head) -> u8
+    ensures { result ≡ mark head.now }
+{
+    if is_refusal(head) { 1 } else { 0 }
 }
 
 // Writes the replies that wait. None waits then; where standard output fails, a front of them was taken.
@@ -179,6 +186,21 @@ fn push_kept(
     Ok(text.push(b'\n')?)
 }
 
+// Of a script's event the reply or the mark is told.
+fn push_turned(
+    telling: Telling,
+    event: &Event,
+    answer: &Answer,
+    text: &mut Vec<u8>,
+) -> Result<(), AllocError>
+    ensures { OnOk result (text.new.items ≡ text.old.items ++ entry_text (Mode.WithTurns telling) (entry_by event.now answer.now)) }
+{
+    match telling {
+        Telling::Replies => push_answer(text, event, answer),
+        Telling::Marks => Ok(text.push(mark(&answer.reply.head))?),
+    }
+}
+
 fn push_told(
     mode: &Mode,
     event: &Event,
@@ -189,7 +211,8 @@ fn push_told(
 {
     match mode {
         Mode::Purged(zone) => push_kept(zone, event, answer, text),
-        Mode::Replies | Mode::WithTurns | Mode::Stated => push_answer(text, event, answer),
+        Mode::WithTurns(telling) => push_turned(*telling, event, answer, text),
+        Mode::Replies | Mode::Stated => push_answer(text, event, answer),
     }
 }
 

@@ -59,6 +59,6 @@ pub fn read_due(
 {
     match mode {
         Mode::Stated => read_stated(alloc, line, started),
-        Mode::Replies | Mode::WithTurns | Mode::Purged(_) => read_unstated(alloc, line, started),
+        Mode::Replies | Mode::WithTurns(_) | Mode::Purged(_) => read_unstated(alloc, line, started),
     }
 }

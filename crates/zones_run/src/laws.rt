@@ -1,5 +1,6 @@
 //! What follows from the definitions of `export`'s output, of a trace's script and of what a crash leaves, whatever the
 //! program's body is.
+ghost use Rattle.zones_run.specs.Bulk.{BulkComesToItsEnd};
 ghost use Rattle.zones_run.specs.Declarations.{DeclaresFirst};
 ghost use Rattle.zones_run.specs.Denoted.{ExportsWhatIsDenoted, RefusesAtWhatIsDenoted};
 ghost use Rattle.zones_run.specs.Resting.{CrashesLeaveStoredStates};
@@ -60,4 +61,10 @@ pub fn script_turns_end()
     ensures turns { ScriptTurnsEnd }
     // So in the whole run of a script each entry that opens a ticket is followed by such turns.
     ensures runs { ScriptTicketsEnd }
+{}
+
+/// A law: the script that `bulk` makes for 256 zones at most comes to its end: no line of it is outside the grammar or past a limit,
+/// and none restarts the system.
+pub fn bulk_comes_to_its_end()
+    ensures { BulkComesToItsEnd }
 {}

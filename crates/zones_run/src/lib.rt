@@ -4,6 +4,7 @@
 #![tactic(auto)]
 
 mod answers;
+mod bulk;
 mod due;
 mod edit;
 mod export;
@@ -11,6 +12,7 @@ mod fault;
 mod index;
 mod laws;
 mod lines;
+mod made;
 mod outcome;
 mod refusal;
 mod run;
@@ -21,8 +23,8 @@ mod words;
 
 pub use fault::RunFault;
 pub use laws::{
-    crashes_leave_stored_states, declares_first, entries_are_the_machines, exports_what_is_denoted,
-    only_script_puts_in, purged_traces_are_answered_alike, refuses_at_what_is_denoted,
-    script_turns_end, turns_that_are_put_in_end,
+    bulk_comes_to_its_end, crashes_leave_stored_states, declares_first, entries_are_the_machines,
+    exports_what_is_denoted, only_script_puts_in, purged_traces_are_answered_alike,
+    refuses_at_what_is_denoted, script_turns_end, turns_that_are_put_in_end,
 };
 pub use run::{fail, run_zones};

@@ -9,18 +9,21 @@ ghost use Rattle.zone_machine.specs.Code.Openings.{Begins, StandsFor};
 ghost use Rattle.zone_machine.specs.Code.Records.{Passes};
 ghost use Rattle.zone_machine.specs.Machine.{opening};
 ghost use Rattle.zone_machine.specs.Machine.Images.{IsStoreOf};
+ghost use Rattle.zones_run.specs.Bulk.{RanBulk, bulked};
 ghost use Rattle.zones_run.specs.Complaints.{complaint_status, complaint_text};
 ghost use Rattle.zones_run.specs.Opening.{Finds, Found};
+ghost use Rattle.zones_run.specs.Outcomes.{report_output};
 ghost use Rattle.zones_run.specs.Output.{written};
 ghost use Rattle.zones_run.specs.Program.{AnswersOn, AnswersOver, AnswersTrace, DoneOverSome, FindsStore, HasAnswered, HasRecorded, IsNoStore, OpensNothing, ReadsNothing, RecordsOver, RestartsNothing, done_on, done_over, output_of};
 ghost use Rattle.zones_run.specs.Recording.{RanBy};
-ghost use Rattle.zones_run.specs.Run.{HasFront, IsDecided, IsStatus, TakesFronts, TellsLine, TellsText, disk_fault_line, fault_status, memory_line, read_fault_line, write_fault_line};
-ghost use Rattle.zones_run.specs.Words.{command_of};
+ghost use Rattle.zones_run.specs.Run.{HasFront, IsDecided, IsStatus, IsWhole, TakesFronts, TellsLine, TellsText, disk_fault_line, fault_status, memory_line, read_fault_line, write_fault_line};
+ghost use Rattle.zones_run.specs.Words.{HasFewZones, command_of};
 ghost use Rattle.zones_run.specs.Answering.{FindsAlways};
 ghost use Rattle.zones_run.specs.Tracing.{traced};
 ghost use Rattle.index_file.specs.Index.{index_text};
 ghost use Rattle.zone_machine.specs.Machine.Indexed.{index_of};
 
+use crate::bulk::{Report, report_bulk};
 use crate::export::export_all;
 use crate::fault::RunFault;
 use crate::index::index_text;
@@ -166,6 +169,52 @@ fn run_index<K: Sink, E: Sink, D: Disk, F: Fn(&Change) -> HookAnswer>(
     }
 }
 
+// Writes both texts of a report.
+fn write_report<K: Sink, E: Sink>(out: &mut K, err: &mut E, report: &Report) -> u8
+    requires low { report.now.status ≤ REFUSED }
+    ensures statuses { (result ≡ report.now.status) ⊎ (result ≡ WRITE_FAULT) }
+    ensures text { TellsText (report_output report.now) result (K.holds out.old) (K.holds out.new) }
+    ensures line { TellsLine report.now.err.items result (E.holds err.old) (E.holds err.new) (E.faults err.old) (E.faults err.new) }
+    ensures fault { result ≡ WRITE_FAULT → Rose (K.faults out.old) (K.faults out.new) ⊎ Rose (E.faults err.old) (E.faults err.new) }
+{
+    match write_all(out, &report.out) {
+        Ok(()) => match write_all(err, &report.err) {
+            Ok(()) => report.status,
+            Err(_) => fail(err, RunFault::Write),
+        },
+        Err(_) => fail(err, RunFault::Write),
+    }
+}
+
+// The command `bulk`, on a machine that is opened.
+fn run_bulk<K: Sink, E: Sink, D: Disk, F: Fn(&Change) -> HookAnswer>(
+    alloc: Global,
+    zones: u64,
+    machine: &mut Machine<'_, D, F>,
+    out: &mut K,
+    err: &mut E,
+) -> u8
+    requires few { zones ≤ 256 }
+    requires asks { AsksBrands F.Fn machine.old }
+    requires ready { MayGoOn D.view machine.old }
+    requires stands { (brands : List Tabled) × Begins brands machine.old }
+    ensures statuses { (result ≤ REFUSED) ⊎ ((result ≡ WRITE_FAULT) ⊎ ((result ≡ DISK_FAULT) ⊎ (result ≡ NO_MEMORY))) }
+    ensures text { (brands : List Tabled) (R : List Commit) → StandsFor (opening brands R) machine.old → TellsText (bulked zones brands R) result (K.holds out.old) (K.holds out.new) }
+    ensures line { (brands : List Tabled) (R : List Commit) → StandsFor (opening brands R) machine.old → TellsLine (bulked zones brands R).err result (E.holds err.old) (E.holds err.new) (E.faults err.old) (E.faults err.new) }
+    ensures nothing { (result ≡ NO_MEMORY) ⊎ (result ≡ DISK_FAULT) → K.holds out.new ≡ K.holds out.old }
+    ensures recorded { (brands : List Tabled) (R : List Commit) → StandsFor (opening brands R) machine.old → IsStoreOf (D.view machine.old.bank.disk) R → RanBulk zones brands R (IsWhole result) (result ≡ DISK_FAULT) (D.view machine.old.bank.disk) (D.view machine.new.bank.disk) }
+    ensures write_fault { result ≡ WRITE_FAULT → Rose (K.faults out.old) (K.faults out.new) ⊎ Rose (E.faults err.old) (E.faults err.new) }
+    ensures disk_fault { result ≡ DISK_FAULT → Rose (D.view machine.old.bank.disk).faults (D.view machine.new.bank.disk).faults }
+    ensures disk_line { result ≡ DISK_FAULT → TakesFront (E.holds err.old) (E.holds err.new) (E.faults err.old) (E.faults err.new) disk_fault_line }
+    ensures memory_line { result ≡ NO_MEMORY → TakesFront (E.holds err.old) (E.holds err.new) (E.faults err.old) (E.faults err.new) memory_line }
+    ensures passes { Passes (D.view machine.old.bank.disk) (D.view machine.new.bank.disk) }
+{
+    match report_bulk(alloc, zones, machine) {
+        Ok(report) => write_report(out, err, &report),
+        Err(fault) => fail(err, fault),
+    }
+}
+
 // What a command does on a machine that is opened.
 fn run_task<S: Source, K: Sink, E: Sink, D: Disk, F: Fn(&Change) -> HookAnswer>(
     alloc: Global,
@@ -175,6 +224,7 @@ fn run_task<S: Source, K: Sink, E: Sink, D: Disk, F: Fn(&Change) -> HookAnswer>(
     out: &mut K,
     err: &mut E,
 ) -> u8
+    requires few { HasFewZones task.now }
     requires asks { AsksBrands F.Fn machine.old }
     requires ready { MayGoOn D.view machine.old }
     requires stands { (brands : List Tabled) × Begins brands machine.old }
@@ -184,7 +234,7 @@ fn run_task<S: Source, K: Sink, E: Sink, D: Disk, F: Fn(&Change) -> HookAnswer>(
     ensures text { (brands : List Tabled) (R : List Commit) → StandsFor (opening brands R) machine.old → FindsStore task.now (D.view machine.old.bank.disk) (S.left src.old) → IfSome (done_over task.now brands R (S.left src.old)) (λ o. TellsText o result (K.holds out.old) (K.holds out.new)) }
     ensures line { (brands : List Tabled) (R : List Commit) → StandsFor (opening brands R) machine.old → FindsStore task.now (D.view machine.old.bank.disk) (S.left src.old) → IfSome (done_over task.now brands R (S.left src.old)) (λ o. TellsLine o.err result (E.holds err.old) (E.holds err.new) (E.faults err.old) (E.faults err.new)) }
     ensures answered { (brands : List Tabled) (R : List Commit) → StandsFor (opening brands R) machine.old → FindsStore task.now (D.view machine.old.bank.disk) (S.left src.old) → AnswersOver task.now brands R result (S.left src.old) (S.left src.new) (K.holds out.old) (K.holds out.new) }
-    ensures unread { task.now ≡ Task.Index → src.new ≡ src.old }
+    ensures unread { ReadsNothing (Some (Command.OnStore task.now)) → src.new ≡ src.old }
     ensures recorded { (brands : List Tabled) (R : List Commit) → StandsFor (opening brands R) machine.old → IsStoreOf (D.view machine.old.bank.disk) R → RecordsOver task.now brands R result (S.left src.old) (K.holds out.old) (K.holds out.new) (D.view machine.old.bank.disk) (D.view machine.new.bank.disk) }
     ensures read_fault { result ≡ READ_FAULT → Rose (S.faults src.old) (S.faults src.new) }
     ensures read_line { result ≡ READ_FAULT → TakesFront (E.holds err.old) (E.holds err.new) (E.faults err.old) (E.faults err.new) read_fault_line }
@@ -197,6 +247,7 @@ fn run_task<S: Source, K: Sink, E: Sink, D: Disk, F: Fn(&Change) -> HookAnswer>(
     match task {
         Task::Run(mode) => run_lines(alloc, mode, machine, src, out, err),
         Task::Index => run_index(alloc, machine, out, err),
+        Task::Bulk(zones) => run_bulk(alloc, *zones, machine, out, err),
     }
 }
 
@@ -210,14 +261,15 @@ fn run_on_store<S: Source, K: Sink, E: Sink, D: Disk, F: Fn(&Change) -> HookAnsw
     disk: D,
     brands: &Brands<F>,
 ) -> (u8, D)
-    requires { AllFollow F.Fn brands.now }
+    requires follow { AllFollow F.Fn brands.now }
+    requires few { HasFewZones task.now }
     ensures statuses { IsStatus result.0 }
     ensures usage { result.0 ≢ USAGE }
     ensures text { (found : Found) → Finds (D.view disk) found → IfSome (done_on task.now (tables_of brands.now) found (S.left src.old)) (λ o. TellsText o result.0 (K.holds out.old) (K.holds out.new)) }
     ensures line { (found : Found) → Finds (D.view disk) found → IfSome (done_on task.now (tables_of brands.now) found (S.left src.old)) (λ o. TellsLine o.err result.0 (E.holds err.old) (E.holds err.new) (E.faults err.old) (E.faults err.new)) }
     ensures answered { (found : Found) → Finds (D.view disk) found → AnswersOn task.now (tables_of brands.now) found result.0 (S.left src.old) (S.left src.new) (K.holds out.old) (K.holds out.new) }
     ensures any_disk { RestartsNothing task.now (S.left src.old) → DoneOverSome task.now (tables_of brands.now) result.0 (S.left src.old) (S.left src.new) (K.holds out.old) (K.holds out.new) (E.holds err.old) (E.holds err.new) (E.faults err.old) (E.faults err.new) }
-    ensures unread { task.now ≡ Task.Index → src.new ≡ src.old }
+    ensures unread { ReadsNothing (Some (Command.OnStore task.now)) → src.new ≡ src.old }
     ensures store { result.0 ≡ NOT_A_STORE → (D.view disk).Keeps → IsNoStore (D.view disk) }
     ensures recorded { (R : List Commit) → IsStoreOf (D.view disk) R → RecordsOver task.now (tables_of brands.now) R result.0 (S.left src.old) (K.holds out.old) (K.holds out.new) (D.view disk) (D.view result.1) }
     ensures read_fault { result.0 ≡ READ_FAULT → Rose (S.faults src.old) (S.faults src.new) }
@@ -243,8 +295,8 @@ fn run_on_store<S: Source, K: Sink, E: Sink, D: Disk, F: Fn(&Change) -> HookAnsw
 
 /// Does what the words say, and answers the exit status and the disk. `out` and `err` are standard output and
 /// standard error. Lines are answered one at a time, up to the one that ends the run, and less than a piece of
-/// the input is read beyond it. `trace`, `script`, `purge` and `index` open the store on the disk; what waits to be written is written
-/// before a record is stored.
+/// the input is read beyond it. `trace`, `script`, `purge`, `given`, `bulk` and `index` open the store on the disk; what waits to be
+/// written is written before a record is stored.
 pub fn run_zones<S: Source, K: Sink, E: Sink, D: Disk, F: Fn(&Change) -> HookAnswer>(
     alloc: Global,
     words: &[String],
@@ -276,10 +328,9 @@ pub fn run_zones<S: Source, K: Sink, E: Sink, D: Disk, F: Fn(&Change) -> HookAns
     // Where no command reads its input, none of it is taken.
     ensures unread { ReadsNothing (command_of (map string_bytes words.now)) → src.new ≡ src.old }
 
-    // Words that are no form of the command line. Memory may run out for the name of a zone alone, so before it is known that it
-    // is none.
+    // Status 2 comes exactly where the words are no form of the command line.
     ensures usage { result.0 ≡ USAGE → command_of (map string_bytes words.now) ≡ None }
-    ensures form { command_of (map string_bytes words.now) ≡ None → (result.0 ≡ USAGE) ⊎ (result.0 ≡ NO_MEMORY) }
+    ensures form { command_of (map string_bytes words.now) ≡ None → result.0 ≡ USAGE }
 
     // The source failed.
     ensures read_fault { result.0 ≡ READ_FAULT → Rose (S.faults src.old) (S.faults src.new) }

@@ -18,7 +18,7 @@ ghost use Rattle.zones_run.specs.Answering.{FindsAlways, IsAnswered, MayStop, Re
 ghost use Rattle.zones_run.specs.Complaints.{IsOfInput};
 ghost use Rattle.zones_run.specs.Recording.{RanAs};
 ghost use Rattle.zones_run.specs.Run.{HasFront};
-ghost use Rattle.zones_run.specs.Tracing.{EndsAs, HasWritten, left_to_tell, told_refusal};
+ghost use Rattle.zones_run.specs.Tracing.{EndsAs, HasWritten, StandsPast, left_to_tell, told_refusal};
 
 use crate::answers::{WAITING_MAX, answer, put_told, write_waiting};
 use crate::due::{Due, read_due};
@@ -205,6 +205,7 @@ fn take_lines<D: Disk, F: Fn(&Change) -> HookAnswer, S: Source, K: Sink>(
     requires none { waiting.old.items ≡ [] }
     ensures ran { (brands : List Tabled) (R : List Commit) → StandsFor (opening brands R) machine.old → FindsAlways mode.now (D.view machine.old.bank.disk) (S.left source.old) → EndsAs mode.now brands R result (S.left source.old) (S.left source.new) (K.holds out.old) (K.holds out.new) (after_known (K.holds out.new) waiting.new.items) }
     ensures recorded { (brands : List Tabled) (R : List Commit) → StandsFor (opening brands R) machine.old → IsStoreOf (D.view machine.old.bank.disk) R → RanAs mode.now brands R result (S.left source.old) (K.holds out.old) (after_known (K.holds out.new) waiting.new.items) (D.view machine.old.bank.disk) (D.view machine.new.bank.disk) }
+    ensures stands { (brands : List Tabled) (R : List Commit) → StandsFor (opening brands R) machine.old → FindsAlways mode.now (D.view machine.old.bank.disk) (S.left source.old) → IfOk result (λ complaint. StandsPast mode.now brands R (λ S. StandsFor S machine.new) complaint (S.left source.old)) }
     ensures kind { (D.view machine.old.bank.disk).Keeps → IfOk result (λ complaint. IfSome complaint IsOfInput) }
     ensures read { IsErrOf result RunFault.Read → Rose (S.faults source.old) (S.faults source.new) }
     ensures write { IsErrOf result RunFault.Write → Rose (K.faults out.old) (K.faults out.new) }
@@ -275,6 +276,7 @@ pub fn trace_all<D: Disk, F: Fn(&Change) -> HookAnswer, S: Source, K: Sink>(
     requires ready { MayGoOn D.view machine.old }
     ensures ran { (brands : List Tabled) (R : List Commit) → StandsFor (opening brands R) machine.old → FindsAlways mode.now (D.view machine.old.bank.disk) (S.left source.old) → EndsAs mode.now brands R result (S.left source.old) (S.left source.new) (K.holds out.old) (K.holds out.new) (K.holds out.new) }
     ensures recorded { (brands : List Tabled) (R : List Commit) → StandsFor (opening brands R) machine.old → IsStoreOf (D.view machine.old.bank.disk) R → RanAs mode.now brands R result (S.left source.old) (K.holds out.old) (K.holds out.new) (D.view machine.old.bank.disk) (D.view machine.new.bank.disk) }
+    ensures stands { (brands : List Tabled) (R : List Commit) → StandsFor (opening brands R) machine.old → FindsAlways mode.now (D.view machine.old.bank.disk) (S.left source.old) → IfOk result (λ complaint. StandsPast mode.now brands R (λ S. StandsFor S machine.new) complaint (S.left source.old)) }
     ensures kind { (D.view machine.old.bank.disk).Keeps → IfOk result (λ complaint. IfSome complaint IsOfInput) }
     ensures read { IsErrOf result RunFault.Read → Rose (S.faults source.old) (S.faults source.new) }
     ensures write { IsErrOf result RunFault.Write → Rose (K.faults out.old) (K.faults out.new) }

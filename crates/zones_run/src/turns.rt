@@ -18,7 +18,7 @@ ghost use Rattle.zones_run.specs.Tracing.{EndsAs, HasWritten};
 use crate::answers::{answer, is_refusal};
 use crate::due::Due;
 use crate::fault::{RunFault, Stop};
-use crate::words::Mode;
+use crate::words::{Mode, Telling};
 use brand_hooks::{Change, HookAnswer};
 use std::alloc::Global;
 use zn_base::ZoneName;
@@ -121,6 +121,7 @@ fn fault_in(stop: Stop) -> RunFault
 // Gives a zone's daemon turns until its ticket is answered or a turn is stuck. They count for the line of this number.
 fn until_answered<D: Disk, F: Fn(&Change) -> HookAnswer, K: Sink>(
     alloc: Global,
+    telling: Telling,
     machine: &mut Machine<'_, D, F>,
     opened: Opened,
     number: u64,
@@ -131,12 +132,12 @@ fn until_answered<D: Disk, F: Fn(&Change) -> HookAnswer, K: Sink>(
 ) -> Result<Option<u64>, RunFault>
     requires asks { AsksBrands F.Fn machine.old }
     requires ready { MayGoOn D.view machine.old }
-    ensures went { (brands : List Tabled) (R : List Commit) (first : D) (held bytes input : Option (List ℕ)) → Follows Mode.WithTurns (puts_until 10000000 opened number) brands R (λ S. StandsFor S machine.old) (Left brands R (D.view first) (D.view machine.old.bank.disk)) refused (number + 1) held (after_known (K.holds out.old) waiting.old.items) bytes input
-        → IfOk result (λ now. Follows Mode.WithTurns none_put brands R (λ S. StandsFor S machine.new) (Left brands R (D.view first) (D.view machine.new.bank.disk)) now (number + 1) held (after_known (K.holds out.new) waiting.new.items) bytes input) }
-    ensures ended { (brands : List Tabled) (R : List Commit) (first : D) (held bytes input : Option (List ℕ)) → Follows Mode.WithTurns (puts_until 10000000 opened number) brands R (λ S. StandsFor S machine.old) (Left brands R (D.view first) (D.view machine.old.bank.disk)) refused (number + 1) held (after_known (K.holds out.old) waiting.old.items) bytes input
-        → (left : Option (List ℕ)) → HasWritten held (K.holds out.old) → TakesPiece bytes left → IfErr result (λ fault. EndsAs Mode.WithTurns brands R (Err fault) input left held (K.holds out.new) (after_known (K.holds out.new) waiting.new.items)) }
-    ensures recorded { (brands : List Tabled) (R : List Commit) (first : D) (held bytes input : Option (List ℕ)) → Follows Mode.WithTurns (puts_until 10000000 opened number) brands R (λ S. StandsFor S machine.old) (Left brands R (D.view first) (D.view machine.old.bank.disk)) refused (number + 1) held (after_known (K.holds out.old) waiting.old.items) bytes input
-        → IsStoreOf (D.view first) R → IfErr result (λ fault. RanAs Mode.WithTurns brands R (Err fault) input held (after_known (K.holds out.new) waiting.new.items) (D.view first) (D.view machine.new.bank.disk)) }
+    ensures went { (brands : List Tabled) (R : List Commit) (first : D) (held bytes input : Option (List ℕ)) → Follows (Mode.WithTurns telling) (puts_until 10000000 opened number) brands R (λ S. StandsFor S machine.old) (Left brands R (D.view first) (D.view machine.old.bank.disk)) refused (number + 1) held (after_known (K.holds out.old) waiting.old.items) bytes input
+        → IfOk result (λ now. Follows (Mode.WithTurns telling) none_put brands R (λ S. StandsFor S machine.new) (Left brands R (D.view first) (D.view machine.new.bank.disk)) now (number + 1) held (after_known (K.holds out.new) waiting.new.items) bytes input) }
+    ensures ended { (brands : List Tabled) (R : List Commit) (first : D) (held bytes input : Option (List ℕ)) → Follows (Mode.WithTurns telling) (puts_until 10000000 opened number) brands R (λ S. StandsFor S machine.old) (Left brands R (D.view first) (D.view machine.old.bank.disk)) refused (number + 1) held (after_known (K.holds out.old) waiting.old.items) bytes input
+        → (left : Option (List ℕ)) → HasWritten held (K.holds out.old) → TakesPiece bytes left → IfErr result (λ fault. EndsAs (Mode.WithTurns telling) brands R (Err fault) input left held (K.holds out.new) (after_known (K.holds out.new) waiting.new.items)) }
+    ensures recorded { (brands : List Tabled) (R : List Commit) (first : D) (held bytes input : Option (List ℕ)) → Follows (Mode.WithTurns telling) (puts_until 10000000 opened number) brands R (λ S. StandsFor S machine.old) (Left brands R (D.view first) (D.view machine.old.bank.disk)) refused (number + 1) held (after_known (K.holds out.old) waiting.old.items) bytes input
+        → IsStoreOf (D.view first) R → IfErr result (λ fault. RanAs (Mode.WithTurns telling) brands R (Err fault) input held (after_known (K.holds out.new) waiting.new.items) (D.view first) (D.view machine.new.bank.disk)) }
     ensures written { HasWritten (K.holds out.old) (K.holds out.new) }
     ensures none { IsErrOf result RunFault.Write ⊎ IsErrOf result RunFault.Disk → waiting.new.items ≡ [] }
     ensures only { OnErr result (result ≢ Err RunFault.Read) }
@@ -154,7 +155,15 @@ fn until_answered<D: Disk, F: Fn(&Change) -> HookAnswer, K: Sink>(
     };
     let mut refused = refused;
     for given in 0..TURNS_MAX {
-        match answer(alloc, &Mode::WithTurns, machine, &due, text, waiting, out) {
+        match answer(
+            alloc,
+            &Mode::WithTurns(telling),
+            machine,
+            &due,
+            text,
+            waiting,
+            out,
+        ) {
             Ok(answer) => {
                 refused = refused_by(refused, number, &answer.reply.head);
                 if is_last(ticket, &answer.reply.head) {
@@ -199,10 +208,10 @@ pub fn give_turns<D: Disk, F: Fn(&Change) -> HookAnswer, K: Sink>(
     let Taken { refused, opened } = taken;
     match mode {
         Mode::Replies | Mode::Purged(_) | Mode::Stated => Ok(refused),
-        Mode::WithTurns => match opened {
-            Some(opened) => {
-                until_answered(alloc, machine, opened, number, refused, text, waiting, out)
-            }
+        Mode::WithTurns(telling) => match opened {
+            Some(opened) => until_answered(
+                alloc, *telling, machine, opened, number, refused, text, waiting, out,
+            ),
             None => Ok(refused),
         },
     }

@@ -2,7 +2,7 @@ use Rattle.std.proofs.Common.{arith, refl}
 use Rattle.zones_run.specs.Output.{Output}
 use Rattle.zones_run.specs.Run.{TellsLine, TellsText}
 use Rattle.zones_run.proofs.Opened.{keeps_store}
-use Rattle.zones_run.proofs.Tasks.{index_answers, index_done, index_records, run_answers, run_done, run_finds, run_records}
+use Rattle.zones_run.proofs.Tasks.{bulk_answers, bulk_done, bulk_few, bulk_records, index_answers, index_done, index_records, run_answers, run_done, run_finds, run_records}
 use Rattle.zones_run.proofs.run.run_task.Goals as goal
 
 pub returns-in-Run-clause-text : goal.returns-in-Run-clause-text
@@ -68,3 +68,40 @@ returns-in-Index-clause-recorded g c = λ brands R s is.
     let holds = g.K.Sink.holds c.run_index.new.out in
     let v = g.D.Disk.view c.args.machine.now.bank.disk in
     index_records c.args.task.now c.in-Index.is brands R c.run_index.result input input held holds v v (keeps_store R v (g.met.D.Disk.sound c.args.machine.now.bank.disk) is)
+
+pub run_bulk-requires-clause-few : goal.run_bulk-requires-clause-few
+run_bulk-requires-clause-few g c =
+    let input = g.S.Source.left c.args.src.now in
+    let held = g.K.Sink.holds c.args.out.now in
+    bulk_few c.args.task.now c.in-Bulk.zones c.in-Bulk.is (c.requires.stands.0) (c.requires.stands.1.0) 0 input input held held c.requires.few
+
+pub returns-in-Bulk-clause-text : goal.returns-in-Bulk-clause-text
+returns-in-Bulk-clause-text g c = λ brands R s finds.
+    let input = g.S.Source.left c.args.src.now in
+    let held = g.K.Sink.holds c.args.out.now in
+    let holds = g.K.Sink.holds c.run_bulk.new.out in
+    bulk_done c.args.task.now c.in-Bulk.zones c.in-Bulk.is brands R c.run_bulk.result input input held holds (λ (o : Output). TellsText o c.run_bulk.result held holds) (c.run_bulk.ensures.text brands R s)
+
+pub returns-in-Bulk-clause-line : goal.returns-in-Bulk-clause-line
+returns-in-Bulk-clause-line g c = λ brands R s finds.
+    let input = g.S.Source.left c.args.src.now in
+    let held = g.K.Sink.holds c.args.out.now in
+    let holds = g.K.Sink.holds c.run_bulk.new.out in
+    bulk_done c.args.task.now c.in-Bulk.zones c.in-Bulk.is brands R c.run_bulk.result input input held holds (λ (o : Output). TellsLine o.err c.run_bulk.result (g.E.Sink.holds c.args.err.now) (g.E.Sink.holds c.run_bulk.new.err) (g.E.Sink.faults c.args.err.now) (g.E.Sink.faults c.run_bulk.new.err)) (c.run_bulk.ensures.line brands R s)
+
+pub returns-in-Bulk-clause-answered : goal.returns-in-Bulk-clause-answered
+returns-in-Bulk-clause-answered g c = λ brands R s finds.
+    let input = g.S.Source.left c.args.src.now in
+    let held = g.K.Sink.holds c.args.out.now in
+    let holds = g.K.Sink.holds c.run_bulk.new.out in
+    bulk_answers c.args.task.now c.in-Bulk.zones c.in-Bulk.is brands R c.run_bulk.result input input held holds (record { taken = refl; nothing = λ f. c.run_bulk.ensures.nothing (grind (arith, f, c.run_bulk.ensures.statuses)) })
+
+pub returns-in-Bulk-clause-recorded : goal.returns-in-Bulk-clause-recorded
+returns-in-Bulk-clause-recorded g c = λ brands R s is.
+    let input = g.S.Source.left c.args.src.now in
+    let held = g.K.Sink.holds c.args.out.now in
+    let holds = g.K.Sink.holds c.run_bulk.new.out in
+    bulk_records c.args.task.now c.in-Bulk.zones c.in-Bulk.is brands R c.run_bulk.result input input held holds (g.D.Disk.view c.args.machine.now.bank.disk) (g.D.Disk.view c.run_bulk.new.machine.bank.disk) (c.run_bulk.ensures.recorded brands R s is)
+
+pub returns-in-Run-clause-unread : goal.returns-in-Run-clause-unread
+returns-in-Run-clause-unread g c = λ none. absurd (rw c.in-Run.is at none)

@@ -1,8 +1,10 @@
-use Rattle.std.proofs.Common.{◌∙◌, refl, sym}
+use Rattle.std.proofs.Common.{◌∙◌, refl, subst, sym}
 use Rattle.brand_hooks.specs.Brands.{tables_of}
 use Rattle.zones_run.specs.Complaints.{complaint_output}
 use Rattle.zones_run.specs.Output.{Output, written}
+use Rattle.zones_run.specs.Program.{ReadsNothing}
 use Rattle.zones_run.specs.Run.{TellsLine, TellsText}
+use Rattle.zones_run.specs.Words.{AsksForFew}
 use Rattle.zones_run.proofs.Commands.{answers_export, answers_help, answers_store, answers_usage, answers_version, asks_written, by_outcome, for_export, for_help, for_store, for_usage, for_version, line_usage, line_written, obeys_complained, obeys_written, records_export, records_help, records_store, records_usage, records_version, text_usage, text_written}
 use Rattle.zones_run.proofs.Purging.{answers_unread, line_unread, records_unread, text_unread}
 use Rattle.zones_run.proofs.Telling.{line_complained, never_store, status_told, text_nothing}
@@ -98,3 +100,12 @@ returns-in-None-clause-recorded g c = λ R is. records_usage (tables_of c.args.b
 
 pub returns-in-Ok-Complains-clause-store : goal.returns-in-Ok-Complains-clause-store
 returns-in-Ok-Complains-clause-store g c = λ is _. absurd (never_store c.complain.result c.in-Ok-Complains.complaint c.complain.ensures.statuses (rw c.in-Ok-Complains.field-0-is at c.in-Ok-Complains.ensures.kind) is)
+
+pub returns-in-Err-clause-form : goal.returns-in-Err-clause-form
+returns-in-Err-clause-form g c = λ none. absurd (cc (none, c.in-Err.ensures.memory.1))
+
+pub run_on_store-requires-clause-few : goal.run_on_store-requires-clause-few
+run_on_store-requires-clause-few g c = subst AsksForFew (rw c.in-Some-OnStore.field-0-is at c.in-Some-OnStore.is) c.in-Ok.ensures.few
+
+pub returns-in-Some-OnStore-clause-unread : goal.returns-in-Some-OnStore-clause-unread
+returns-in-Some-OnStore-clause-unread g c = λ none. c.run_on_store.ensures.unread (subst ReadsNothing (sym c.in-Ok.ensures.some ∙ (rw c.in-Some-OnStore.field-0-is at c.in-Some-OnStore.is)) none)

@@ -1,5 +1,5 @@
 use Rattle.std.proofs.Common.{◌≡◌, ◌+◌, ap, inl, refl, rules, arith, sym, subst}
-use Rattle.std.specs.Prelude.{Err}
+use Rattle.std.specs.Prelude.{Err, Some}
 use Rattle.zone_disk.specs.Bank.{Account}
 use Rattle.zone_machine.specs.Code.Openings.{StandsFor}
 use Rattle.zones_run.specs.Midway.{HasKept, Left, none_put}
@@ -8,6 +8,8 @@ use Rattle.zones_run.proofs.Answered.{passes_on}
 use Rattle.zones_run.proofs.Begins.{takes_just, takes_none}
 use Rattle.zones_run.proofs.Keeping.{keeps_start, keeps_step}
 use Rattle.zones_run.specs.declared.fault.RunFault.TheVariants.{Disk, Read, Write}
+use Rattle.zones_run.specs.declared.outcome.Complaint.TheVariants.{Limit}
+use Rattle.zones_run.proofs.Standing.{stands_past, stands_stopped}
 use Rattle.zones_run.proofs.Stopping.{ends_stopped, kind_stopped, never_reads, none_stopped, only_reading, ran_stopped, stopped_by}
 use Rattle.zones_run.proofs.TraceEnds.{answers_lines, answers_read, at_end, at_long, ends_reading, ends_writing, flushed_front, has_replies, last_end, last_long, nothing_waits, nothing_written, runs_lines, tells_end, tells_last, tells_last_end, tells_long, written_front, written_on}
 use Rattle.zones_run.proofs.TraceRecords.{err_not_ok, ran_cut, ran_part, ran_whole}
@@ -261,3 +263,24 @@ returns-clause-written g c = written_on _ _ _ c.loop-before.invariant.written c.
 
 pub returns-in-Err-clause-kind : goal.returns-in-Err-clause-kind
 returns-in-Err-clause-kind g c = λ keeps. rw c.ended_by.ensures.ended (kind_stopped c.in-Err.stop (c.loop-before.before + 1) (g.D.Disk.view c.loop-before.machine.bank.disk) c.in-Err.ensures.may (c.loop-before.invariant.passes.model.0 keeps))
+
+pub returns-in-End-clause-stands : goal.returns-in-End-clause-stands
+returns-in-End-clause-stands g c = λ brands R s a.
+    stands_past c.args.mode.now brands R _ _ _ _ _ _ _ _ At_end _ (c.loop-before.invariant.run brands R s a) (at_end _ _ _ _ (rw c.in-End.is at c.in_ok-next_line.ensures.got))
+
+pub returns-in-TooLong-clause-stands : goal.returns-in-TooLong-clause-stands
+returns-in-TooLong-clause-stands g c = λ brands R s a.
+    stands_past c.args.mode.now brands R _ _ _ _ _ _ _ _ (Past_limit _) (Some (Limit (c.loop-before.before + 1))) (c.loop-before.invariant.run brands R s a) (at_long _ _ _ _ (rw c.in-TooLong.is at c.in_ok-next_line.ensures.got))
+
+pub returns-in-Err-clause-stands : goal.returns-in-Err-clause-stands
+returns-in-Err-clause-stands g c = λ brands R s a. rw c.ended_by.ensures.ended (stands_stopped c.args.mode.now brands R (λ S. StandsFor S c.take_line.new.machine) c.in-Err.stop (c.loop-before.before + 1) (g.S.Source.left c.args.source.now))
+
+pub returns-then-branch-clause-stands : goal.returns-then-branch-clause-stands
+returns-then-branch-clause-stands g c = λ brands R s a.
+    stands_past c.args.mode.now brands R _ _ _ _ _ _ _ _ (Past_limit 200001) (Some (Limit 200001)) (c.loop-before.invariant.run brands R s a)
+    (last_long _ _ _ _ _ _ (omega (arith, c.loop-before-test.false, c.loop-before.auto.before-end)) c.in_ok-refill.ensures.bytes (c.in_ok-refill.ensures.more c.if-branch.true))
+
+pub returns-clause-stands : goal.returns-clause-stands
+returns-clause-stands g c = λ brands R s a.
+    let end = c.in_ok-refill.ensures.end c.if-branch.false in
+    stands_past c.args.mode.now brands R _ _ _ _ _ _ _ _ At_end _ (c.loop-before.invariant.run brands R s a) (last_end _ _ _ _ _ _ c.in_ok-refill.ensures.bytes end.0 end.1)

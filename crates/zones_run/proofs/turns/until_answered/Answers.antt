@@ -36,9 +36,9 @@ returns-then-is_last-clause-went g c = λ brands R first held bytes input f.
     let v = view c.loop-given.machine.bank.disk in
     let w = view c.answer.new.machine.bank.disk in
     let more = 10000000 - (c.loop-given.given + 1) in
-    follows_turn brands R (λ S. StandsFor S c.loop-given.machine) (λ S. StandsFor S c.answer.new.machine) (Left brands R (view first) v) (Left brands R (view first) w) v w _ _ c.args.number _ more c.args.opened c.in-Ok.answer true _ _ _ _ _
-    (follows_some (10000000 - c.loop-given.given) (suc more) c.args.opened brands R _ _ _ _ _ _ _ _ _ (omega (arith, c.loop-given-test.true)) (c.loop-given.invariant.run brands R first held bytes input f))
-    (λ S stood. subst (λ (d : Due). IsAnswered WithTurns S d c.in-Ok.answer (λ T. StandsFor T c.answer.new.machine) v w (after_known (g.K.Sink.holds c.loop-given.out) c.loop-given.waiting.items) (after_known (g.K.Sink.holds c.answer.new.out) c.answer.new.waiting.items)) c.loop-given.invariant.due (c.in-Ok.ensures.answered S stood)) c.refused_by-refused.ensures (sym c.if-is_last.true ∙ c.is_last.ensures)
+    follows_turn c.args.telling brands R (λ S. StandsFor S c.loop-given.machine) (λ S. StandsFor S c.answer.new.machine) (Left brands R (view first) v) (Left brands R (view first) w) v w _ _ c.args.number _ more c.args.opened c.in-Ok.answer true _ _ _ _ _
+    (follows_some c.args.telling (10000000 - c.loop-given.given) (suc more) c.args.opened brands R _ _ _ _ _ _ _ _ _ (omega (arith, c.loop-given-test.true)) (c.loop-given.invariant.run brands R first held bytes input f))
+    (λ S stood. subst (λ (d : Due). IsAnswered (WithTurns c.args.telling) S d c.in-Ok.answer (λ T. StandsFor T c.answer.new.machine) v w (after_known (g.K.Sink.holds c.loop-given.out) c.loop-given.waiting.items) (after_known (g.K.Sink.holds c.answer.new.out) c.answer.new.waiting.items)) c.loop-given.invariant.due (c.in-Ok.ensures.answered S stood)) c.refused_by-refused.ensures (sym c.if-is_last.true ∙ c.is_last.ensures)
     (λ S entry h reached goes k is. keeps_step brands R h S entry reached (view first) v w goes (k is))
 
 pub returns-then-is_last-clause-written : goal.returns-then-is_last-clause-written
@@ -57,8 +57,8 @@ pub returns-in-Err-clause-ended : goal.returns-in-Err-clause-ended
 returns-in-Err-clause-ended g c = λ brands R first held bytes input f left written piece.
     let more = 10000000 - (c.loop-given.given + 1) in
     let text = leaves_of c.in-Err.stop c.fault_in.result _ _ _ _ c.fault_in.ensures c.in-Err.ensures.text in
-    let now = follows_some (10000000 - c.loop-given.given) (suc more) c.args.opened brands R _ _ _ _ _ _ _ _ _ (omega (arith, c.loop-given-test.true)) (c.loop-given.invariant.run brands R first held bytes input f) in
-    ends_midway (puts_until (suc more) c.args.opened c.args.number) brands R (λ S. StandsFor S c.loop-given.machine) c.fault_in.result _ _ _ _ _ _ _ _ _ _ now.run (puts_turns (suc more) c.args.opened c.args.number now.run.state)
+    let now = follows_some c.args.telling (10000000 - c.loop-given.given) (suc more) c.args.opened brands R _ _ _ _ _ _ _ _ _ (omega (arith, c.loop-given-test.true)) (c.loop-given.invariant.run brands R first held bytes input f) in
+    ends_midway c.args.telling (puts_until (suc more) c.args.opened c.args.number) brands R (λ S. StandsFor S c.loop-given.machine) c.fault_in.result _ _ _ _ _ _ _ _ _ _ now.run (puts_turns (suc more) c.args.opened c.args.number now.run.state)
     (written_on _ _ _ written c.loop-given.invariant.written) text piece
 
 pub returns-in-Err-clause-recorded : goal.returns-in-Err-clause-recorded
@@ -69,9 +69,9 @@ returns-in-Err-clause-recorded g c = λ brands R first held bytes input f is.
     let more = 10000000 - (c.loop-given.given + 1) in
     let same = c.answer.new.machine.bank ≡ c.loop-given.machine.bank in
     let text = leaves_of c.in-Err.stop c.fault_in.result _ _ _ _ c.fault_in.ensures c.in-Err.ensures.text in
-    let now = follows_some (10000000 - c.loop-given.given) (suc more) c.args.opened brands R _ _ _ _ _ _ _ _ _ (omega (arith, c.loop-given-test.true)) (c.loop-given.invariant.run brands R first held bytes input f) in
-    ran_left WithTurns brands R c.fault_in.result _ _ _ _ _ _ (view first) w text
-    (ran_turn (puts_until (suc more) c.args.opened c.args.number) brands R (λ S. StandsFor S c.loop-given.machine) (view first) v w _ c.args.number _ _ _ _ _ c.fault_in.result same (Turn c.args.opened.zone) _ now is
+    let now = follows_some c.args.telling (10000000 - c.loop-given.given) (suc more) c.args.opened brands R _ _ _ _ _ _ _ _ _ (omega (arith, c.loop-given-test.true)) (c.loop-given.invariant.run brands R first held bytes input f) in
+    ran_left (WithTurns c.args.telling) brands R c.fault_in.result _ _ _ _ _ _ (view first) w text
+    (ran_turn c.args.telling (puts_until (suc more) c.args.opened c.args.number) brands R (λ S. StandsFor S c.loop-given.machine) (view first) v w _ c.args.number _ _ _ _ _ c.fault_in.result same (Turn c.args.opened.zone) _ now is
     (next_put more c.args.opened c.args.number now.run.state)
     (λ S stood. subst (λ (d : Due). Fails c.fault_in.result same S d v w) c.loop-given.invariant.due (fails_of c.in-Err.stop c.fault_in.result same S _ v w c.fault_in.ensures (c.in-Err.ensures.kept S stood)))
     (λ e P x. subst (λ (b : Account g.row.D.Denot). P (view b.disk)) (sym e) x))
@@ -86,9 +86,9 @@ loop-given-preserved g c =
     let w = view c.answer.new.machine.bank.disk in
     let more = 10000000 - (c.loop-given.given + 1) in
     record {
-      run = λ brands R first held bytes input f. follows_turn brands R (λ S. StandsFor S c.loop-given.machine) (λ S. StandsFor S c.answer.new.machine) (Left brands R (view first) v) (Left brands R (view first) w) v w _ _ c.args.number _ more c.args.opened c.in-Ok.answer false _ _ _ _ _
-          (follows_some (10000000 - c.loop-given.given) (suc more) c.args.opened brands R _ _ _ _ _ _ _ _ _ (omega (arith, c.loop-given-test.true)) (c.loop-given.invariant.run brands R first held bytes input f))
-          (λ S stood. subst (λ (d : Due). IsAnswered WithTurns S d c.in-Ok.answer (λ T. StandsFor T c.answer.new.machine) v w (after_known (g.K.Sink.holds c.loop-given.out) c.loop-given.waiting.items) (after_known (g.K.Sink.holds c.answer.new.out) c.answer.new.waiting.items)) c.loop-given.invariant.due (c.in-Ok.ensures.answered S stood)) c.refused_by-refused.ensures (sym c.if-is_last.false ∙ c.is_last.ensures)
+      run = λ brands R first held bytes input f. follows_turn c.args.telling brands R (λ S. StandsFor S c.loop-given.machine) (λ S. StandsFor S c.answer.new.machine) (Left brands R (view first) v) (Left brands R (view first) w) v w _ _ c.args.number _ more c.args.opened c.in-Ok.answer false _ _ _ _ _
+          (follows_some c.args.telling (10000000 - c.loop-given.given) (suc more) c.args.opened brands R _ _ _ _ _ _ _ _ _ (omega (arith, c.loop-given-test.true)) (c.loop-given.invariant.run brands R first held bytes input f))
+          (λ S stood. subst (λ (d : Due). IsAnswered (WithTurns c.args.telling) S d c.in-Ok.answer (λ T. StandsFor T c.answer.new.machine) v w (after_known (g.K.Sink.holds c.loop-given.out) c.loop-given.waiting.items) (after_known (g.K.Sink.holds c.answer.new.out) c.answer.new.waiting.items)) c.loop-given.invariant.due (c.in-Ok.ensures.answered S stood)) c.refused_by-refused.ensures (sym c.if-is_last.false ∙ c.is_last.ensures)
           (λ S entry h reached goes k is. keeps_step brands R h S entry reached (view first) v w goes (k is));
       due = c.loop-given.invariant.due;
       asks = c.answer.ensures.asks;
@@ -100,5 +100,5 @@ loop-given-preserved g c =
 
 pub returns-clause-went : goal.returns-clause-went
 returns-clause-went g c = λ brands R first held bytes input f.
-    follows_all brands R _ _ _ c.args.number _ c.args.opened _ _ _ _
-    (follows_some (10000000 - c.loop-given.given) zero c.args.opened brands R _ _ _ _ _ _ _ _ _ (omega (arith, c.loop-given-test.false, c.loop-given.auto.given-end)) (c.loop-given.invariant.run brands R first held bytes input f))
+    follows_all c.args.telling brands R _ _ _ c.args.number _ c.args.opened _ _ _ _
+    (follows_some c.args.telling (10000000 - c.loop-given.given) zero c.args.opened brands R _ _ _ _ _ _ _ _ _ (omega (arith, c.loop-given-test.false, c.loop-given.auto.given-end)) (c.loop-given.invariant.run brands R first held bytes input f))

@@ -19,8 +19,8 @@ invariant-loop-given g l =
     let view = g.D.Disk.view in
     record {
       run : (brands : List Tabled) (R : List Commit) (first : g.row.D.Denot) (held bytes input : Option (List ℕ))
-          → Follows WithTurns (puts_until 10000000 l.fn.opened l.fn.number) brands R (λ S. StandsFor S l.fn.machine) (Left brands R (view first) (view l.fn.machine.bank.disk)) l.fn.refused (l.fn.number + 1) held (after_known (holds l.fn.out) l.fn.waiting.items) bytes input
-          → Follows WithTurns (puts_until (10000000 - l.given) l.fn.opened l.fn.number) brands R (λ S. StandsFor S l.machine) (Left brands R (view first) (view l.machine.bank.disk)) l.refused (l.fn.number + 1) held (after_known (holds l.out) l.waiting.items) bytes input;
+          → Follows (WithTurns l.fn.telling) (puts_until 10000000 l.fn.opened l.fn.number) brands R (λ S. StandsFor S l.fn.machine) (Left brands R (view first) (view l.fn.machine.bank.disk)) l.fn.refused (l.fn.number + 1) held (after_known (holds l.fn.out) l.fn.waiting.items) bytes input
+          → Follows (WithTurns l.fn.telling) (puts_until (10000000 - l.given) l.fn.opened l.fn.number) brands R (λ S. StandsFor S l.machine) (Left brands R (view first) (view l.machine.bank.disk)) l.refused (l.fn.number + 1) held (after_known (holds l.out) l.waiting.items) bytes input;
       due : l.due ≡ unstated (Turn l.fn.opened.zone);
       asks : AsksBrands g.F.Fn l.machine;
       ready : MayGoOn view l.machine;
