@@ -6,7 +6,7 @@
 - sizes: counted in crates/, always.
 - speed: instructions of the native program by valgrind's callgrind, as the difference of two lengths, over the script
   that tools/bench_export.py writes, over a trace of a zone that boots and halts over and over, and over a script of calls
-  alone.
+  alone; and of two numbers of zones that `bulk` makes.
 - gate: minutes of one processor, from the LOG that tools/time_gate.py writes of a run from nothing.
 
 What this run can't measure (no LOG, a crate that it lacks, no program, no valgrind) stays as the file has it, and a
@@ -26,6 +26,7 @@ from own_folder import own_folder
 ROOT = pathlib.Path(__file__).resolve().parent.parent
 PAGE = ROOT / "docs/MEASURES.md"
 LENGTHS = (20000, 40000)
+BULKS = ((1, 64), (128, 256))
 SESSION_MAX = 64
 CLAUSE = re.compile(r"(ensures|requires|ghost)\b")
 
@@ -161,6 +162,17 @@ def instructions(program, command, data):
     return int(counted[1])
 
 
+def events(zones):
+    """The events of `bulk` over no store: 77 for each zone, and 12 more for one of an even number."""
+    return 77 * zones + 12 * (zones // 2)
+
+
+def event_of_bulk(program, few, many):
+    """The instructions of one event of `bulk`, between two numbers of zones."""
+    short, long = (instructions(program, "bulk %d" % zones, b"") for zones in (few, many))
+    return round((long - short) / (events(many) - events(few)))
+
+
 def speed(text, args):
     rows = [
         ("a line of `export`, over a configuration of 256 resources", "export", script),
@@ -178,6 +190,9 @@ def speed(text, args):
                 raise OSError("no program %s" % args.program)
             short, long = (instructions(args.program, command, make(lines)) for lines in LENGTHS)
             made.append([what, "{:,}".format(round((long - short) / (LENGTHS[1] - LENGTHS[0])))])
+        for few, many in BULKS:
+            what = "an event of `bulk %d`, from `bulk %d` on" % (many, few)
+            made.append([what, "{:,}".format(event_of_bulk(args.program, few, many))])
     except OSError as why:
         print("speed: kept as it was (%s)" % why)
         return text

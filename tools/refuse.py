@@ -6,8 +6,9 @@ the run ends.
 
 A small library stands before the C library and lets the call with a given number fail; gcc builds it in a temporary
 folder. A run must end as docs/COMMANDS.md states: status 9, 4, 5 or 6 with its line, `export` with nothing written,
-`trace` with whole replies, and where nothing was refused with its text. The records that `trace` leaves must be those of
-the replies that it has written; but for a read that was refused, there may be one more. The calls of the disk are those
+`bulk` too, `trace` with whole replies, and where nothing was refused with its text. The records that `trace` leaves must be
+those of the replies that it has written; but for a read that was refused, there may be one more. Those of `bulk` must be the
+first ones of its whole run. The calls of the disk are those
 that open, measure, read, write and sync the store, the one that syncs its folder too. The same is done to each allocation
 of the test programs that `rt test` left in crates/*/out: a test must end with success, an error or a failed assertion. It
 is no part of the gate.
@@ -129,9 +130,9 @@ FAULTS = {
 class Run:
     """What a run of the program ended with, and what it left in its folder."""
 
-    def __init__(self, program, word, data, environment):
+    def __init__(self, program, command, data, environment):
         with own_folder() as folder:
-            done = subprocess.run([program, word], input=data, capture_output=True, timeout=60, cwd=folder,
+            done = subprocess.run([program, *command.split()], input=data, capture_output=True, timeout=60, cwd=folder,
                                   env=dict(os.environ, **environment))
             self.end, self.store = (done.returncode, done.stdout, done.stderr), image(folder)
 
@@ -141,27 +142,30 @@ def counted(counts):
     return [int(count) for count in pathlib.Path(counts).read_text().split()]
 
 
-def fault_of(kind, word, told, run):
+def fault_of(kind, command, told, whole, run):
     """What is wrong with a run in which a call was refused, or None."""
     status, line = FAULTS[kind]
     if (run.end[0], run.end[2]) != (status, line):
         return "it ended with %r" % (run.end,)
-    if word == "trace":
+    if command == "trace":
         return told.differs(run.end[1], bodies(run.store), 0 if kind == "READ" else 1)
+    if command.startswith("bulk") and run.end[1] == b"":
+        kept = bodies(run.store)
+        return None if kept == bodies(whole.store)[:len(kept)] else "other records are left"
     return None if run.end[1] == run.store == b"" else "it wrote %r, and %r on the disk" % (run.end[1], run.store)
 
 
-def refuse_each(program, shim, word, data, counts):
+def refuse_each(program, shim, command, data, counts):
     """How many calls of each kind a run makes, each of which was refused in a run of its own."""
-    whole = Run(program, word, data, {"LD_PRELOAD": shim, "REFUSE_COUNTS": counts})
+    whole = Run(program, command, data, {"LD_PRELOAD": shim, "REFUSE_COUNTS": counts})
     assert whole.end[0] in (0, 1), whole.end
-    told, made = Told(data) if word == "trace" else None, counted(counts)
+    told, made = Told(data) if command == "trace" else None, counted(counts)
     for kind, count in zip(FAULTS, made):
         for number in range(1, count + 1):
-            run = Run(program, word, data, {"LD_PRELOAD": shim, "REFUSE_" + kind: str(number)})
-            fault = fault_of(kind, word, told, run)
+            run = Run(program, command, data, {"LD_PRELOAD": shim, "REFUSE_" + kind: str(number)})
+            fault = fault_of(kind, command, told, whole, run)
             if run.end != whole.end and fault is not None:
-                sys.exit("%s with refused %s %d: %s" % (word, kind, number, fault))
+                sys.exit("%s with refused %s %d: %s" % (command, kind, number, fault))
     return made
 
 
@@ -188,10 +192,10 @@ def main():
         source, shim, counts = folder + "/refuse.c", folder + "/refuse.so", folder + "/counts"
         pathlib.Path(source).write_text(SHIM)
         subprocess.run(["gcc", "-shared", "-fPIC", "-O1", "-o", shim, source, "-ldl"], check=True)
-        for word, name in (("export", "full.zonecfg"), ("trace", "web.trace"), ("trace", "mounts.trace")):
-            made = refuse_each(pathlib.Path(args.program).resolve(), shim, word, (EXAMPLES / name).read_bytes(), counts)
+        for command, name in (("export", "full.zonecfg"), ("trace", "web.trace"), ("trace", "mounts.trace"), ("bulk 2", "web.trace")):
+            made = refuse_each(pathlib.Path(args.program).resolve(), shim, command, (EXAMPLES / name).read_bytes(), counts)
             print("%s of %s: refused %d allocations, %d reads, %d writes and %d calls of the disk, each in a run of its own; "
-                  "all ended as stated" % (word, name, *made))
+                  "all ended as stated" % (command, name, *made))
         for program in sorted(ROOT.glob("crates/*/out/*_tests")):
             count = refuse_each_of_tests(str(program), shim, counts)
             print("%s: refused %d allocations, each in a run of its own; all ended as stated" % (program.name, count))

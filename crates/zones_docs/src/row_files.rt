@@ -29,6 +29,7 @@ const FILES: &[(&str, &str)] = &[
     ("calls_alone", "rows/calls_alone.rows"),
     ("purges", "rows/purges.rows"),
     ("givens", "rows/givens.rows"),
+    ("bulks", "rows/bulks.rows"),
 ];
 
 // The first line in which two texts differ, as each of them has it; a text that ends before has nothing.
