@@ -1,0 +1,5 @@
+pub mod Bools
+pub mod Gives
+pub mod Histories
+pub mod Merging
+pub mod Steps

@@ -1,0 +1,76 @@
+-- What is left at the end.
+use Rattle.std.specs.Prelude.{◌≡◌, ◌≢◌, ℕ, ◌+◌, ◌<◌, ◌==◌, Bool, true, false, List, [], ◌∷◌, ◌++◌, length, map, slice_index_or, Option, None, if◌then◌else◌}
+use Rattle.std.specs.List.{All}
+use Rattle.zone_turn.specs.Histories.{own}
+use Rattle.zone_turn.specs.declared.views.Roster.{Roster}
+use Rattle.zone_threads.specs.Folds.{folded}
+use Rattle.zone_threads.specs.Machines.{Definitions}
+use Rattle.zone_threads.specs.Records.{Stands}
+use Rattle.zone_threads.specs.Scripts.{beginning, noted}
+use Rattle.zone_threads.specs.Zones.{left_by}
+use Rattle.zone_threads.specs.declared.tally.Progress.{Progress}
+use Rattle.zone_threads.specs.declared.run.Script.{Script}
+use Rattle.zone_threads.specs.declared.zone.Log.{Log}
+
+-- a session's lines are done, and it doesn't wait
+abbrev pub Finished : List Progress → ℕ → ℕ → Type 0
+Finished ts s lines = (d : Progress) → (slice_index_or ts s d ≡ record { done = lines; awaits = None }) × (s < length ts)
+
+-- a script has the lines of its session, whose number isn't 0
+abbrev pub IsScript : {Line : Type 0} → (ℕ → List Line) → Script Line → Type 0
+IsScript scripts script = (script.session ≢ 0) × (script.lines.items ≡ scripts script.session)
+
+-- what the first pass knows: how many passes were made and are out, and the lists that were taken back
+abbrev pub roster : {Entry : Type 0} → ℕ → ℕ → List (ℕ × List Entry) → Roster Entry
+roster made out kept = record { made = made; out = out; kept = kept }
+
+-- a cell that comes back, with its place
+pub record Back (Cell : Type 0) : Type 0 where
+  pub place : ℕ
+  pub cell : Cell
+  pub marked : Bool
+
+module _ {Cell Entry : Type 0} where
+  abbrev pub pair : Log Cell Entry → ℕ × List Entry
+  pair l = (l.place, l.entries.items)
+
+  abbrev pub pairs : List (Log Cell Entry) → List (ℕ × List Entry)
+  pairs ls = map pair ls
+
+  abbrev pub back : Log Cell Entry → Back Cell
+  back l = record { place = l.place; cell = l.cell; marked = l.marked }
+
+  -- the entries of a place
+  abbrev pub log_of : List (Log Cell Entry) → ℕ → List Entry
+  log_of [] p = []
+  log_of (l ∷ ls) p = if l.place == p then l.entries.items else log_of ls p
+
+  -- of a history these entries are done, and the rest has these places and is what the logs have left
+  pub record Merges (by : Entry → ℕ) (done : List Entry) (places : List ℕ) (logs : List (Log Cell Entry)) (h : List Entry) : Type 0 where
+    pub rest : List Entry
+    pub whole : done ++ rest ≡ h
+    pub order : map by rest ≡ places
+    pub each : (p : ℕ) → own by p rest ≡ log_of logs p
+
+module _ {State Cell Shared Line Entry Heard : Type 0} (D : Definitions State Cell Shared Line Entry Heard) where
+  -- unless it is marked, the cell stands for the world that the log leaves
+  abbrev pub LeftBy : State → Log Cell Entry → Type 0
+  LeftBy start l = l.marked ≡ false → D.cell_of l.cell (left_by D start l.place l.entries.items)
+
+  -- unless it is marked, it stands for its world after the history
+  abbrev pub IsBack : State → List Entry → Back Cell → Type 0
+  IsBack start h b = b.marked ≡ false → D.cell_of b.cell (D.world b.place (folded D.one start h))
+
+  -- the cells stand for what the zones of the places 1, 2 and so on begin with
+  abbrev pub IsOpening : State → List Cell → Type 0
+  IsOpening start cells = (i : ℕ) (d : Cell) → i < length cells → D.cell_of (slice_index_or cells i d) (D.world (i + 1) start)
+
+  -- there is one history for which the part stands, and the logs are the entries of each place in it
+  pub record Ended (start : State) (scripts : ℕ → List Line) (sessions : ℕ) (m : Shared) (ts : List Progress) (rs : List (ℕ × ℕ)) (logs : List (Log Cell Entry)) : Type 0 where
+    pub h : List Entry
+    pub stands : Stands D start scripts sessions m ts rs h
+    pub each : (p : ℕ) → own D.by p h ≡ log_of logs p
+    pub backs : All (IsBack start h) (map back logs)
+
+  abbrev pub HasAll : List Entry → ℕ → ℕ → Type 0
+  HasAll h s lines = folded (noted D) beginning h s ≡ record { done = lines; awaits = None }

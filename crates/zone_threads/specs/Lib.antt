@@ -1,0 +1,7 @@
+pub mod Folds
+pub mod Machines
+pub mod Scripts
+pub mod Records
+pub mod Zones
+pub mod Ends
+pub mod Words

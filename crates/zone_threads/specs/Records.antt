@@ -1,0 +1,24 @@
+-- What the part that goes round stands for.
+use Rattle.std.specs.Prelude.{◌≡◌, ◌≤◌, ℕ, true, List, [], ◌∷◌, ◌++◌, length, map, replicate}
+use Rattle.zone_threads.specs.Folds.{folded, all_right}
+use Rattle.zone_threads.specs.Machines.{Definitions}
+use Rattle.zone_threads.specs.Scripts.{TallyOf, beginning, may, noted}
+use Rattle.zone_threads.specs.declared.tally.Progress.{Progress}
+
+-- the places, one for each entry, of runs of entries
+abbrev pub spread : List (ℕ × ℕ) → List ℕ
+spread [] = []
+spread (r ∷ rs) = replicate r.1 r.0 ++ spread rs
+
+module _ {State Cell Shared Line Entry Heard : Type 0} (D : Definitions State Cell Shared Line Entry Heard) where
+  -- a legal history that keeps to the scripts, and what is common after it
+  pub record Middle (start : State) (scripts : ℕ → List Line) (m : Shared) (h : List Entry) : Type 0 where
+    pub legal : all_right D.right D.one start h ≡ true
+    pub kept : all_right (may D scripts) (noted D) beginning h ≡ true
+    pub shared : D.is_sound m ≡ true → D.shared_of m (D.common (folded D.one start h))
+
+  pub record Stands (start : State) (scripts : ℕ → List Line) (sessions : ℕ) (m : Shared) (ts : List Progress) (rs : List (ℕ × ℕ)) (h : List Entry) : Type 0 where
+    pub middle : Middle start scripts m h
+    pub tally : TallyOf ts (folded (noted D) beginning h)
+    pub wide : length ts ≡ sessions
+    pub order : spread rs ≡ map D.by h

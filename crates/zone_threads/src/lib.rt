@@ -1,0 +1,19 @@
+//! Sessions on threads, over any machine of zones each of which has a cell: each zone's cell lies under a lock of its own, and
+//! what zones share goes round between them. What was done is one history, of which each zone's log is exactly its entries.
+#![tactic(auto)]
+
+mod gate;
+mod machine;
+mod merge;
+mod part;
+mod run;
+mod step;
+mod tally;
+mod zone;
+
+pub use gate::Gate;
+pub use machine::{Machine, Said, Stop, Told, Zoned};
+pub use part::{Part, Place, Start};
+pub use run::Script;
+pub use tally::{Progress, Ticket};
+pub use zone::Log;

@@ -1,0 +1,153 @@
+//! The workers, and what they leave.
+ghost use Rattle.std.specs.Prelude.{◌≡◌, ◌≢◌, ◌+◌, ◌<◌, ◌≤◌, ℕ, [], true, length, slice_index_or, vec_len, vec_capacity};
+ghost use Rattle.zone_turn.specs.Passes.{first_view, is_idle};
+ghost use Rattle.zone_turn.specs.declared.limits.TheConstants.{PASSES_OUT_MAX};
+ghost use Rattle.zone_turn.specs.declared.views.Role.TheVariants.{First};
+ghost use Rattle.zone_threads.specs.Ends.{IsOpening, IsScript, roster};
+
+use crate::gate::Gate;
+use crate::machine::{Machine, Said, Told};
+use crate::part::{Part, Place, Start};
+use crate::step::{Ask, Outcome};
+use crate::zone::Zone;
+use std::alloc::Global;
+use std::sync::{Mutex, Wait};
+use zone_turn::{Pass, Turn};
+
+/// The lines of a session, and its number.
+#[derive(Drop)]
+pub struct Script<L> {
+    pub session: u8,
+    pub lines: Vec<L>,
+}
+
+// One event under the zone's lock: a local turn where turns are asked for and one is next, else what is asked. After a local turn that
+// is stuck its entries are given at once, since its session goes on by it.
+fn visit<M: Machine, J: Start<M>, K: Place, W: Wait, G: Gate>(
+    rt: &W,
+    machine: &M,
+    gate: &G,
+    turn: &Turn<Part<M, J>>,
+    zone: &Mutex<Zone<M, J, K>>,
+    at: u32,
+    script: &Script<M::Line>,
+    ask: Ask,
+) -> Result<Told, Outcome>
+    requires turn { turn.now ≡ K.turn }
+    requires few { J.sessions ≤ 65 }
+    requires script { IsScript J.scripts script.now }
+{
+    let mut zone = zone.lock(rt);
+    gate.pass(rt, at);
+    if ask == Ask::Turn {
+        match zone.local(machine) {
+            Err(_) => return Err(Outcome::Ended),
+            Ok(Some(told)) => {
+                if told.said == Said::Stuck {
+                    let _ = zone.event(rt, machine, turn, script.session, &script.lines, Ask::Give);
+                }
+                return Ok(told);
+            }
+            Ok(None) => {}
+        }
+    }
+    zone.event(rt, machine, turn, script.session, &script.lines, ask)
+}
+
+// What a worker asks next, that is at this line of its script or takes turns.
+fn next_ask<L>(takes_turns: bool, number: u64, script: &Script<L>) -> Ask {
+    if takes_turns {
+        Ask::Turn
+    } else if number >= script.lines.len() as u64 {
+        Ask::Look
+    } else {
+        Ask::Line(number)
+    }
+}
+
+// Whether turns are taken after what was told: where a ticket is open, or its request goes on.
+fn goes_on(took_turn: bool, told: Told) -> bool {
+    match told.said {
+        Said::Ticket(_) => true,
+        Said::Other => took_turn,
+        Said::Idle | Said::Finished(_) | Said::Stuck => false,
+    }
+}
+
+/// One worker, which runs the lines of a session from wherever it is: the part tells it how far that is.
+pub(crate) fn work<M: Machine, J: Start<M>, K: Place, W: Wait, G: Gate>(
+    rt: &W,
+    machine: &M,
+    gate: &G,
+    turn: &Turn<Part<M, J>>,
+    zones: &[Mutex<Zone<M, J, K>>],
+    script: &Script<M::Line>,
+)
+    requires turn { turn.now ≡ K.turn }
+    requires few { J.sessions ≤ 65 }
+    requires script { IsScript J.scripts script.now }
+{
+    let mut number: u64 = 0;
+    let mut at: u32 = 1;
+    let mut takes_turns = false;
+    for _ in rt.forever() {
+        if at == 0 || at as usize > zones.len() {
+            return;
+        }
+        let ask = next_ask(takes_turns, number, script);
+        match visit(
+            rt,
+            machine,
+            gate,
+            turn,
+            &zones[at as usize - 1],
+            at,
+            script,
+            ask,
+        ) {
+            Ok(told) => {
+                if !takes_turns {
+                    number = number.wrapping_add(1);
+                }
+                takes_turns = goes_on(takes_turns, told);
+            }
+            Err(Outcome::Ended) => return,
+            Err(Outcome::At(done)) => {
+                if done == number && done >= script.lines.len() as u64 {
+                    return;
+                }
+                number = done;
+            }
+            Err(Outcome::Waits(place)) => {
+                at = place;
+                takes_turns = true;
+            }
+            Err(Outcome::Elsewhere(place)) => at = place,
+            Err(Outcome::Idle) => takes_turns = false,
+            Err(Outcome::Given) => {}
+        }
+    }
+}
+
+// Makes a zone for each cell.
+fn deal<M: Machine, J: Start<M>, K: Place>(
+    alloc: Global,
+    turn: &Turn<Part<M, J>>,
+    first: &mut Pass<Part<M, J>>,
+    cells: Vec<M::Cell>,
+    zones: &mut Vec<Mutex<Zone<M, J, K>>>,
+)
+    requires turn { (turn.now ≡ K.turn) × (first.old.turn ≡ K.turn) × (first.old.knows ≡ first_view) }
+    requires cells { IsOpening M.machine J.start cells.items }
+    requires room { (length cells.items < PASSES_OUT_MAX) × (vec_len zones.old ≡ 0) × (length cells.items ≤ vec_capacity zones.old) }
+    ensures turn { (first.new.turn ≡ K.turn) × (is_idle first.new.knows ≡ true) × (first.new.knows.list ≡ []) }
+    ensures first { first.new.knows.role ≡ First (roster (length cells.items + 1) (vec_len zones.new) []) }
+    ensures zones { vec_len zones.new ≡ length cells.items }
+{
+    let mut place: u32 = 0;
+    for cell in cells {
+        place += 1;
+        let pass = turn.split(first);
+        zones.push_reserved(Mutex::new(Zone::new(alloc, pass, place, cell)));
+    }
+}

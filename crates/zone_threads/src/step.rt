@@ -1,0 +1,240 @@
+//! One event of a zone, on its cell and the part.
+ghost use Rattle.std.specs.Prelude.{◌≡◌, ◌≢◌, ◌<◌, ◌≤◌, ◌++◌, ℕ, List, Some, true, false, ◌∷◌, [], None, length, take, drop, slice_index_or, vec_len, vec_capacity, IfOk, OnErr};
+ghost use Rattle.std.specs.List.{All};
+ghost use Rattle.zone_turn.specs.Histories.{own};
+ghost use Rattle.zone_threads.specs.Machines.{AsBefore};
+ghost use Rattle.zone_threads.specs.Records.{Stands};
+ghost use Rattle.zone_threads.specs.Scripts.{TallyOf, fresh};
+ghost use Rattle.zone_threads.specs.Zones.{Did, IsAsk, IsJob, Logged, left_by};
+
+use crate::machine::{Machine, Stop, Told};
+use crate::part::{Part, Start};
+use crate::tally::{Progress, note, note_all};
+
+/// What is asked of a zone, for a session.
+#[derive(Clone, Copy, Debug, PartialEq, Eq)]
+pub enum Ask {
+    /// A turn of its daemon.
+    Turn,
+    /// That its local entries are given.
+    Give,
+    /// How far the session is.
+    Look,
+    /// The session's line of this number.
+    Line(u64),
+}
+
+/// What is to be done in a zone.
+#[derive(Drop)]
+pub enum Job<H> {
+    /// A turn of its daemon, whose hooks answered so.
+    Turn(H),
+    Give,
+    Look,
+    Line(u64),
+}
+
+/// Why no event was done.
+#[derive(Clone, Copy, Debug, PartialEq, Eq)]
+pub enum Outcome {
+    /// Nothing is done any more.
+    Ended,
+    Given,
+    /// The session is at this line.
+    At(u64),
+    /// The session waits for a turn of the zone of this place.
+    Waits(u32),
+    /// The line belongs to the zone of this place.
+    Elsewhere(u32),
+    /// The zone's daemon has nothing to do.
+    Idle,
+}
+
+/// What is asked, with what the zone's hooks answer before a turn.
+pub(crate) fn job_of<M: Machine>(machine: &M, cell: &M::Cell, ask: Ask) -> Job<M::Heard>
+    ensures { (scripts : ℕ → List M.Line) (s : ℕ) (lines : List M.Line) → IsAsk scripts s lines ask → IsJob M.machine scripts s lines cell.now result }
+{
+    match ask {
+        Ask::Turn => Job::Turn(machine.hear(cell)),
+        Ask::Give => Job::Give,
+        Ask::Look => Job::Look,
+        Ask::Line(number) => Job::Line(number),
+    }
+}
+
+// Why an event was not done. A fault ends all.
+fn stopped<M: Machine, J: Start<M>>(part: &mut Part<M, J>, stop: Stop<M::Fault>) -> Outcome
+    ensures { part.new ≡ record part.old { ended = part.new.ended } }
+{
+    match stop {
+        Stop::Elsewhere(place) => Outcome::Elsewhere(place),
+        Stop::Fault(fault) => {
+            part.ended = Some(fault);
+            Outcome::Ended
+        }
+    }
+}
+
+// A turn of the zone's daemon, where it has something to do.
+fn try_turn<M: Machine, J: Start<M>>(
+    machine: &M,
+    cell: &mut M::Cell,
+    part: &mut Part<M, J>,
+    place: u32,
+    heard: M::Heard,
+) -> Result<M::Entry, Outcome>
+    requires sound { M.machine.is_sound part.old.shared ≡ true }
+    requires few { length part.old.tally.items ≤ 65 }
+    requires heard { M.machine.heard cell.old heard }
+    ensures did { IfOk result (λ e. (s : M.State) (t : ℕ → Progress) → M.machine.cell_of cell.old (M.machine.world place s) → M.machine.shared_of part.old.shared (M.machine.common s) → TallyOf part.old.tally.items t
+        → Did M.machine J.scripts place cell.new part.new.shared part.new.tally.items e s t) }
+    ensures tally { OnErr result (part.new.tally ≡ part.old.tally) }
+    ensures same { OnErr result (M.machine.is_sound part.new.shared ≡ true → AsBefore M.machine cell.old part.old.shared cell.new part.new.shared) }
+    ensures order { part.new.order ≡ part.old.order }
+    ensures wide { length part.new.tally.items ≡ length part.old.tally.items }
+{
+    if !machine.is_busy(cell) {
+        return Err(Outcome::Idle);
+    }
+    match machine.turn(cell, &mut part.shared, place, heard) {
+        Ok(entry) => {
+            note(&mut part.tally, place, machine.told(&entry));
+            Ok(entry)
+        }
+        Err(stop) => Err(stopped(part, stop)),
+    }
+}
+
+// Where a session is: at a line, or it waits.
+fn progress_of(tally: &[Progress], session: u8) -> Result<u64, Outcome>
+    ensures { IfOk result (λ done. (session < length tally.now) × (slice_index_or tally.now session fresh ≡ record { done = done; awaits = None })) }
+{
+    match tally.get(session as usize) {
+        Some(progress) => match progress.awaits {
+            Some(ticket) => Err(Outcome::Waits(ticket.place)),
+            None => Ok(progress.done),
+        },
+        None => Err(Outcome::Ended),
+    }
+}
+
+// A session's line of a number, where the session is there.
+fn try_line<M: Machine, J: Start<M>>(
+    machine: &M,
+    cell: &mut M::Cell,
+    part: &mut Part<M, J>,
+    place: u32,
+    session: u8,
+    lines: &[M::Line],
+    number: u64,
+) -> Result<M::Entry, Outcome>
+    requires sound { M.machine.is_sound part.old.shared ≡ true }
+    requires few { length part.old.tally.items ≤ 65 }
+    requires script { (session ≢ 0) × (lines.now ≡ J.scripts session) }
+    ensures did { IfOk result (λ e. (s : M.State) (t : ℕ → Progress) → M.machine.cell_of cell.old (M.machine.world place s) → M.machine.shared_of part.old.shared (M.machine.common s) → TallyOf part.old.tally.items t
+        → Did M.machine J.scripts place cell.new part.new.shared part.new.tally.items e s t) }
+    ensures tally { OnErr result (part.new.tally ≡ part.old.tally) }
+    ensures same { OnErr result (M.machine.is_sound part.new.shared ≡ true → AsBefore M.machine cell.old part.old.shared cell.new part.new.shared) }
+    ensures order { part.new.order ≡ part.old.order }
+    ensures wide { length part.new.tally.items ≡ length part.old.tally.items }
+{
+    let done = progress_of(&part.tally, session)?;
+    if done != number || number >= lines.len() as u64 {
+        return Err(Outcome::At(done));
+    }
+    match machine.line(
+        cell,
+        &mut part.shared,
+        place,
+        session,
+        &lines[number as usize],
+    ) {
+        Ok(entry) => {
+            note(&mut part.tally, place, machine.told(&entry));
+            Ok(entry)
+        }
+        Err(stop) => Err(stopped(part, stop)),
+    }
+}
+
+fn attempt<M: Machine, J: Start<M>>(
+    machine: &M,
+    cell: &mut M::Cell,
+    part: &mut Part<M, J>,
+    place: u32,
+    session: u8,
+    lines: &[M::Line],
+    job: Job<M::Heard>,
+) -> Result<M::Entry, Outcome>
+    requires sound { M.machine.is_sound part.old.shared ≡ true }
+    requires few { length part.old.tally.items ≤ 65 }
+    requires job { IsJob M.machine J.scripts session lines.now cell.old job }
+    ensures did { IfOk result (λ e. (s : M.State) (t : ℕ → Progress) → M.machine.cell_of cell.old (M.machine.world place s) → M.machine.shared_of part.old.shared (M.machine.common s) → TallyOf part.old.tally.items t
+        → Did M.machine J.scripts place cell.new part.new.shared part.new.tally.items e s t) }
+    ensures tally { OnErr result (part.new.tally ≡ part.old.tally) }
+    ensures same { OnErr result (M.machine.is_sound part.new.shared ≡ true → AsBefore M.machine cell.old part.old.shared cell.new part.new.shared) }
+    ensures order { part.new.order ≡ part.old.order }
+    ensures wide { length part.new.tally.items ≡ length part.old.tally.items }
+{
+    match job {
+        Job::Give => Err(Outcome::Given),
+        Job::Look => match progress_of(&part.tally, session) {
+            Ok(done) => Err(Outcome::At(done)),
+            Err(outcome) => Err(outcome),
+        },
+        Job::Turn(heard) => try_turn(machine, cell, part, place, heard),
+        Job::Line(number) => try_line(machine, cell, part, place, session, lines, number),
+    }
+}
+
+// Puts on the order of entries that so many more are of the zone of a place.
+fn put_run<M: Machine, J: Start<M>>(part: &mut Part<M, J>, place: u32, many: usize)
+    requires room { vec_len part.old.order < vec_capacity part.old.order }
+    ensures order { part.new.order.items ≡ part.old.order.items ++ (place, many) ∷ [] }
+    ensures same { part.new ≡ record part.old { order = part.new.order } }
+{
+    part.order.push_reserved((place, many as u64));
+}
+
+/// Notes the local entries, tries the job, and puts an entry that comes on the log.
+pub(crate) fn act<M: Machine, J: Start<M>>(
+    machine: &M,
+    place: u32,
+    cell: &mut M::Cell,
+    log: &mut Vec<M::Entry>,
+    given: usize,
+    marked: &mut bool,
+    part: &mut Part<M, J>,
+    session: u8,
+    lines: &[M::Line],
+    job: Job<M::Heard>,
+) -> Result<Told, Outcome>
+    requires few { length part.old.tally.items ≤ 65 }
+    requires job { IsJob M.machine J.scripts session lines.now cell.old job }
+    requires room { (given ≤ vec_len log.old) × (vec_len log.old < vec_capacity log.old) × (vec_len part.old.order < vec_capacity part.old.order) }
+    ensures grown { (new : List M.Entry) × (log.new.items ≡ log.old.items ++ new) }
+    ensures stands { (h : List M.Entry) → Stands M.machine J.start J.scripts J.sessions part.old.shared part.old.tally.items part.old.order.items h → own M.machine.by place h ≡ take given log.old.items → Logged M.machine J.start place cell.old log.old.items given marked.old
+        → Stands M.machine J.start J.scripts J.sessions part.new.shared part.new.tally.items part.new.order.items (h ++ drop given log.new.items) × All (λ e. M.machine.by e ≡ place) (drop given log.new.items) × (marked.new ≡ false → M.machine.cell_of cell.new (left_by M.machine J.start place log.new.items)) }
+    ensures wide { length part.new.tally.items ≡ length part.old.tally.items }
+{
+    note_all(machine, &mut part.tally, place, &log[given..]);
+    if *marked || part.ended.is_some() || !machine.is_sound(&part.shared) {
+        put_run(part, place, log.len() - given);
+        return Err(Outcome::Ended);
+    }
+    match attempt(machine, cell, part, place, session, lines, job) {
+        Ok(entry) => {
+            let told = machine.told(&entry);
+            log.push_reserved(entry);
+            put_run(part, place, log.len() - given);
+            Ok(told)
+        }
+        Err(outcome) => {
+            if !machine.is_sound(&part.shared) {
+                *marked = true;
+            }
+            put_run(part, place, log.len() - given);
+            Err(outcome)
+        }
+    }
+}

@@ -1,0 +1,114 @@
+//! How far each session is.
+ghost use Rattle.std.specs.Prelude.{◌≡◌, ◌<◌, ◌≤◌, ℕ, List, length, slice_index_or};
+ghost use Rattle.std.specs.List.{All};
+ghost use Rattle.zone_threads.specs.Folds.{folded};
+ghost use Rattle.zone_threads.specs.Scripts.{TallyOf, after_turn, answers, fresh, noted, progress_one, ticket_of};
+
+use crate::machine::{Machine, Said, Told};
+
+/// A ticket of the daemon of the zone of a place.
+#[derive(Clone, Copy, Debug, PartialEq, Eq)]
+pub struct Ticket {
+    pub place: u32,
+    pub number: u32,
+}
+
+/// How far a session is: how many of its lines are done, and the ticket that it waits for.
+#[derive(Clone, Copy, Debug, PartialEq, Eq)]
+pub struct Progress {
+    pub done: u64,
+    pub awaits: Option<Ticket>,
+}
+
+impl Progress {
+    /// A session that has done nothing.
+    pub(crate) fn fresh() -> Self
+        ensures { result ≡ fresh }
+    {
+        Progress {
+            done: 0,
+            awaits: None,
+        }
+    }
+}
+
+impl Ticket {
+    // Whether what a turn of the zone of a place says answers it.
+    fn is_answered(self, place: u32, said: Said) -> bool
+        ensures { result ≡ answers self place said }
+    {
+        self.place == place
+            && match said {
+                Said::Finished(number) => number == self.number,
+                Said::Stuck => true,
+                _ => false,
+            }
+    }
+}
+
+// The ticket that a line was answered by.
+fn ticket_of(place: u32, said: Said) -> Option<Ticket>
+    ensures { result ≡ ticket_of place said }
+{
+    match said {
+        Said::Ticket(number) => Some(Ticket { place, number }),
+        _ => None,
+    }
+}
+
+// A session after a turn of the zone of a place.
+fn after_turn(progress: Progress, place: u32, said: Said) -> Progress
+    ensures { result ≡ after_turn place said progress }
+{
+    match progress.awaits {
+        Some(ticket) if ticket.is_answered(place, said) => Progress {
+            awaits: None,
+            ..progress
+        },
+        _ => progress,
+    }
+}
+
+// A session after an entry of the zone of a place.
+#[tactic(auto, unfolding(crate::specs::Scripts::progress_one))]
+fn progressed(session: u8, progress: Progress, place: u32, told: Told) -> Progress
+    ensures { result ≡ progress_one session progress place told }
+{
+    if told.session == 0 {
+        after_turn(progress, place, told.said)
+    } else if told.session == session {
+        Progress {
+            done: progress.done.wrapping_add(1),
+            awaits: ticket_of(place, told.said),
+        }
+    } else {
+        progress
+    }
+}
+
+/// Notes an entry for each session.
+pub(crate) fn note(tally: &mut Vec<Progress>, place: u32, told: Told)
+    requires { length tally.old.items ≤ 65 }
+    ensures len { length tally.new.items ≡ length tally.old.items }
+    ensures each { (s : ℕ) → s < length tally.old.items → slice_index_or tally.new.items s fresh ≡ progress_one s (slice_index_or tally.old.items s fresh) place told }
+{
+    for i in 0..tally.len() {
+        tally[i] = progressed(i as u8, tally[i], place, told);
+    }
+}
+
+/// Notes entries of the zone of a place, in their order.
+pub(crate) fn note_all<M: Machine>(
+    machine: &M,
+    tally: &mut Vec<Progress>,
+    place: u32,
+    entries: &[M::Entry],
+)
+    requires { length tally.old.items ≤ 65 }
+    ensures len { length tally.new.items ≡ length tally.old.items }
+    ensures each { (t : ℕ → Progress) → All (λ e. M.machine.by e ≡ place) entries.now → TallyOf tally.old.items t → TallyOf tally.new.items (folded (noted M.machine) t entries.now) }
+{
+    for entry in entries {
+        note(tally, place, machine.told(entry));
+    }
+}

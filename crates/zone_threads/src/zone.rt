@@ -1,0 +1,176 @@
+//! A zone under its lock, with its log and its pass.
+ghost use Rattle.std.specs.Prelude.{◌≡◌, ◌≢◌, ◌≤◌, [], true, IfOk};
+ghost use Rattle.zone_turn.specs.Passes.{is_idle};
+ghost use Rattle.zone_threads.specs.Ends.{LeftBy};
+ghost use Rattle.zone_threads.specs.Zones.{IsAsk};
+
+use crate::machine::{Machine, Told, Zoned};
+use crate::part::{Part, Place, Start};
+use crate::step::{Ask, Outcome, act, job_of};
+use std::alloc::{AllocError, Global};
+use std::marker::{Model, PhantomData};
+use std::sync::Wait;
+use zone_turn::{Pass, PassOf, Turn};
+
+/// What the zone of a place did, and its cell. Where a fault left it between two entries it is marked, and nothing is said of the cell.
+#[derive(Drop)]
+pub struct Log<C, E> {
+    pub place: u32,
+    pub entries: Vec<E>,
+    pub cell: C,
+    pub marked: bool,
+}
+
+/// A zone, as it lies under its lock: its cell, what it did, how much of that was given to the part, and the pass by which it has
+/// the part. Contracts see its place and its log.
+pub(crate) struct Zone<M: Zoned, J: Start<M>, K: Place> {
+    place: u32,
+    cell: M::Cell,
+    log: Vec<M::Entry>,
+    given: usize,
+    marked: bool,
+    pass: PassOf<Part<M, J>, M::Entry>,
+    of: PhantomData<K>,
+}
+
+impl<M: Zoned, J: Start<M>, K: Place> Model for Zone<M, J, K> {
+    ghost use Rattle.std.specs.Prelude.{ℕ, List};
+    ghost use Rattle.zone_threads.specs.Zones.{IsZone};
+
+    ghost Value = { ℕ × List M.Entry };
+
+    ghost view = { λ z. (z.place, z.log.items) };
+
+    ghost invariant = { λ z. IsZone M.machine J.start K.turn z.place z.cell z.log.items z.given z.marked z.pass };
+}
+
+impl<M: Machine, J: Start<M>, K: Place> Zone<M, J, K> {
+    /// A zone that has done nothing.
+    pub(crate) fn new(alloc: Global, pass: Pass<Part<M, J>>, place: u32, cell: M::Cell) -> Self
+        requires pass { (pass.turn ≡ K.turn) × (is_idle pass.knows ≡ true) × (pass.knows.number ≡ place) × (pass.knows.list ≡ []) }
+        requires cell { M.machine.cell_of cell (M.machine.world place J.start) }
+        ensures { result ≡ (place, []) }
+    {
+        Zone {
+            place,
+            cell,
+            log: Vec::new(alloc),
+            given: 0,
+            marked: false,
+            pass,
+            of: PhantomData,
+        }
+    }
+
+    /// The next turn of the zone's daemon, where it is local, under the zone's lock alone.
+    pub(crate) fn local(&mut self, machine: &M) -> Result<Option<Told>, AllocError>
+        ensures place { self.new.0 ≡ self.old.0 }
+    {
+        if self.marked {
+            return Ok(None);
+        }
+        self.log.reserve(1)?;
+        match machine.local_turn(&mut self.cell, self.place)? {
+            Some(entry) => {
+                let told = machine.told(&entry);
+                self.log.push_reserved(entry);
+                Ok(Some(told))
+            }
+            None => Ok(None),
+        }
+    }
+}
+
+impl<M: Machine, J: Start<M>, K: Place> Zone<M, J, K> {
+    /// One job with the part out. An entry that comes is given, behind the local ones.
+    pub(crate) fn event<W: Wait>(
+        &mut self,
+        rt: &W,
+        machine: &M,
+        turn: &Turn<Part<M, J>>,
+        session: u8,
+        lines: &[M::Line],
+        ask: Ask,
+    ) -> Result<Told, Outcome>
+        requires turn { turn.now ≡ K.turn }
+        requires few { J.sessions ≤ 65 }
+        requires ask { IsAsk J.scripts session lines.now ask }
+        ensures place { self.new.0 ≡ self.old.0 }
+    {
+        if self.log.reserve(1).is_err() {
+            return Err(Outcome::Ended);
+        }
+        let job = job_of(machine, &self.cell, ask);
+        let mut part = turn.take(rt, &mut self.pass);
+        if part.order.reserve(1).is_err() {
+            turn.give(&mut self.pass, part, &[]);
+            return Err(Outcome::Ended);
+        }
+        let done = act(
+            machine,
+            self.place,
+            &mut self.cell,
+            &mut self.log,
+            self.given,
+            &mut self.marked,
+            &mut part,
+            session,
+            lines,
+            job,
+        );
+        turn.give(&mut self.pass, part, &self.log[self.given..]);
+        self.given = self.log.len();
+        done
+    }
+
+    // The pass and the log, where all of it was given.
+    fn taken_apart(self) -> Result<(Pass<Part<M, J>>, Log<M::Cell, M::Entry>), Self>
+        ensures cell { IfOk result (λ r. LeftBy M.machine J.start r.1) }
+        ensures pass { IfOk result (λ r. (r.0.turn ≡ K.turn) × (is_idle r.0.knows ≡ true) × (r.0.knows.number ≡ r.1.place) × (r.0.knows.list ≡ r.1.entries.items)) }
+    {
+        if self.given != self.log.len() {
+            return Err(self);
+        }
+        let Zone {
+            place,
+            cell,
+            log,
+            given: _,
+            marked,
+            pass,
+            of: _,
+        } = self;
+        Ok((
+            pass,
+            Log {
+                place,
+                entries: log,
+                cell,
+                marked,
+            },
+        ))
+    }
+
+    /// Gives what the zone still has, and hands out the pass and the log.
+    pub(crate) fn end<W: Wait>(
+        self,
+        rt: &W,
+        machine: &M,
+        turn: &Turn<Part<M, J>>,
+    ) -> (Pass<Part<M, J>>, Log<M::Cell, M::Entry>)
+        requires turn { turn.now ≡ K.turn }
+        requires few { J.sessions ≤ 65 }
+        ensures cell { LeftBy M.machine J.start result.1 }
+        ensures pass { (result.0.turn ≡ K.turn) × (is_idle result.0.knows ≡ true) × (result.0.knows.number ≡ result.1.place) × (result.0.knows.list ≡ result.1.entries.items) }
+    {
+        let mut zone = self;
+        for _ in rt.forever() {
+            match zone.taken_apart() {
+                Ok(parts) => return parts,
+                Err(whole) => zone = whole,
+            }
+            let _ = zone.event(rt, machine, turn, 0, &[], Ask::Give);
+        }
+        unreachable!()
+    }
+}
