@@ -1,7 +1,9 @@
 -- Runs, event by event.
-use Rattle.std.proofs.Common.{◌≡◌, [], ◌∷◌, ◌++◌, ◌&&◌, ◌∙◌, ℕ, Bool, true, false, List, None, Some, append_assoc, ap, arith, length, refl, subst, sym}
+use Rattle.std.proofs.Common.{◌≡◌, ◌⊎◌, [], ◌∷◌, ◌++◌, ◌&&◌, ◌∙◌, ℕ, Bool, true, false, List, None, Result, Some, append_assoc, ap, arith, inl, inr, length, refl, subst, sym}
+use Rattle.std.specs.Prelude.{IfErr, IsErrOf}
 use Rattle.std.proofs.lemmas.Bool.{and_from}
 use Rattle.zn_io.specs.Disk.{View}
+use Rattle.zn_io.specs.Streams.{Rose}
 use Rattle.brand_hooks.specs.Brands.{Tabled}
 use Rattle.commit_journal.specs.declared.records.Commit.{Commit}
 use Rattle.zn_base.specs.Names.{Name}
@@ -9,14 +11,19 @@ use Rattle.zone_cases.specs.State.{State, bodies_of, stored}
 use Rattle.zone_cases.specs.declared.events.Entry.{Entry}
 use Rattle.zone_cases.specs.declared.events.Event.{Event}
 use Rattle.zone_cases.specs.declared.events.Event.TheVariants.{Process, Restart, Session, System, Turn}
+use Rattle.zone_disk.specs.Bank.{Account}
 use Rattle.zone_machine.specs.Code.Cells.{Stands}
 use Rattle.zone_machine.specs.Code.Openings.{StandsFor}
-use Rattle.zone_machine.specs.Code.Records.{Passes}
-use Rattle.zone_machine.specs.Code.Restarts.{FindsAgain, IsAllowedStepOf, IsFittingStepOf, KeepsBodiesOf}
+use Rattle.zone_machine.specs.Code.Records.{IsReady, Passes}
+use Rattle.zone_machine.specs.Code.Restarts.{BankLeftAny, FindsAgain, IsAllowedStepOf, IsFittingStepOf, KeepsBodiesOf}
 use Rattle.zone_machine.specs.Machine.Histories.{after, after_entry, asked, entry_at, history, is_history, only, replies, run}
 use Rattle.zone_machine.specs.Machine.Pools.{allowed, fits}
 use Rattle.zone_machine.specs.Machine.{one, opening}
+use Rattle.zone_machine.specs.declared.faults.StepFault.{StepFault}
+use Rattle.zone_machine.specs.declared.faults.StepFault.TheVariants.{BadGrant, DiskFault, Memory, NoStore, WouldRecord}
 use Rattle.zone_machine.specs.declared.machine.Machine.{Machine}
+use Rattle.zone_machine.specs.declared.machine.parts.Parts.{Parts}
+use Rattle.zone_machine.specs.declared.machine.shared.Shared.{Shared}
 use Rattle.zone_pools.specs.declared.grant.Grant.{Grant}
 use Rattle.zone_views.proofs.Purge.{opening-agree, purge, run-asked}
 use Rattle.zone_views.proofs.Runs.{legal-history}
@@ -106,6 +113,10 @@ HasRunGiven-end S es h m so = record { entries = so.entries; fit = so.fit; stand
 pub HasRunSomeGiven-now : {D F : Type 0} (S : State) (es done rest h : List Entry) (m : Machine D F) → es ≡ done ++ rest → IsRunningGiven S done h m → HasRunSomeGiven S es m.parts
 HasRunSomeGiven-now S es done rest h m all so = record { done = done; rest = rest; all = all; stands = subst (λ l. Stands (after S l) m.parts) so.entries so.stands.parts }
 
+-- nothing has changed since the last step
+pub HasRunSomeGiven-still : {D F : Type 0} (S : State) (es done rest h : List Entry) (m : Machine D F) (p : Parts) → es ≡ done ++ rest → p ≡ m.parts → IsRunningGiven S done h m → HasRunSomeGiven S es p
+HasRunSomeGiven-still S es done rest h m p all same so = subst (HasRunSomeGiven S es) (sym same) (HasRunSomeGiven-now S es done rest h m all so)
+
 -- the next grant doesn't fit
 pub misfit-now : {D F : Type 0} (S : State) (es done rest h : List Entry) (e : Entry) (event : Event) (grant : Grant) (m : Machine D F) → es ≡ done ++ e ∷ rest → event ≡ e.event → grant ≡ e.grant
     → IsRunningGiven S done h m → fits (after S h) event grant ≡ false → all_fit S (asked es) ≡ false
@@ -139,6 +150,48 @@ module _ {D F : Type 0} (view : D → View) (S : State) (m n : Machine D F) (h :
 -- what is known of the disk of a machine that has gone on
 pub passes-on : (u v w : View) → Passes u v → Passes v w → Passes u w
 passes-on u v w a b = record { model = (λ k. b.model.0 (a.model.0 k), λ k. a.model.1 (b.model.1 k)); faults = omega (arith, a.faults, b.faults) }
+
+-- a disk fault comes only where the disk's count rose, in this step or before
+rose-in : {D : Type 0} (e : Event) (a b : Account D) (v w : View) (s : Shared) → BankLeftAny true e DiskFault a b v w s → Rose v.faults w.faults
+rose-in (Session n text) a b v w s left = left.0
+rose-in (Turn z) a b v w s left = left.0
+rose-in (Process z pid c) a b v w s left = left.0
+rose-in (System what) a b v w s left = left.0
+rose-in Restart a b v w s left = left.0
+
+pub rose-after : {A D : Type 0} (r : Result A StepFault) (e : Event) (a b : Account D) (u v w : View) (s : Shared) → Passes u v → IsErrOf r DiskFault → IfErr r (λ fault. BankLeftAny true e fault a b v w s)
+    → Rose u.faults w.faults
+rose-after r e a b u v w s passes is left =
+    let rose = rose-in e a b v w s (subst (λ r. IfErr r (λ fault. BankLeftAny true e fault a b v w s)) is left) in
+    omega (arith, passes.faults, rose)
+
+-- a grant that doesn't fit leaves the machine ready
+ready-in : {D : Type 0} (e : Event) (a b : Account D) (v w : View) (s : Shared) → BankLeftAny true e BadGrant a b v w s → IsReady w b s
+ready-in (Session n text) a b v w s left = left.1
+ready-in (Turn z) a b v w s left = left.1
+ready-in (Process z pid c) a b v w s left = left.1
+ready-in (System what) a b v w s left = left.1
+ready-in Restart a b v w s left = left.1
+
+pub ready-after : {A D : Type 0} (r : Result A StepFault) (e : Event) (a b : Account D) (v w : View) (s : Shared) → IsErrOf r BadGrant → IfErr r (λ fault. BankLeftAny true e fault a b v w s) → IsReady w b s
+ready-after r e a b v w s is left = ready-in e a b v w s (subst (λ r. IfErr r (λ fault. BankLeftAny true e fault a b v w s)) is left)
+
+-- a step that may record never says that it would, and misses no store on a disk that keeps to its model
+pub only-three : {D : Type 0} (fault : StepFault) (e : Event) (a b : Account D) (v w : View) (s : Shared) → v.Keeps → BankLeftAny true e fault a b v w s
+    → (fault ≡ Memory) ⊎ ((fault ≡ DiskFault) ⊎ (fault ≡ BadGrant))
+only-three Memory e a b v w s keeps left = inl refl
+only-three DiskFault e a b v w s keeps left = inr (inl refl)
+only-three BadGrant e a b v w s keeps left = inr (inr refl)
+only-three WouldRecord (Session n text) a b v w s keeps left = absurd left
+only-three WouldRecord (Turn z) a b v w s keeps left = absurd left
+only-three WouldRecord (Process z pid c) a b v w s keeps left = absurd left
+only-three WouldRecord (System what) a b v w s keeps left = absurd left
+only-three WouldRecord Restart a b v w s keeps left = absurd left
+only-three (NoStore lost) (Session n text) a b v w s keeps left = absurd left
+only-three (NoStore lost) (Turn z) a b v w s keeps left = absurd left
+only-three (NoStore lost) (Process z pid c) a b v w s keeps left = absurd left
+only-three (NoStore lost) (System what) a b v w s keeps left = absurd left
+only-three (NoStore lost) Restart a b v w s keeps left = absurd (left.0 keeps)
 
 -- the events, where one more was taken from those that are left
 pub all-next : {X : Type 0} (done left rest all : List X) (x : X) → done ++ left ≡ all → left ≡ x ∷ rest → done ++ x ∷ [] ++ rest ≡ all

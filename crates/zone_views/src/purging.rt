@@ -2,6 +2,7 @@
 ghost use Rattle.std.specs.Prelude.{◌≡◌, ◌⊎◌, Bool, IfErr, IfOk, IsErrOf, List, OnOk, false, true};
 ghost use Rattle.brand_hooks.specs.Brands.{Tabled};
 ghost use Rattle.commit_journal.specs.declared.records.Commit.{Commit};
+ghost use Rattle.zn_io.specs.Streams.{Rose};
 ghost use Rattle.zone_cases.specs.State.{State, stored};
 ghost use Rattle.zone_cases.specs.declared.events.Event as event_types;
 ghost use Rattle.zone_pools.specs.declared.grant.Grant as grant_types;
@@ -71,8 +72,8 @@ pub fn replies_of(
     Ok(list)
 }
 
-/// Events are answered one after the other, each under the grant that the pools give it: their entries are a legal history. After
-/// a fault the steps before it stand.
+/// Events are answered one after the other, each under the grant that the pools give it: their entries are a legal history. Where
+/// memory runs out the steps before stand.
 pub fn run<D: Disk, F: Fn(&Change) -> HookAnswer>(
     alloc: Global,
     machine: &mut Machine<'_, D, F>,
@@ -83,6 +84,7 @@ pub fn run<D: Disk, F: Fn(&Change) -> HookAnswer>(
     ensures ok { (D.view machine.old.bank.disk).Keeps → IfOk result (λ entries. (S : State) → StandsFor S machine.old → HasRun S events.items entries.items machine.new) }
     ensures memory { (D.view machine.old.bank.disk).Keeps → IsErrOf result StepFault.Memory → (S : State) → StandsFor S machine.old → HasRunSome S events.items machine.new.parts }
     ensures err { (D.view machine.old.bank.disk).Keeps → IfErr result (λ fault. (fault ≡ StepFault.Memory) ⊎ (fault ≡ StepFault.DiskFault)) }
+    ensures disk { IsErrOf result StepFault.DiskFault → Rose (D.view machine.old.bank.disk).faults (D.view machine.new.bank.disk).faults }
     ensures ready { OnOk result (MayGoOn D.view machine.new) }
     ensures passes { Passes (D.view machine.old.bank.disk) (D.view machine.new.bank.disk) }
     ensures asks { AsksBrands F.Fn machine.new }
@@ -120,6 +122,10 @@ fn run_given<D: Disk, F: Fn(&Change) -> HookAnswer>(
     ensures ok { (D.view machine.old.bank.disk).Keeps → IfOk result (λ answered. (S : State) → StandsFor S machine.old → HasRunGiven S entries.items answered.items machine.new) }
     ensures memory { (D.view machine.old.bank.disk).Keeps → IsErrOf result StepFault.Memory → (S : State) → StandsFor S machine.old → HasRunSomeGiven S entries.items machine.new.parts }
     ensures misfit { (D.view machine.old.bank.disk).Keeps → IsErrOf result StepFault.BadGrant → (S : State) → StandsFor S machine.old → all_fit S (asked entries.items) ≡ false }
+    ensures stays { (D.view machine.old.bank.disk).Keeps → IsErrOf result StepFault.BadGrant → (S : State) → StandsFor S machine.old → HasRunSomeGiven S entries.items machine.new.parts }
+    ensures goes_on { IsErrOf result StepFault.BadGrant → MayGoOn D.view machine.new }
+    ensures err { (D.view machine.old.bank.disk).Keeps → IfErr result (λ fault. (fault ≡ StepFault.Memory) ⊎ ((fault ≡ StepFault.DiskFault) ⊎ (fault ≡ StepFault.BadGrant))) }
+    ensures disk { IsErrOf result StepFault.DiskFault → Rose (D.view machine.old.bank.disk).faults (D.view machine.new.bank.disk).faults }
     ensures ready { OnOk result (MayGoOn D.view machine.new) }
     ensures passes { Passes (D.view machine.old.bank.disk) (D.view machine.new.bank.disk) }
     ensures asks { AsksBrands F.Fn machine.new }
@@ -134,8 +140,8 @@ fn run_given<D: Disk, F: Fn(&Change) -> HookAnswer>(
 }
 
 /// The events of a zone and of the whole system among some entries are answered again, under their grants and without those of
-/// other zones: the replies of the zone. After a fault the steps before it stand. A grant may not fit any more; where all do, the
-/// zone is answered what it was answered among the others.
+/// other zones: the replies of the zone. A grant may not fit any more; where all do, the zone is answered what it was answered
+/// among the others. Where one doesn't, or memory runs out, the steps before stand; where one doesn't, the machine may go on.
 pub fn run_purged<D: Disk, F: Fn(&Change) -> HookAnswer>(
     alloc: Global,
     machine: &mut Machine<'_, D, F>,
@@ -152,6 +158,10 @@ pub fn run_purged<D: Disk, F: Fn(&Change) -> HookAnswer>(
     ensures stands { (D.view machine.old.bank.disk).Keeps → OnOk result ((S : State) → StandsFor S machine.old → HasRunGiven S (only zone.now entries.now) (run S (asked (only zone.now entries.now))) machine.new) }
     ensures memory { (D.view machine.old.bank.disk).Keeps → IsErrOf result StepFault.Memory → (S : State) → StandsFor S machine.old → HasRunSomeGiven S (only zone.now entries.now) machine.new.parts }
     ensures misfit { (D.view machine.old.bank.disk).Keeps → IsErrOf result StepFault.BadGrant → (S : State) → StandsFor S machine.old → all_fit S (asked (only zone.now entries.now)) ≡ false }
+    ensures stays { (D.view machine.old.bank.disk).Keeps → IsErrOf result StepFault.BadGrant → (S : State) → StandsFor S machine.old → HasRunSomeGiven S (only zone.now entries.now) machine.new.parts }
+    ensures goes_on { IsErrOf result StepFault.BadGrant → MayGoOn D.view machine.new }
+    ensures err { (D.view machine.old.bank.disk).Keeps → IfErr result (λ fault. (fault ≡ StepFault.Memory) ⊎ ((fault ≡ StepFault.DiskFault) ⊎ (fault ≡ StepFault.BadGrant))) }
+    ensures disk { IsErrOf result StepFault.DiskFault → Rose (D.view machine.old.bank.disk).faults (D.view machine.new.bank.disk).faults }
     ensures ready { OnOk result (MayGoOn D.view machine.new) }
     ensures passes { Passes (D.view machine.old.bank.disk) (D.view machine.new.bank.disk) }
     ensures asks { AsksBrands F.Fn machine.new }
