@@ -8,8 +8,8 @@ use Rattle.std.specs.List.{position, position_or_len, before_first, after_first,
 use Rattle.std.specs.Io.KnownBytes.{IsAtEnd}
 use Rattle.zn_io.specs.Streams.{before_known}
 use Rattle.zn_base.specs.Lines.{lines_of, with_first, is_newline}
-use Rattle.zones_run.specs.Lines.{has_newline}
-use Rattle.zones_run.specs.Reading.{lines_left, FirstIsLong, TakesLine}
+use Rattle.input_lines.specs.Lines.{has_newline}
+use Rattle.input_lines.specs.Reading.{lines_left, FirstIsLong, TakesLine}
 
 -- a newline ends the first line
 pub cut_at : (p rest : List ℕ) → has_newline p ≡ false → lines_of (p ++ 10 ∷ rest) ≡ p ∷ lines_of rest

@@ -2,8 +2,8 @@
 use Rattle.std.proofs.Common.{◌≡◌, ◌≤◌, ◌++◌, ℕ, List, [], false, length, Option, Some, None, refl, ap, sym, ◌∙◌, arith, append_assoc}
 use Rattle.std.proofs.lemmas.List.{append-nil}
 use Rattle.zn_io.specs.Streams.{before_known}
-use Rattle.zones_run.specs.Lines.{has_newline}
-use Rattle.zones_run.specs.Taking.{BeginsLine, TakesPiece}
+use Rattle.input_lines.specs.Lines.{has_newline}
+use Rattle.input_lines.specs.Taking.{BeginsLine, TakesPiece}
 
 pub before_known-nil : (known : Option (List ℕ)) → known ≡ before_known [] known
 before_known-nil None = refl

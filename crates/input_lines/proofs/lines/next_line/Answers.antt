@@ -1,8 +1,8 @@
 use Rattle.std.proofs.Common.{◌∙◌, ap, arith}
 use Rattle.zn_io.specs.Streams.{before_known}
-use Rattle.zones_run.proofs.Begins.{begins_line}
-use Rattle.zones_run.proofs.Cuts.{last_line, whole_line, long_line, goes_on, clean_on, took_line}
-use Rattle.zones_run.proofs.lines.next_line.Goals as goal
+use Rattle.input_lines.proofs.Begins.{begins_line}
+use Rattle.input_lines.proofs.Cuts.{last_line, whole_line, long_line, goes_on, clean_on, took_line}
+use Rattle.input_lines.proofs.lines.next_line.Goals as goal
 
 pub returns-in_err-refill-clause-begun : goal.returns-in_err-refill-clause-begun
 returns-in_err-refill-clause-begun g c = λ _.

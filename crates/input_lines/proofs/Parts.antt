@@ -5,9 +5,9 @@ use Rattle.std.proofs.lemmas.Option.{cond_some}
 use Rattle.std.proofs.lemmas.List.Quantifiers.{position-Some}
 use Rattle.std.specs.List.{position, position_or_len}
 use Rattle.zn_base.specs.Lines.{is_newline}
-use Rattle.zones_run.specs.Lines.{has_newline}
-use Rattle.zones_run.specs.Reading.{MovesPart}
-use Rattle.zones_run.proofs.Cuts.{found_some, found_none, all_front, none_behind}
+use Rattle.input_lines.specs.Lines.{has_newline}
+use Rattle.input_lines.specs.Reading.{MovesPart}
+use Rattle.input_lines.proofs.Cuts.{found_some, found_none, all_front, none_behind}
 
 -- a newline at a place ends the part there
 pub part_ends : (line new_line ahead new_ahead : List ℕ) (at : ℕ) → position is_newline ahead ≡ Some at → new_line ≡ line ++ take at ahead → new_ahead ≡ drop (at + 1) ahead → length line + at ≤ 4096 → MovesPart line new_line ahead new_ahead × (has_newline ahead ≡ true)

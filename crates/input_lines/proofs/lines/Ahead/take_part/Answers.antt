@@ -1,8 +1,8 @@
 use Rattle.std.proofs.Common.{arith}
 use Rattle.std.proofs.lemmas.Grind.{common_steps}
 use Rattle.std.proofs.lemmas.Bool.Decides.{nat_tests}
-use Rattle.zones_run.proofs.Parts.{part_ends, part_goes_on}
-use Rattle.zones_run.proofs.lines.Ahead.take_part.Goals as goal
+use Rattle.input_lines.proofs.Parts.{part_ends, part_goes_on}
+use Rattle.input_lines.proofs.lines.Ahead.take_part.Goals as goal
 
 pub returns-in_ok-extend_from_slice-in-Some : goal.returns-in_ok-extend_from_slice-in-Some
 returns-in_ok-extend_from_slice-in-Some c =

@@ -1,7 +1,7 @@
 use Rattle.std.proofs.Common.{◌≡◌, ◌-◌, ◌≤◌, false, length}
 use Rattle.zn_io.specs.Streams.{before_known}
-use Rattle.zones_run.specs.Lines.{has_newline}
-use Rattle.zones_run.proofs.lines.next_line.Given as goal
+use Rattle.input_lines.specs.Lines.{has_newline}
+use Rattle.input_lines.proofs.lines.next_line.Given as goal
 
 -- the line so far, what is ahead and what the source has left are all that there was
 abbrev pub invariant-loop-line : goal.invariant-loop-line

@@ -1,7 +1,7 @@
 -- What a command has taken of its source when it ends.
 use Rattle.std.specs.Prelude.{◌≡◌, ◌≤◌, ◌⊎◌, ◌++◌, ℕ, List, [], length, false, Option, Some}
 use Rattle.zn_io.specs.Streams.{before_known}
-use Rattle.zones_run.specs.Lines.{AreWhole, has_newline}
+use Rattle.input_lines.specs.Lines.{AreWhole, has_newline}
 
 -- of some bytes the beginning of a line was taken, and then at most one piece, which is what one call of `read` may give
 pub record TakesPiece (old new : Option (List ℕ)) : Type 0 where

@@ -5,10 +5,10 @@ ghost use Rattle.std.specs.Io.KnownBytes.{IsAtEnd};
 ghost use Rattle.std.specs.List.{after_first, before_first};
 ghost use Rattle.zn_io.specs.Streams.{Rose, before_known};
 ghost use Rattle.zn_base.specs.Lines.{is_newline};
-ghost use Rattle.zones_run.specs.Lines.{has_newline};
-ghost use Rattle.zones_run.specs.Reading.{GivesLine, TakesBytes, TakesPart, lines_left};
-ghost use Rattle.zones_run.specs.Taking.{BeginsLine, TakesPiece};
-ghost use Rattle.zones_run.specs.declared.lines.ReadFault.TheVariants.{Memory};
+ghost use Rattle.input_lines.specs.Lines.{has_newline};
+ghost use Rattle.input_lines.specs.Reading.{GivesLine, TakesBytes, TakesPart, lines_left};
+ghost use Rattle.input_lines.specs.Taking.{BeginsLine, TakesPiece};
+ghost use Rattle.input_lines.specs.declared.lines.ReadFault.TheVariants.{Memory};
 
 use std::alloc::{AllocError, Global};
 use std::marker::Model;
@@ -20,9 +20,6 @@ const PIECE: usize = 4096;
 
 /// The greatest length of a line without its newline, in bytes.
 pub const LINE_MAX: usize = 4096;
-
-/// The greatest number of lines.
-pub const LINES_MAX: u64 = 200_000;
 
 /// Why the input could not be read on.
 #[derive(Clone, Copy, Debug, PartialEq, Eq, Error)]

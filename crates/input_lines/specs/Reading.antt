@@ -5,11 +5,11 @@ use Rattle.std.specs.Io.KnownBytes.{IsAtEnd}
 use Rattle.std.specs.Option.{option_map}
 use Rattle.zn_io.specs.Streams.{before_known}
 use Rattle.zn_base.specs.Lines.{is_newline, lines_of}
-use Rattle.zones_run.specs.Lines.{has_newline}
-use Rattle.zones_run.specs.declared.lines.Got.{Got}
-use Rattle.zones_run.specs.declared.lines.Got.TheVariants.{Line, End, TooLong}
-use Rattle.zones_run.specs.declared.lines.Part.{Part}
-use Rattle.zones_run.specs.declared.lines.Part.TheVariants.{Ends, GoesOn, Overlong}
+use Rattle.input_lines.specs.Lines.{has_newline}
+use Rattle.input_lines.specs.declared.lines.Got.{Got}
+use Rattle.input_lines.specs.declared.lines.Got.TheVariants.{Line, End, TooLong}
+use Rattle.input_lines.specs.declared.lines.Part.{Part}
+use Rattle.input_lines.specs.declared.lines.Part.TheVariants.{Ends, GoesOn, Overlong}
 
 -- the lines to come, of what was read ahead and what the source has left
 abbrev pub lines_left : List ℕ → Option (List ℕ) → Option (List (List ℕ))
