@@ -24,6 +24,7 @@ pub mod Local_doing
 pub mod Pools_laws
 pub mod Indexing
 pub mod Listing_laws
+pub mod Shown_laws
 pub mod Lists_laws
 pub mod Opens
 pub mod Doing_laws

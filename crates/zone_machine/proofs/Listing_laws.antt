@@ -15,12 +15,16 @@ use Rattle.zone_cases.specs.declared.session.listing.Options.{Options}
 
 module _ (o : Options) where
   -- one row before others
-  told_first : (r : Zone_row) (rows : List Zone_row) → told_rows o (r ∷ rows) ≡ told_rows o (r ∷ []) ++ told_rows o rows
+  pub told_first : (r : Zone_row) (rows : List Zone_row) → told_rows o (r ∷ rows) ≡ told_rows o (r ∷ []) ++ told_rows o rows
   told_first r rows = at_test (is_listed o r.state) refl
     where
       at_test : (b : Bool) → is_listed o r.state ≡ b → told_rows o (r ∷ rows) ≡ told_rows o (r ∷ []) ++ told_rows o rows
       at_test true e = simp e refl
       at_test false e = simp e refl
+
+  pub texts : (rows more : List Zone_row) → map (row_text o.form) (rows ++ more) ≡ map (row_text o.form) rows ++ map (row_text o.form) more
+  texts [] more = refl
+  texts (r ∷ rows) more = ap (λ l. row_text o.form r ∷ l) (texts rows more)
 
   module _ (p : Parts) where
     next_entry : (es : List (Name × Record)) (i : ℕ) → told_entries o p (take (suc i) es) ≡ told_entries o p (take i es) ++ told_entry o p (slice_get es i)
@@ -46,10 +50,6 @@ module _ (o : Options) where
     rows-stand S h =
         (λ i. global_rows o.no_global ++ filter (λ r. is_listed o r.state) (map (λ (r : Owned Record). row_now r.zone r.it (world-stands S p r.zone h i).desk (world-stands S p r.zone h i).ids) (h.shared i).rows))
         ∙ ap (λ rows. global_rows o.no_global ++ filter (λ r. is_listed o r.state) rows) (rows_of_entries p.shared.rows.entries)
-
-    texts : (rows more : List Zone_row) → map (row_text o.form) (rows ++ more) ≡ map (row_text o.form) rows ++ map (row_text o.form) more
-    texts [] more = refl
-    texts (r ∷ rows) more = ap (λ l. row_text o.form r ∷ l) (texts rows more)
 
     -- the lines before them, and then theirs
     pub lists-zones : (S : State) → Stands S p → listing o.form (global_rows o.no_global) ++ told_entries o p p.shared.rows.entries ≡ listing o.form (list_zones o S)

@@ -209,7 +209,7 @@ module _ (m : Parts) (z : Name) (e : Event) (c : Cell) (asked : List Asked) (is 
   IsMisfitUnder-cell (Some stated) unfit =
       (λ S h. fits-by S m.shared z (cell_world (outside_in z m.shared) c) e asked h.shared (world-stands S m z h ∙ same (outside_in z m.shared)) (subject-stands S m.shared e h.shared ∙ is) asks stated ∙ unfit, refl)
 
-allowed-of : (S : State) (e : Event) (s : Subject) → subject S e ≡ s → allowed S e ≡ allowed_of s S e
+pub allowed-of : (S : State) (e : Event) (s : Subject) → subject S e ≡ s → allowed S e ≡ allowed_of s S e
 unfolding allowed
 allowed-of S e s is = ap (λ s. allowed_of s S e) is
 

@@ -1,5 +1,7 @@
 -- What the code's values stand for, and what its steps do to them.
 pub mod Listed
+pub mod Shown_zones
+pub mod Global_steps
 pub mod Told
 pub mod Cells
 pub mod Reads

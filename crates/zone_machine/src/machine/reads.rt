@@ -3,6 +3,7 @@ ghost use Rattle.std.specs.Prelude.{◌≡◌, IfOk, None, Some, Option};
 ghost use Rattle.zone_machine.specs.Code.Reads.{IsRightRead, decide_read, global_read, held_subject, idle_subject, is_turn, is_turn_read, number_read, subject_in, subject_read};
 ghost use Rattle.kernel_objects.specs.Shared.{pid_owner};
 ghost use Rattle.zone_machine.specs.Code.Cells.{Stands};
+ghost use Rattle.zone_machine.specs.Code.Shown_zones.{listed};
 ghost use Rattle.process_calls.specs.Calls.{call_of};
 ghost use Rattle.zone_cases.specs.State.Decisions.{says, told};
 ghost use Rattle.zone_cases.specs.Code.Lines.{as_line, as_word};
@@ -20,7 +21,7 @@ use process_calls::{Call, CallFault, read_call};
 use std::alloc::{AllocError, Global};
 use zn_base::{Bytes, Listing, NameFault, ZoneName};
 use zone_cases::{
-    Body, Command, Declaration, Event, Head, Line, Refusal, Reply, Subject, help, line_of,
+    Body, Command, Declaration, Event, Head, Line, Options, Refusal, Reply, Subject, help, line_of,
 };
 use zoneadmd_steps::RequestKind;
 
@@ -155,7 +156,8 @@ fn refused(refusal: Refusal) -> Reply
     says(Head::Refused(refusal))
 }
 
-fn told(lines: Listing<Bytes>) -> Reply
+/// A reply of lines.
+pub(crate) fn told(lines: Listing<Bytes>) -> Reply
     ensures { result ≡ told (Body.Lines lines) }
 {
     Reply {
@@ -185,14 +187,42 @@ fn global_help(alloc: Global, word: Option<&[u8]>) -> Result<Reply, AllocError>
     Ok(told(help(alloc)?))
 }
 
-// What a line is answered that belongs to no zone.
-fn global_line(alloc: Global, parts: &Parts, line: Line<'_>) -> Result<Reply, AllocError>
-    ensures { IfOk result (λ reply. (S : State) → Stands S parts.now → reply ≡ global_line S (as_line line.entry)) }
+/// The options of a line that lists all zones.
+pub(crate) fn listed_options(line: Line<'_>) -> Option<Options>
+    ensures { result ≡ listed (as_line line.entry).command }
+{
+    match line.command {
+        Command::ListZones(options) => Some(options),
+        Command::Blank
+        | Command::Edit
+        | Command::Zonecfg(_)
+        | Command::Request(_)
+        | Command::Boot(_)
+        | Command::Reboot(_)
+        | Command::Move(_)
+        | Command::Clone(_)
+        | Command::Unforced
+        | Command::Kill(_, _)
+        | Command::Hold(_)
+        | Command::Release(_)
+        | Command::Login(_)
+        | Command::Console(_)
+        | Command::Enter(_)
+        | Command::Help
+        | Command::Verify
+        | Command::ListOne(_)
+        | Command::Unknown => None,
+    }
+}
+
+/// What a line is answered that belongs to no zone and doesn't list all zones.
+pub(crate) fn unlisted_line(alloc: Global, line: Line<'_>) -> Result<Reply, AllocError>
+    requires { listed (as_line line).command ≡ None }
+    ensures { IfOk result (λ reply. (S : State) → reply ≡ global_line S (as_line line.entry)) }
 {
     match line.command {
         Command::Blank => Ok(says(Head::Ok)),
         Command::Help => global_help(alloc, line.zone),
-        Command::ListZones(options) => Ok(told(parts.list_zones(alloc, options)?)),
         Command::Enter(text) => Ok(refused(badly_entered(alloc, text, line.zone)?)),
         Command::Unknown
         | Command::Request(
@@ -213,6 +243,17 @@ fn global_line(alloc: Global, parts: &Parts, line: Line<'_>) -> Result<Reply, Al
         | Command::Console(_)
         | Command::Verify
         | Command::ListOne(_) => Ok(refused(badly_named(alloc, line.zone)?)),
+        Command::ListZones(_) => unreachable!(),
+    }
+}
+
+// What a line is answered that belongs to no zone.
+fn global_line(alloc: Global, parts: &Parts, line: Line<'_>) -> Result<Reply, AllocError>
+    ensures { IfOk result (λ reply. (S : State) → Stands S parts.now → reply ≡ global_line S (as_line line.entry)) }
+{
+    match listed_options(line) {
+        Some(options) => Ok(told(parts.list_zones(alloc, options)?)),
+        None => unlisted_line(alloc, line),
     }
 }
 
