@@ -1,4 +1,5 @@
 pub mod Bools
+pub mod Ending
 pub mod Gives
 pub mod Histories
 pub mod Merging

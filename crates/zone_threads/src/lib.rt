@@ -2,6 +2,7 @@
 //! what zones share goes round between them. What was done is one history, of which each zone's log is exactly its entries.
 #![tactic(auto)]
 
+mod end;
 mod gate;
 mod machine;
 mod merge;
@@ -16,4 +17,4 @@ pub use machine::{Machine, Said, Stop, Told, Zoned};
 pub use part::{Part, Place, Start};
 pub use run::Script;
 pub use tally::{Progress, Ticket};
-pub use zone::Log;
+pub use zone::Back;
