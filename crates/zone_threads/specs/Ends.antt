@@ -5,7 +5,7 @@ use Rattle.zone_turn.specs.Histories.{own}
 use Rattle.zone_turn.specs.declared.views.Roster.{Roster}
 use Rattle.zone_threads.specs.Folds.{folded}
 use Rattle.zone_threads.specs.Machines.{Definitions}
-use Rattle.zone_threads.specs.Records.{Stands}
+use Rattle.zone_threads.specs.Records.{Middle, Stands}
 use Rattle.zone_threads.specs.Scripts.{beginning, fresh, noted}
 use Rattle.zone_threads.specs.Zones.{left_by}
 use Rattle.zone_threads.specs.declared.tally.Progress.{Progress}
@@ -17,9 +17,9 @@ use Rattle.zone_threads.specs.declared.zone.Log.{Log}
 abbrev pub Finished : List Progress → ℕ → ℕ → Type 0
 Finished ts s lines = (s < length ts) × (slice_index_or ts s fresh ≡ record { done = lines; awaits = None })
 
--- a script has the lines of its session, whose number isn't 0
+-- a script has the lines of its session, whose number is from 1 to 64
 abbrev pub IsScript : {Line : Type 0} → (ℕ → List Line) → Script Line → Type 0
-IsScript scripts script = (script.session ≢ 0) × (script.lines.items ≡ scripts script.session)
+IsScript scripts script = (script.session ≢ 0) × (script.session < 65) × (script.lines.items ≡ scripts script.session)
 
 -- what the first pass knows: how many passes were made and are out, and the lists that were taken back
 abbrev pub roster : {Entry : Type 0} → ℕ → ℕ → List (ℕ × List Entry) → Roster Entry
@@ -73,6 +73,12 @@ module _ {State Cell Shared Line Entry Heard : Type 0} (D : Definitions State Ce
     pub each : (p : ℕ) → own D.by p h ≡ log_of logs p
     pub backs : All (IsBack start h) (map back logs)
     pub all_back : AreAll zones (map back logs)
+
+  -- a history that keeps to the scripts, and the cells after it
+  pub record Over (start : State) (scripts : ℕ → List Line) (zones : ℕ) (m : Shared) (h : List Entry) (cells : List (Back Cell)) : Type 0 where
+    pub middle : Middle D start scripts m h
+    pub backs : All (IsBack start h) cells
+    pub there : AreAll zones cells
 
   abbrev pub HasAll : List Entry → ℕ → ℕ → Type 0
   HasAll h s lines = folded (noted D) beginning h s ≡ record { done = lines; awaits = None }

@@ -4,6 +4,7 @@
 
 mod end;
 mod gate;
+mod live;
 mod machine;
 mod merge;
 mod part;
@@ -13,6 +14,7 @@ mod tally;
 mod zone;
 
 pub use gate::Gate;
+pub use live::{Ending, Lived, run_scripts};
 pub use machine::{Machine, Said, Stop, Told, Zoned};
 pub use part::{Part, Place, Start};
 pub use run::Script;

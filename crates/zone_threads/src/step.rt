@@ -105,8 +105,8 @@ fn try_turn<M: Machine, J: Start<M>>(
     }
 }
 
-// Where a session is: at a line, or it waits.
-fn progress_of(tally: &[Progress], session: u8) -> Result<u64, Outcome>
+/// Where a session is: at a line, or it waits.
+pub(crate) fn progress_of(tally: &[Progress], session: u8) -> Result<u64, Outcome>
     ensures { IfOk result (λ done. (session < length tally.now) × (slice_index_or tally.now session fresh ≡ record { done = done; awaits = None })) }
 {
     match tally.get(session as usize) {

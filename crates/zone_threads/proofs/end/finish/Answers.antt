@@ -1,5 +1,5 @@
 use Rattle.std.proofs.Common.{rules, ◌≡◌, ◌+◌, [], length, true, sym, ap, vec_len, ◌∙◌}
-use Rattle.zone_threads.proofs.Ending.{ended}
+use Rattle.zone_threads.proofs.Gathering.{ended}
 use Rattle.zone_threads.proofs.end.finish.Goals as goal
 
 pub returns : goal.returns

@@ -1,5 +1,5 @@
 use Rattle.std.proofs.Common.{rules, ◌≡◌}
-use Rattle.zone_threads.proofs.Ending.{first_stays, gathered}
+use Rattle.zone_threads.proofs.Gathering.{first_stays, gathered}
 use Rattle.zone_threads.proofs.end.keep.Goals as goal
 
 pub returns-clause-roster : goal.returns-clause-roster

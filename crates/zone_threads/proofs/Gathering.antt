@@ -1,5 +1,5 @@
 -- The passes are taken back, and what the closed turn tells.
-use Rattle.std.proofs.Common.{◌≡◌, ◌≢◌, ◌⊎◌, inl, inr, ℕ, ◌+◌, ◌-◌, ◌<◌, ◌≤◌, ◌==◌, Bool, true, false, List, [], ◌∷◌, ◌++◌, map, length, slice_index_or, sym, refl, ap, ◌∙◌, subst, arith, zero, suc, if◌then◌else◌}
+use Rattle.std.proofs.Common.{◌≡◌, ◌≢◌, ◌⊎◌, inl, inr, ℕ, ◌+◌, ◌-◌, ◌<◌, ◌≤◌, ◌==◌, Bool, true, false, List, [], ◌∷◌, ◌++◌, map, length, slice_index_or, sym, refl, ap, ◌∙◌, subst, arith, zero, suc, if◌then◌else◌, Err, IfOk, Ok, Result}
 use Rattle.std.specs.List.{All}
 use Rattle.std.proofs.lemmas.List.Elements.{All-nil, All-cons}
 use mathlib.Core.List.{map-append}
@@ -11,14 +11,15 @@ use Rattle.zone_turn.specs.declared.views.View.{View}
 use Rattle.zone_turn.specs.declared.views.Role.{Role}
 use Rattle.zone_turn.specs.declared.views.Role.TheVariants.{First, Other, Spent}
 use Rattle.zone_threads.specs.Folds.{all_right}
-use Rattle.zone_threads.specs.Ends.{AreAll, Ended, IsBack, LeftBy, back, log_of, pair, pairs, roster}
+use Rattle.zone_threads.specs.Ends.{AreAll, Ended, Finished, HasAll, IsBack, IsScript, LeftBy, back, log_of, pair, pairs, roster}
 use Rattle.zone_threads.specs.Machines.{Definitions, Laws}
 use Rattle.zone_threads.specs.Records.{Stands}
 use Rattle.zone_threads.specs.Zones.{left_by}
 use Rattle.zone_threads.specs.declared.tally.Progress.{Progress}
+use Rattle.zone_threads.specs.declared.run.Script.{Script}
 use Rattle.zone_threads.specs.declared.zone.Back.{Back}
 use Rattle.zone_threads.specs.declared.zone.Log.{Log}
-use Rattle.zone_threads.proofs.Bools.{are_same, differ, is_same, apart}
+use Rattle.zone_threads.proofs.Bools.{are_apart, are_same, differ, is_same, apart}
 use Rattle.zone_threads.proofs.Histories.{own_world}
 
 module _ {Cell Entry : Type 0} where
@@ -115,3 +116,27 @@ module _ {State Cell Shared Line Entry Heard : Type 0} (D : Definitions State Ce
       at : (p : ℕ) → IsKept (pairs logs) p ⊎ (own D.by p h ≡ [])
       at zero = inr (first ∙ empty)
       at (suc p) = subst (λ ks. IsKept ks (suc p) ⊎ (own D.by (suc p) h ≡ [])) (ap kept_of role) (others (suc p) (λ q. differ 0 (suc p) (omega arith) (sym q)))
+
+-- what a finished part says of the history
+module _ {State Cell Shared Line Entry Heard : Type 0} (D : Definitions State Cell Shared Line Entry Heard) where
+  pub have_all : (start : State) (scripts : ℕ → List Line) (m : Shared) (ts : List Progress) (rs : List (ℕ × ℕ)) (h : List Entry) (xs : List (Script Line)) → Stands D start scripts m ts rs h → All (λ (x : Script Line). Finished ts x.session (length x.lines.items)) xs
+      → All (λ (x : Script Line). HasAll D h x.session (length x.lines.items)) xs
+  have_all start scripts m ts rs h xs stands done k d near = let f = done k d near in sym (stands.tally (slice_index_or xs k d).session f.0) ∙ f.1
+
+  -- each session is that of a script, and so is finished, or of none
+  pub each_done : (scripts : ℕ → List Line) (h : List Entry) (xs : List (Script Line)) → All (IsScript scripts) xs → All (λ (x : Script Line). HasAll D h x.session (length x.lines.items)) xs → (s : ℕ) → HasAll D h s (length (scripts s)) ⊎ All (λ (x : Script Line). x.session ≢ s) xs
+  each_done scripts h [] are all s = inr (All-nil (λ (x : Script Line). x.session ≢ s))
+  each_done scripts h (x ∷ xs) are all s = here (each_done scripts h xs (λ k d n. are (suc k) d (omega arith)) (λ k d n. all (suc k) d (omega arith)) s) (x.session == s) refl
+    where
+      here : HasAll D h s (length (scripts s)) ⊎ All (λ (x : Script Line). x.session ≢ s) xs → (b : Bool) → (x.session == s) ≡ b → HasAll D h s (length (scripts s)) ⊎ All (λ (x : Script Line). x.session ≢ s) (x ∷ xs)
+      here rest true q = inl (subst (λ k. HasAll D h k (length (scripts k))) (are_same x.session s q) (subst (λ (l : List Line). HasAll D h x.session (length l)) (are 0 x (omega arith)).2 (all 0 x (omega arith))))
+      here (inl done) false q = inl done
+      here (inr none_of) false q = inr (All-cons (λ (x : Script Line). x.session ≢ s) x xs (are_apart x.session s q) none_of)
+
+pub or_none : {P Q R : Type 0} → P ⊎ Q → (Q → R) → P ⊎ R
+or_none (inl p) f = inl p
+or_none (inr q) f = inr (f q)
+
+pub both_ok : {X Y : Type 0} (r : Result X Y) (P Q : X → Type 0) → IfOk r P → IfOk r Q → IfOk r (λ x. P x × Q x)
+both_ok (Ok x) P Q p q = (p, q)
+both_ok (Err y) P Q p q = p
