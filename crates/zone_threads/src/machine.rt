@@ -1,5 +1,5 @@
 //! What threads ask of a machine of zones.
-ghost use Rattle.std.specs.Prelude.{◌≡◌, ◌≢◌, IfOk, IfSome, IfNone, IsNone, OnErr, OnOk, true};
+ghost use Rattle.std.specs.Prelude.{◌≡◌, ◌≢◌, ℕ, IfOk, IfSome, IfNone, IsNone, OnErr, OnOk, true};
 ghost use Rattle.zone_threads.specs.Machines.{Definitions, IsLineOf, IsTurnOf, Laws, Stepped, Turned, Unfinished};
 
 use std::alloc::AllocError;
@@ -71,9 +71,9 @@ pub trait Machine: Zoned {
     fn is_sound(&self, shared: &Self::Shared) -> bool
         ensures { result ≡ Self.machine.is_sound shared.now };
 
-    /// Whether a zone's daemon has something to do.
-    fn is_busy(&self, cell: &Self::Cell) -> bool
-        ensures { (w : Self.machine.World) → Self.machine.cell_of cell.now w → result ≡ Self.machine.is_busy w };
+    /// Whether a zone's daemon has something to do, by its cell and what zones share.
+    fn is_busy(&self, cell: &Self::Cell, shared: &Self::Shared) -> bool
+        ensures { (p : ℕ) (s : Self.State) → Self.machine.cell_of cell.now (Self.machine.world p s) → Self.machine.shared_of shared.now (Self.machine.common s) → result ≡ Self.machine.is_busy (Self.machine.world p s) };
 
     /// Asks the hooks of a zone, which are not asked while the shared part is held.
     fn hear(&self, cell: &Self::Cell) -> Self::Heard

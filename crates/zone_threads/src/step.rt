@@ -93,7 +93,7 @@ fn try_turn<M: Machine, J: Start<M>>(
     ensures order { part.new.order ≡ part.old.order }
     ensures wide { length part.new.tally.items ≡ length part.old.tally.items }
 {
-    if !machine.is_busy(cell) {
+    if !machine.is_busy(cell, &part.shared) {
         return Err(Outcome::Idle);
     }
     match machine.turn(cell, &mut part.shared, place, heard) {

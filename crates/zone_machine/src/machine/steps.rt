@@ -335,6 +335,7 @@ fn answer<D: Disk>(
     ensures goes { GoesInCell zone.now stated cell.old shared.old event.now bank.old.records (D.view bank.old.disk) (D.view bank.new.disk) }
     ensures bodies { OnOk result (KeepsBodiesInCell zone.now stated cell.old shared.old event.now bank.old.records bank.new.records) }
     ensures passes { Passes (D.view bank.old.disk) (D.view bank.new.disk) }
+    ensures brands { shared.new.brands ≡ shared.old.brands }
     ensures left { IfErr result (λ fault. BankLeft true fault bank.old bank.new (D.view bank.old.disk) (D.view bank.new.disk) shared.new) }
 {
     let read = read_event(event);
@@ -357,12 +358,14 @@ fn cell_event<D: Disk>(
     requires hook { is_turn event ≡ true → IsHeardIn shared.old.brands cell.old hook }
     requires ready { IsReady (D.view bank.old.disk) bank.old shared.old }
     ensures event { IfOk result (λ entry. entry.event ≡ event) }
+    ensures of { IfOk result (λ entry. entry.subject ≡ Zone zone.now) }
     ensures ok { IfOk result (λ entry. IsCellStepUnder zone.now stated cell.old shared.old event entry cell.new shared.new) }
     ensures fault { IfErr result (λ fault. CellLeaves fault zone.now stated cell.old shared.old event cell.new shared.new) }
     ensures ready { OnOk result (IsReady (D.view bank.new.disk) bank.new shared.new) }
     ensures goes { GoesInCell zone.now stated cell.old shared.old event bank.old.records (D.view bank.old.disk) (D.view bank.new.disk) }
     ensures bodies { OnOk result (KeepsBodiesInCell zone.now stated cell.old shared.old event bank.old.records bank.new.records) }
     ensures passes { Passes (D.view bank.old.disk) (D.view bank.new.disk) }
+    ensures brands { shared.new.brands ≡ shared.old.brands }
     ensures left { IfErr result (λ fault. BankLeft true fault bank.old bank.new (D.view bank.old.disk) (D.view bank.new.disk) shared.new) }
 {
     let subject = Subject::Zone(zone.copy(alloc)?);
@@ -389,12 +392,14 @@ pub fn cell_step<D: Disk>(
     requires hook { is_turn event ≡ true → IsHeardIn shared.old.brands cell.old hook }
     requires ready { IsReady (D.view bank.old.disk) bank.old shared.old }
     ensures event { IfOk result (λ entry. entry.event ≡ event) }
+    ensures of { IfOk result (λ entry. entry.subject ≡ Zone zone.now) }
     ensures ok { IfOk result (λ entry. IsAllowedCellStep zone.now cell.old shared.old event entry cell.new shared.new) }
     ensures fault { IfErr result (λ fault. CellLeaves fault zone.now None cell.old shared.old event cell.new shared.new) }
     ensures ready { OnOk result (IsReady (D.view bank.new.disk) bank.new shared.new) }
     ensures goes { GoesInCell zone.now None cell.old shared.old event bank.old.records (D.view bank.old.disk) (D.view bank.new.disk) }
     ensures bodies { OnOk result (KeepsBodiesInCell zone.now None cell.old shared.old event bank.old.records bank.new.records) }
     ensures passes { Passes (D.view bank.old.disk) (D.view bank.new.disk) }
+    ensures brands { shared.new.brands ≡ shared.old.brands }
     ensures left { IfErr result (λ fault. BankLeft true fault bank.old bank.new (D.view bank.old.disk) (D.view bank.new.disk) shared.new) }
 {
     cell_event(alloc, zone, cell, shared, bank, event, None, hook)
@@ -415,12 +420,14 @@ pub fn cell_step_given<D: Disk>(
     requires hook { is_turn event ≡ true → IsHeardIn shared.old.brands cell.old hook }
     requires ready { IsReady (D.view bank.old.disk) bank.old shared.old }
     ensures event { IfOk result (λ entry. entry.event ≡ event) }
+    ensures of { IfOk result (λ entry. entry.subject ≡ Zone zone.now) }
     ensures ok { IfOk result (λ entry. IsFittingCellStep zone.now cell.old shared.old event grant entry cell.new shared.new) }
     ensures fault { IfErr result (λ fault. CellLeaves fault zone.now (Some grant) cell.old shared.old event cell.new shared.new) }
     ensures ready { OnOk result (IsReady (D.view bank.new.disk) bank.new shared.new) }
     ensures goes { GoesInCell zone.now (Some grant) cell.old shared.old event bank.old.records (D.view bank.old.disk) (D.view bank.new.disk) }
     ensures bodies { OnOk result (KeepsBodiesInCell zone.now (Some grant) cell.old shared.old event bank.old.records bank.new.records) }
     ensures passes { Passes (D.view bank.old.disk) (D.view bank.new.disk) }
+    ensures brands { shared.new.brands ≡ shared.old.brands }
     ensures left { IfErr result (λ fault. BankLeft true fault bank.old bank.new (D.view bank.old.disk) (D.view bank.new.disk) shared.new) }
 {
     cell_event(alloc, zone, cell, shared, bank, event, Some(grant), hook)
