@@ -1,23 +1,24 @@
 -- The input, one line further.
-use Rattle.std.proofs.Common.{◌≡◌, ◌≤◌, ◌<◌, ◌+◌, ◌++◌, ◌||◌, ℕ, Bool, true, false, cond, List, [], ◌∷◌, length, Option, Some, None, IfSome, Ok, Err, refl, ap, sym, ◌∙◌, arith, append_assoc, append-nil}
+use Rattle.std.proofs.Common.{◌≡◌, ◌⊎◌, inl, inr, ◌≤◌, ◌<◌, ◌+◌, ◌++◌, ◌||◌, ℕ, Bool, true, false, cond, List, [], ◌∷◌, length, Option, Some, None, IfSome, Ok, Err, refl, ap, sym, ◌∙◌, arith, append_assoc, append-nil}
 use Rattle.std.proofs.lemmas.Bool.Decides.{nat_tests}
+use Rattle.std.specs.Prelude.{IfOk}
 use Rattle.std.specs.Option.{option_map}
+use Rattle.std.specs.Io.KnownBytes.{IsAtEnd}
+use Rattle.zn_io.specs.Streams.{before_known}
 use Rattle.zn_base.specs.Lines.{is_newline, lines_of, with_first}
 use Rattle.zone_cases.specs.declared.events.Event.{Event}
 use Rattle.trace_text.specs.Lines.{Said}
 use Rattle.trace_text.specs.Live.{live_of}
 use Rattle.trace_text.specs.declared.fault.LineFault.{LineFault}
+use Rattle.trace_text.specs.declared.fault.LineFault.TheVariants.{BadTag, BadWord, GrantForm, Memory as No_memory, SysAfterStart}
 use Rattle.input_lines.specs.Reading.{FirstIsLong, lines_left}
-use Rattle.live_input.specs.Input.{Input, Puts, input_from, input_of, is_past_limit, is_typed, types, with_line}
+use Rattle.live_input.specs.Input.{Input, Puts, ended_at, input_from, input_of, is_past_limit, is_typed, types, with_line}
 use Rattle.live_input.specs.declared.reading.Ending.{Ending}
 use Rattle.live_input.specs.declared.reading.Ending.TheVariants.{End, Grammar, Limit}
 
 -- events that came before
-pub behind : List Event → Input → Input
+abbrev pub behind : List Event → Input → Input
 behind es input = record { events = es ++ input.events; ending = input.ending }
-
-behind_none : (input : Input) → behind [] input ≡ input
-behind_none input = refl
 
 -- what was read by now, and how it ends there
 abbrev pub read : List Event → Ending → Input
@@ -36,7 +37,7 @@ To_come es started number lines input = option_map (λ lines. behind es (input_f
 
 pub begins : (ahead : List ℕ) (input : Option (List ℕ)) (es : List Event) → ahead ≡ [] → es ≡ [] → To_come es false 1 (lines_left ahead input) input
 begins ahead None es none empty = refl
-begins ahead (Some bytes) es none empty = rw (none, empty) refl
+begins ahead (Some bytes) es none empty = rw (none, empty) (ap (λ input. Some input) refl)
 
 within : (number : ℕ) (line : List ℕ) → number ≤ 4000 → length line ≤ 4096 → is_past_limit number line ≡ false
 within number line few short = grind (arith, nat_tests)
@@ -96,6 +97,10 @@ at_fault es started number line fault old None input same took few short says = 
 at_fault es started number line fault old (Some lines) input same took few short says =
     ends_so es started number (Grammar number fault) old input same (rw took (rw (within number line few short, says) refl))
 
+says_so : {said : Said} (fault : LineFault) → (fault ≡ No_memory → ⊥) → (fault ≡ No_memory) ⊎ (said ≡ Err fault) → said ≡ Err fault
+says_so fault never (inl memory) = absurd (never memory)
+says_so fault never (inr says) = says
+
 -- at a byte after all the lines that there may be
 past_last : (started : Bool) (b : ℕ) (bytes : List ℕ) → input_from started 4001 (lines_of (b ∷ bytes)) ≡ record { events = []; ending = Limit 4001 }
 past_last started b bytes =
@@ -113,3 +118,23 @@ at_limit es started [] left input some same = absurd (omega arith)
 at_limit es started (b ∷ ahead) None input some same = ends_so es started 4001 (Limit 4001) None input same tt
 at_limit es started (b ∷ ahead) (Some left) input some same =
     ends_so es started 4001 (Limit 4001) (Some (lines_of (b ∷ (ahead ++ left)))) input same (past_last started b (ahead ++ left))
+
+-- nothing is ahead, and nothing to come
+pub none_left : (ahead now : List ℕ) (left later : Option (List ℕ)) → before_known ahead left ≡ before_known now later → now ≡ [] → IsAtEnd later → IfSome (lines_left ahead left) (λ lines. lines ≡ [])
+none_left ahead now None later same none end = tt
+none_left ahead now (Some bs) None same none end = absurd (cc)
+none_left ahead now (Some bs) (Some cs) same none end =
+    let all : Some (ahead ++ bs) ≡ Some (now ++ cs) = same in
+    let nothing : Some (ahead ++ bs) ≡ Some [] = all ∙ ap (λ xs. Some (xs ++ cs)) none ∙ ap (λ xs. Some xs) end in
+    let empty : ahead ++ bs ≡ [] = cc in
+    ap lines_of empty
+
+-- at a line that can't be read, unless memory ran out
+pub at_ended : (es : List Event) (started : Bool) (number : ℕ) (line : List ℕ) (fault : LineFault) (old rest : Option (List (List ℕ))) (input : Option (List ℕ)) → To_come es started number old input
+    → old ≡ option_map (λ lines. line ∷ lines) rest → number ≤ 4000 → length line ≤ 4096 → (fault ≡ No_memory) ⊎ (live_of started line ≡ Err fault)
+    → IfOk (ended_at number fault) (λ ending. IfSome input (λ bytes. read es ending ≡ input_of bytes))
+at_ended es started number line No_memory old rest input same took few short says = tt
+at_ended es started number line GrantForm old rest input same took few short says = at_fault es started number line GrantForm old rest input same took few short (says_so GrantForm (λ is. cc) says)
+at_ended es started number line BadTag old rest input same took few short says = at_fault es started number line BadTag old rest input same took few short (says_so BadTag (λ is. cc) says)
+at_ended es started number line (BadWord place) old rest input same took few short says = at_fault es started number line (BadWord place) old rest input same took few short (says_so (BadWord place) (λ is. cc) says)
+at_ended es started number line SysAfterStart old rest input same took few short says = at_fault es started number line SysAfterStart old rest input same took few short (says_so SysAfterStart (λ is. cc) says)

@@ -1,9 +1,12 @@
 -- What the whole input of `live` says: the events of its lines, in order, up to where they end.
-use Rattle.std.specs.Prelude.{◌≡◌, ℕ, ◌+◌, List, [], ◌∷◌, ◌++◌, length, Bool, true, false, ◌||◌, nat_lt, Option, Some, None, Result, Ok, Err, if◌then◌else◌}
+use Rattle.std.specs.Prelude.{◌≡◌, ℕ, ◌+◌, List, [], ◌∷◌, ◌++◌, length, Bool, true, false, ◌||◌, nat_lt, Some, None, Result, Ok, Err, if◌then◌else◌}
 use Rattle.zn_base.specs.Lines.{lines_of}
 use Rattle.trace_text.specs.Lines.{Said}
 use Rattle.trace_text.specs.Live.{live_of}
 use Rattle.trace_text.specs.declared.fault.LineFault.{LineFault}
+use Rattle.trace_text.specs.declared.fault.LineFault.TheVariants.{Memory as No_memory}
+use Rattle.input_lines.specs.declared.lines.ReadFault.{ReadFault}
+use Rattle.input_lines.specs.declared.lines.ReadFault.TheVariants.{Memory}
 use Rattle.zone_cases.specs.declared.events.Event.{Event}
 use Rattle.zone_cases.specs.declared.events.Event.TheVariants.{Process, Restart, Session, System, Turn}
 use Rattle.live_input.specs.declared.reading.Ending.{Ending}
@@ -59,3 +62,8 @@ abbrev pub Puts : Said → (started now : Bool) → (old new : List Event) → T
 Puts (Ok None) started now old new = (now ≡ started) × (new ≡ old)
 Puts (Ok (Some e)) started now old new = (now ≡ (started || is_typed e)) × (new ≡ old ++ e ∷ [])
 Puts (Err fault) started now old new = ⊥
+
+-- what a line that can't be read ends the input with, or that memory ran out, which is no ending
+abbrev pub ended_at : ℕ → LineFault → Result Ending ReadFault
+ended_at number No_memory = Err Memory
+ended_at number fault = Ok (Grammar number fault)

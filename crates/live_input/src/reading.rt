@@ -1,11 +1,11 @@
 //! The lines of an input are read as events, in order, up to where they end.
-ghost use Rattle.std.specs.Prelude.{◌≡◌, ◌≢◌, ◌≤◌, [], Err, IfErr, IfOk, IfSome, IsErrOf, OnErr, length};
+ghost use Rattle.std.specs.Prelude.{◌≡◌, ◌⊎◌, ◌≤◌, ◌++◌, ◌∷◌, [], Err, IfErr, IfOk, IfSome, IsErrOf, OnErr, OnOk, length};
 ghost use Rattle.zn_io.specs.Streams.{Rose};
 ghost use Rattle.trace_text.specs.Live.{live_of};
-ghost use Rattle.live_input.specs.Input.{Puts, input_of, is_typed};
+ghost use Rattle.live_input.specs.Input.{Puts, ended_at, input_of, is_typed};
 
 use input_lines::{Ahead, Got, ReadFault, next_line};
-use std::alloc::Global;
+use std::alloc::{AllocError, Global};
 use trace_text::{LineFault, read_live};
 use zn_io::Source;
 use zone_cases::Event;
@@ -31,6 +31,13 @@ fn is_typed(event: &Event) -> bool
     matches!(event, Event::Session { .. })
 }
 
+fn put(events: &mut Vec<Event>, event: Event) -> Result<(), AllocError>
+    ensures ok { OnOk result (events.new.items ≡ events.old.items ++ event ∷ []) }
+    ensures same { OnErr result (events.new.items ≡ events.old.items) }
+{
+    Ok(events.push(event)?)
+}
+
 // Puts the event that a line says, if it says one, after others, of which a session typed one or not. Answers whether one did
 // by now.
 fn put_line(
@@ -41,16 +48,26 @@ fn put_line(
 ) -> Result<bool, LineFault>
     requires { length line.now ≤ 4200 }
     ensures ok { IfOk result (λ now. Puts (live_of started line.now) started now events.old.items events.new.items) }
-    ensures err { IfErr result (λ fault. fault ≢ LineFault.Memory → live_of started line.now ≡ Err fault) }
+    ensures err { IfErr result (λ fault. (fault ≡ LineFault.Memory) ⊎ (live_of started line.now ≡ Err fault)) }
     ensures same { OnErr result (events.new.items ≡ events.old.items) }
 {
     match read_live(alloc, line, started)? {
         Some(event) => {
             let now = started || is_typed(&event);
-            events.push(event)?;
+            put(events, event)?;
             Ok(now)
         }
         None => Ok(started),
+    }
+}
+
+// What a line that can't be read ends the input with.
+fn ended_at(number: u64, fault: LineFault) -> Result<Ending, ReadFault>
+    ensures { result ≡ ended_at number fault }
+{
+    match fault {
+        LineFault::Memory => Err(ReadFault::Memory),
+        fault => Ok(Ending::Grammar(number, fault)),
     }
 }
 
@@ -77,8 +94,7 @@ pub fn read_lines<S: Source>(
         }
         match put_line(alloc, &line, started, events) {
             Ok(now) => started = now,
-            Err(LineFault::Memory) => return Err(ReadFault::Memory),
-            Err(fault) => return Ok(Ending::Grammar(before + 1, fault)),
+            Err(fault) => return ended_at(before + 1, fault),
         }
     }
     if ahead.refill(source)? {

@@ -1,4 +1,4 @@
-use Rattle.std.proofs.Common.{◌≡◌, ◌+◌, ◌≤◌}
+use Rattle.std.proofs.Common.{◌+◌, ◌≤◌}
 use Rattle.input_lines.specs.Reading.{lines_left}
 use Rattle.live_input.proofs.Further.{To_come}
 use Rattle.live_input.proofs.reading.read_lines.Given as goal
