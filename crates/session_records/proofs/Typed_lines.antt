@@ -59,7 +59,7 @@ use Rattle.zone_cases.specs.declared.replies.Body.{Body}
 use Rattle.zone_cases.specs.declared.replies.Head.{Head}
 use Rattle.zone_cases.specs.declared.replies.Head.TheVariants.{Ok, Refused, Ticket}
 use Rattle.zone_cases.specs.declared.replies.Refusal.{Refusal}
-use Rattle.zone_cases.specs.declared.replies.Refusal.TheVariants.{Changed, Denied, DeskFull, DeskInUse, Flawed, WrongState}
+use Rattle.zone_cases.specs.declared.replies.Refusal.TheVariants.{Changed, Denied, DeskFull, DeskInUse, Flawed, NoZone, WrongState}
 use Rattle.zone_cases.specs.declared.replies.Reply.{Reply}
 use Rattle.zone_machine.proofs.Turned_laws.{In, in-act}
 use Rattle.zone_machine.specs.Machine.{decide, one, one_of, subject}
@@ -238,7 +238,7 @@ quiet-removes : (told : List (List ℕ)) (t : Typist) → In Quiet (removes told
 quiet-removes told t = (λ pool. quiet-refuses t (Denied pool) told, λ n. quiet-goes t told)
 
 quiet-delete : (seen : ℕ) (d : Desk) (stored : Option Record) (told : List (List ℕ)) (t : Typist) → In Quiet (delete seen d stored told t)
-quiet-delete seen d None told t = quiet-refuses t _ told
+quiet-delete seen d None told t = quiet-refuses t NoZone told
 quiet-delete seen d (Some row) told t =
     quiet-if (row.revision == seen) _ _
     (quiet-if (not (is_configured (state_now row d))) _ _ (quiet-refuses t (WrongState (state_now row d)) told) (quiet-if (has_request d) _ _ (quiet-refuses t DeskInUse told) (quiet-removes told t)))
