@@ -33,7 +33,7 @@ use Rattle.session_records.specs.Records.{Awaited, Scripts, awaited, ends, ends_
 use Rattle.session_records.specs.Scripts.{Progress, after_line, begun, keeps_scripts, may_come, may_come_by, noted, progress_after, waits_after}
 
 -- whoever waits by its progress does so in the state
-abbrev AllWait : (ℕ → Progress) → State → Type 0
+abbrev pub AllWait : (ℕ → Progress) → State → Type 0
 AllWait p S = (n : ℕ) (w : Awaited) → (p n).waits ≡ Some w → S.sessions n ≡ At w.zone (Awaiting w.ticket)
 
 -- the one or the other
@@ -88,7 +88,7 @@ module _ (p : ℕ → Progress) (S : State) (all : AllWait p S) (g : Grant) (n :
   by-event (System what) s k whose told may is = absurd (false≢true may)
   by-event Restart s k whose told may is = absurd (false≢true may)
 
-wait-on : (p : ℕ → Progress) (S : State) (e : Entry) → is_told S e ≡ true → may_come p e ≡ true → AllWait p S → AllWait (noted p e) (after_entry S e)
+pub wait-on : (p : ℕ → Progress) (S : State) (e : Entry) → is_told S e ≡ true → may_come p e ≡ true → AllWait p S → AllWait (noted p e) (after_entry S e)
 unfolding noted may_come
 wait-on p S e told may all n w is =
     let parts = and_parts (same_subject e.subject (subject S e.event)) (same_reply e.reply (one S e.event e.grant).reply) told in
@@ -117,18 +117,24 @@ busy : (r : TurnReply) → says (Told r) ≢ says (Told No_work) → not (is_idl
 busy No_work other = absurd (other refl)
 busy _ other = refl
 
-pub turn-works : (brands : List Tabled) (R : List Commit) (first : List Entry) (scripts : Scripts) (h : List Entry) (n : ℕ) (w : Awaited) (e : Entry)
-    → is_legal (after (opening brands R) first) h ≡ true → keeps_scripts scripts h ≡ true → (folded noted (begun scripts) h n).waits ≡ Some w
-    → e.event ≡ Turn w.zone → is_told (after (after (opening brands R) first) h) e ≡ true → may_come (folded noted (begun scripts) h) e ≡ true
+-- so a turn of the daemon for which a session waits may come
+pub waiting-works : (brands : List Tabled) (R : List Commit) (h : List Entry) (p : ℕ → Progress) (n : ℕ) (w : Awaited) (e : Entry)
+    → (let S = after (opening brands R) h in S.sessions n ≡ At w.zone (Awaiting w.ticket) → e.event ≡ Turn w.zone → is_told S e ≡ true → may_come p e ≡ true)
 unfolding may_come
-turn-works brands R first scripts h n w e legal keeps waits turns told =
-    let S = after (after (opening brands R) first) h in
-    let there = session-waits (after (opening brands R) first) scripts h n w legal keeps waits in
-    let same = after-append (opening brands R) first h in
-    let awake : (one S (Turn w.zone) e.grant).reply ≢ says (Told No_work) =
-        subst (λ (T : State). (one T (Turn w.zone) e.grant).reply ≢ says (Told No_work)) same (awake-history w.zone brands R (first ++ h) n w.ticket e.grant (subst (λ (T : State). T.sessions n ≡ At w.zone (Awaiting w.ticket)) (sym same) there)) in
+waiting-works brands R h p n w e there turns told =
+    let S = after (opening brands R) h in
+    let awake = awake-history w.zone brands R h n w.ticket e.grant there in
     let reply : e.reply ≡ says (Told (turn_act (world w.zone S) e.grant).effect.reply) =
         (reply-Decides e.reply (one S e.event e.grant).reply).0 (and_parts (same_subject e.subject (subject S e.event)) (same_reply e.reply (one S e.event e.grant).reply) told).1
         ∙ (ap (λ x. (one S x e.grant).reply) turns ∙ turn-reply w.zone S e.grant) in
-    ap (λ x. may_come_by (folded noted (begun scripts) h) x e.reply.head) turns
+    ap (λ x. may_come_by p x e.reply.head) turns
     ∙ (ap (λ (r : Reply). not (is_idle_head r.head)) reply ∙ busy (turn_act (world w.zone S) e.grant).effect.reply (λ idle. awake (turn-reply w.zone S e.grant ∙ idle)))
+
+pub turn-works : (brands : List Tabled) (R : List Commit) (first : List Entry) (scripts : Scripts) (h : List Entry) (n : ℕ) (w : Awaited) (e : Entry)
+    → is_legal (after (opening brands R) first) h ≡ true → keeps_scripts scripts h ≡ true → (folded noted (begun scripts) h n).waits ≡ Some w
+    → e.event ≡ Turn w.zone → is_told (after (after (opening brands R) first) h) e ≡ true → may_come (folded noted (begun scripts) h) e ≡ true
+turn-works brands R first scripts h n w e legal keeps waits turns told =
+    let same = sym (after-append (opening brands R) first h) in
+    waiting-works brands R (first ++ h) (folded noted (begun scripts) h) n w e
+    (subst (λ (T : State). T.sessions n ≡ At w.zone (Awaiting w.ticket)) same (session-waits (after (opening brands R) first) scripts h n w legal keeps waits)) turns
+    (subst (λ (T : State). is_told T e ≡ true) same told)
