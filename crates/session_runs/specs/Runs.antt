@@ -1,14 +1,16 @@
 -- A record that goes on: what a run adds to its entries, what the machine stands for then, and what the disk has.
-use Rattle.std.specs.Prelude.{◌≡◌, ◌≤◌, ◌++◌, [], ℕ, List, None, Some, length, true}
+use Rattle.std.specs.Prelude.{◌≡◌, ◌≤◌, ◌++◌, ◌∷◌, [], ℕ, List, None, Some, length, true}
 use Rattle.brand_hooks.specs.Brands.{Tabled}
 use Rattle.commit_journal.specs.declared.records.Commit.{Commit}
 use Rattle.zn_io.specs.Disk.{Leaves, View}
 use Rattle.zone_cases.specs.State.{At, Awaiting, State}
 use Rattle.zone_cases.specs.declared.events.Entry.{Entry}
+use Rattle.zone_cases.specs.declared.events.Event.{Event}
 use Rattle.zone_machine.specs.Machine.{opening}
 use Rattle.zone_machine.specs.Machine.Changes.{HoldsFront}
-use Rattle.zone_machine.specs.Machine.Histories.{after, is_legal}
+use Rattle.zone_machine.specs.Machine.Histories.{after, after_entry, entry_at, is_legal}
 use Rattle.zone_machine.specs.Machine.Images.{HoldsEither}
+use Rattle.zone_machine.specs.Machine.Pools.{allowed}
 use Rattle.zone_machine.specs.declared.faults.StepFault.{StepFault}
 use Rattle.zone_machine.specs.declared.faults.StepFault.TheVariants.{Memory}
 use Rattle.session_records.specs.Folds.{all_right, folded}
@@ -31,7 +33,7 @@ pub record IsUnderWay (S : State) (scripts : List Script) (far : List Far) (h : 
   pub reached : IsReached S
   pub part : IsPartial S (scripts_of scripts) h
   pub far_by : AreFar scripts far (folded noted (begun (scripts_of scripts)) h)
-  pub stands : stands (after S h)
+  pub stood : stands (after S h)
 
 -- what the disk has of entries from a state on, and of those of an event that was under way when the disk failed: an image of any moment
 -- meanwhile stands for the commits of the state and those of a front of these, and one of now for those of all that were answered, or
@@ -48,7 +50,7 @@ pub record IsOver (S : State) (scripts : Scripts) (old new : List Entry) (stands
   pub more : List Entry
   pub whole : new ≡ old ++ more
   pub all : IsRecord S scripts new
-  pub stands : stands (after S new)
+  pub stood : stands (after S new)
   pub left : LeavesFront (after S old) more [] v w
 
 -- a fault ended it: with some entries more it is still a part of a record. The machine stands for the state after it where memory ran
@@ -57,7 +59,7 @@ pub record IsCut (fault : StepFault) (S : State) (scripts : Scripts) (old new : 
   pub more : List Entry
   pub whole : new ≡ old ++ more
   pub part : IsPartial S scripts new
-  pub stands : fault ≡ Memory → stands (after S new)
+  pub stood : fault ≡ Memory → stands (after S new)
   pub under_way : List Entry
   pub settled : fault ≡ Memory → under_way ≡ []
   pub left : LeavesFront (after S old) more under_way v w
@@ -67,7 +69,7 @@ pub record IsMidway (S : State) (p : ℕ → Progress) (scripts : List Script) (
   pub reached : IsReached S
   pub waits : (n : ℕ) (w : Awaited) → (p n).waits ≡ Some w → S.sessions n ≡ At w.zone (Awaiting w.ticket)
   pub far_by : AreFar scripts far p
-  pub stands : stands S
+  pub stood : stands S
 
 -- some entries more, each of which might come
 pub record Adds (S : State) (p : ℕ → Progress) (old new : List Entry) (ends : List Entry → Type 0) : Type 0 where
@@ -75,7 +77,7 @@ pub record Adds (S : State) (p : ℕ → Progress) (old new : List Entry) (ends 
   pub whole : new ≡ old ++ more
   pub legal : is_legal S more ≡ true
   pub keeps : all_right may_come noted p more ≡ true
-  pub ends : ends more
+  pub ended : ends more
 
 -- after which it goes on
 pub record GoesOn (S : State) (p : ℕ → Progress) (scripts : List Script) (far : List Far) (stands : State → Type 0) (v w : View) (more : List Entry) : Type 0 where
@@ -84,7 +86,7 @@ pub record GoesOn (S : State) (p : ℕ → Progress) (scripts : List Script) (fa
 
 -- or a fault ended it
 pub record Halts (fault : StepFault) (S : State) (stands : State → Type 0) (v w : View) (more : List Entry) : Type 0 where
-  pub stands : fault ≡ Memory → stands (after S more)
+  pub stood : fault ≡ Memory → stands (after S more)
   pub under_way : List Entry
   pub settled : fault ≡ Memory → under_way ≡ []
   pub left : LeavesFront S more under_way v w
@@ -98,3 +100,9 @@ AddsUpTo fault S p old new stands v w = Adds S p old new (Halts fault S stands v
 -- a session is done
 abbrev pub HasDone : Progress → Type 0
 HasDone q = (q.left ≡ []) × (q.waits ≡ None)
+
+-- an event was answered under the grant that the pools give it
+pub record Takes (S : State) (x : Event) (e : Entry) (stands : State → Type 0) (v w : View) : Type 0 where
+  pub told : e ≡ entry_at S x (allowed S x)
+  pub stood : stands (after_entry S e)
+  pub left : LeavesFront S (e ∷ []) [] v w

@@ -81,7 +81,7 @@ pub(crate) fn note_turn(far: &mut Vec<Far>, entry: &Entry)
 }
 
 /// What a session waits for whose line was answered so.
-pub(crate) fn awaited(alloc: Global, entry: &Entry) -> Result<Option<Awaited>, AllocError>
+pub(crate) fn given_ticket(alloc: Global, entry: &Entry) -> Result<Option<Awaited>, AllocError>
     ensures { IfOk result (λ waits. waits_of waits ≡ awaited entry.now.subject entry.now.reply.head) }
 {
     match (&entry.subject, &entry.reply.head) {

@@ -1,0 +1,4 @@
+pub mod Histories
+pub mod Adding
+pub mod Far_laws
+pub mod Stepping
