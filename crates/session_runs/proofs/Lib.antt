@@ -2,3 +2,4 @@ pub mod Histories
 pub mod Adding
 pub mod Far_laws
 pub mod Stepping
+pub mod Machine_steps

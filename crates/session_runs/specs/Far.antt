@@ -15,6 +15,10 @@ abbrev pub scripts_of : List Script → Scripts
 scripts_of [] n = []
 scripts_of (s ∷ ss) n = if nat_eq n s.session then s.lines.items else scripts_of ss n
 
+-- this stands at an index of a list
+abbrev pub IsAt : {A : Type 0} → List A → ℕ → A → Type 0
+IsAt {A} xs i x = (d : A) → slice_index_or xs i d ≡ x
+
 -- no two scripts are of one session
 abbrev pub Differ : List Script → Type 0
 Differ scripts = (i j : ℕ) (s : Script) → i < length scripts → j < length scripts → (slice_index_or scripts i s).session ≡ (slice_index_or scripts j s).session → i ≡ j

@@ -2,7 +2,7 @@
 ghost use Rattle.std.specs.Prelude.{◌≡◌, ◌<◌, ℕ, IfOk, length, slice_index_or};
 ghost use Rattle.session_records.specs.Records.{awaited, ends, ends_head};
 ghost use Rattle.session_runs.specs.Far.{far_after, wait_of, waits_of};
-ghost use Rattle.session_runs.specs.declared.far.Far as declared;
+ghost use Rattle.session_runs.specs.declared.far.Far.{Far as Far_of};
 ghost use Rattle.zone_machine.specs.Machine.Local.{is_turn_of};
 
 use std::alloc::{AllocError, Global};
@@ -73,7 +73,7 @@ fn note_one(far: &mut Far, entry: &Entry)
 /// Notes a turn for each script.
 pub(crate) fn note_turn(far: &mut Vec<Far>, entry: &Entry)
     ensures len { length far.new.items ≡ length far.old.items }
-    ensures each { (i : ℕ) (f : declared.Far) → i < length far.old.items → slice_index_or far.new.items i f ≡ far_after entry.now (slice_index_or far.old.items i f) }
+    ensures each { (i : ℕ) (f : Far_of) → i < length far.old.items → slice_index_or far.new.items i f ≡ far_after entry.now (slice_index_or far.old.items i f) }
 {
     for one in far.iter_mut() {
         note_one(one, entry);

@@ -2,10 +2,10 @@
 ghost use Rattle.std.specs.Prelude.{◌≡◌, ◌⊎◌, ◌≤◌, ◌<◌, ℕ, IfErr, IsErrOf, List, None, OnOk, false, length, slice_index_or};
 ghost use Rattle.zn_io.specs.Streams.{Rose};
 ghost use Rattle.session_records.specs.Scripts.{Progress};
-ghost use Rattle.session_runs.specs.Far.{Differ, scripts_of};
+ghost use Rattle.session_runs.specs.Far.{Differ, IsAt, scripts_of};
 ghost use Rattle.session_runs.specs.Runs.{AddsOn, AddsUpTo, IsCut, IsMidway, IsOver, IsUnderWay};
-ghost use Rattle.session_runs.specs.declared.far.Far as far;
-ghost use Rattle.session_runs.specs.declared.far.Script as script;
+ghost use Rattle.session_runs.specs.declared.far.Far.{Far as Far_of};
+ghost use Rattle.session_runs.specs.declared.far.Script.{Script as Script_of};
 ghost use Rattle.zone_cases.specs.State.{State};
 ghost use Rattle.zone_machine.specs.Code.Decided.{AsksBrands, MayGoOn};
 ghost use Rattle.zone_machine.specs.Code.Openings.{StandsFor};
@@ -32,11 +32,11 @@ fn until_answered<W: Wait, D: Disk, F: Fn(&Change) -> HookAnswer>(
     requires at { at < length far.old.items }
     requires asks { AsksBrands F.Fn machine.old }
     requires ready { MayGoOn D.view machine.old }
-    ensures adds { (S : State) (p : ℕ → Progress) (scripts : List script.Script) → IsMidway S p scripts far.old.items (λ T. StandsFor T machine.old)
+    ensures adds { (S : State) (p : ℕ → Progress) (scripts : List Script_of) → IsMidway S p scripts far.old.items (λ T. StandsFor T machine.old)
         → OnOk result (AddsOn S p scripts far.new.items entries.old.items entries.new.items (λ T. StandsFor T machine.new) (D.view machine.old.bank.disk) (D.view machine.new.bank.disk)) }
-    ensures halts { (S : State) (p : ℕ → Progress) (scripts : List script.Script) → IsMidway S p scripts far.old.items (λ T. StandsFor T machine.old)
+    ensures halts { (S : State) (p : ℕ → Progress) (scripts : List Script_of) → IsMidway S p scripts far.old.items (λ T. StandsFor T machine.old)
         → IfErr result (λ fault. AddsUpTo fault S p entries.old.items entries.new.items (λ T. StandsFor T machine.new) (D.view machine.old.bank.disk) (D.view machine.new.bank.disk)) }
-    ensures answered { OnOk result ((f : far.Far) → slice_index_or far.new.items at f ≡ record { done = (slice_index_or far.old.items at f).done; awaits = None }) }
+    ensures answered { OnOk result ((f : Far_of) → slice_index_or far.new.items at f ≡ record { done = (slice_index_or far.old.items at f).done; awaits = None }) }
     ensures len { length far.new.items ≡ length far.old.items }
     ensures only { IfErr result (λ fault. (fault ≡ StepFault.Memory) ⊎ (fault ≡ StepFault.DiskFault)) }
     ensures ready { OnOk result (MayGoOn D.view machine.new) }
@@ -68,11 +68,11 @@ fn run_script<W: Wait, D: Disk, F: Fn(&Change) -> HookAnswer>(
     requires at { at < length far.old.items }
     requires asks { AsksBrands F.Fn machine.old }
     requires ready { MayGoOn D.view machine.old }
-    ensures adds { (S : State) (p : ℕ → Progress) (scripts : List script.Script) → IsMidway S p scripts far.old.items (λ T. StandsFor T machine.old) → Differ scripts → slice_index_or scripts at script.now ≡ script.now
+    ensures adds { (S : State) (p : ℕ → Progress) (scripts : List Script_of) → IsMidway S p scripts far.old.items (λ T. StandsFor T machine.old) → Differ scripts → IsAt scripts at script.now
         → OnOk result (AddsOn S p scripts far.new.items entries.old.items entries.new.items (λ T. StandsFor T machine.new) (D.view machine.old.bank.disk) (D.view machine.new.bank.disk)) }
-    ensures halts { (S : State) (p : ℕ → Progress) (scripts : List script.Script) → IsMidway S p scripts far.old.items (λ T. StandsFor T machine.old) → Differ scripts → slice_index_or scripts at script.now ≡ script.now
+    ensures halts { (S : State) (p : ℕ → Progress) (scripts : List Script_of) → IsMidway S p scripts far.old.items (λ T. StandsFor T machine.old) → Differ scripts → IsAt scripts at script.now
         → IfErr result (λ fault. AddsUpTo fault S p entries.old.items entries.new.items (λ T. StandsFor T machine.new) (D.view machine.old.bank.disk) (D.view machine.new.bank.disk)) }
-    ensures done { OnOk result ((f : far.Far) → (length script.now.lines.items ≤ (slice_index_or far.new.items at f).done) × ((slice_index_or far.new.items at f).awaits ≡ None)) }
+    ensures done { OnOk result ((f : Far_of) → (length script.now.lines.items ≤ (slice_index_or far.new.items at f).done) × ((slice_index_or far.new.items at f).awaits ≡ None)) }
     ensures len { length far.new.items ≡ length far.old.items }
     ensures only { IfErr result (λ fault. (fault ≡ StepFault.Memory) ⊎ (fault ≡ StepFault.DiskFault)) }
     ensures ready { OnOk result (MayGoOn D.view machine.new) }

@@ -3,10 +3,10 @@ ghost use Rattle.std.specs.Prelude.{◌≡◌, ◌≢◌, ◌⊎◌, ◌+◌, �
 ghost use Rattle.zn_io.specs.Streams.{Rose};
 ghost use Rattle.session_records.specs.Records.{Awaited};
 ghost use Rattle.session_records.specs.Scripts.{Progress};
-ghost use Rattle.session_runs.specs.Far.{Differ};
+ghost use Rattle.session_runs.specs.Far.{Differ, IsAt};
 ghost use Rattle.session_runs.specs.Runs.{AddsOn, AddsUpTo, Halts, IsMidway, Takes};
-ghost use Rattle.session_runs.specs.declared.far.Far as far;
-ghost use Rattle.session_runs.specs.declared.far.Script as script;
+ghost use Rattle.session_runs.specs.declared.far.Far.{Far as Far_of};
+ghost use Rattle.session_runs.specs.declared.far.Script.{Script as Script_of};
 ghost use Rattle.zone_cases.specs.Events.{is_restart};
 ghost use Rattle.zone_cases.specs.State.{State};
 ghost use Rattle.zone_machine.specs.Code.Decided.{AsksBrands, MayGoOn};
@@ -56,12 +56,12 @@ pub(crate) fn take_turn<D: Disk, F: Fn(&Change) -> HookAnswer>(
 ) -> Result<(), StepFault>
     requires asks { AsksBrands F.Fn machine.old }
     requires ready { MayGoOn D.view machine.old }
-    ensures adds { (S : State) (p : ℕ → Progress) (scripts : List script.Script) (n : ℕ) (w : Awaited) → IsMidway S p scripts far.old.items (λ T. StandsFor T machine.old) → (p n).waits ≡ Some w → w.zone ≡ zone
+    ensures adds { (S : State) (p : ℕ → Progress) (scripts : List Script_of) (n : ℕ) (w : Awaited) → IsMidway S p scripts far.old.items (λ T. StandsFor T machine.old) → (p n).waits ≡ Some w → w.zone ≡ zone
         → OnOk result (AddsOn S p scripts far.new.items entries.old.items entries.new.items (λ T. StandsFor T machine.new) (D.view machine.old.bank.disk) (D.view machine.new.bank.disk)) }
-    ensures halts { (S : State) (p : ℕ → Progress) (scripts : List script.Script) → IsMidway S p scripts far.old.items (λ T. StandsFor T machine.old)
+    ensures halts { (S : State) (p : ℕ → Progress) (scripts : List Script_of) → IsMidway S p scripts far.old.items (λ T. StandsFor T machine.old)
         → IfErr result (λ fault. AddsUpTo fault S p entries.old.items entries.new.items (λ T. StandsFor T machine.new) (D.view machine.old.bank.disk) (D.view machine.new.bank.disk)) }
     ensures len { length far.new.items ≡ length far.old.items }
-    ensures done { (i : ℕ) (f : far.Far) → i < length far.old.items → (slice_index_or far.new.items i f).done ≡ (slice_index_or far.old.items i f).done }
+    ensures done { (i : ℕ) (f : Far_of) → i < length far.old.items → (slice_index_or far.new.items i f).done ≡ (slice_index_or far.old.items i f).done }
     ensures only { IfErr result (λ fault. (fault ≡ StepFault.Memory) ⊎ (fault ≡ StepFault.DiskFault)) }
     ensures ready { OnOk result (MayGoOn D.view machine.new) }
     ensures memory { IsErrOf result StepFault.Memory → MayGoOn D.view machine.new }
@@ -89,14 +89,14 @@ pub(crate) fn type_line<D: Disk, F: Fn(&Change) -> HookAnswer>(
     requires at { at < length far.old.items }
     requires asks { AsksBrands F.Fn machine.old }
     requires ready { MayGoOn D.view machine.old }
-    ensures adds { (S : State) (p : ℕ → Progress) (scripts : List script.Script) → IsMidway S p scripts far.old.items (λ T. StandsFor T machine.old) → Differ scripts → slice_index_or scripts at script.now ≡ script.now
-        → ((f : far.Far) → slice_index_or far.old.items at f ≡ record { done = number; awaits = None })
+    ensures adds { (S : State) (p : ℕ → Progress) (scripts : List Script_of) → IsMidway S p scripts far.old.items (λ T. StandsFor T machine.old) → Differ scripts → IsAt scripts at script.now
+        → IsAt far.old.items at (record { done = number; awaits = None })
         → OnOk result (AddsOn S p scripts far.new.items entries.old.items entries.new.items (λ T. StandsFor T machine.new) (D.view machine.old.bank.disk) (D.view machine.new.bank.disk)) }
-    ensures halts { (S : State) (p : ℕ → Progress) (scripts : List script.Script) → IsMidway S p scripts far.old.items (λ T. StandsFor T machine.old) → Differ scripts → slice_index_or scripts at script.now ≡ script.now
-        → ((f : far.Far) → slice_index_or far.old.items at f ≡ record { done = number; awaits = None })
+    ensures halts { (S : State) (p : ℕ → Progress) (scripts : List Script_of) → IsMidway S p scripts far.old.items (λ T. StandsFor T machine.old) → Differ scripts → IsAt scripts at script.now
+        → IsAt far.old.items at (record { done = number; awaits = None })
         → IfErr result (λ fault. AddsUpTo fault S p entries.old.items entries.new.items (λ T. StandsFor T machine.new) (D.view machine.old.bank.disk) (D.view machine.new.bank.disk)) }
     ensures len { length far.new.items ≡ length far.old.items }
-    ensures done { OnOk result ((f : far.Far) → (slice_index_or far.new.items at f).done ≡ number + 1) }
+    ensures done { OnOk result ((f : Far_of) → (slice_index_or far.new.items at f).done ≡ number + 1) }
     ensures only { IfErr result (λ fault. (fault ≡ StepFault.Memory) ⊎ (fault ≡ StepFault.DiskFault)) }
     ensures ready { OnOk result (MayGoOn D.view machine.new) }
     ensures memory { IsErrOf result StepFault.Memory → MayGoOn D.view machine.new }
