@@ -138,3 +138,16 @@ has-script (x ∷ scripts) n = at_test (nat_eq n x.session) refl (has-script scr
     at_test true t rest = inr (0, (omega arith, λ s. sym (eqb-true n x.session t)))
     at_test false t (inl none) = inl (rw t none)
     at_test false t (inr (i, (near, is))) = inr (suc i, (omega (arith, near), λ s. is s))
+
+-- some element of a list that has one
+some-of : {A : Type 0} (xs : List A) (i : ℕ) → i < length xs → A
+some-of [] i near = absurd (omega (arith, near))
+some-of (x ∷ xs) i near = x
+
+-- whose script waits, that session waits
+pub waits-at : (scripts : List Script) (far : List Far) (p : ℕ → Progress) (at : ℕ) (f : Far) (a : Awaited) → AreFar scripts far p → at < length far → slice_index_or far at f ≡ f → f.awaits ≡ Some a → (n : ℕ) × ((p n).waits ≡ Some (wait_of a))
+waits-at scripts far p at f a is near here waits =
+    let s = some-of scripts at (omega (arith, near, is.same)) in (
+      (slice_index_or scripts at s).session,
+      ap (λ (q : Progress). q.waits) (is.each at s f (omega (arith, near, is.same))) ∙ (ap (λ (f : Far). waits_of f.awaits) here ∙ ap waits_of waits),
+    )

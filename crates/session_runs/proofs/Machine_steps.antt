@@ -1,6 +1,6 @@
 -- What a step of the machine comes to that is no restart.
 use Rattle.std.proofs.Common.{◌≡◌, ◌⊎◌, ◌++◌, ◌∷◌, [], ℕ, List, Bool, Option, Some, None, Result, Ok, Err, true, false, ap, arith, inl, inr, refl, subst, sym, ◌∙◌}
-use Rattle.std.specs.Prelude.{IfErr, IfOk, IsErrOf, OnOk}
+use Rattle.std.specs.Prelude.{IfErr, IfOk, IsErrAnd, IsErrOf, OnOk}
 use Rattle.std.proofs.lemmas.Bool.{false≢true}
 use Rattle.zn_io.proofs.Moments.{weaker}
 use Rattle.zn_io.specs.Disk.{IsSound, View}
@@ -27,9 +27,12 @@ use Rattle.zone_machine.specs.declared.faults.StepFault.{StepFault}
 use Rattle.zone_machine.specs.declared.faults.StepFault.TheVariants.{BadGrant, DiskFault, Memory, NoStore, WouldRecord}
 use Rattle.zone_machine.specs.declared.machine.Machine.{Machine}
 use Rattle.zone_machine.specs.declared.machine.shared.Shared.{Shared}
-use Rattle.session_runs.proofs.Adding.{leaves-none}
+use Rattle.session_records.specs.Scripts.{Progress}
+use Rattle.session_runs.proofs.Adding.{adds-none, leaves-none}
 use Rattle.session_runs.proofs.Histories.{front-one, legal-entry}
-use Rattle.session_runs.specs.Runs.{Halts, LeavesFront, Takes}
+use Rattle.session_runs.specs.Runs.{AddsOn, AddsUpTo, GoesOn, Halts, IsMidway, LeavesFront, Takes}
+use Rattle.session_runs.specs.declared.far.Far.{Far}
+use Rattle.session_runs.specs.declared.far.Script.{Script}
 
 -- of an event that is no restart nothing more is asked, and it finds no other store
 finds-other : (e : Event) (v : View) (bodies : List (List ℕ)) (S : State) → is_restart e ≡ false → FindsAgain e v bodies S
@@ -178,3 +181,26 @@ module _ {D F : Type 0} (view : D → View) (x : Event) (r : Result Entry StepFa
 pub err-all : {A E : Type 0} (r : Result A E) (P : E → Type 0) → ((e : E) → P e) → IfErr r P
 err-all (Ok a) P holds = tt
 err-all (Err e) P holds = holds e
+
+-- nothing was done yet, and it goes on
+pub on-none : {D F : Type 0} (view : D → View) (S : State) (p : ℕ → Progress) (scripts : List Script) (far : List Far) (old : List Entry) (m : Machine D F) → IsMidway S p scripts far (λ T. StandsFor T m) → IsSound (view m.bank.disk) → IsReady (view m.bank.disk) m.bank m.parts.shared
+    → AddsOn S p scripts far old old (λ T. StandsFor T m) (view m.bank.disk) (view m.bank.disk)
+on-none view S p scripts far old m is sound ready =
+    let v = view m.bank.disk in adds-none S p old (GoesOn S p scripts far (λ T. StandsFor T m) v v) (record { midway = is; left = leaves-none S v sound (λ k. ready-holds S m v is.stood ready k) })
+
+-- nor was anything when a fault ended it
+pub up-to-none : {D F : Type 0} (view : D → View) (S : State) (p : ℕ → Progress) (old : List Entry) (m : Machine D F) (fault : StepFault) → StandsFor S m → IsSound (view m.bank.disk) → IsReady (view m.bank.disk) m.bank m.parts.shared
+    → AddsUpTo fault S p old old (λ T. StandsFor T m) (view m.bank.disk) (view m.bank.disk)
+up-to-none view S p old m fault stands sound ready =
+    let v = view m.bank.disk in adds-none S p old (Halts fault S (λ T. StandsFor T m) v v) (halts-none view S m fault stands sound ready)
+
+-- the fault that is handed on
+pub err-from : {A E : Type 0} (r : Result A E) (P : E → Type 0) (e : E) → IsErrAnd r (λ y. y ≡ e) → P e → IfErr r P
+err-from (Ok a) P e is holds = absurd is
+err-from (Err y) P e is holds = subst P (sym is) holds
+
+pub passes-none : (v : View) → Passes v v
+passes-none v = record { model = (λ k. k, λ k. k); faults = omega arith }
+
+pub passes-on : (u v w : View) → Passes u v → Passes v w → Passes u w
+passes-on u v w a b = record { model = (λ k. b.model.0 (a.model.0 k), λ k. a.model.1 (b.model.1 k)); faults = omega (arith, a.faults, b.faults) }
