@@ -15,7 +15,7 @@ use Rattle.session_records.specs.Folds.{all_right, folded}
 use Rattle.session_records.specs.Records as records
 use Rattle.session_records.specs.Records.{awaited, ends}
 use Rattle.session_records.specs.Scripts.{Progress, is_first, may_come, may_come_by, noted, progress_after, waits_after}
-use Rattle.session_runs.specs.Far.{AreFar, Differ, awaits_after, far_after, progress_of, scripts_of, wait_of, waits_of}
+use Rattle.session_runs.specs.Far.{AreFar, Differ, IsAt, awaits_after, far_after, progress_of, scripts_of, wait_of, waits_of}
 use Rattle.session_runs.specs.Runs.{HasDone}
 use Rattle.session_runs.specs.declared.far.Awaited.{Awaited}
 use Rattle.session_runs.specs.declared.far.Far.{Far}
@@ -151,3 +151,8 @@ waits-at scripts far p at f a is near here waits =
       (slice_index_or scripts at s).session,
       ap (λ (q : Progress). q.waits) (is.each at s f (omega (arith, near, is.same))) ∙ (ap (λ (f : Far). waits_of f.awaits) here ∙ ap waits_of waits),
     )
+
+-- once a ticket was answered, a script is as far as it was, and its session waits for nothing
+pub answered-at : (old new : List Far) (at : ℕ) (f : Far) → at < length old → ((d : Far) → slice_index_or new at d ≡ record { done = (slice_index_or old at d).done; awaits = None }) → f ≡ slice_index_or new at f → IsAt new at (record { done = f.done; awaits = None })
+answered-at old new at f near answered here d =
+    answered d ∙ ap (λ n. record { done = n; awaits = None }) (ap (λ (f : Far). f.done) (same-at old at d f near) ∙ sym (ap (λ (f : Far). f.done) (here ∙ answered f)))

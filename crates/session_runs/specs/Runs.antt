@@ -1,5 +1,5 @@
 -- A record that goes on: what a run adds to its entries, what the machine stands for then, and what the disk has.
-use Rattle.std.specs.Prelude.{◌≡◌, ◌≤◌, ◌++◌, ◌∷◌, [], ℕ, List, None, Some, length, true}
+use Rattle.std.specs.Prelude.{◌≡◌, ◌<◌, ◌≤◌, ◌++◌, ◌∷◌, [], ℕ, List, None, Some, length, slice_index_or, true}
 use Rattle.brand_hooks.specs.Brands.{Tabled}
 use Rattle.commit_journal.specs.declared.records.Commit.{Commit}
 use Rattle.zn_io.specs.Disk.{Leaves, View}
@@ -106,3 +106,8 @@ pub record Takes (S : State) (x : Event) (e : Entry) (stands : State → Type 0)
   pub told : e ≡ entry_at S x (allowed S x)
   pub stood : stands (after_entry S e)
   pub left : LeavesFront S (e ∷ []) [] v w
+
+-- some entries more, after which the scripts before the one of a number are done
+pub record RunsBefore (at : ℕ) (S : State) (p : ℕ → Progress) (scripts : List Script) (far : List Far) (old new : List Entry) (stands : State → Type 0) (v w : View) : Type 0 where
+  pub adds : AddsOn S p scripts far old new stands v w
+  pub done : (i : ℕ) (s : Script) → i < at → i < length scripts → HasDone (folded noted p adds.more (slice_index_or scripts i s).session)
