@@ -60,31 +60,39 @@ module _ (S : State) (p : ℕ → Progress) (old : List Entry) where
 
   -- some came, and then more
   pub adds-more : (mid new : List Entry) (first last : List Entry → Type 0) → (a : Adds S p old mid first) → (next : List Entry → Type 0) → Adds (after S a.more) (folded noted p a.more) mid new next
-      → ((h : List Entry) → next h → last (a.more ++ h)) → Adds S p old new last
+      → ((h : List Entry) → all_right may_come noted (folded noted p a.more) h ≡ true → next h → last (a.more ++ h)) → Adds S p old new last
   adds-more mid new first last a next b lead = record {
     more = a.more ++ b.more;
     whole = b.whole ∙ ap (λ l. l ++ b.more) a.whole ∙ append_assoc old a.more b.more;
     legal = legal-append S a.more b.more a.legal b.legal;
     keeps = right-append may_come noted p a.more b.more a.keeps b.keeps;
-    ended = lead b.more b.ended;
+    ended = lead b.more b.keeps b.ended;
   }
+
+  -- the same entries, of which less is said
+  pub adds-of : (new : List Entry) (first last : List Entry → Type 0) → Adds S p old new first → ((h : List Entry) → first h → last h) → Adds S p old new last
+  adds-of new first last a lead = record { more = a.more; whole = a.whole; legal = a.legal; keeps = a.keeps; ended = lead a.more a.ended }
+
+-- it went on by some entries, and then by more
+pub goes-more : (S : State) (p : ℕ → Progress) (scripts : List Script) (far mid_far : List Far) (mid_stands stands : State → Type 0) (u v w : View) (g h : List Entry) → is_legal S g ≡ true → GoesOn S p scripts mid_far mid_stands u v g
+    → GoesOn (after S g) (folded noted p g) scripts far stands v w h → GoesOn S p scripts far stands u w (g ++ h)
+goes-more S p scripts far mid_far mid_stands stands u v w g h legal a b = record {
+  midway = subst (λ (T : State). IsMidway T (folded noted p (g ++ h)) scripts far stands) (sym (after-append S g h))
+      (subst (λ (q : ℕ → Progress). IsMidway (after (after S g) h) q scripts far stands) (sym (folded-append noted p g h)) b.midway);
+  left = leaves-more S g h [] u v w legal a.left b.left;
+}
 
 module _ (S : State) (p : ℕ → Progress) (scripts : List Script) (far mid_far : List Far) (old mid new : List Entry) (mid_stands stands : State → Type 0) (u v w : View) (a : AddsOn S p scripts mid_far old mid mid_stands u v) where
   -- it went on, and went on
   pub on-on : (IsMidway (after S a.more) (folded noted p a.more) scripts mid_far mid_stands → AddsOn (after S a.more) (folded noted p a.more) scripts far mid new stands v w) → AddsOn S p scripts far old new stands u w
   on-on next =
-      let b = next a.ended.midway in
-      adds-more S p old mid new (GoesOn S p scripts mid_far mid_stands u v) (GoesOn S p scripts far stands u w) a (GoesOn (after S a.more) (folded noted p a.more) scripts far stands v w) b (λ h g. record {
-        midway = subst (λ (T : State). IsMidway T (folded noted p (a.more ++ h)) scripts far stands) (sym (after-append S a.more h))
-            (subst (λ (q : ℕ → Progress). IsMidway (after (after S a.more) h) q scripts far stands) (sym (folded-append noted p a.more h)) g.midway);
-        left = leaves-more S a.more h [] u v w a.legal a.ended.left g.left;
-      })
+      adds-more S p old mid new (GoesOn S p scripts mid_far mid_stands u v) (GoesOn S p scripts far stands u w) a (GoesOn (after S a.more) (folded noted p a.more) scripts far stands v w) (next a.ended.midway)
+      (λ h keeps g. goes-more S p scripts far mid_far mid_stands stands u v w a.more h a.legal a.ended g)
 
   -- or a fault ended it then
   pub on-up-to : (fault : StepFault) → (IsMidway (after S a.more) (folded noted p a.more) scripts mid_far mid_stands → AddsUpTo fault (after S a.more) (folded noted p a.more) mid new stands v w) → AddsUpTo fault S p old new stands u w
   on-up-to fault next =
-      let b = next a.ended.midway in
-      adds-more S p old mid new (GoesOn S p scripts mid_far mid_stands u v) (Halts fault S stands u w) a (Halts fault (after S a.more) stands v w) b (λ h g. record {
+      adds-more S p old mid new (GoesOn S p scripts mid_far mid_stands u v) (Halts fault S stands u w) a (Halts fault (after S a.more) stands v w) (next a.ended.midway) (λ h keeps g. record {
         stood = λ is. subst stands (sym (after-append S a.more h)) (g.stood is);
         under_way = g.under_way;
         settled = g.settled;

@@ -140,7 +140,7 @@ has-script (x ∷ scripts) n = at_test (nat_eq n x.session) refl (has-script scr
     at_test false t (inr (i, (near, is))) = inr (suc i, (omega (arith, near), λ s. is s))
 
 -- some element of a list that has one
-some-of : {A : Type 0} (xs : List A) (i : ℕ) → i < length xs → A
+pub some-of : {A : Type 0} (xs : List A) (i : ℕ) → i < length xs → A
 some-of [] i near = absurd (omega (arith, near))
 some-of (x ∷ xs) i near = x
 

@@ -3,3 +3,4 @@ pub mod Adding
 pub mod Far_laws
 pub mod Stepping
 pub mod Machine_steps
+pub mod Whole_runs

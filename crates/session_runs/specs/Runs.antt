@@ -107,7 +107,10 @@ pub record Takes (S : State) (x : Event) (e : Entry) (stands : State → Type 0)
   pub stood : stands (after_entry S e)
   pub left : LeavesFront S (e ∷ []) [] v w
 
--- some entries more, after which the scripts before the one of a number are done
-pub record RunsBefore (at : ℕ) (S : State) (p : ℕ → Progress) (scripts : List Script) (far : List Far) (old new : List Entry) (stands : State → Type 0) (v w : View) : Type 0 where
-  pub adds : AddsOn S p scripts far old new stands v w
-  pub done : (i : ℕ) (s : Script) → i < at → i < length scripts → HasDone (folded noted p adds.more (slice_index_or scripts i s).session)
+-- it goes on, and the scripts before the one of a number are done
+pub record GoesBefore (at : ℕ) (S : State) (p : ℕ → Progress) (scripts : List Script) (far : List Far) (stands : State → Type 0) (v w : View) (more : List Entry) : Type 0 where
+  pub goes : GoesOn S p scripts far stands v w more
+  pub done : (i : ℕ) (s : Script) → i < at → i < length scripts → HasDone (folded noted p more (slice_index_or scripts i s).session)
+
+abbrev pub RunsBefore : ℕ → State → (ℕ → Progress) → List Script → List Far → (old new : List Entry) → (State → Type 0) → (v w : View) → Type 0
+RunsBefore at S p scripts far old new stands v w = Adds S p old new (GoesBefore at S p scripts far stands v w)
