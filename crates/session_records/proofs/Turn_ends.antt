@@ -17,7 +17,7 @@ use Rattle.zoneadmd_steps.specs.Configs.{with_zonepath}
 use Rattle.zoneadmd_steps.specs.Desks.{Desk, Fails, Goes, Job, Stage, state_now}
 use Rattle.zoneadmd_steps.specs.Objects.{Object_edit}
 use Rattle.zoneadmd_steps.specs.Plans.{kind_of, refusal}
-use Rattle.zoneadmd_steps.specs.Turns.{A_claim_left, A_mount, A_step, Next, Nothing_left, Seen, Turn_decision, Turned, begin, local_turn, new_path, next, next_request, or_shared, over, record_config, record_moved, record_state, shared_next, shared_stage, shared_step, shared_turn, started, turn}
+use Rattle.zoneadmd_steps.specs.Turns.{A_claim_left, A_mount, A_step, Next, Nothing_left, Seen, Turned, begin, local_turn, new_path, next, next_request, or_shared, over, record_config, record_moved, record_state, shared_next, shared_stage, shared_step, shared_turn, started, turn}
 use Rattle.zoneadmd_steps.specs.declared.requests.Outcome.{Outcome}
 use Rattle.zoneadmd_steps.specs.declared.requests.Outcome.TheVariants.{Done}
 use Rattle.zoneadmd_steps.specs.declared.requests.Request.{Request}

@@ -35,7 +35,7 @@ use Rattle.zonecfg_lines.specs.Runs.{Run}
 use Rattle.zonecfg_lines.specs.declared.refusal.LineRefusal.{LineRefusal}
 use Rattle.zonecfg_lines.specs.declared.reply.Ending.{Ending}
 use Rattle.zonecfg_lines.specs.declared.reply.Ending.TheVariants as ending
-use Rattle.zonecfg_scopes.specs.Edited.{Edited, is_changed, revision_of}
+use Rattle.zonecfg_scopes.specs.Edited.{is_changed, revision_of}
 use Rattle.zonecfg_scopes.specs.OpenOf.{config_of}
 use Rattle.zoneadmd_steps.specs.Arrivals.{Arrival, New_claim, New_id, New_process, New_record, No_new_thing}
 use Rattle.zoneadmd_steps.specs.Desks.{Desk, has_request, is_full, state_now, with_request}
@@ -43,14 +43,14 @@ use Rattle.zoneadmd_steps.specs.Objects.{Object_edit, Process_goes, Processes_go
 use Rattle.zoneadmd_steps.specs.declared.requests.Request.{Request}
 use Rattle.zoneadmd_steps.specs.declared.requests.Request.TheVariants as request
 use Rattle.zone_cases.specs.Calls.{calls, calls_if_there, ending, forks, is_by_process, mount_of, mounts, mounts_if_free, mounts_special, signals, tells_place, unmounts, unmounts_if_free}
-use Rattle.zone_cases.specs.Session.Commits.{A_session, Alone, Goes_on, Hearer, Leaves, Of_its_own, Typist, commit, commit_over, commit_seen, commit_unless, commits, delete, delete_seen, edits_line, ended, ends as ends_line, goes, goes_over, is_configured, keeps_place, leaves, line_refusal, records, refuses, removes, revision_now, said_alone, said_to, stays, telling, typist, zonecfg}
-use Rattle.zone_cases.specs.Session.Lines.{Ask as Asks, Blank, Clone, Command, Console as Console_line, Edit as Edit_line, Enter, Help, Hold, Kill, Line, List_one, List_zones, Login, Release, Unforced, Unknown, Verify, Zonecfg, line_of}
+use Rattle.zone_cases.specs.Session.Commits.{A_session, Alone, Goes_on, Hearer, Leaves, Of_its_own, Typist, commit, commit_over, commit_seen, commit_unless, commits, delete, edits_line, ended, goes, goes_over, is_configured, keeps_place, leaves, line_refusal, records, refuses, removes, revision_now, said_alone, said_to, telling, typist, zonecfg}
+use Rattle.zone_cases.specs.Session.Lines.{Ask as Asks, Clone, Command, Console as Console_line, Enter, Hold, Kill, Line, List_one, Login, Release, Verify, Zonecfg, line_of}
 use Rattle.zone_cases.specs.Session.Listed.{config_refusal, list_one_reply, verify_reply}
 use Rattle.zone_cases.specs.Session.Logins.{alone, call_word, console_line, console_refusal, entered_line, enters, entry_refusal, errand, escapes, goes_after, holds_console, logged_line, login_of, logs_in, passed_as, passed_on, said_in, status_of, unless, with_newcomer, with_status}
 use Rattle.zone_cases.specs.Session.Typed.{held_answer, holding_at, holds, idle_line, put_clone, put_request, typed}
 use Rattle.zone_cases.specs.State.{At, At_console, Awaiting, Doing, Editing, Logged_in, State}
 use Rattle.zone_cases.specs.State.Decisions.{Act, Decision, Effect, act_of, after_came, answers, done_saying, head_of, refused, says}
-use Rattle.zone_cases.specs.State.Edits.{Edit, Here, Of_console, Of_objects, Set_desk, Sweep, at_session, comes, console_gone, console_left, edit, edits, keeps_console, login_ended, logins_ended, session_of, swept}
+use Rattle.zone_cases.specs.State.Edits.{Edit, Here, Of_console, Of_objects, Set_desk, Sweep, comes, console_gone, console_left, edit, edits, keeps_console, login_ended, logins_ended, session_of, swept}
 use Rattle.zone_cases.specs.State.Worlds.{View, objects_of, view}
 use Rattle.zone_cases.specs.declared.events.Event.TheVariants.{Session}
 use Rattle.zone_cases.specs.declared.events.Subject.{Subject}
@@ -60,7 +60,6 @@ use Rattle.zone_cases.specs.declared.replies.Head.{Head}
 use Rattle.zone_cases.specs.declared.replies.Head.TheVariants.{Ok, Refused, Ticket}
 use Rattle.zone_cases.specs.declared.replies.Refusal.{Refusal}
 use Rattle.zone_cases.specs.declared.replies.Refusal.TheVariants.{Changed, Denied, DeskFull, DeskInUse, Flawed, NoZone, WrongState}
-use Rattle.zone_cases.specs.declared.replies.Reply.{Reply}
 use Rattle.zone_machine.proofs.Turned_laws.{In, in-act}
 use Rattle.zone_machine.specs.Machine.{decide, one, one_of, subject}
 

@@ -25,7 +25,6 @@ use Rattle.zone_machine.proofs.Turned_laws.{turn-reply, turn_act}
 use Rattle.zone_machine.specs.Machine.{one, opening, subject}
 use Rattle.zone_machine.specs.Machine.Histories.{after, after_entry, is_allowed, is_legal, is_told}
 use Rattle.zone_machine.specs.Machine.Same.{same_reply, same_subject}
-use Rattle.zone_views.proofs.Waiting.{awake-history}
 use Rattle.session_records.proofs.Turn_ends.{waits-turn}
 use Rattle.session_records.proofs.Typed_lines.{ticket-waits, waits-line}
 use Rattle.session_records.specs.Folds.{all_right, folded}
@@ -117,24 +116,29 @@ busy : (r : TurnReply) → says (Told r) ≢ says (Told No_work) → not (is_idl
 busy No_work other = absurd (other refl)
 busy _ other = refl
 
+-- after any history no turn of a daemon is idle for which a session waits: a law of histories
+abbrev pub NeverIdle : Type 0
+NeverIdle = (z : Name) (brands : List Tabled) (R : List Commit) (h : List Entry) (n ticket : ℕ) (g : Grant)
+    → (let S = after (opening brands R) h in S.sessions n ≡ At z (Awaiting ticket) → (one S (Turn z) g).reply ≢ says (Told No_work))
+
 -- so a turn of the daemon for which a session waits may come
-pub waiting-works : (brands : List Tabled) (R : List Commit) (h : List Entry) (p : ℕ → Progress) (n : ℕ) (w : Awaited) (e : Entry)
+pub waiting-works : NeverIdle → (brands : List Tabled) (R : List Commit) (h : List Entry) (p : ℕ → Progress) (n : ℕ) (w : Awaited) (e : Entry)
     → (let S = after (opening brands R) h in S.sessions n ≡ At w.zone (Awaiting w.ticket) → e.event ≡ Turn w.zone → is_told S e ≡ true → may_come p e ≡ true)
 unfolding may_come
-waiting-works brands R h p n w e there turns told =
+waiting-works never brands R h p n w e there turns told =
     let S = after (opening brands R) h in
-    let awake = awake-history w.zone brands R h n w.ticket e.grant there in
+    let awake = never w.zone brands R h n w.ticket e.grant there in
     let reply : e.reply ≡ says (Told (turn_act (world w.zone S) e.grant).effect.reply) =
-        (reply-Decides e.reply (one S e.event e.grant).reply).0 (and_parts (same_subject e.subject (subject S e.event)) (same_reply e.reply (one S e.event e.grant).reply) told).1
-        ∙ (ap (λ x. (one S x e.grant).reply) turns ∙ turn-reply w.zone S e.grant) in
+    (reply-Decides e.reply (one S e.event e.grant).reply).0 (and_parts (same_subject e.subject (subject S e.event)) (same_reply e.reply (one S e.event e.grant).reply) told).1
+    ∙ (ap (λ x. (one S x e.grant).reply) turns ∙ turn-reply w.zone S e.grant) in
     ap (λ x. may_come_by p x e.reply.head) turns
     ∙ (ap (λ (r : Reply). not (is_idle_head r.head)) reply ∙ busy (turn_act (world w.zone S) e.grant).effect.reply (λ idle. awake (turn-reply w.zone S e.grant ∙ idle)))
 
-pub turn-works : (brands : List Tabled) (R : List Commit) (first : List Entry) (scripts : Scripts) (h : List Entry) (n : ℕ) (w : Awaited) (e : Entry)
+pub turn-works : NeverIdle → (brands : List Tabled) (R : List Commit) (first : List Entry) (scripts : Scripts) (h : List Entry) (n : ℕ) (w : Awaited) (e : Entry)
     → is_legal (after (opening brands R) first) h ≡ true → keeps_scripts scripts h ≡ true → (folded noted (begun scripts) h n).waits ≡ Some w
     → e.event ≡ Turn w.zone → is_told (after (after (opening brands R) first) h) e ≡ true → may_come (folded noted (begun scripts) h) e ≡ true
-turn-works brands R first scripts h n w e legal keeps waits turns told =
+turn-works never brands R first scripts h n w e legal keeps waits turns told =
     let same = sym (after-append (opening brands R) first h) in
-    waiting-works brands R (first ++ h) (folded noted (begun scripts) h) n w e
+    waiting-works never brands R (first ++ h) (folded noted (begun scripts) h) n w e
     (subst (λ (T : State). T.sessions n ≡ At w.zone (Awaiting w.ticket)) same (session-waits (after (opening brands R) first) scripts h n w legal keeps waits)) turns
     (subst (λ (T : State). is_told T e ≡ true) same told)

@@ -12,6 +12,8 @@ ghost use Rattle.zone_cases.specs.declared.events.Event.TheVariants.{Turn};
 ghost use Rattle.zone_machine.specs.Machine.{opening};
 ghost use Rattle.zone_machine.specs.Machine.Histories.{after, is_legal, is_told};
 
+use zone_views::no_turn_is_idle_while_a_session_waits;
+
 /// A legal history is a part of a record of sessions exactly where it keeps to their scripts an entry at a time. It is the whole
 /// where besides each session typed all its lines and waits for nothing.
 pub fn records_keep_to_scripts()
@@ -38,4 +40,7 @@ pub fn waits_are_of_sessions()
     ensures works { (brands : List Tabled) (R : List Commit) (first : List Entry) (scripts : Scripts) (h : List Entry) (n : ℕ) (w : Awaited) (e : Entry)
         → let S = after (opening brands R) first in is_legal S h ≡ true → keeps_scripts scripts h ≡ true → (folded noted (begun scripts) h n).waits ≡ Some w
         → e.event ≡ Turn w.zone → is_told (after S h) e ≡ true → may_come (folded noted (begun scripts) h) e ≡ true }
-{}
+{
+    // A law of histories: such a turn is not idle.
+    no_turn_is_idle_while_a_session_waits();
+}

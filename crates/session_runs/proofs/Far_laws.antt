@@ -101,7 +101,7 @@ module _ (scripts : List Script) (far far' : List Far) (p : ℕ → Progress) (e
           at_test false t =
               let other : i ≡ at → ⊥ = λ same. false≢true (sym t ∙ eq-eqb i at same) in
               let apart : nat_eq (slice_index_or scripts i s).session script.session ≡ false =
-                  false_from_ne_true (nat_eq (slice_index_or scripts i s).session script.session) (λ q. other (differ i at s within (omega (arith, near, is.same)) (eqb-true (slice_index_or scripts i s).session script.session q ∙ ap (λ (s : Script). s.session) (sym (here s))))) in
+              false_from_ne_true (nat_eq (slice_index_or scripts i s).session script.session) (λ q. other (differ i at s within (omega (arith, near, is.same)) (eqb-true (slice_index_or scripts i s).session script.session q ∙ ap (λ (s : Script). s.session) (sym (here s))))) in
               let now : slice_index_or far' i f ≡ slice_index_or far i f = ap (λ l. slice_index_or l i f) put ∙ get_or-set_other far at i new f other in
               other-one p e script.session text line (slice_index_or scripts i s).session apart ∙ (is.each i s f within ∙ ap (progress_of (slice_index_or scripts i s)) (sym now))
 

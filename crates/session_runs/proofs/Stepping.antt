@@ -10,7 +10,7 @@ use Rattle.zone_cases.specs.declared.events.Event.TheVariants.{Session, Turn}
 use Rattle.zone_machine.specs.Machine.{opening}
 use Rattle.zone_machine.specs.Machine.Histories.{after, after_entry, is_legal, is_told}
 use Rattle.zone_machine.specs.declared.faults.StepFault.{StepFault}
-use Rattle.session_records.proofs.Waits_laws.{wait-on, waiting-works}
+use Rattle.session_records.proofs.Waits_laws.{NeverIdle, wait-on, waiting-works}
 use Rattle.session_records.specs.Records as records
 use Rattle.session_records.specs.Records.{awaited}
 use Rattle.session_records.specs.Scripts.{Progress, may_come, noted}
@@ -52,17 +52,17 @@ module _ (S : State) (p : ℕ → Progress) (scripts : List Script) (far : List 
   up-to : (fault : StepFault) (old : List Entry) → may_come p e ≡ true → AddsUpTo fault S p old (old ++ e ∷ []) stands' v w
   up-to fault old may = adds-one S p old e (Halts fault S stands' v w) legal may (record { stood = λ is. takes.stood; under_way = []; settled = λ is. refl; left = takes.left })
 
-  pub may-turn : (n : ℕ) (a : records.Awaited) → (p n).waits ≡ Some a → x ≡ Turn a.zone → may_come p e ≡ true
-  may-turn n a waits turns =
+  may-turn : NeverIdle → (n : ℕ) (a : records.Awaited) → (p n).waits ≡ Some a → x ≡ Turn a.zone → may_come p e ≡ true
+  may-turn never n a waits turns =
       let r = m.reached in
-      waiting-works r.brands r.commits r.past p n a e (subst (λ (T : State). T.sessions n ≡ At a.zone (Awaiting a.ticket)) (sym r.there) (m.waits n a waits)) (event ∙ turns)
+      waiting-works never r.brands r.commits r.past p n a e (subst (λ (T : State). T.sessions n ≡ At a.zone (Awaiting a.ticket)) (sym r.there) (m.waits n a waits)) (event ∙ turns)
       (subst (λ (T : State). is_told T e ≡ true) (sym r.there) told)
 
   -- a turn of the daemon for which a session waits
-  pub turn-adds : (old : List Entry) (far' : List Far) (z : Name) (n : ℕ) (a : records.Awaited) → (p n).waits ≡ Some a → a.zone ≡ z → x ≡ Turn z → length far' ≡ length far
+  pub turn-adds : NeverIdle → (old : List Entry) (far' : List Far) (z : Name) (n : ℕ) (a : records.Awaited) → (p n).waits ≡ Some a → a.zone ≡ z → x ≡ Turn z → length far' ≡ length far
       → ((i : ℕ) (f : Far) → i < length far → slice_index_or far' i f ≡ far_after e (slice_index_or far i f)) → AddsOn S p scripts far' old (old ++ e ∷ []) stands' v w
-  turn-adds old far' z n a waits zone turns len each =
-      adds old far' (may-turn n a waits (turns ∙ ap (λ y. Turn y) (sym zone))) (far-turn scripts far far' p e z (event ∙ turns) len each m.far_by)
+  turn-adds never old far' z n a waits zone turns len each =
+      adds old far' (may-turn never n a waits (turns ∙ ap (λ y. Turn y) (sym zone))) (far-turn scripts far far' p e z (event ∙ turns) len each m.far_by)
 
   -- a line
   module _ (old : List Entry) (at number : ℕ) (script : Script) (text : List ℕ) (d : List ℕ) (differ : Differ scripts) (here : (s : Script) → slice_index_or scripts at s ≡ script) (near : at < length far) (so_far : (f : Far) → slice_index_or far at f ≡ record { done = number; awaits = None })

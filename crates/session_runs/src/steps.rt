@@ -20,6 +20,7 @@ use zn_base::ZoneName;
 use zn_io::Disk;
 use zone_cases::{Entry, Event};
 use zone_machine::{Machine, StepFault};
+use zone_views::no_turn_is_idle_while_a_session_waits;
 
 // One event that is no restart is answered, with room taken before for its entry.
 fn step<D: Disk, F: Fn(&Change) -> HookAnswer>(
@@ -69,6 +70,8 @@ pub(crate) fn take_turn<D: Disk, F: Fn(&Change) -> HookAnswer>(
     ensures passes { Passes (D.view machine.old.bank.disk) (D.view machine.new.bank.disk) }
     ensures asks { AsksBrands F.Fn machine.new }
 {
+    // A law of histories: such a turn is not idle.
+    no_turn_is_idle_while_a_session_waits();
     let entry = step(alloc, machine, Event::Turn { zone }, entries)?;
     note_turn(far, &entry);
     entries.push_reserved(entry);

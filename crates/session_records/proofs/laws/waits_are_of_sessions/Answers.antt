@@ -5,4 +5,4 @@ pub returns-clause-waits : goal.returns-clause-waits
 returns-clause-waits c = session-waits
 
 pub returns-clause-works : goal.returns-clause-works
-returns-clause-works c = turn-works
+returns-clause-works c = turn-works c.no_turn_is_idle_while_a_session_waits.ensures.awake

@@ -41,8 +41,8 @@ loop-preserved g c =
           let a = l.invariant.run S p scripts m in
           on-on S p scripts taken.far.items l.far.items c.args.entries.now.items l.entries.items taken.entries.items (λ T. StandsFor T l.machine) (λ T. StandsFor T taken.machine) (view c.args.machine.now.bank.disk) (view l.machine.bank.disk) (view taken.machine.bank.disk) a
           (λ mid.
-              let waits = waits-at scripts l.far.items (folded noted p a.more) c.args.at c.index.result.now c.in-Some-awaits.awaited mid.far_by near (sym c.index.ensures) c.in-Some-awaits.is in
-              c.in_ok-take_turn.ensures.adds (after S a.more) (folded noted p a.more) scripts waits.0 (wait_of c.in-Some-awaits.awaited) mid waits.1 (sym c.in_ok-zone-in-Some-awaits.ensures));
+          let waits = waits-at scripts l.far.items (folded noted p a.more) c.args.at c.index.result.now c.in-Some-awaits.awaited mid.far_by near (sym c.index.ensures) c.in-Some-awaits.is in
+          c.in_ok-take_turn.ensures.adds (after S a.more) (folded noted p a.more) scripts waits.0 (wait_of c.in-Some-awaits.awaited) mid waits.1 (sym c.in_ok-zone-in-Some-awaits.ensures));
       len = c.take_turn.ensures.len ∙ l.invariant.len;
       done = λ f. c.take_turn.ensures.done c.args.at f near ∙ l.invariant.done f;
       asks = c.take_turn.ensures.asks;
