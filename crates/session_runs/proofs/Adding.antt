@@ -1,21 +1,21 @@
 -- Some entries more, and then some more.
-use Rattle.std.proofs.Common.{◌≡◌, ◌≤◌, ◌&&◌, ◌++◌, ◌∷◌, [], ℕ, List, Bool, Option, Some, None, true, false, ap, append_assoc, arith, inl, inr, length, refl, subst, sym, ◌∙◌}
+use Rattle.std.proofs.Common.{◌≡◌, ◌++◌, ◌∷◌, [], ℕ, List, true, ap, append_assoc, arith, inl, refl, subst, sym, ◌∙◌}
 use Rattle.std.proofs.lemmas.Bool.{and_from}
 use Rattle.std.proofs.lemmas.List.{append-nil}
-use Rattle.commit_journal.specs.declared.records.Commit.{Commit}
 use Rattle.zn_io.proofs.Moments.{joined, weaker}
 use Rattle.zn_io.specs.Disk.{IsSound, Leaves, View}
 use Rattle.zone_cases.specs.State.{State}
 use Rattle.zone_cases.specs.declared.events.Entry.{Entry}
 use Rattle.zone_machine.specs.Machine.Changes.{HoldsFront}
-use Rattle.zone_machine.specs.Machine.Histories.{after, after_entry, is_legal}
+use Rattle.zone_machine.specs.Machine.Histories.{after, is_legal}
 use Rattle.zone_machine.specs.Machine.Images.{HoldsEither, NowHolds}
 use Rattle.zone_machine.specs.declared.faults.StepFault.{StepFault}
 use Rattle.session_records.proofs.Folds_laws.{folded-append, right-append}
 use Rattle.session_records.specs.Folds.{all_right, folded}
 use Rattle.session_records.specs.Scripts.{Progress, may_come, noted}
 use Rattle.session_runs.proofs.Histories.{after-append, front-behind, front-more, front-none, legal-append}
-use Rattle.session_runs.specs.Runs.{Adds, AddsOn, AddsUpTo, GoesOn, Halts, IsMidway, LeavesFront}
+use Rattle.session_runs.specs.Midway.{Adds, AddsOn, AddsUpTo, GoesOn, Halts, IsMidway}
+use Rattle.session_runs.specs.Runs.{LeavesFront}
 use Rattle.session_runs.specs.declared.far.Far.{Far}
 use Rattle.session_runs.specs.declared.far.Script.{Script}
 

@@ -1,22 +1,20 @@
 -- How far scripts are by one entry more, and which entry may come.
-use Rattle.std.proofs.Common.{◌≡◌, ◌&&◌, ◌⊎◌, ◌<◌, ◌+◌, ◌++◌, ◌∷◌, [], ℕ, zero, suc, List, Bool, Option, Some, None, true, false, add-one, ap, arith, drop, drop-cons, inl, inr, length, nat_eq, not, refl, set, subst, sym, ◌∙◌}
+use Rattle.std.proofs.Common.{◌≡◌, ◌&&◌, ◌⊎◌, ◌<◌, ◌+◌, ◌∷◌, [], ℕ, zero, suc, List, Bool, Option, Some, None, true, false, add-one, ap, arith, drop, drop-cons, inl, inr, length, nat_eq, not, refl, set, sym, ◌∙◌}
 use Rattle.std.specs.Prelude.{is_some, slice_index_or, if◌then◌else◌}
 use Rattle.std.proofs.lemmas.Bool.{and_parts, eq-eqb, eqb-true, false≢true, false_from_ne_true}
 use Rattle.std.proofs.lemmas.List.{get_or-set_other, get_or-set_same, length-set}
 use Rattle.zn_base.specs.Names.{Name}
 use Rattle.zone_pools.proofs.Owned_laws.{same_self}
-use Rattle.zone_cases.specs.State.{State}
 use Rattle.zone_cases.specs.declared.events.Entry.{Entry}
 use Rattle.zone_cases.specs.declared.events.Event.{Event}
 use Rattle.zone_cases.specs.declared.events.Event.TheVariants.{Process as Call_of, Restart, Session, System, Turn}
 use Rattle.zone_cases.specs.declared.events.Subject.{Subject}
 use Rattle.zone_cases.specs.declared.replies.Head.{Head}
 use Rattle.session_records.specs.Folds.{all_right, folded}
-use Rattle.session_records.specs.Records as records
 use Rattle.session_records.specs.Records.{awaited, ends}
 use Rattle.session_records.specs.Scripts.{Progress, is_first, may_come, may_come_by, noted, progress_after, waits_after}
 use Rattle.session_runs.specs.Far.{AreFar, Differ, IsAt, awaits_after, far_after, progress_of, scripts_of, wait_of, waits_of}
-use Rattle.session_runs.specs.Runs.{HasDone}
+use Rattle.session_runs.specs.Midway.{HasDone}
 use Rattle.session_runs.specs.declared.far.Awaited.{Awaited}
 use Rattle.session_runs.specs.declared.far.Far.{Far}
 use Rattle.session_runs.specs.declared.far.Script.{Script}

@@ -1,5 +1,5 @@
 -- What a step of the machine comes to that is no restart.
-use Rattle.std.proofs.Common.{◌≡◌, ◌⊎◌, ◌++◌, ◌∷◌, [], ℕ, List, Bool, Option, Some, None, Result, Ok, Err, true, false, ap, arith, inl, inr, refl, subst, sym, ◌∙◌}
+use Rattle.std.proofs.Common.{◌≡◌, ◌⊎◌, ◌∷◌, [], ℕ, List, None, Result, Ok, Err, true, false, ap, arith, inl, inr, refl, subst, sym, ◌∙◌}
 use Rattle.std.specs.Prelude.{IfErr, IfOk, IsErrAnd, IsErrOf, OnOk}
 use Rattle.std.proofs.lemmas.Bool.{false≢true}
 use Rattle.zn_io.proofs.Moments.{weaker}
@@ -30,7 +30,8 @@ use Rattle.zone_machine.specs.declared.machine.shared.Shared.{Shared}
 use Rattle.session_records.specs.Scripts.{Progress}
 use Rattle.session_runs.proofs.Adding.{adds-none, leaves-none}
 use Rattle.session_runs.proofs.Histories.{front-one, legal-entry}
-use Rattle.session_runs.specs.Runs.{AddsOn, AddsUpTo, GoesOn, Halts, IsMidway, LeavesFront, Takes}
+use Rattle.session_runs.specs.Midway.{AddsOn, AddsUpTo, GoesOn, Halts, IsMidway, Takes}
+use Rattle.session_runs.specs.Runs.{LeavesFront}
 use Rattle.session_runs.specs.declared.far.Far.{Far}
 use Rattle.session_runs.specs.declared.far.Script.{Script}
 

@@ -8,7 +8,7 @@ use Rattle.zone_cases.specs.declared.events.Entry.{Entry}
 use Rattle.zone_cases.specs.declared.events.Event.{Event}
 use Rattle.zone_cases.specs.declared.events.Event.TheVariants.{Session, Turn}
 use Rattle.zone_machine.specs.Machine.{opening}
-use Rattle.zone_machine.specs.Machine.Histories.{after, after_entry, is_legal, is_told}
+use Rattle.zone_machine.specs.Machine.Histories.{after_entry, is_legal, is_told}
 use Rattle.zone_machine.specs.declared.faults.StepFault.{StepFault}
 use Rattle.session_records.proofs.Waits_laws.{NeverIdle, wait-on, waiting-works}
 use Rattle.session_records.specs.Records as records
@@ -18,7 +18,8 @@ use Rattle.session_runs.proofs.Adding.{adds-one}
 use Rattle.session_runs.proofs.Far_laws.{far-line, far-turn, may-line}
 use Rattle.session_runs.proofs.Histories.{after-append, legal-entry, told-entry}
 use Rattle.session_runs.specs.Far.{AreFar, Differ, far_after, waits_of}
-use Rattle.session_runs.specs.Runs.{AddsOn, AddsUpTo, GoesOn, Halts, IsMidway, IsReached, Takes}
+use Rattle.session_runs.specs.Midway.{AddsOn, AddsUpTo, GoesOn, Halts, IsMidway, Takes}
+use Rattle.session_runs.specs.Runs.{IsReached}
 use Rattle.session_runs.specs.declared.far.Awaited.{Awaited}
 use Rattle.session_runs.specs.declared.far.Far.{Far}
 use Rattle.session_runs.specs.declared.far.Script.{Script}

@@ -1,5 +1,5 @@
 -- All scripts, one after the other: what is run makes a record whole.
-use Rattle.std.proofs.Common.{◌≡◌, ◌≤◌, ◌<◌, ◌+◌, ◌==◌, ◌⊎◌, ◌++◌, [], ℕ, List, Option, Some, None, Bool, true, false, ap, arith, drop, inl, inr, length, nat_eq, refl, subst, sym, ◌∙◌}
+use Rattle.std.proofs.Common.{◌≡◌, ◌≤◌, ◌<◌, ◌+◌, ◌⊎◌, ◌++◌, [], ℕ, List, None, Bool, true, false, ap, arith, inl, inr, length, nat_eq, refl, subst, sym, ◌∙◌}
 use Rattle.std.specs.Prelude.{slice_index_or}
 use Rattle.std.proofs.lemmas.Bool.{eqb-true, eq-eqb, false≢true}
 use Rattle.std.proofs.Math.ListN.{drop_of_length-le}
@@ -13,13 +13,13 @@ use Rattle.session_records.proofs.Folds_laws.{folded-append, right-append}
 use Rattle.session_records.proofs.Keeping.{partial-record, record-keeps, whole-record}
 use Rattle.session_records.proofs.Waits_laws.{session-waits}
 use Rattle.session_records.specs.Folds.{all_right, folded}
-use Rattle.session_records.specs.Records.{IsPartial, IsRecord, Scripts}
 use Rattle.session_records.specs.Scripts.{IsDone, Progress, begun, keeps_scripts, may_come, noted}
 use Rattle.session_runs.proofs.Adding.{adds-more, goes-more}
 use Rattle.session_runs.proofs.Far_laws.{done-stays, has-script, some-of}
 use Rattle.session_runs.proofs.Histories.{after-append, legal-append}
 use Rattle.session_runs.specs.Far.{AreFar, IsAt, progress_of, scripts_of, waits_of}
-use Rattle.session_runs.specs.Runs.{AddsOn, AddsUpTo, GoesBefore, GoesOn, HasDone, IsCut, IsMidway, IsOver, IsUnderWay, RunsBefore}
+use Rattle.session_runs.specs.Midway.{AddsOn, AddsUpTo, GoesBefore, GoesOn, HasDone, IsMidway, RunsBefore}
+use Rattle.session_runs.specs.Runs.{IsCut, IsOver, IsUnderWay}
 use Rattle.session_runs.specs.declared.far.Far.{Far}
 use Rattle.session_runs.specs.declared.far.Script.{Script}
 

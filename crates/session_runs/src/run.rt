@@ -3,7 +3,8 @@ ghost use Rattle.std.specs.Prelude.{◌≡◌, ◌⊎◌, ◌≤◌, ◌<◌, �
 ghost use Rattle.zn_io.specs.Streams.{Rose};
 ghost use Rattle.session_records.specs.Scripts.{Progress};
 ghost use Rattle.session_runs.specs.Far.{Differ, IsAt, scripts_of};
-ghost use Rattle.session_runs.specs.Runs.{AddsOn, AddsUpTo, IsCut, IsMidway, IsOver, IsUnderWay};
+ghost use Rattle.session_runs.specs.Midway.{AddsOn, AddsUpTo, IsMidway};
+ghost use Rattle.session_runs.specs.Runs.{IsCut, IsOver, IsUnderWay};
 ghost use Rattle.session_runs.specs.declared.far.Far.{Far as Far_of};
 ghost use Rattle.session_runs.specs.declared.far.Script.{Script as Script_of};
 ghost use Rattle.zone_cases.specs.State.{State};

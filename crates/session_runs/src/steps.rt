@@ -4,7 +4,7 @@ ghost use Rattle.zn_io.specs.Streams.{Rose};
 ghost use Rattle.session_records.specs.Records.{Awaited};
 ghost use Rattle.session_records.specs.Scripts.{Progress};
 ghost use Rattle.session_runs.specs.Far.{Differ, IsAt};
-ghost use Rattle.session_runs.specs.Runs.{AddsOn, AddsUpTo, Halts, IsMidway, Takes};
+ghost use Rattle.session_runs.specs.Midway.{AddsOn, AddsUpTo, Halts, IsMidway, Takes};
 ghost use Rattle.session_runs.specs.declared.far.Far.{Far as Far_of};
 ghost use Rattle.session_runs.specs.declared.far.Script.{Script as Script_of};
 ghost use Rattle.zone_cases.specs.Events.{is_restart};

@@ -8,7 +8,7 @@ use Rattle.session_runs.proofs.Far_laws.{same-at}
 use Rattle.session_runs.proofs.Machine_steps.{err-from, on-none, passes-none, passes-on}
 use Rattle.session_runs.proofs.Whole_runs.{cut-of, far-done, midway, over-of, runs-more}
 use Rattle.session_runs.specs.Far.{scripts_of}
-use Rattle.session_runs.specs.Runs.{GoesBefore, GoesOn}
+use Rattle.session_runs.specs.Midway.{GoesBefore, GoesOn}
 use Rattle.session_runs.proofs.run.run_rest.Goals as goal
 
 pub loop-at-init : goal.loop-at-init

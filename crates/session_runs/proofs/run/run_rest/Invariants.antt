@@ -1,11 +1,10 @@
-use Rattle.std.proofs.Common.{◌≡◌, ◌<◌, ℕ, List, length}
-use Rattle.std.specs.Prelude.{slice_index_or}
+use Rattle.std.proofs.Common.{◌≡◌, ℕ, length}
 use Rattle.zone_cases.specs.State.{State}
 use Rattle.zone_machine.specs.Code.Decided.{AsksBrands, MayGoOn}
 use Rattle.zone_machine.specs.Code.Openings.{StandsFor}
 use Rattle.zone_machine.specs.Code.Records.{Passes}
 use Rattle.session_records.specs.Scripts.{Progress}
-use Rattle.session_runs.specs.Runs.{IsMidway, RunsBefore}
+use Rattle.session_runs.specs.Midway.{IsMidway, RunsBefore}
 use Rattle.session_runs.proofs.run.run_rest.Given as goal
 
 -- it goes on from where it began, and the scripts before this one are done

@@ -5,7 +5,7 @@ use Rattle.zone_machine.specs.Code.Openings.{StandsFor}
 use Rattle.zone_machine.specs.Code.Records.{Passes}
 use Rattle.session_records.specs.Scripts.{Progress}
 use Rattle.session_runs.specs.Far.{Differ, IsAt}
-use Rattle.session_runs.specs.Runs.{AddsOn, IsMidway}
+use Rattle.session_runs.specs.Midway.{AddsOn, IsMidway}
 use Rattle.session_runs.specs.declared.far.Script.{Script}
 use Rattle.session_runs.proofs.run.run_script.Given as goal
 

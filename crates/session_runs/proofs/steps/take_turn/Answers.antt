@@ -3,7 +3,7 @@ use Rattle.zone_cases.specs.declared.events.Entry.{Entry}
 use Rattle.zone_cases.specs.declared.events.Event.TheVariants.{Turn}
 use Rattle.zone_machine.specs.Code.Openings.{StandsFor}
 use Rattle.session_runs.proofs.Stepping.{turn-adds}
-use Rattle.session_runs.specs.Runs.{AddsOn}
+use Rattle.session_runs.specs.Midway.{AddsOn}
 use Rattle.session_runs.proofs.steps.take_turn.Goals as goal
 
 pub returns-clause-adds : goal.returns-clause-adds

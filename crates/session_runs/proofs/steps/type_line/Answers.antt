@@ -4,7 +4,7 @@ use Rattle.zone_cases.specs.declared.events.Event.TheVariants.{Session}
 use Rattle.zone_machine.specs.Code.Openings.{StandsFor}
 use Rattle.session_runs.proofs.Machine_steps.{err-all, up-to-none}
 use Rattle.session_runs.proofs.Stepping.{line-adds, line-up-to}
-use Rattle.session_runs.specs.Runs.{AddsOn, AddsUpTo}
+use Rattle.session_runs.specs.Midway.{AddsOn, AddsUpTo}
 use Rattle.session_runs.proofs.steps.type_line.Goals as goal
 
 pub returns-in_err-text-clause-halts : goal.returns-in_err-text-clause-halts
