@@ -6,5 +6,5 @@
 mod laws;
 mod places;
 
-pub use laws::{records_keep_to_scripts, run_records_are_legal};
+pub use laws::{records_keep_to_scripts, run_records_are_legal, waits_are_of_sessions};
 pub use places::{local_turns_stay_in_their_place, places_are_apart};
