@@ -3,7 +3,7 @@ use Rattle.zone_cases.specs.State.{State}
 use Rattle.zone_cases.specs.declared.events.Answer.{Answer}
 use Rattle.zone_machine.specs.Code.Openings.{StandsFor}
 use Rattle.zones_run.specs.declared.fault.Stop.{Stop}
-use Rattle.zones_run.proofs.Answered.{if_err_fails, if_ok_steps, leaves_other, left_other, stands_on, steps_later, stops_later, would_as, would_same}
+use Rattle.zones_run.proofs.Answered.{finds_other, if_err_fails, if_ok_steps, leaves_other, left_other, stands_on, steps_by, steps_later, stops_later, would_as, would_same}
 use Rattle.zones_run.proofs.answers.answer_after_waiting.Goals as goal
 
 pub returns-in-Ok-write_waiting-clause-steps : goal.returns-in-Ok-write_waiting-clause-steps
@@ -29,3 +29,12 @@ returns-in-Ok-write_waiting-clause-kept g c =
     if_err_fails c.answer_recording.result _ _
     (λ (stop : Stop) stops (S : State) stands. stops_later g.D.Disk.view S (Ok (Some d)) stop old.bank mid.bank last.bank same
     (stops S (stands_on S old mid (would_as fault.field-0 d.stated old.parts mid.parts d.event fault.field-0-is (leaves_other fault.field-0 d.stated old.parts mid.parts d.event c.requires.stays fault.ensures.fault)) same stands))) c.answer_recording.ensures.kept
+
+pub returns-in-Ok-clause-steps : goal.returns-in-Ok-clause-steps
+returns-in-Ok-clause-steps g c = λ S stands.
+    let old = c.args.machine.now in
+    let new = c.answer_heard.new.self in
+    let d = c.args.due.now in
+    let v = g.D.Disk.view old.bank.disk in
+    let finds = finds_other d.event v old.bank.records S c.requires.stays in
+    steps_by S d c.in-Ok.answer old new v (g.D.Disk.view new.bank.disk) stands c.in-Ok.ensures.fits (c.in-Ok.ensures.ok S stands.parts finds) c.in-Ok.ensures.goes (c.in-Ok.ensures.bodies S stands.parts stands.bodies finds) c.in-Ok.ensures.ready c.in-Ok.ensures.passes
