@@ -1,5 +1,5 @@
--- The record of a run is one legal history.
-use Rattle.std.proofs.Common.{◌≡◌, ◌&&◌, ◌∷◌, ◌++◌, [], List, true, ap, sym, ◌∙◌}
+-- Histories in two parts. So the record of a run is one legal history.
+use Rattle.std.proofs.Common.{◌≡◌, ◌&&◌, ◌∷◌, ◌++◌, [], List, true, ap, sym, ◌∙◌, refl}
 use Rattle.std.proofs.lemmas.Bool.{and_from, and_parts}
 use Rattle.brand_hooks.specs.Brands.{Tabled}
 use Rattle.commit_journal.specs.declared.records.Commit.{Commit}
@@ -10,7 +10,11 @@ use Rattle.zone_machine.specs.Machine.{opening}
 use Rattle.zone_machine.specs.Machine.Histories.{after, after_entry, is_allowed, is_legal, is_told}
 use Rattle.session_records.specs.Records.{Declares, IsPartial, IsRecord, IsRunPartial, IsRunRecord, Scripts}
 
-legal-append : (S : State) (g h : List Entry) → is_legal S g ≡ true → is_legal (after S g) h ≡ true → is_legal S (g ++ h) ≡ true
+pub after-append : (S : State) (g h : List Entry) → after S (g ++ h) ≡ after (after S g) h
+after-append S [] h = refl
+after-append S (e ∷ g) h = after-append (after_entry S e) g h
+
+pub legal-append : (S : State) (g h : List Entry) → is_legal S g ≡ true → is_legal (after S g) h ≡ true → is_legal S (g ++ h) ≡ true
 legal-append S [] h is more = more
 legal-append S (e ∷ g) h is more =
     let parts = and_parts (is_told S e && is_allowed S e.event e.grant) (is_legal (after_entry S e) g) is in and_from _ _ parts.0 (legal-append (after_entry S e) g h parts.1 more)

@@ -25,6 +25,7 @@ use Rattle.zone_machine.proofs.Turned_laws.{turn-reply, turn_act}
 use Rattle.zone_machine.specs.Machine.{one, opening, subject}
 use Rattle.zone_machine.specs.Machine.Histories.{after, after_entry, is_allowed, is_legal, is_told}
 use Rattle.zone_machine.specs.Machine.Same.{same_reply, same_subject}
+use Rattle.session_records.proofs.Runs.{after-append}
 use Rattle.session_records.proofs.Turn_ends.{waits-turn}
 use Rattle.session_records.proofs.Typed_lines.{ticket-waits, waits-line}
 use Rattle.session_records.specs.Folds.{all_right, folded}
@@ -106,10 +107,6 @@ all-wait p S (e ∷ h) legal keeps all =
 pub session-waits : (S : State) (scripts : Scripts) (h : List Entry) (n : ℕ) (w : Awaited) → is_legal S h ≡ true → keeps_scripts scripts h ≡ true → (folded noted (begun scripts) h n).waits ≡ Some w
     → (after S h).sessions n ≡ At w.zone (Awaiting w.ticket)
 session-waits S scripts h n w legal keeps is = all-wait (begun scripts) S h legal keeps (λ m v none. absurd (false≢true (ap is_some none))) n w is
-
-pub after-append : (S : State) (g h : List Entry) → after S (g ++ h) ≡ after (after S g) h
-after-append S [] h = refl
-after-append S (e ∷ g) h = after-append (after_entry S e) g h
 
 -- a turn that doesn't tell that there is no work
 busy : (r : TurnReply) → says (Told r) ≢ says (Told No_work) → not (is_idle r) ≡ true

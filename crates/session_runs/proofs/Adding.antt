@@ -13,7 +13,8 @@ use Rattle.zone_machine.specs.declared.faults.StepFault.{StepFault}
 use Rattle.session_records.proofs.Folds_laws.{folded-append, right-append}
 use Rattle.session_records.specs.Folds.{all_right, folded}
 use Rattle.session_records.specs.Scripts.{Progress, may_come, noted}
-use Rattle.session_runs.proofs.Histories.{after-append, front-behind, front-more, front-none, legal-append}
+use Rattle.session_records.proofs.Runs.{after-append, legal-append}
+use Rattle.session_runs.proofs.Histories.{front-behind, front-more, front-none}
 use Rattle.session_runs.specs.Midway.{Adds, AddsOn, AddsUpTo, GoesOn, Halts, IsMidway}
 use Rattle.session_runs.specs.Runs.{LeavesFront}
 use Rattle.session_runs.specs.declared.far.Far.{Far}

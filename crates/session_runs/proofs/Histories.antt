@@ -1,6 +1,6 @@
 -- Histories and their changes, in two parts.
-use Rattle.std.proofs.Common.{◌≡◌, ◌&&◌, ◌++◌, ◌∷◌, [], ℕ, List, Bool, Option, Some, None, true, false, ap, append_assoc, inl, inr, refl, subst, sym, ◌∙◌}
-use Rattle.std.proofs.lemmas.Bool.{and_from, and_parts}
+use Rattle.std.proofs.Common.{◌≡◌, ◌++◌, ◌∷◌, [], ℕ, List, Bool, Option, Some, None, true, false, ap, append_assoc, inl, inr, refl, subst, sym, ◌∙◌}
+use Rattle.std.proofs.lemmas.Bool.{and_from}
 use Rattle.std.proofs.lemmas.List.{append-nil}
 use Rattle.zn_base.specs.Names.{Name}
 use Rattle.zone_pools.proofs.Same_laws.{grant-Decides}
@@ -19,18 +19,9 @@ use Rattle.zone_cases.specs.declared.events.Subject.TheVariants.{Global, Whole, 
 use Rattle.zone_machine.proofs.Same_laws.{reply-Decides, subject-Decides}
 use Rattle.zone_machine.specs.Machine.{decide, one, one_of, session_number, subject, whole}
 use Rattle.zone_machine.specs.Machine.Changes.{HoldsFront, change, change_of, changes, committed}
-use Rattle.zone_machine.specs.Machine.Histories.{after, after_entry, entry_at, is_allowed, is_legal, is_told}
+use Rattle.zone_machine.specs.Machine.Histories.{after, after_entry, entry_at, is_legal, is_told}
 use Rattle.zone_machine.specs.Machine.Images.{Holds, HoldsEither}
 use Rattle.zone_machine.specs.Machine.Pools.{allowed}
-
-pub after-append : (S : State) (g h : List Entry) → after S (g ++ h) ≡ after (after S g) h
-after-append S [] h = refl
-after-append S (e ∷ g) h = after-append (after_entry S e) g h
-
-pub legal-append : (S : State) (g h : List Entry) → is_legal S g ≡ true → is_legal (after S g) h ≡ true → is_legal S (g ++ h) ≡ true
-legal-append S [] h is more = more
-legal-append S (e ∷ g) h is more =
-    let parts = and_parts (is_told S e && is_allowed S e.event e.grant) (is_legal (after_entry S e) g) is in and_from _ _ parts.0 (legal-append (after_entry S e) g h parts.1 more)
 
 -- the entry of an event under the grant that the pools give
 pub told-entry : (S : State) (x : Event) → is_told S (entry_at S x (allowed S x)) ≡ true

@@ -16,7 +16,8 @@ use Rattle.session_records.specs.Records.{awaited}
 use Rattle.session_records.specs.Scripts.{Progress, may_come, noted}
 use Rattle.session_runs.proofs.Adding.{adds-one}
 use Rattle.session_runs.proofs.Far_laws.{far-line, far-turn, may-line}
-use Rattle.session_runs.proofs.Histories.{after-append, legal-entry, told-entry}
+use Rattle.session_records.proofs.Runs.{after-append}
+use Rattle.session_runs.proofs.Histories.{legal-entry, told-entry}
 use Rattle.session_runs.specs.Far.{AreFar, Differ, far_after, waits_of}
 use Rattle.session_runs.specs.Midway.{AddsOn, AddsUpTo, GoesOn, Halts, IsMidway, Takes}
 use Rattle.session_runs.specs.Runs.{IsReached}

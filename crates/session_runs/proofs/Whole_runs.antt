@@ -16,7 +16,7 @@ use Rattle.session_records.specs.Folds.{all_right, folded}
 use Rattle.session_records.specs.Scripts.{IsDone, Progress, begun, keeps_scripts, may_come, noted}
 use Rattle.session_runs.proofs.Adding.{adds-more, goes-more}
 use Rattle.session_runs.proofs.Far_laws.{done-stays, has-script, some-of}
-use Rattle.session_runs.proofs.Histories.{after-append, legal-append}
+use Rattle.session_records.proofs.Runs.{after-append, legal-append}
 use Rattle.session_runs.specs.Far.{AreFar, IsAt, progress_of, scripts_of, waits_of}
 use Rattle.session_runs.specs.Midway.{AddsOn, AddsUpTo, GoesBefore, GoesOn, HasDone, IsMidway, RunsBefore}
 use Rattle.session_runs.specs.Runs.{IsCut, IsOver, IsUnderWay}
