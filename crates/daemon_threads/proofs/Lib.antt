@@ -1,0 +1,3 @@
+pub mod Worlds
+pub mod Places_meet
+pub mod Stepping

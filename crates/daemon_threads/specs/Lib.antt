@@ -1,0 +1,8 @@
+-- what a run of threads is about
+pub mod Names
+-- what the zones share, to contracts
+pub mod Goods
+-- what lies in a place and what the zones share, and what an event leaves of them
+pub mod Parts
+-- the machine of all zones as threads see it
+pub mod Definitions
