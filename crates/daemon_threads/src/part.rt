@@ -31,13 +31,13 @@ pub struct SharedPart<D: Disk, N: Names> {
 
 impl<D: Disk, N: Names> Model for SharedPart<D, N> {
     ghost use Rattle.std.specs.Coded.{codes};
-    ghost use Rattle.zone_machine.specs.contracts.machine.shared.Shared as shared;
-    ghost use Rattle.zone_machine.specs.contracts.machine.shown.ShownZones as shown;
+    ghost use Rattle.zone_machine.specs.contracts.machine.shared.Shared.{the_row as shared_row};
+    ghost use Rattle.zone_machine.specs.contracts.machine.shown.ShownZones.{the_row as shown_row};
     ghost use Rattle.daemon_threads.specs.Goods.{Goods, IsUsable};
 
     ghost Value = { Goods D };
 
-    ghost coded = { Prim.hlevel (codes, shared.the_row.coded, shown.the_row.coded) };
+    ghost coded = { Prim.hlevel (codes, shared_row.coded, shown_row.coded) };
 
     ghost view = { λ p. record { shared = p.shared; shown = p.shown; bank = p.bank } };
 
