@@ -3,15 +3,21 @@
 
     tools/bench_commit.py [--rounds N] [--folder FOLDER] [--program FILE]
 
-The records are those of zones that are made, a line each. Both programs write as many and as long ones, by turns, to a
-file in a new folder within FOLDER, which should be on a disk, and to one in memory. The time of a record is the
-difference of two lengths, and so is free of the program's start; of each length the least of N rounds is taken. With
-valgrind the instructions of such a line are counted too. It is no part of the gate.
+The records are those by which daemons note that an install is under way: each is a turn, the third of its request. A run
+begins with a store of sixty zones, and brings each to its third turn; the time of the records is what a run with these turns
+takes longer than one without. The C program writes as many and as long ones. They take turns, on a file in a new folder
+within FOLDER, which should be on a disk, and on one in memory; of each the median of N rounds is taken. Since a disk's syncs
+take now less and now more, the range is given too in which the factor lies for 95 of 100 choices of N rounds out of these,
+each of which may come more than once. With valgrind the instructions of such a turn are counted too. It is no part of the
+gate.
 """
 
 import argparse
+import os
 import pathlib
+import random
 import shutil
+import statistics
 import subprocess
 import sys
 import tempfile
@@ -24,55 +30,94 @@ from store_reader import bodies
 from zone_lines import made
 
 HERE = pathlib.Path(__file__).resolve().parent
-LENGTHS = (50, 250)
-# Each zone that is made is compared with those that are there: for the instructions with few.
-FEW = (10, 30)
+ZONES = ["z%02d" % number for number in range(60)]
+# The turns of an install before the one that records.
+BEFORE = 2
 
 
-def trace(zones):
-    """A trace that makes so many zones."""
-    return "".join(line + "\n" for number in range(zones) for line in made("z%03d" % number)).encode()
+def text(lines):
+    return "".join(line + "\n" for line in lines).encode()
 
 
-def seconds_of_zones(program, folder, zones):
-    """How long a run takes that makes so many zones, and how long the bodies of the records are on the average."""
-    file = pathlib.Path(folder) / NAME
-    file.unlink(missing_ok=True)
+def installs(turns):
+    """Each zone is installed, as far as so many turns bring it."""
+    asked = ["S %d zoneadm -z %s install" % (number, zone) for number, zone in enumerate(ZONES, 1)]
+    return text(asked + ["D " + zone for _ in range(turns) for zone in ZONES])
+
+
+def store_of_zones(program, folder):
+    """The bytes of a store that holds the zones."""
+    subprocess.run([program, "trace"], input=text(line for zone in ZONES for line in made(zone)), capture_output=True, cwd=folder, check=True)
+    return (pathlib.Path(folder) / NAME).read_bytes()
+
+
+def seconds_of_turns(program, folder, store, turns):
+    """How long a run takes that begins with this store and takes so many turns of each zone."""
+    with open(pathlib.Path(folder) / NAME, "wb") as file:
+        file.write(store)
+        file.flush()
+        os.fsync(file.fileno())
     began = time.monotonic()
-    done = subprocess.run([program, "trace"], input=trace(zones), capture_output=True, cwd=folder)
-    took = time.monotonic() - began
-    sizes = [len(it) for it in bodies(file.read_bytes())]
-    if done.returncode or len(sizes) != zones:
-        sys.exit("a run ended with status %d and %d records" % (done.returncode, len(sizes)))
-    return took, sum(sizes) // len(sizes)
+    subprocess.run([program, "trace"], input=installs(turns), stdout=subprocess.DEVNULL, cwd=folder, check=True)
+    return time.monotonic() - began
 
 
-def seconds_of_calls(bench, folder, records, size):
-    """How long the C program takes for so many records."""
-    words = [bench, str(pathlib.Path(folder) / "bench.store"), str(records), str(size)]
+def size_of_records(program, folder, store):
+    """How long the bodies of the records are on the average."""
+    seconds_of_turns(program, folder, store, BEFORE + 1)
+    more = bodies((pathlib.Path(folder) / NAME).read_bytes())[len(ZONES):]
+    if len(more) != len(ZONES):
+        sys.exit("a run wrote %d records" % len(more))
+    return sum(map(len, more)) // len(more)
+
+
+def seconds_of_calls(bench, folder, size):
+    """How long the C program takes for as many records."""
+    words = [bench, str(pathlib.Path(folder) / "bench.store"), str(len(ZONES)), str(size)]
     return float(subprocess.run(words, capture_output=True, text=True, check=True).stdout)
 
 
-def per_record(seconds):
-    return (seconds[1] - seconds[0]) / (LENGTHS[1] - LENGTHS[0])
-
-
-def compared(program, bench, parent, rounds):
-    """The seconds of a record, of the program and of the C program, in a folder within this one, by the least of each length."""
-    zones = [float("inf")] * len(LENGTHS)
-    calls = [float("inf")] * len(LENGTHS)
+def run(program, bench, parent, rounds):
+    """Of each of so many rounds the seconds with the records, without them, and of the C program, in a folder within this one."""
     with tempfile.TemporaryDirectory(prefix="zones-", dir=parent) as folder:
-        for _ in range(rounds):
-            for place, records in enumerate(LENGTHS):
-                took, size = seconds_of_zones(program, folder, records)
-                zones[place] = min(zones[place], took)
-                calls[place] = min(calls[place], seconds_of_calls(bench, folder, records, size))
-    return per_record(zones), per_record(calls)
+        store = store_of_zones(program, folder)
+        size = size_of_records(program, folder, store)
+        return [
+            (
+                seconds_of_turns(program, folder, store, BEFORE + 1),
+                seconds_of_calls(bench, folder, size),
+                seconds_of_turns(program, folder, store, BEFORE),
+            )
+            for _ in range(rounds)
+        ]
+
+
+def per_record(rounds):
+    """The seconds of a record, of the program and of the C program, by the medians of the rounds."""
+    recording, calls, before = (statistics.median(it) for it in zip(*rounds))
+    return (recording - before) / len(ZONES), calls / len(ZONES)
+
+
+def factor(rounds):
+    zones, calls = per_record(rounds)
+    return zones / calls
+
+
+def range_of_factor(rounds, choices=1000):
+    """Between what the factor lies for 95 of 100 choices of as many rounds out of these."""
+    chance = random.Random(1)
+    factors = sorted(factor(chance.choices(rounds, k=len(rounds))) for _ in range(choices))
+    return factors[choices // 40], factors[-1 - choices // 40]
+
+
+def row(where, rounds):
+    zones, calls = (it * 1e6 for it in per_record(rounds))
+    return [where, "%.1f" % zones, "%.1f" % calls, "%.3f" % factor(rounds), "%.3f to %.3f" % range_of_factor(rounds)]
 
 
 def main():
     parser = argparse.ArgumentParser(description=__doc__, formatter_class=argparse.RawDescriptionHelpFormatter)
-    parser.add_argument("--rounds", type=int, default=15)
+    parser.add_argument("--rounds", type=int, default=200)
     parser.add_argument("--folder", default=".", help="a folder on a disk")
     parser.add_argument("--program", metavar="FILE", default=str(PROGRAM), help="the native program")
     args = parser.parse_args()
@@ -83,13 +128,13 @@ def main():
         rows = []
         for where, parent in (("a file", args.folder), ("in memory", IN_MEMORY)):
             if parent is not None:
-                zones, calls = compared(program, bench, parent, args.rounds)
-                rows.append([where, "%.1f" % (zones * 1e6), "%.1f" % (calls * 1e6), "%.2f" % (zones / calls)])
-    print(table(["A record on", "`zones`, microseconds", "the four calls", "times"], rows))
+                rows.append(row(where, run(program, bench, parent, args.rounds)))
+    print(table(["A record on", "`zones`, microseconds", "the four calls", "times", "range"], rows))
     if shutil.which("valgrind"):
         try:
-            short, long = (instructions(program, "trace", trace(zones)) for zones in FEW)
-            print("\n%d instructions a line that makes a zone, among %d to %d" % ((long - short) // (FEW[1] - FEW[0]), *FEW))
+            made_first = text(line for zone in ZONES for line in made(zone))
+            counts = [instructions(program, "trace", made_first + installs(turns)) for turns in range(BEFORE - 1, BEFORE + 2)]
+            print("\n%d instructions a turn before it, %d a turn that records" % tuple((b - a) // len(ZONES) for a, b in zip(counts, counts[1:])))
         except OSError as fault:
             print("\nnot counted: %s" % fault)
 

@@ -1,9 +1,11 @@
 -- What a line says where sessions are live: what one of them types, or what is declared.
-use Rattle.std.specs.Prelude.{◌≡◌, ◌||◌, ℕ, List, length, Bool, false, true, IsTrue, Some, Ok, Err, bytes_eq, codes, if◌then◌else◌}
+use Rattle.std.specs.Prelude.{◌≡◌, ◌||◌, ◌++◌, ◌∷◌, ℕ, List, length, Bool, false, true, IsTrue, Some, Ok, Err, bytes_eq, codes, if◌then◌else◌}
+use Rattle.zone_cases.specs.declared.events.Entry.{Entry}
 use Rattle.zone_cases.specs.declared.events.Event.{Event}
 use Rattle.zone_cases.specs.declared.events.Event.TheVariants.{Process, Restart, Session, System, Turn}
 use Rattle.trace_text.specs.Given.{IsAt, IsRight, is_late}
-use Rattle.trace_text.specs.Lines.{Said, event_of, first_word, line_text}
+use Rattle.trace_text.specs.Lines.{Said, event_of, first_word, given_text, line_text}
+use Rattle.trace_text.specs.Replies.{reply_text}
 use Rattle.trace_text.specs.declared.fault.LineFault.{LineFault}
 use Rattle.trace_text.specs.declared.fault.LineFault.TheVariants.{BadTag}
 
@@ -14,6 +16,10 @@ is_traced tag = bytes_eq tag (codes "D") || bytes_eq tag (codes "P") || bytes_eq
 -- the event that a line says, none where it is blank or a comment, or the first fault: under every other tag as in a trace
 abbrev pub live_of : (started : Bool) → List ℕ → Said
 live_of started line = if is_traced (first_word line) then Err BadTag else event_of started line
+
+-- what a record of live sessions has of an entry: the line of its event, with what it was given, and then its reply
+abbrev pub entry_text : Entry → List ℕ
+entry_text e = codes "> " ++ given_text e.grant e.event ++ 10 ∷ reply_text e.subject e.reply
 
 -- whether an event is a session's or a declaration
 abbrev pub is_live : Event → Bool

@@ -193,6 +193,36 @@ fn is_told(alloc: Global) -> Result<bool, Fail> {
     }
 }
 
+// What a machine tells that was put together of so many cells, where it told so before.
+fn tells_again<D: Disk, F: Fn(&Change) -> HookAnswer>(
+    alloc: Global,
+    machine: &Machine<'_, D, F>,
+    cells: usize,
+    told: Result<bool, Fail>,
+) -> Result<bool, Fail> {
+    let told = told?;
+    Ok(told && cells == 2 && tells(alloc, machine)?)
+}
+
+// Taken apart a machine that has run has a cell for each of the two zones, and put together again it tells what it told.
+fn is_parted(alloc: Global) -> Result<bool, Fail> {
+    let ipkg: Hook = proceeds;
+    let brands = make_brands(alloc, ipkg)?;
+    let disk = empty_disk(alloc)?;
+    match opened(alloc, disk, &brands) {
+        Ok(mut machine) => {
+            let told = tells_after(alloc, &mut machine);
+            let parted = machine.part();
+            let cells = parted.cells.len();
+            let machine = Machine::whole(parted);
+            let again = tells_again(alloc, &machine, cells, told);
+            let _disk = Kept(machine.into_disk());
+            again
+        }
+        Err(fault) => Err(fault),
+    }
+}
+
 fn entries_of(alloc: Global) -> Result<Vec<Entry>, Fail> {
     let ipkg: Hook = proceeds;
     let brands = make_brands(alloc, ipkg)?;
@@ -224,6 +254,12 @@ fn is_purged(alloc: Global, entries: &[Entry]) -> Result<bool, Fail> {
 #[test]
 fn a_zone_is_told_and_viewed(rt: HostRuntime) -> Result<(), Fail> {
     assert!(rt; is_told(rt.alloc())?, "told");
+    Ok(())
+}
+
+#[test]
+fn a_machine_is_taken_apart_and_put_together(rt: HostRuntime) -> Result<(), Fail> {
+    assert!(rt; is_parted(rt.alloc())?, "parted");
     Ok(())
 }
 

@@ -1,5 +1,7 @@
 pub mod Bools
+pub mod Gathering
 pub mod Gives
 pub mod Histories
 pub mod Merging
 pub mod Steps
+pub mod Words

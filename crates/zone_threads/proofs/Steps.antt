@@ -69,6 +69,10 @@ module _ {State Cell Shared Line Entry Heard : Type 0} (D : Definitions State Ce
       → (t : ℕ → Progress) → All (λ (e : Entry). D.by e ≡ p) (drop given log) → TallyOf ts t → TallyOf ts1 (folded (noted D) t (drop given log))
   noted_rest p given log read ts ts1 is noting = subst (λ (l : List Entry). (t : ℕ → Progress) → All (λ (e : Entry). D.by e ≡ p) l → TallyOf ts t → TallyOf ts1 (folded (noted D) t l)) (rest_is given read ∙ ap (drop given) is) noting
 
+  -- what is as it was stands for what it stood for
+  pub stands_same : (start : State) (scripts : ℕ → List Line) (m m' : Shared) (ts ts' : List Progress) (rs rs' : List (ℕ × ℕ)) (h : List Entry) → m' ≡ m → ts' ≡ ts → rs' ≡ rs → Stands D start scripts m ts rs h → Stands D start scripts m' ts' rs' h
+  stands_same start scripts m m' ts ts' rs rs' h a b c = subst (λ (T : Type 0). T) (sym (λ i. Stands D start scripts (a i) (b i) (c i) h))
+
   -- the shared part is as it was
   pub kept_shared : (m m' : Shared) → m' ≡ m → D.is_sound m' ≡ true → (D.is_sound m ≡ true) × ((k : D.Common) → D.shared_of m k → D.shared_of m' k)
   kept_shared m m' is sound = (ap D.is_sound (sym is) ∙ sound, λ k of. subst (λ (x : Shared). D.shared_of x k) (sym is) of)
@@ -98,8 +102,8 @@ module _ {State Cell Shared Line Entry Heard : Type 0} (D : Definitions State Ce
     tally = tally_after p ts ts' e t is.by tally wide each;
   }
 
-module _ {State Cell Shared Line Entry Heard : Type 0} (D : Definitions State Cell Shared Line Entry Heard) (L : Laws D) (start : State) (scripts : ℕ → List Line) (sessions p given : ℕ) (log : List Entry) (cell : Cell) (marked : Bool) (m : Shared) (ts ts1 : List Progress) (rs : List (ℕ × ℕ)) (h : List Entry)
-    (stands : Stands D start scripts sessions m ts rs h) (mine : own D.by p h ≡ take given log) (logged : Logged D start p cell log given marked)
+module _ {State Cell Shared Line Entry Heard : Type 0} (D : Definitions State Cell Shared Line Entry Heard) (L : Laws D) (start : State) (scripts : ℕ → List Line) (p given : ℕ) (log : List Entry) (cell : Cell) (marked : Bool) (m : Shared) (ts ts1 : List Progress) (rs : List (ℕ × ℕ)) (h : List Entry)
+    (stands : Stands D start scripts m ts rs h) (mine : own D.by p h ≡ take given log) (logged : Logged D start p cell log given marked)
     (noting : (t : ℕ → Progress) → All (λ (e : Entry). D.by e ≡ p) (drop given log) → TallyOf ts t → TallyOf ts1 (folded (noted D) t (drop given log))) (wide : length ts1 ≡ length ts) where
   abbrev all : List Entry
   all = h ++ drop given log
@@ -112,7 +116,7 @@ module _ {State Cell Shared Line Entry Heard : Type 0} (D : Definitions State Ce
   tally_behind = subst (TallyOf ts1) (sym (folded_append (noted D) beginning h (drop given log))) (noting (folded (noted D) beginning h) behind.1 stands.tally)
 
   -- nothing new was done
-  pub quiet : (m' : Shared) (qs : List (ℕ × ℕ)) (n : ℕ) → (D.is_sound m' ≡ true → (D.is_sound m ≡ true) × ((k : D.Common) → D.shared_of m k → D.shared_of m' k)) → n ≡ length log - given → qs ≡ rs ++ (p, n) ∷ [] → Stands D start scripts sessions m' ts1 qs all × All (λ e. D.by e ≡ p) (drop given log)
+  pub quiet : (m' : Shared) (qs : List (ℕ × ℕ)) (n : ℕ) → (D.is_sound m' ≡ true → (D.is_sound m ≡ true) × ((k : D.Common) → D.shared_of m k → D.shared_of m' k)) → n ≡ length log - given → qs ≡ rs ++ (p, n) ∷ [] → Stands D start scripts m' ts1 qs all × All (λ e. D.by e ≡ p) (drop given log)
   quiet m' qs n same many more = (
     record {
       middle = record { legal = behind.0.legal; kept = behind.0.kept; shared = λ sound. (same sound).1 (D.common (folded D.one start all)) (behind.0.shared (same sound).0) };
@@ -131,7 +135,7 @@ module _ {State Cell Shared Line Entry Heard : Type 0} (D : Definitions State Ce
   pub added : (m' : Shared) (ts' : List Progress) (qs : List (ℕ × ℕ)) (n : ℕ) (e : Entry) (cell' : Cell) (log' : List Entry) → marked ≡ false → D.is_sound m ≡ true
       → ((s : State) (t : ℕ → Progress) → D.cell_of cell (D.world p s) → D.shared_of m (D.common s) → TallyOf ts1 t → Did D scripts p cell' m' ts' e s t)
       → length ts' ≡ length ts1 → log' ≡ log ++ e ∷ [] → n ≡ length log' - given → qs ≡ rs ++ (p, n) ∷ []
-      → Stands D start scripts sessions m' ts' qs (h ++ drop given log') × All (λ e. D.by e ≡ p) (drop given log') × D.cell_of cell' (left_by D start p log')
+      → Stands D start scripts m' ts' qs (h ++ drop given log') × All (λ e. D.by e ≡ p) (drop given log') × D.cell_of cell' (left_by D start p log')
   added m' ts' qs n e cell' log' free sound did wide' grown many more =
       let s : State = folded D.one start all in
       let d = did s (folded (noted D) beginning all) (subst (D.cell_of cell) (sym behind.2) (logged.stands free)) (behind.0.shared sound) tally_behind in

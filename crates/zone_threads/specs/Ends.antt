@@ -1,34 +1,35 @@
 -- What is left at the end.
-use Rattle.std.specs.Prelude.{◌≡◌, ◌≢◌, ℕ, ◌+◌, ◌<◌, ◌==◌, Bool, true, false, List, [], ◌∷◌, ◌++◌, length, map, slice_index_or, Option, None, if◌then◌else◌}
+use Rattle.std.specs.Prelude.{◌≡◌, ◌≢◌, ℕ, ◌+◌, ◌<◌, ◌≤◌, ◌==◌, Bool, true, false, List, [], ◌∷◌, ◌++◌, length, map, slice_index_or, Option, None, if◌then◌else◌}
 use Rattle.std.specs.List.{All}
 use Rattle.zone_turn.specs.Histories.{own}
 use Rattle.zone_turn.specs.declared.views.Roster.{Roster}
 use Rattle.zone_threads.specs.Folds.{folded}
 use Rattle.zone_threads.specs.Machines.{Definitions}
-use Rattle.zone_threads.specs.Records.{Stands}
-use Rattle.zone_threads.specs.Scripts.{beginning, noted}
+use Rattle.zone_threads.specs.Records.{Middle, Stands}
+use Rattle.zone_threads.specs.Scripts.{beginning, fresh, noted}
 use Rattle.zone_threads.specs.Zones.{left_by}
 use Rattle.zone_threads.specs.declared.tally.Progress.{Progress}
 use Rattle.zone_threads.specs.declared.run.Script.{Script}
+use Rattle.zone_threads.specs.declared.zone.Back.{Back}
 use Rattle.zone_threads.specs.declared.zone.Log.{Log}
 
 -- a session's lines are done, and it doesn't wait
 abbrev pub Finished : List Progress → ℕ → ℕ → Type 0
-Finished ts s lines = (d : Progress) → (slice_index_or ts s d ≡ record { done = lines; awaits = None }) × (s < length ts)
+Finished ts s lines = (s < length ts) × (slice_index_or ts s fresh ≡ record { done = lines; awaits = None })
 
--- a script has the lines of its session, whose number isn't 0
+-- a script has the lines of its session, whose number is from 1 to 64
 abbrev pub IsScript : {Line : Type 0} → (ℕ → List Line) → Script Line → Type 0
-IsScript scripts script = (script.session ≢ 0) × (script.lines.items ≡ scripts script.session)
+IsScript scripts script = (script.session ≢ 0) × (script.session < 65) × (script.lines.items ≡ scripts script.session)
 
 -- what the first pass knows: how many passes were made and are out, and the lists that were taken back
 abbrev pub roster : {Entry : Type 0} → ℕ → ℕ → List (ℕ × List Entry) → Roster Entry
 roster made out kept = record { made = made; out = out; kept = kept }
 
--- a cell that comes back, with its place
-pub record Back (Cell : Type 0) : Type 0 where
-  pub place : ℕ
-  pub cell : Cell
-  pub marked : Bool
+-- there is a cell of each zone, and none twice: so many, of places that differ and are from 1 to that number
+pub record AreAll {Cell : Type 0} (zones : ℕ) (backs : List (Back Cell)) : Type 0 where
+  pub count : length backs ≡ zones
+  pub within : All (λ (b : Back Cell). (0 < b.place) × (b.place ≤ zones)) backs
+  pub differ : (i j : ℕ) (d : Back Cell) → i < j → j < length backs → (slice_index_or backs i d).place ≢ (slice_index_or backs j d).place
 
 module _ {Cell Entry : Type 0} where
   abbrev pub pair : Log Cell Entry → ℕ × List Entry
@@ -65,12 +66,19 @@ module _ {State Cell Shared Line Entry Heard : Type 0} (D : Definitions State Ce
   abbrev pub IsOpening : State → List Cell → Type 0
   IsOpening start cells = (i : ℕ) (d : Cell) → i < length cells → D.cell_of (slice_index_or cells i d) (D.world (i + 1) start)
 
-  -- there is one history for which the part stands, and the logs are the entries of each place in it
-  pub record Ended (start : State) (scripts : ℕ → List Line) (sessions : ℕ) (m : Shared) (ts : List Progress) (rs : List (ℕ × ℕ)) (logs : List (Log Cell Entry)) : Type 0 where
+  -- there is one history for which the part stands, the logs are the entries of each place in it, and the cells are all there
+  pub record Ended (start : State) (scripts : ℕ → List Line) (zones : ℕ) (m : Shared) (ts : List Progress) (rs : List (ℕ × ℕ)) (logs : List (Log Cell Entry)) : Type 0 where
     pub h : List Entry
-    pub stands : Stands D start scripts sessions m ts rs h
+    pub stands : Stands D start scripts m ts rs h
     pub each : (p : ℕ) → own D.by p h ≡ log_of logs p
     pub backs : All (IsBack start h) (map back logs)
+    pub all_back : AreAll zones (map back logs)
+
+  -- a history that keeps to the scripts, and the cells after it
+  pub record Over (start : State) (scripts : ℕ → List Line) (zones : ℕ) (m : Shared) (h : List Entry) (cells : List (Back Cell)) : Type 0 where
+    pub middle : Middle D start scripts m h
+    pub backs : All (IsBack start h) cells
+    pub there : AreAll zones cells
 
   abbrev pub HasAll : List Entry → ℕ → ℕ → Type 0
   HasAll h s lines = folded (noted D) beginning h s ≡ record { done = lines; awaits = None }

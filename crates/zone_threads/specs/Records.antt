@@ -17,8 +17,8 @@ module _ {State Cell Shared Line Entry Heard : Type 0} (D : Definitions State Ce
     pub kept : all_right (may D scripts) (noted D) beginning h ≡ true
     pub shared : D.is_sound m ≡ true → D.shared_of m (D.common (folded D.one start h))
 
-  pub record Stands (start : State) (scripts : ℕ → List Line) (sessions : ℕ) (m : Shared) (ts : List Progress) (rs : List (ℕ × ℕ)) (h : List Entry) : Type 0 where
+  pub record Stands (start : State) (scripts : ℕ → List Line) (m : Shared) (ts : List Progress) (rs : List (ℕ × ℕ)) (h : List Entry) : Type 0 where
     pub middle : Middle start scripts m h
     pub tally : TallyOf ts (folded (noted D) beginning h)
-    pub wide : length ts ≡ sessions
+    pub wide : length ts ≡ 65
     pub order : spread rs ≡ map D.by h

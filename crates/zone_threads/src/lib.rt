@@ -2,7 +2,9 @@
 //! what zones share goes round between them. What was done is one history, of which each zone's log is exactly its entries.
 #![tactic(auto)]
 
+mod end;
 mod gate;
+mod live;
 mod machine;
 mod merge;
 mod part;
@@ -12,8 +14,9 @@ mod tally;
 mod zone;
 
 pub use gate::Gate;
+pub use live::{Ending, Lived, run_scripts};
 pub use machine::{Machine, Said, Stop, Told, Zoned};
 pub use part::{Part, Place, Start};
 pub use run::Script;
 pub use tally::{Progress, Ticket};
-pub use zone::Log;
+pub use zone::Back;

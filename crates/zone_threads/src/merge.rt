@@ -5,7 +5,7 @@ ghost use Rattle.zone_threads.specs.Ends.{Merges, back, log_of};
 ghost use Rattle.zone_threads.specs.Records.{spread};
 
 use crate::zone::Log;
-use std::alloc::{AllocError, Global};
+use std::alloc::AllocError;
 
 // The first entry of a log.
 fn first_of<C, E>(log: &mut Log<C, E>) -> Option<E>
@@ -13,10 +13,7 @@ fn first_of<C, E>(log: &mut Log<C, E>) -> Option<E>
     ensures some { IfSome result (λ e. log.old.entries.items ≡ e ∷ log.new.entries.items) }
     ensures none { IfNone result (log.old.entries.items ≡ []) }
 {
-    if log.entries.is_empty() {
-        return None;
-    }
-    Some(log.entries.remove(0))
+    log.entries.pop_front()
 }
 
 // The next entry of a place.
@@ -51,16 +48,18 @@ fn take_run<C: Drop, E: Drop>(
     Ok(())
 }
 
-/// The history of which the logs are the entries of each place, in this order of runs of places.
+/// The history of which the logs are the entries of each place, in this order of runs of places. It is joined in the room, which is
+/// large enough.
 pub(crate) fn merged<C: Drop, E: Drop>(
-    alloc: Global,
+    room: Vec<E>,
     order: &[(u32, u64)],
     logs: &mut Vec<Log<C, E>>,
 ) -> Result<Vec<E>, AllocError>
     ensures backs { OnOk result (map back logs.new.items ≡ map back logs.old.items) }
     ensures list { IfOk result (λ entries. (by : E → ℕ) (h : List E) → spread order.now ≡ map by h → ((p : ℕ) → own by p h ≡ log_of logs.old.items p) → entries.items ≡ h) }
 {
-    let mut entries = Vec::new(alloc);
+    let mut entries = room;
+    entries.clear();
     for run in order {
         take_run(logs, run.0, run.1, &mut entries)?;
     }

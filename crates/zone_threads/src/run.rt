@@ -1,18 +1,14 @@
-//! The workers, and what they leave.
-ghost use Rattle.std.specs.Prelude.{◌≡◌, ◌≢◌, ◌+◌, ◌<◌, ◌≤◌, ℕ, [], true, length, slice_index_or, vec_len, vec_capacity};
-ghost use Rattle.zone_turn.specs.Passes.{first_view, is_idle};
-ghost use Rattle.zone_turn.specs.declared.limits.TheConstants.{PASSES_OUT_MAX};
-ghost use Rattle.zone_turn.specs.declared.views.Role.TheVariants.{First};
-ghost use Rattle.zone_threads.specs.Ends.{IsOpening, IsScript, roster};
+//! The workers.
+ghost use Rattle.std.specs.Prelude.{◌≡◌, ◌≤◌};
+ghost use Rattle.zone_threads.specs.Ends.{IsScript};
 
 use crate::gate::Gate;
 use crate::machine::{Machine, Said, Told};
 use crate::part::{Part, Place, Start};
 use crate::step::{Ask, Outcome};
 use crate::zone::Zone;
-use std::alloc::Global;
 use std::sync::{Mutex, Wait};
-use zone_turn::{Pass, Turn};
+use zone_turn::Turn;
 
 /// The lines of a session, and its number.
 #[derive(Drop)]
@@ -34,7 +30,6 @@ fn visit<M: Machine, J: Start<M>, K: Place, W: Wait, G: Gate>(
     ask: Ask,
 ) -> Result<Told, Outcome>
     requires turn { turn.now ≡ K.turn }
-    requires few { J.sessions ≤ 65 }
     requires script { IsScript J.scripts script.now }
 {
     let mut zone = zone.lock(rt);
@@ -84,7 +79,6 @@ pub(crate) fn work<M: Machine, J: Start<M>, K: Place, W: Wait, G: Gate>(
     script: &Script<M::Line>,
 )
     requires turn { turn.now ≡ K.turn }
-    requires few { J.sessions ≤ 65 }
     requires script { IsScript J.scripts script.now }
 {
     let mut number: u64 = 0;
@@ -126,28 +120,5 @@ pub(crate) fn work<M: Machine, J: Start<M>, K: Place, W: Wait, G: Gate>(
             Err(Outcome::Idle) => takes_turns = false,
             Err(Outcome::Given) => {}
         }
-    }
-}
-
-// Makes a zone for each cell.
-fn deal<M: Machine, J: Start<M>, K: Place>(
-    alloc: Global,
-    turn: &Turn<Part<M, J>>,
-    first: &mut Pass<Part<M, J>>,
-    cells: Vec<M::Cell>,
-    zones: &mut Vec<Mutex<Zone<M, J, K>>>,
-)
-    requires turn { (turn.now ≡ K.turn) × (first.old.turn ≡ K.turn) × (first.old.knows ≡ first_view) }
-    requires cells { IsOpening M.machine J.start cells.items }
-    requires room { (length cells.items < PASSES_OUT_MAX) × (vec_len zones.old ≡ 0) × (length cells.items ≤ vec_capacity zones.old) }
-    ensures turn { (first.new.turn ≡ K.turn) × (is_idle first.new.knows ≡ true) × (first.new.knows.list ≡ []) }
-    ensures first { first.new.knows.role ≡ First (roster (length cells.items + 1) (vec_len zones.new) []) }
-    ensures zones { vec_len zones.new ≡ length cells.items }
-{
-    let mut place: u32 = 0;
-    for cell in cells {
-        place += 1;
-        let pass = turn.split(first);
-        zones.push_reserved(Mutex::new(Zone::new(alloc, pass, place, cell)));
     }
 }

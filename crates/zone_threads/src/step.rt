@@ -105,8 +105,8 @@ fn try_turn<M: Machine, J: Start<M>>(
     }
 }
 
-// Where a session is: at a line, or it waits.
-fn progress_of(tally: &[Progress], session: u8) -> Result<u64, Outcome>
+/// Where a session is: at a line, or it waits.
+pub(crate) fn progress_of(tally: &[Progress], session: u8) -> Result<u64, Outcome>
     ensures { IfOk result (λ done. (session < length tally.now) × (slice_index_or tally.now session fresh ≡ record { done = done; awaits = None })) }
 {
     match tally.get(session as usize) {
@@ -191,8 +191,9 @@ fn attempt<M: Machine, J: Start<M>>(
 fn put_run<M: Machine, J: Start<M>>(part: &mut Part<M, J>, place: u32, many: usize)
     requires room { vec_len part.old.order < vec_capacity part.old.order }
     ensures order { part.new.order.items ≡ part.old.order.items ++ (place, many) ∷ [] }
-    ensures same { part.new ≡ record part.old { order = part.new.order } }
+    ensures same { part.new ≡ record part.old { order = part.new.order; entries = part.new.entries } }
 {
+    part.entries = part.entries.saturating_add(many);
     part.order.push_reserved((place, many as u64));
 }
 
@@ -213,8 +214,8 @@ pub(crate) fn act<M: Machine, J: Start<M>>(
     requires job { IsJob M.machine J.scripts session lines.now cell.old job }
     requires room { (given ≤ vec_len log.old) × (vec_len log.old < vec_capacity log.old) × (vec_len part.old.order < vec_capacity part.old.order) }
     ensures grown { (new : List M.Entry) × (log.new.items ≡ log.old.items ++ new) }
-    ensures stands { (h : List M.Entry) → Stands M.machine J.start J.scripts J.sessions part.old.shared part.old.tally.items part.old.order.items h → own M.machine.by place h ≡ take given log.old.items → Logged M.machine J.start place cell.old log.old.items given marked.old
-        → Stands M.machine J.start J.scripts J.sessions part.new.shared part.new.tally.items part.new.order.items (h ++ drop given log.new.items) × All (λ e. M.machine.by e ≡ place) (drop given log.new.items) × (marked.new ≡ false → M.machine.cell_of cell.new (left_by M.machine J.start place log.new.items)) }
+    ensures stands { (h : List M.Entry) → Stands M.machine J.start J.scripts part.old.shared part.old.tally.items part.old.order.items h → own M.machine.by place h ≡ take given log.old.items → Logged M.machine J.start place cell.old log.old.items given marked.old
+        → Stands M.machine J.start J.scripts part.new.shared part.new.tally.items part.new.order.items (h ++ drop given log.new.items) × All (λ e. M.machine.by e ≡ place) (drop given log.new.items) × (marked.new ≡ false → M.machine.cell_of cell.new (left_by M.machine J.start place log.new.items)) }
     ensures wide { length part.new.tally.items ≡ length part.old.tally.items }
 {
     note_all(machine, &mut part.tally, place, &log[given..]);

@@ -6,6 +6,9 @@ ghost use Rattle.zone_threads.specs.Scripts.{TallyOf, after_turn, answers, fresh
 
 use crate::machine::{Machine, Said, Told};
 
+/// The numbers of sessions are below this.
+pub(crate) const SESSIONS: usize = 65;
+
 /// A ticket of the daemon of the zone of a place.
 #[derive(Clone, Copy, Debug, PartialEq, Eq)]
 pub struct Ticket {

@@ -5,18 +5,27 @@ ghost use Rattle.zone_threads.specs.Ends.{LeftBy};
 ghost use Rattle.zone_threads.specs.Zones.{IsAsk};
 
 use crate::machine::{Machine, Told, Zoned};
-use crate::part::{Part, Place, Start};
+use crate::part::{LOCALS_MAX, Part, Place, Start};
 use crate::step::{Ask, Outcome, act, job_of};
 use std::alloc::{AllocError, Global};
+use std::collections::VecDeque;
 use std::marker::{Model, PhantomData};
 use std::sync::Wait;
 use zone_turn::{Pass, PassOf, Turn};
 
-/// What the zone of a place did, and its cell. Where a fault left it between two entries it is marked, and nothing is said of the cell.
+/// The cell of the zone of a place. Where a fault left it between two entries it is marked, and nothing is said of the cell.
 #[derive(Drop)]
-pub struct Log<C, E> {
+pub struct Back<C> {
     pub place: u32,
-    pub entries: Vec<E>,
+    pub cell: C,
+    pub marked: bool,
+}
+
+/// What the zone of a place did, and its cell, as in `Back`.
+#[derive(Drop)]
+pub(crate) struct Log<C, E> {
+    pub place: u32,
+    pub entries: VecDeque<E>,
     pub cell: C,
     pub marked: bool,
 }
@@ -34,14 +43,14 @@ pub(crate) struct Zone<M: Zoned, J: Start<M>, K: Place> {
 }
 
 impl<M: Zoned, J: Start<M>, K: Place> Model for Zone<M, J, K> {
-    ghost use Rattle.std.specs.Prelude.{ℕ, List};
+    ghost use Rattle.std.specs.Prelude.{ℕ, List, ◌≤◌};
     ghost use Rattle.zone_threads.specs.Zones.{IsZone};
 
     ghost Value = { ℕ × List M.Entry };
 
     ghost view = { λ z. (z.place, z.log.items) };
 
-    ghost invariant = { λ z. IsZone M.machine J.start K.turn z.place z.cell z.log.items z.given z.marked z.pass };
+    ghost invariant = { λ z. IsZone M.machine J.start K.turn z.place z.cell z.log.items z.given z.marked z.pass × (z.place ≤ K.zones) };
 }
 
 impl<M: Machine, J: Start<M>, K: Place> Zone<M, J, K> {
@@ -49,6 +58,7 @@ impl<M: Machine, J: Start<M>, K: Place> Zone<M, J, K> {
     pub(crate) fn new(alloc: Global, pass: Pass<Part<M, J>>, place: u32, cell: M::Cell) -> Self
         requires pass { (pass.turn ≡ K.turn) × (is_idle pass.knows ≡ true) × (pass.knows.number ≡ place) × (pass.knows.list ≡ []) }
         requires cell { M.machine.cell_of cell (M.machine.world place J.start) }
+        requires near { place ≤ K.zones }
         ensures { result ≡ (place, []) }
     {
         Zone {
@@ -62,14 +72,15 @@ impl<M: Machine, J: Start<M>, K: Place> Zone<M, J, K> {
         }
     }
 
-    /// The next turn of the zone's daemon, where it is local, under the zone's lock alone.
+    /// The next turn of the zone's daemon, where it is local, under the zone's lock alone. There is none where it has many entries that
+    /// it hasn't given. Room is taken for an entry behind it, too.
     pub(crate) fn local(&mut self, machine: &M) -> Result<Option<Told>, AllocError>
         ensures place { self.new.0 ≡ self.old.0 }
     {
-        if self.marked {
+        if self.marked || self.log.len() - self.given >= LOCALS_MAX {
             return Ok(None);
         }
-        self.log.reserve(1)?;
+        self.log.reserve(2)?;
         match machine.local_turn(&mut self.cell, self.place)? {
             Some(entry) => {
                 let told = machine.told(&entry);
@@ -93,7 +104,6 @@ impl<M: Machine, J: Start<M>, K: Place> Zone<M, J, K> {
         ask: Ask,
     ) -> Result<Told, Outcome>
         requires turn { turn.now ≡ K.turn }
-        requires few { J.sessions ≤ 65 }
         requires ask { IsAsk J.scripts session lines.now ask }
         ensures place { self.new.0 ≡ self.old.0 }
     {
@@ -102,7 +112,10 @@ impl<M: Machine, J: Start<M>, K: Place> Zone<M, J, K> {
         }
         let job = job_of(machine, &self.cell, ask);
         let mut part = turn.take(rt, &mut self.pass);
-        if part.order.reserve(1).is_err() {
+        if part
+            .make_room(self.log.len() - self.given, ask == Ask::Give)
+            .is_err()
+        {
             turn.give(&mut self.pass, part, &[]);
             return Err(Outcome::Ended);
         }
@@ -126,6 +139,7 @@ impl<M: Machine, J: Start<M>, K: Place> Zone<M, J, K> {
     // The pass and the log, where all of it was given.
     fn taken_apart(self) -> Result<(Pass<Part<M, J>>, Log<M::Cell, M::Entry>), Self>
         ensures cell { IfOk result (λ r. LeftBy M.machine J.start r.1) }
+        ensures near { IfOk result (λ r. r.1.place ≤ K.zones) }
         ensures pass { IfOk result (λ r. (r.0.turn ≡ K.turn) × (is_idle r.0.knows ≡ true) × (r.0.knows.number ≡ r.1.place) × (r.0.knows.list ≡ r.1.entries.items)) }
     {
         if self.given != self.log.len() {
@@ -144,7 +158,7 @@ impl<M: Machine, J: Start<M>, K: Place> Zone<M, J, K> {
             pass,
             Log {
                 place,
-                entries: log,
+                entries: VecDeque::from_vec(log),
                 cell,
                 marked,
             },
@@ -159,8 +173,8 @@ impl<M: Machine, J: Start<M>, K: Place> Zone<M, J, K> {
         turn: &Turn<Part<M, J>>,
     ) -> (Pass<Part<M, J>>, Log<M::Cell, M::Entry>)
         requires turn { turn.now ≡ K.turn }
-        requires few { J.sessions ≤ 65 }
         ensures cell { LeftBy M.machine J.start result.1 }
+        ensures near { result.1.place ≤ K.zones }
         ensures pass { (result.0.turn ≡ K.turn) × (is_idle result.0.knows ≡ true) × (result.0.knows.number ≡ result.1.place) × (result.0.knows.list ≡ result.1.entries.items) }
     {
         let mut zone = self;

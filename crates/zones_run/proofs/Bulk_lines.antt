@@ -25,11 +25,11 @@ use Rattle.zone_machine.specs.Machine.{opening}
 use Rattle.zones_run.specs.Answering.{FindsAlways}
 use Rattle.zones_run.specs.Bulk.{BulkComesToItsEnd, bulk_lines, bulk_mode, bulk_run, bulk_text, call_line, halt_lines, lines_for, numbered}
 use Rattle.zones_run.specs.Fixed.{text_of_lines}
-use Rattle.zones_run.specs.Lines.{has_newline}
+use Rattle.input_lines.specs.Lines.{has_newline}
 use Rattle.zones_run.specs.Scripting.{numbered as numbered_events, opened, put_in, state_past, turns_after, with_events}
 use Rattle.zones_run.specs.Scripts.{At_end, At_misfit, Ending, Script, due_said, ends, entry_for, fits_due, fits_stated, script_from, script_of, state_for, unstated, with_due}
 use Rattle.zones_run.specs.declared.due.Due.{Due}
-use Rattle.zones_run.proofs.Cuts.{cut_at}
+use Rattle.input_lines.proofs.Cuts.{cut_at}
 use Rattle.zones_run.proofs.Permitted.{AllSuit, all_suit}
 use Rattle.zones_run.proofs.Purged_runs.{clean}
 use Rattle.zones_run.proofs.Traces.{line_said, script_line}

@@ -13,8 +13,8 @@ use Rattle.zones_run.specs.Output.{Output, written}
 use Rattle.zones_run.specs.Program.{AnswersOn, AsksNothing, HasAnswered, HasRecorded, ObeysInput, RecordsOver, done_on, output_for}
 use Rattle.zones_run.specs.Run.{HasFront, TakesFronts, TellsLine, TellsText, fault_status, run_fault_of, write_fault_line}
 use Rattle.zones_run.specs.Statuses.{status_done, status_usage, status_write_fault}
-use Rattle.zones_run.specs.declared.lines.ReadFault.{ReadFault}
-use Rattle.zones_run.specs.declared.lines.ReadFault.TheVariants.{Failed, Memory as No_memory}
+use Rattle.input_lines.specs.declared.lines.ReadFault.{ReadFault}
+use Rattle.input_lines.specs.declared.lines.ReadFault.TheVariants.{Failed, Memory as No_memory}
 use Rattle.zones_run.specs.declared.outcome.Complaint.{Complaint}
 use Rattle.zones_run.specs.declared.words.Command.{Command}
 use Rattle.zones_run.specs.declared.words.Command.TheVariants.{Export, Help, OnStore, Version}

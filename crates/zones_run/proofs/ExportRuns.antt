@@ -5,12 +5,12 @@ use Rattle.std.proofs.lemmas.List.Elements.{All-push}
 use Rattle.zn_base.specs.Lines.{lines_of}
 use Rattle.zn_io.specs.Streams.{before_known}
 use Rattle.zonecfg_scopes.specs.Open.{Open, Nothing}
-use Rattle.zones_run.specs.Lines.{AreWhole}
+use Rattle.input_lines.specs.Lines.{AreWhole}
 use Rattle.zones_run.specs.Obeyed.{ObeysLines, ObeysRead, lines_in_turn}
-use Rattle.zones_run.specs.Reading.{TakesLine}
+use Rattle.input_lines.specs.Reading.{TakesLine}
 use Rattle.zones_run.specs.Subcommands.{edit_of}
-use Rattle.zones_run.specs.Taking.{BeginsLine, TakesPiece}
-use Rattle.zones_run.proofs.Begins.{takes_known, takes_none}
+use Rattle.input_lines.specs.Taking.{BeginsLine, TakesPiece}
+use Rattle.input_lines.proofs.Begins.{takes_known, takes_none}
 use Rattle.zones_run.proofs.Refusing.{turn_more}
 use Rattle.zones_run.proofs.TraceRuns.{takes as takes_line}
 

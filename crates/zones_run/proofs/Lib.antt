@@ -1,6 +1,4 @@
 pub mod Answered
-pub mod Cuts
-pub mod Parts
 pub mod Runs
 pub mod Fronts
 pub mod Starting
@@ -10,7 +8,6 @@ pub mod Turns_end
 pub mod Tickets_end
 pub mod Traces
 pub mod TraceRuns
-pub mod Begins
 pub mod TraceEnds
 pub mod TraceStarts
 pub mod Histories

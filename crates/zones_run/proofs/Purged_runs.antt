@@ -25,7 +25,7 @@ use Rattle.zone_machine.specs.Machine.Pools.{fits}
 use Rattle.zone_pools.specs.declared.grant.Grant.{Grant}
 use Rattle.zone_pools.specs.declared.grant.Grant.TheVariants.{Denied, Nothing, Number, Yes}
 use Rattle.zone_views.specs.Numbers.{is_small}
-use Rattle.zones_run.specs.Lines.{has_newline}
+use Rattle.input_lines.specs.Lines.{has_newline}
 use Rattle.zones_run.specs.Output.{is_past_limit}
 use Rattle.zones_run.specs.Purged.{PurgedRunsAsGiven, RunsAsKept, StandsIn}
 use Rattle.zones_run.specs.Scripting.{put_in, with_turns}
@@ -42,7 +42,7 @@ use Rattle.zone_views.proofs.Kept_grants.{kept-fits}
 use Rattle.zone_views.proofs.Numbered.{legal-fits}
 use Rattle.zone_views.proofs.Purge.{opening-agree, run-asked}
 use Rattle.zone_views.proofs.Small_numbers.{small-legal}
-use Rattle.zones_run.proofs.Cuts.{cut_at}
+use Rattle.input_lines.proofs.Cuts.{cut_at}
 use Rattle.zones_run.proofs.Permitted.{entries_permitted, lines_are_events}
 use Rattle.zones_run.proofs.TraceEnds.{told-out}
 use Rattle.zones_run.proofs.Traces.{line_said, script_line}

@@ -3,7 +3,7 @@ use Rattle.std.proofs.Common.{◌≡◌, ◌<◌, ℕ, true, false, cond, List, 
 use Rattle.std.specs.Option.{option_map}
 use Rattle.zonecfg_scopes.specs.Open.{Open}
 use Rattle.zn_base.specs.Lines.{is_newline, lines_of, with_first}
-use Rattle.zones_run.specs.Reading.{lines_left}
+use Rattle.input_lines.specs.Reading.{lines_left}
 use Rattle.zones_run.specs.Exporting.{edited, exported}
 use Rattle.zones_run.specs.Complaints.{limit_at}
 

@@ -12,16 +12,16 @@ use Rattle.zone_machine.specs.Machine.Images.{IsStoreOf}
 use Rattle.zone_cases.specs.State.{State}
 use Rattle.zones_run.specs.Answering.{LeavesText, MayStop, Misfits, RestartsWell, Stops, StopsText, ended_by}
 use Rattle.zones_run.specs.Midway.{Follows, Left, RunsOn, none_put}
-use Rattle.zones_run.specs.Reading.{TakesLine}
+use Rattle.input_lines.specs.Reading.{TakesLine}
 use Rattle.zones_run.specs.Recording.{RanAs}
 use Rattle.zones_run.specs.Run.{run_fault_of}
-use Rattle.zones_run.specs.Taking.{TakesPiece}
+use Rattle.input_lines.specs.Taking.{TakesPiece}
 use Rattle.zones_run.specs.Scripts.{At_fault, At_misfit, Restarts, Says, said_by}
 use Rattle.zones_run.specs.Tracing.{EndsAs, HasWritten}
 use Rattle.zones_run.specs.declared.fault.RunFault.{RunFault}
 use Rattle.zones_run.specs.declared.fault.RunFault.TheVariants.{Disk, Memory, Read, Write}
-use Rattle.zones_run.specs.declared.lines.ReadFault.{ReadFault}
-use Rattle.zones_run.specs.declared.lines.ReadFault.TheVariants.{Failed, Memory as No_memory}
+use Rattle.input_lines.specs.declared.lines.ReadFault.{ReadFault}
+use Rattle.input_lines.specs.declared.lines.ReadFault.TheVariants.{Failed, Memory as No_memory}
 use Rattle.zones_run.specs.declared.outcome.Complaint.{Complaint}
 use Rattle.zones_run.specs.declared.outcome.Complaint.TheVariants.{BadGrant as Bad_grant, Grammar as Bad_line}
 use Rattle.zones_run.specs.declared.words.Mode.{Mode}

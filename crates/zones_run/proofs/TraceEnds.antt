@@ -18,8 +18,8 @@ use Rattle.zone_pools.specs.Pools.{or_else}
 use Rattle.zone_cases.specs.State.{State}
 use Rattle.zone_cases.specs.declared.events.Entry.{Entry}
 use Rattle.zn_base.specs.Lines.{is_newline, lines_of, with_first}
-use Rattle.zones_run.specs.Reading.{FirstIsLong}
-use Rattle.zones_run.specs.Taking.{BeginsLine, TakesPiece}
+use Rattle.input_lines.specs.Reading.{FirstIsLong}
+use Rattle.input_lines.specs.Taking.{BeginsLine, TakesPiece}
 use Rattle.zones_run.specs.Run.{HasFront, run_fault_of}
 use Rattle.zones_run.specs.Answering.{LeavesText}
 use Rattle.zones_run.specs.Tracing.{AnswersLines, AnswersRead, AnswersSome, EndsAs, HasReplies, HasWritten, Run, RunsLines, Tells, entry_text, left_to_tell, entries_text, run_of, told, told_refusal, traced}
@@ -34,9 +34,9 @@ use Rattle.zones_run.specs.declared.outcome.Complaint.{Complaint}
 use Rattle.zones_run.specs.declared.outcome.Complaint.TheVariants.{BadGrant, Grammar as Bad_line, Limit}
 use Rattle.zones_run.specs.declared.fault.RunFault.TheVariants.{Disk, Memory, Read, Write}
 use Rattle.zones_run.specs.declared.fault.RunFault.{RunFault}
-use Rattle.zones_run.specs.declared.lines.ReadFault.{ReadFault}
-use Rattle.zones_run.specs.declared.lines.ReadFault.TheVariants.{Failed, Memory as No_memory}
-use Rattle.zones_run.proofs.Begins.{takes_known}
+use Rattle.input_lines.specs.declared.lines.ReadFault.{ReadFault}
+use Rattle.input_lines.specs.declared.lines.ReadFault.TheVariants.{Failed, Memory as No_memory}
+use Rattle.input_lines.proofs.Begins.{takes_known}
 use Rattle.zones_run.proofs.Fronts.{after_known-append, after_known-nil}
 use Rattle.zones_run.proofs.TraceRuns.{known_run, runs_told}
 use Rattle.zones_run.proofs.Traces.{from_first_line, line_said, misfits_line, or_else-None, script_line}

@@ -16,7 +16,7 @@ use Rattle.zones_run.specs.Answering.{Fails, FailsLine, LeavesText}
 use Rattle.zones_run.specs.Midway.{Follows, Knows, Left, none_put}
 use Rattle.zones_run.specs.Scripts.{Ending, Says, entry_for, fits_due, said_by, state_for, unstated}
 use Rattle.zones_run.specs.declared.due.Due.{Due}
-use Rattle.zones_run.specs.Reading.{TakesLine}
+use Rattle.input_lines.specs.Reading.{TakesLine}
 use Rattle.zones_run.specs.Recording.{GoesSurely, HasNearlyTold, IsFront, Ran, RanAs}
 use Rattle.zones_run.specs.Tracing.{entries_text, run_of}
 use Rattle.zones_run.specs.declared.fault.RunFault.{RunFault}

@@ -21,8 +21,8 @@ use Rattle.zone_cases.specs.declared.events.Event.TheVariants.{Turn}
 use Rattle.zone_cases.specs.declared.events.Answer.{Answer}
 use Rattle.zone_machine.specs.Code.Decided.{entry_by}
 use Rattle.zn_base.specs.Lines.{is_newline, lines_of, with_first}
-use Rattle.zones_run.specs.Lines.{AreWhole, has_newline}
-use Rattle.zones_run.specs.Reading.{TakesLine}
+use Rattle.input_lines.specs.Lines.{AreWhole, has_newline}
+use Rattle.input_lines.specs.Reading.{TakesLine}
 use Rattle.zones_run.specs.Answering.{FindsAlways, IsAnswered, RestartsWell, RestartsWellAt, TakesEvent, refused_with, taken_by}
 use Rattle.zones_run.specs.Midway.{Follows, Knows, RunsOn, lines_from, none_put, puts_after, puts_until, run_on, run_onto}
 use Rattle.zones_run.specs.Recording.{GoesSurely, IsFront}
@@ -35,7 +35,7 @@ use Rattle.zones_run.specs.declared.turns.Taken.{Taken as Told}
 use Rattle.zones_run.specs.declared.words.Mode.{Mode}
 use Rattle.zones_run.specs.declared.words.Mode.TheVariants.{Purged, Replies, Stated, WithTurns}
 use Rattle.zones_run.specs.declared.words.Telling.{Telling}
-use Rattle.zones_run.proofs.Cuts.{cut_at, cut_whole}
+use Rattle.input_lines.proofs.Cuts.{cut_at, cut_whole}
 use Rattle.zones_run.proofs.Fronts.{after_known-append, after_known-nil}
 use Rattle.zones_run.proofs.Histories.{after-push, history-entry, suits_said}
 use Rattle.zones_run.proofs.Putting.{none_after, put_rests}

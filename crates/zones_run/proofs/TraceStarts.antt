@@ -6,7 +6,7 @@ use Rattle.commit_journal.specs.declared.records.Commit.{Commit}
 use Rattle.zones_run.specs.Midway.{RunsOn, none_put}
 use Rattle.zones_run.specs.declared.words.Mode.{Mode}
 use Rattle.zones_run.specs.Tracing.{AnswersLines, AnswersRead, AnswersSome, HasReplies, RunsLines, run_of}
-use Rattle.zones_run.proofs.Begins.{before_known-nil, takes_just, takes_none}
+use Rattle.input_lines.proofs.Begins.{before_known-nil, takes_just, takes_none}
 use Rattle.zones_run.proofs.TraceEnds.{answers_lines, answers_read, has_replies, lines_some, runs_lines}
 use Rattle.zones_run.proofs.TraceRuns.{runs_from_start}
 

@@ -1,8 +1,5 @@
 pub mod Statuses
 pub mod Fixed
-pub mod Lines
-pub mod Taking
-pub mod Reading
 pub mod Refusals
 pub mod Subcommands
 pub mod Obeyed

@@ -14,7 +14,7 @@ use Rattle.zone_cases.specs.State.{State}
 use Rattle.zone_cases.specs.declared.events.Entry.{Entry}
 use Rattle.zone_cases.specs.declared.events.Event.{Event}
 use Rattle.zone_pools.specs.Pools.{or_else}
-use Rattle.zones_run.specs.Lines.{AreWhole}
+use Rattle.input_lines.specs.Lines.{AreWhole}
 use Rattle.zones_run.specs.Recording.{commits_with}
 use Rattle.zones_run.specs.Scripting.{numbered, state_past, turns_after, turns_until, with_events, with_turns}
 use Rattle.zones_run.specs.Scripts.{Script, entries_from, permits, script_from}

@@ -5,7 +5,7 @@ use Rattle.zonecfg_scopes.specs.Open.{Open, Nothing}
 use Rattle.zonecfg_scopes.specs.Turns.{goes_on}
 use Rattle.zones_run.specs.declared.refusal.Refusal.{Refusal}
 use Rattle.zones_run.specs.Subcommands.{edit_of}
-use Rattle.zones_run.specs.Taking.{TakesLines, TakesNoMore}
+use Rattle.input_lines.specs.Taking.{TakesLines, TakesNoMore}
 
 -- what lines make of what is open, one after another, up to the first that is refused
 abbrev pub lines_in_turn : List (List ℕ) → Open → Result Open Refusal

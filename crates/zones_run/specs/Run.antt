@@ -4,8 +4,8 @@ use Rattle.zn_io.specs.Streams.{Rose, TakesFront, after_known}
 use Rattle.zones_run.specs.Statuses.{status_disk_fault, status_done, status_grammar, status_limit, status_no_memory, status_not_a_store, status_read_fault, status_refused, status_usage, status_write_fault}
 use Rattle.zones_run.specs.declared.fault.RunFault.{RunFault}
 use Rattle.zones_run.specs.declared.fault.RunFault.TheVariants.{Disk, Memory, Read, Write}
-use Rattle.zones_run.specs.declared.lines.ReadFault.{ReadFault}
-use Rattle.zones_run.specs.declared.lines.ReadFault.TheVariants.{Failed, Memory as No_memory}
+use Rattle.input_lines.specs.declared.lines.ReadFault.{ReadFault}
+use Rattle.input_lines.specs.declared.lines.ReadFault.TheVariants.{Failed, Memory as No_memory}
 use Rattle.zones_run.specs.Output.{Output}
 
 -- the statuses that the words, what is on the disk and the whole input decide

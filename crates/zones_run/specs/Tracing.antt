@@ -26,7 +26,7 @@ use Rattle.zones_run.specs.declared.words.Mode.TheVariants.{Purged, WithTurns}
 use Rattle.zones_run.specs.declared.words.Telling.TheVariants.{Marks}
 use Rattle.zones_run.specs.declared.fault.RunFault.{RunFault}
 use Rattle.zones_run.specs.declared.fault.RunFault.TheVariants.{Read, Write}
-use Rattle.zones_run.specs.Taking.{TakesLines, TakesNoMore}
+use Rattle.input_lines.specs.Taking.{TakesLines, TakesNoMore}
 use Rattle.zones_run.specs.Complaints.{complaint_output, limit_at}
 use Rattle.zones_run.specs.declared.outcome.Complaint.{Complaint}
 use Rattle.zones_run.specs.declared.outcome.Complaint.TheVariants.{BadGrant, FirstRefused, Grammar as Bad_line}

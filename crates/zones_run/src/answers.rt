@@ -3,7 +3,7 @@ ghost use Rattle.std.specs.Prelude.{◌≡◌, ◌≢◌, ◌<◌, ◌≤◌, �
 ghost use Rattle.zn_io.specs.Streams.{Rose, after_known};
 ghost use Rattle.zone_cases.specs.Events.{is_restart};
 ghost use Rattle.zone_cases.specs.State.{State};
-ghost use Rattle.zone_machine.specs.Code.Decided.{AsksBrands, MayGoOn, entry_by, own_subject, subject_by};
+ghost use Rattle.zone_machine.specs.Code.Decided.{AsksBrands, IsHeard, MayGoOn, entry_by, own_subject, subject_by};
 ghost use Rattle.zone_machine.specs.Code.Openings.{StandsFor};
 ghost use Rattle.zone_machine.specs.Code.Records.{Passes};
 ghost use Rattle.zone_machine.specs.Machine.Histories.{concerns};
@@ -78,10 +78,12 @@ fn answer_recording<D: Disk, F: Fn(&Change) -> HookAnswer>(
     alloc: Global,
     machine: &mut Machine<'_, D, F>,
     due: &Due,
+    hook: HookAnswer,
 ) -> Result<Answer, Stop>
     requires stays { is_restart due.now.event ≡ false }
     requires asks { AsksBrands F.Fn machine.old }
     requires ready { MayGoOn D.view machine.old }
+    requires hook { IsHeard machine.old.parts due.now.event hook }
     ensures steps { IfOk result (λ answer. (S : State) → StandsFor S machine.old → Steps S due.now answer (λ T. StandsFor T machine.new) (D.view machine.old.bank.disk) (D.view machine.new.bank.disk)) }
     ensures kept { IfErr result (λ stop. (S : State) → StandsFor S machine.old → Stops stop (machine.new.bank ≡ machine.old.bank) S (Ok (Some due.now)) (D.view machine.old.bank.disk) (D.view machine.new.bank.disk)) }
     ensures only { IfErr result (λ stop. (stop ≡ Stop.Fault RunFault.Memory) ⊎ ((stop ≡ Stop.Fault RunFault.Disk) ⊎ (stop ≡ Stop.BadGrant))) }
@@ -91,7 +93,7 @@ fn answer_recording<D: Disk, F: Fn(&Change) -> HookAnswer>(
     ensures passes { Passes (D.view machine.old.bank.disk) (D.view machine.new.bank.disk) }
     ensures asks { AsksBrands F.Fn machine.new }
 {
-    match machine.answer(alloc, &due.event, due.stated, true) {
+    match machine.answer_heard(alloc, &due.event, due.stated, hook, true) {
         Ok(answer) => Ok(answer),
         Err(StepFault::Memory) => Err(Stop::Fault(RunFault::Memory)),
         Err(StepFault::DiskFault) => Err(Stop::Fault(RunFault::Disk)),
@@ -100,7 +102,41 @@ fn answer_recording<D: Disk, F: Fn(&Change) -> HookAnswer>(
     }
 }
 
-// An event that is no restart is answered. Where it stores a record, the replies that wait are written first.
+// The replies that wait are written, and then an event of which a record is foreseen, and which is no restart, is answered.
+fn write_and_answer<D: Disk, F: Fn(&Change) -> HookAnswer, K: Sink>(
+    alloc: Global,
+    machine: &mut Machine<'_, D, F>,
+    due: &Due,
+    hook: HookAnswer,
+    waiting: &mut Vec<u8>,
+    out: &mut K,
+) -> Result<Answer, Stop>
+    requires stays { is_restart due.now.event ≡ false }
+    requires asks { AsksBrands F.Fn machine.old }
+    requires ready { MayGoOn D.view machine.old }
+    requires hook { IsHeard machine.old.parts due.now.event hook }
+    ensures steps { IfOk result (λ answer. (S : State) → StandsFor S machine.old → Steps S due.now answer (λ T. StandsFor T machine.new) (D.view machine.old.bank.disk) (D.view machine.new.bank.disk)) }
+    ensures kept { IfErr result (λ stop. (S : State) → StandsFor S machine.old → Stops stop (machine.new.bank ≡ machine.old.bank) S (Ok (Some due.now)) (D.view machine.old.bank.disk) (D.view machine.new.bank.disk)) }
+    ensures may { IfErr result (λ stop. MayStop stop (D.view machine.old.bank.disk)) }
+    ensures unstated { due.now.stated ≡ None → IfErr result IsFault }
+    ensures same { OnOk result (after_known (K.holds out.new) waiting.new.items ≡ after_known (K.holds out.old) waiting.old.items) }
+    ensures text { IfErr result (λ stop. StopsText stop (K.holds out.old) (K.holds out.new) waiting.old.items waiting.new.items) }
+    ensures written { HasWritten (K.holds out.old) (K.holds out.new) }
+    ensures write { IsErrOf result (Stop.Fault RunFault.Write) → Rose (K.faults out.old) (K.faults out.new) }
+    ensures disk { IsErrOf result (Stop.Fault RunFault.Disk) → Rose (D.view machine.old.bank.disk).faults (D.view machine.new.bank.disk).faults }
+    ensures later { K.faults out.old ≤ K.faults out.new }
+    ensures ready { OnOk result (MayGoOn D.view machine.new) }
+    ensures passes { Passes (D.view machine.old.bank.disk) (D.view machine.new.bank.disk) }
+    ensures asks { AsksBrands F.Fn machine.new }
+{
+    match write_waiting(waiting, out) {
+        Ok(()) => answer_recording(alloc, machine, due, hook),
+        Err(fault) => Err(Stop::Fault(fault)),
+    }
+}
+
+// An event that is no restart is answered. Where it stores a record, the replies that wait are written first: at a daemon's
+// step that changes what is stored before the event is looked at, else once it is found that it would store one.
 fn answer_after_waiting<D: Disk, F: Fn(&Change) -> HookAnswer, K: Sink>(
     alloc: Global,
     machine: &mut Machine<'_, D, F>,
@@ -125,10 +161,18 @@ fn answer_after_waiting<D: Disk, F: Fn(&Change) -> HookAnswer, K: Sink>(
     ensures passes { Passes (D.view machine.old.bank.disk) (D.view machine.new.bank.disk) }
     ensures asks { AsksBrands F.Fn machine.new }
 {
-    match machine.answer(alloc, &due.event, due.stated, waiting.is_empty()) {
+    let foreseen = machine.foresee(&due.event);
+    if foreseen.records && !waiting.is_empty() {
+        return write_and_answer(alloc, machine, due, foreseen.hook, waiting, out);
+    }
+    let may_record = waiting.is_empty();
+    match machine.answer_heard(alloc, &due.event, due.stated, foreseen.hook, may_record) {
         Ok(answer) => Ok(answer),
         Err(StepFault::WouldRecord) => match write_waiting(waiting, out) {
-            Ok(()) => answer_recording(alloc, machine, due),
+            Ok(()) => {
+                let hook = machine.foresee(&due.event).hook;
+                answer_recording(alloc, machine, due, hook)
+            }
             Err(fault) => Err(Stop::Fault(fault)),
         },
         Err(StepFault::Memory) => Err(Stop::Fault(RunFault::Memory)),

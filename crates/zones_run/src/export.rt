@@ -9,9 +9,10 @@ ghost use Rattle.zones_run.specs.Obeyed.{ObeysLines, ObeysRead};
 ghost use Rattle.zones_run.specs.Subcommands.{known_brands};
 
 use crate::edit::{edit, known_brands, obey};
-use crate::lines::{Ahead, Got, LINES_MAX, ReadFault, next_line};
+use crate::limits::LINES_MAX;
 use crate::outcome::{Complaint, Outcome};
 use crate::refusal::Refusal;
+use input_lines::{Ahead, Got, ReadFault, next_line};
 use std::alloc::Global;
 use zn_base::{NameFault, Text, ZoneName};
 use zn_io::Source;

@@ -1,8 +1,8 @@
 //! What ends a run that the words and the input do not decide.
 ghost use Rattle.std.specs.Prelude.{◌≡◌};
 
-use crate::lines::ReadFault;
 use commit_journal::StoreFault;
+use input_lines::ReadFault;
 use thiserror::Error;
 use trace_text::LineFault;
 

@@ -11,7 +11,7 @@ mod export;
 mod fault;
 mod index;
 mod laws;
-mod lines;
+mod limits;
 mod made;
 mod outcome;
 mod refusal;

@@ -23,11 +23,12 @@ ghost use Rattle.zones_run.specs.Tracing.{EndsAs, HasWritten, StandsPast, left_t
 use crate::answers::{WAITING_MAX, answer, put_told, write_waiting};
 use crate::due::{Due, read_due};
 use crate::fault::{RunFault, Stop};
-use crate::lines::{Ahead, Got, LINES_MAX, next_line};
+use crate::limits::LINES_MAX;
 use crate::outcome::Complaint;
 use crate::turns::{Taken, give_turns, taken_from};
 use crate::words::Mode;
 use brand_hooks::{Change, HookAnswer};
+use input_lines::{Ahead, Got, next_line};
 use std::alloc::{AllocError, Global};
 use trace_text::LineFault;
 use zn_io::{Disk, Sink, Source};

@@ -12,7 +12,7 @@ ghost use Rattle.zones_run.specs.Answering.{IsFault, refused_with, taken_by};
 ghost use Rattle.zones_run.specs.Midway.{Follows, Left, none_put, puts_after, puts_until};
 ghost use Rattle.zones_run.specs.Recording.{RanAs};
 ghost use Rattle.zones_run.specs.Scripting.{is_last, opened, ticket_by, zone_by};
-ghost use Rattle.zones_run.specs.Taking.{TakesPiece};
+ghost use Rattle.input_lines.specs.Taking.{TakesPiece};
 ghost use Rattle.zones_run.specs.Tracing.{EndsAs, HasWritten};
 
 use crate::answers::{answer, is_refusal};

@@ -13,9 +13,9 @@ returns-then-marked-clause-stands g c h stands mine logged =
     let old = c.args.part.now in
     let new = c.put_run.new.part in
     let noting = noted_rest D c.args.place c.args.given log c.deref.result.now old.tally.items c.note_all.new.tally.items c.deref.ensures.value c.note_all.ensures.each in
-    let q = quiet D g.met.M.Machine.laws g.J.Start.start g.J.Start.scripts g.J.Start.sessions c.args.place c.args.given log c.args.cell.now c.args.marked.now old.shared old.tally.items c.note_all.new.tally.items old.order.items h
+    let q = quiet D g.met.M.Machine.laws g.J.Start.start g.J.Start.scripts c.args.place c.args.given log c.args.cell.now c.args.marked.now old.shared old.tally.items c.note_all.new.tally.items old.order.items h
     stands mine logged noting c.note_all.ensures.len new.shared new.order.items (c.len.result - c.args.given) (kept_shared D old.shared new.shared (ap (λ p. p.shared) c.put_run.ensures.same)) (search rules) c.put_run.ensures.order in
-    (subst (λ ts. Stands D g.J.Start.start g.J.Start.scripts g.J.Start.sessions new.shared ts new.order.items (h ++ drop c.args.given log)) (sym (ap (λ p. p.tally.items) c.put_run.ensures.same)) q.0, q.1, logged.stands)
+    (subst (λ ts. Stands D g.J.Start.start g.J.Start.scripts new.shared ts new.order.items (h ++ drop c.args.given log)) (sym (ap (λ p. p.tally.items) c.put_run.ensures.same)) q.0, q.1, logged.stands)
 
 pub returns-in-Ok-clause-stands : goal.returns-in-Ok-clause-stands
 returns-in-Ok-clause-stands g c h stands mine logged =
@@ -27,11 +27,11 @@ returns-in-Ok-clause-stands g c h stands mine logged =
     let log' = c.push_reserved.new.self.items in
     let noting = noted_rest D c.args.place c.args.given log c.deref.result.now old.tally.items c.note_all.new.tally.items c.deref.ensures.value c.note_all.ensures.each in
     let sound : D.is_sound old.shared ≡ true = sym c.is_sound.ensures ∙ search rules in
-    let q = added D g.met.M.Machine.laws g.J.Start.start g.J.Start.scripts g.J.Start.sessions c.args.place c.args.given log c.args.cell.now c.args.marked.now old.shared old.tally.items c.note_all.new.tally.items old.order.items h
+    let q = added D g.met.M.Machine.laws g.J.Start.start g.J.Start.scripts c.args.place c.args.given log c.args.cell.now c.args.marked.now old.shared old.tally.items c.note_all.new.tally.items old.order.items h
     stands mine logged noting c.note_all.ensures.len mid.shared mid.tally.items new.order.items (c.len-in-Ok.result - c.args.given) c.in-Ok.entry c.attempt.new.cell log'
     c.if-marked.false sound c.in-Ok.ensures.did c.attempt.ensures.wide c.push_reserved.ensures.items (search rules) (c.put_run-in-Ok.ensures.order ∙ ap (λ v. v.items ++ (c.args.place, c.len-in-Ok.result - c.args.given) ∷ []) c.attempt.ensures.order) in (
-      subst (λ ts. Stands D g.J.Start.start g.J.Start.scripts g.J.Start.sessions new.shared ts new.order.items (h ++ drop c.args.given log')) (sym (ap (λ p. p.tally.items) c.put_run-in-Ok.ensures.same))
-          (subst (λ m. Stands D g.J.Start.start g.J.Start.scripts g.J.Start.sessions m mid.tally.items new.order.items (h ++ drop c.args.given log')) (sym (ap (λ p. p.shared) c.put_run-in-Ok.ensures.same)) q.0),
+      subst (λ ts. Stands D g.J.Start.start g.J.Start.scripts new.shared ts new.order.items (h ++ drop c.args.given log')) (sym (ap (λ p. p.tally.items) c.put_run-in-Ok.ensures.same))
+          (subst (λ m. Stands D g.J.Start.start g.J.Start.scripts m mid.tally.items new.order.items (h ++ drop c.args.given log')) (sym (ap (λ p. p.shared) c.put_run-in-Ok.ensures.same)) q.0),
       q.1,
       λ free. q.2,
     )
@@ -47,12 +47,12 @@ returns-after-not-is_sound-2-clause-stands g c h stands mine logged =
     let sound : D.is_sound old.shared ≡ true = sym c.is_sound.ensures ∙ search rules in
     let still : c.if-not-is_sound-2.marked ≡ false → D.is_sound mid.shared ≡ true = elim c.if-not-is_sound-2.branch [ then-not-is_sound-2 w ↦ λ m. absurd (apart (sym w.marked-is ∙ m)) | else-not-is_sound-2 w ↦ λ m. sym c.is_sound-in-Err.ensures ∙ search rules ] in
     let shared : new.shared ≡ mid.shared = ap (λ p. p.shared) c.put_run-in-Err.ensures.same in
-    let q = quiet D g.met.M.Machine.laws g.J.Start.start g.J.Start.scripts g.J.Start.sessions c.args.place c.args.given log c.args.cell.now c.args.marked.now old.shared old.tally.items c.note_all.new.tally.items old.order.items h
+    let q = quiet D g.met.M.Machine.laws g.J.Start.start g.J.Start.scripts c.args.place c.args.given log c.args.cell.now c.args.marked.now old.shared old.tally.items c.note_all.new.tally.items old.order.items h
     stands mine logged noting c.note_all.ensures.len mid.shared new.order.items (c.len-in-Err.result - c.args.given) (λ s. (sound, (c.in-Err.ensures.same s).shared)) (search rules) (c.put_run-in-Err.ensures.order ∙ ap (λ v. v.items ++ (c.args.place, c.len-in-Err.result - c.args.given) ∷ []) c.attempt.ensures.order) in
     let told : new.tally.items ≡ c.note_all.new.tally.items = ap (λ p. p.tally.items) c.put_run-in-Err.ensures.same ∙ ap (λ v. v.items) c.in-Err.ensures.tally in (
-      subst (λ ts. Stands D g.J.Start.start g.J.Start.scripts g.J.Start.sessions new.shared ts new.order.items (h ++ drop c.args.given log)) (sym told)
-          (subst (λ m. Stands D g.J.Start.start g.J.Start.scripts g.J.Start.sessions m c.note_all.new.tally.items new.order.items (h ++ drop c.args.given log)) (sym shared) q.0),
+      subst (λ ts. Stands D g.J.Start.start g.J.Start.scripts new.shared ts new.order.items (h ++ drop c.args.given log)) (sym told)
+          (subst (λ m. Stands D g.J.Start.start g.J.Start.scripts m c.note_all.new.tally.items new.order.items (h ++ drop c.args.given log)) (sym shared) q.0),
       q.1,
-      quiet_cell D g.met.M.Machine.laws g.J.Start.start g.J.Start.scripts g.J.Start.sessions c.args.place c.args.given log c.args.cell.now c.args.marked.now old.shared old.tally.items c.note_all.new.tally.items old.order.items h
+      quiet_cell D g.met.M.Machine.laws g.J.Start.start g.J.Start.scripts c.args.place c.args.given log c.args.cell.now c.args.marked.now old.shared old.tally.items c.note_all.new.tally.items old.order.items h
           stands mine logged noting c.note_all.ensures.len c.attempt.new.cell c.if-not-is_sound-2.marked (λ m. (c.if-marked.false, (c.in-Err.ensures.same (still m)).cell)),
     )

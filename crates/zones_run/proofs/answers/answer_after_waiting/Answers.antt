@@ -9,7 +9,7 @@ use Rattle.zones_run.proofs.answers.answer_after_waiting.Goals as goal
 pub returns-in-Ok-write_waiting-clause-steps : goal.returns-in-Ok-write_waiting-clause-steps
 returns-in-Ok-write_waiting-clause-steps g c =
     let old = c.args.machine.now in
-    let mid = c.answer.new.self in
+    let mid = c.answer_heard.new.self in
     let last = c.answer_recording.new.machine in
     let fault = c.in-Err-WouldRecord in
     let d = c.args.due.now in
@@ -21,7 +21,7 @@ returns-in-Ok-write_waiting-clause-steps g c =
 pub returns-in-Ok-write_waiting-clause-kept : goal.returns-in-Ok-write_waiting-clause-kept
 returns-in-Ok-write_waiting-clause-kept g c =
     let old = c.args.machine.now in
-    let mid = c.answer.new.self in
+    let mid = c.answer_heard.new.self in
     let last = c.answer_recording.new.machine in
     let fault = c.in-Err-WouldRecord in
     let d = c.args.due.now in

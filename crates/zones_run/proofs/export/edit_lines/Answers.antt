@@ -1,6 +1,6 @@
 use Rattle.std.proofs.Common.{◌≡◌, ◌+◌, Err, ap, rules, sym, ◌∙◌, arith}
-use Rattle.zones_run.specs.declared.lines.ReadFault.TheVariants.{Failed}
-use Rattle.zones_run.proofs.Begins.{takes_just, takes_none}
+use Rattle.input_lines.specs.declared.lines.ReadFault.TheVariants.{Failed}
+use Rattle.input_lines.proofs.Begins.{takes_just, takes_none}
 use Rattle.zones_run.proofs.ExportRuns.{obeys_line, obeys_read, obeys_up_to}
 use Rattle.std.specs.Option.{option_map}
 use Rattle.zn_base.specs.Lines.{lines_of}

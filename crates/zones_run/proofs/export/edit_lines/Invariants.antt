@@ -2,7 +2,7 @@ use Rattle.std.proofs.Common.{◌≡◌, ◌+◌, ◌≤◌, IfSome}
 use Rattle.zn_io.specs.Streams.{before_known}
 use Rattle.zones_run.proofs.ExportRuns.{Obeys}
 use Rattle.std.specs.Option.{option_map}
-use Rattle.zones_run.specs.Reading.{lines_left}
+use Rattle.input_lines.specs.Reading.{lines_left}
 use Rattle.zones_run.specs.Exporting.{edited, exported}
 use Rattle.zones_run.proofs.export.edit_lines.Given as goal
 

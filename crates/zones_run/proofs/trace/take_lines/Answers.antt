@@ -5,7 +5,7 @@ use Rattle.zone_machine.specs.Code.Openings.{StandsFor}
 use Rattle.zones_run.specs.Midway.{HasKept, Left, none_put}
 use Rattle.zones_run.specs.Scripts.{At_end, Past_limit}
 use Rattle.zones_run.proofs.Answered.{passes_on}
-use Rattle.zones_run.proofs.Begins.{takes_just, takes_none}
+use Rattle.input_lines.proofs.Begins.{takes_just, takes_none}
 use Rattle.zones_run.proofs.Keeping.{keeps_start, keeps_step}
 use Rattle.zones_run.specs.declared.fault.RunFault.TheVariants.{Disk, Read, Write}
 use Rattle.zones_run.specs.declared.outcome.Complaint.TheVariants.{Limit}

@@ -1,0 +1,225 @@
+//! From cells to logs: each cell lies in a zone while the workers run, and at the end all passes are taken back.
+ghost use Rattle.std.specs.Prelude.{◌≡◌, ◌≢◌, ◌+◌, ◌<◌, ◌≤◌, ◌++◌, ◌∷◌, ℕ, [], true, length, slice_index_or, vec_len, vec_capacity};
+ghost use Rattle.std.specs.List.{All};
+ghost use Rattle.zone_turn.specs.Passes.{first_view, is_first, is_idle};
+ghost use Rattle.zone_turn.specs.declared.limits.TheConstants.{PASSES_OUT_MAX};
+ghost use Rattle.zone_turn.specs.declared.views.Role.TheVariants.{First};
+ghost use Rattle.zone_threads.specs.Ends.{Ended, IsOpening, IsScript, LeftBy, pairs, roster};
+
+use crate::gate::Gate;
+use crate::machine::Machine;
+use crate::part::{Part, Place, Start};
+use crate::run::{Script, work};
+use crate::zone::{Log, Zone};
+use std::alloc::Global;
+use std::sync::{Mutex, Wait};
+use std::thread::{Threads, map_indices};
+use zone_turn::{Pass, Turn};
+
+// Makes a zone for each cell.
+fn deal<M: Machine, J: Start<M>, K: Place>(
+    alloc: Global,
+    turn: &Turn<Part<M, J>>,
+    first: &mut Pass<Part<M, J>>,
+    cells: Vec<M::Cell>,
+    zones: &mut Vec<Mutex<Zone<M, J, K>>>,
+)
+    requires turn { (turn.now ≡ K.turn) × (first.old.turn ≡ K.turn) × (first.old.knows ≡ first_view) }
+    requires cells { IsOpening M.machine J.start cells.items }
+    requires zones { length cells.items ≤ K.zones }
+    requires room { (length cells.items < PASSES_OUT_MAX) × (vec_len zones.old ≡ 0) × (length cells.items ≤ vec_capacity zones.old) }
+    ensures turn { (first.new.turn ≡ K.turn) × (is_idle first.new.knows ≡ true) × (first.new.knows.list ≡ []) }
+    ensures first { first.new.knows.role ≡ First (roster (length cells.items + 1) (vec_len zones.new) []) }
+    ensures zones { vec_len zones.new ≡ length cells.items }
+{
+    let mut place: u32 = 0;
+    for cell in cells {
+        place += 1;
+        let pass = turn.split(first);
+        zones.push_reserved(Mutex::new(Zone::new(alloc, pass, place, cell)));
+    }
+}
+
+// Takes a zone's pass back, and keeps its log.
+fn keep<M: Machine, J: Start<M>>(
+    turn: &Turn<Part<M, J>>,
+    first: &mut Pass<Part<M, J>>,
+    pass: Pass<Part<M, J>>,
+    log: Log<M::Cell, M::Entry>,
+    logs: &mut Vec<Log<M::Cell, M::Entry>>,
+)
+    requires turn { (first.old.turn ≡ turn.now) × (pass.turn ≡ turn.now) }
+    requires idle { (is_idle first.old.knows ≡ true) × (is_idle pass.knows ≡ true) }
+    requires first { is_first first.old.knows ≡ true }
+    requires list { (pass.knows.number ≡ log.place) × (pass.knows.list ≡ log.entries.items) }
+    requires room { vec_len logs.old < vec_capacity logs.old }
+    ensures turn { first.new.turn ≡ first.old.turn }
+    ensures idle { is_idle first.new.knows ≡ true }
+    ensures first { is_first first.new.knows ≡ true }
+    ensures list { first.new.knows.list ≡ first.old.knows.list }
+    ensures logs { logs.new.items ≡ logs.old.items ++ log ∷ [] }
+    ensures capacity { vec_capacity logs.new ≡ vec_capacity logs.old }
+    ensures roster { (made out : ℕ) → first.old.knows.role ≡ First (roster made (out + 1) (pairs logs.old.items)) → first.new.knows.role ≡ First (roster made out (pairs logs.new.items)) }
+{
+    turn.join(first, pass);
+    logs.push_reserved(log);
+}
+
+// Ends a zone.
+fn end_zone<M: Machine, J: Start<M>, K: Place, W: Wait>(
+    rt: &W,
+    machine: &M,
+    turn: &Turn<Part<M, J>>,
+    first: &mut Pass<Part<M, J>>,
+    zone: Mutex<Zone<M, J, K>>,
+    logs: &mut Vec<Log<M::Cell, M::Entry>>,
+)
+    requires turn { (turn.now ≡ K.turn) × (first.old.turn ≡ K.turn) }
+    requires idle { is_idle first.old.knows ≡ true }
+    requires first { is_first first.old.knows ≡ true }
+    requires room { vec_len logs.old < vec_capacity logs.old }
+    ensures turn { first.new.turn ≡ K.turn }
+    ensures idle { is_idle first.new.knows ≡ true }
+    ensures first { is_first first.new.knows ≡ true }
+    ensures list { first.new.knows.list ≡ first.old.knows.list }
+    ensures logs { vec_len logs.new ≡ vec_len logs.old + 1 }
+    ensures capacity { vec_capacity logs.new ≡ vec_capacity logs.old }
+    ensures roster { (made out : ℕ) → first.old.knows.role ≡ First (roster made (out + 1) (pairs logs.old.items)) → first.new.knows.role ≡ First (roster made out (pairs logs.new.items)) }
+    ensures cells { All (LeftBy M.machine J.start) logs.old.items → All (LeftBy M.machine J.start) logs.new.items }
+    ensures near { All (λ l. l.place ≤ K.zones) logs.old.items → All (λ l. l.place ≤ K.zones) logs.new.items }
+{
+    let (pass, log) = zone.into_inner().end(rt, machine, turn);
+    keep(turn, first, pass, log, logs);
+}
+
+// Ends all zones, and takes all passes back.
+fn gather<M: Machine, J: Start<M>, K: Place, W: Wait>(
+    rt: &W,
+    machine: &M,
+    turn: &Turn<Part<M, J>>,
+    first: &mut Pass<Part<M, J>>,
+    mut zones: Vec<Mutex<Zone<M, J, K>>>,
+    logs: &mut Vec<Log<M::Cell, M::Entry>>,
+)
+    requires turn { (turn.now ≡ K.turn) × (first.old.turn ≡ K.turn) }
+    requires idle { is_idle first.old.knows ≡ true }
+    requires first { is_first first.old.knows ≡ true }
+    requires room { (logs.old.items ≡ []) × (vec_len zones ≤ vec_capacity logs.old) }
+    ensures turn { first.new.turn ≡ K.turn }
+    ensures idle { is_idle first.new.knows ≡ true }
+    ensures first { is_first first.new.knows ≡ true }
+    ensures list { first.new.knows.list ≡ first.old.knows.list }
+    ensures count { vec_len logs.new ≡ vec_len zones }
+    ensures roster { (made : ℕ) → first.old.knows.role ≡ First (roster made (vec_len zones) []) → first.new.knows.role ≡ First (roster made 0 (pairs logs.new.items)) }
+    ensures cells { All (LeftBy M.machine J.start) logs.new.items }
+    ensures near { All (λ l. l.place ≤ K.zones) logs.new.items }
+{
+    while let Some(zone) = zones.pop() {
+        end_zone(rt, machine, turn, first, zone, logs);
+    }
+    zones.destroy_empty();
+}
+
+// Ends all zones, and closes the turn.
+fn finish<M: Machine, J: Start<M>, K: Place, W: Wait>(
+    rt: &W,
+    machine: &M,
+    turn: Turn<Part<M, J>>,
+    mut first: Pass<Part<M, J>>,
+    zones: Vec<Mutex<Zone<M, J, K>>>,
+    logs: &mut Vec<Log<M::Cell, M::Entry>>,
+) -> Part<M, J>
+    requires turn { (turn ≡ K.turn) × (first.turn ≡ K.turn) }
+    requires idle { (is_idle first.knows ≡ true) × (first.knows.list ≡ []) }
+    requires first { first.knows.role ≡ First (roster (vec_len zones + 1) (vec_len zones) []) }
+    requires zones { vec_len zones ≡ K.zones }
+    requires room { (logs.old.items ≡ []) × (vec_len zones ≤ vec_capacity logs.old) }
+    ensures { Ended M.machine J.start J.scripts K.zones result.shared result.tally.items result.order.items logs.new.items }
+{
+    gather(rt, machine, &turn, &mut first, zones, logs);
+    turn.close(first)
+}
+
+// The worker of a script of these.
+fn work_at<M: Machine, J: Start<M>, K: Place, W: Wait, G: Gate>(
+    rt: &W,
+    machine: &M,
+    gate: &G,
+    turn: &Turn<Part<M, J>>,
+    zones: &[Mutex<Zone<M, J, K>>],
+    scripts: &[Script<M::Line>],
+    at: usize,
+)
+    requires turn { turn.now ≡ K.turn }
+    requires near { at < length scripts.now }
+    requires scripts { All (IsScript J.scripts) scripts.now }
+{
+    work(rt, machine, gate, turn, zones, &scripts[at]);
+}
+
+// Runs each script by a worker of its own, and then, by the caller, what is left of them. Where no thread can be started the caller
+// runs them all.
+fn work_all<
+    M: Machine + Send + Sync,
+    J: Start<M> + Send + Sync,
+    K: Place + Send + Sync,
+    R: Threads + Wait + Sync,
+    G: Gate + Sync,
+>(
+    rt: &R,
+    alloc: Global,
+    machine: &M,
+    gate: &G,
+    turn: &Turn<Part<M, J>>,
+    zones: &[Mutex<Zone<M, J, K>>],
+    scripts: &[Script<M::Line>],
+)
+    requires turn { turn.now ≡ K.turn }
+    requires scripts { All (IsScript J.scripts) scripts.now }
+{
+    let done = map_indices(
+        rt,
+        alloc,
+        scripts.len(),
+        &|i: usize|
+            requires turn { turn.now ≡ K.turn }
+            requires near { i < length scripts.now }
+            requires scripts { All (IsScript J.scripts) scripts.now }
+        { work_at(rt, machine, gate, turn, zones, scripts, i) },
+    );
+    let _ = done;
+    for i in 0..scripts.len() {
+        work_at(rt, machine, gate, turn, zones, scripts, i);
+    }
+}
+
+/// Runs the scripts over these cells, and answers the part and the logs.
+pub(crate) fn worked<
+    M: Machine + Send + Sync,
+    J: Start<M> + Send + Sync,
+    K: Place + Send + Sync,
+    R: Threads + Wait + Sync,
+    G: Gate + Sync,
+>(
+    rt: &R,
+    alloc: Global,
+    machine: &M,
+    gate: &G,
+    turn: Turn<Part<M, J>>,
+    mut first: Pass<Part<M, J>>,
+    cells: Vec<M::Cell>,
+    scripts: &[Script<M::Line>],
+    mut zones: Vec<Mutex<Zone<M, J, K>>>,
+    logs: &mut Vec<Log<M::Cell, M::Entry>>,
+) -> Part<M, J>
+    requires turn { (turn ≡ K.turn) × (first.turn ≡ K.turn) × (first.knows ≡ first_view) }
+    requires cells { IsOpening M.machine J.start cells.items }
+    requires scripts { All (IsScript J.scripts) scripts.now }
+    requires zones { length cells.items ≡ K.zones }
+    requires room { (length cells.items < PASSES_OUT_MAX) × (vec_len zones ≡ 0) × (length cells.items ≤ vec_capacity zones) × (logs.old.items ≡ []) × (length cells.items ≤ vec_capacity logs.old) }
+    ensures { Ended M.machine J.start J.scripts K.zones result.shared result.tally.items result.order.items logs.new.items }
+{
+    deal(alloc, &turn, &mut first, cells, &mut zones);
+    work_all(rt, alloc, machine, gate, &turn, zones.as_slice(), scripts);
+    finish(rt, machine, turn, first, zones, logs)
+}

@@ -1,0 +1,251 @@
+//! Sessions on threads, and the one history that they leave.
+ghost use Rattle.std.specs.Prelude.{◌≡◌, ◌≢◌, ◌<◌, ◌≤◌, ◌^◌, ℕ, List, [], None, Some, true, length, map, vec_len, vec_capacity, IfErr, IfOk};
+ghost use Rattle.std.specs.List.{All};
+ghost use Rattle.zone_turn.specs.Passes.{first_view};
+ghost use Rattle.zone_turn.specs.declared.limits.TheConstants.{PASSES_OUT_MAX};
+ghost use Rattle.zone_threads.specs.Ends.{AreAll, Ended, Finished, HasAll, IsBack, IsOpening, IsScript, Over, back};
+ghost use Rattle.zone_threads.specs.Folds.{folded};
+ghost use Rattle.zone_threads.specs.Records.{Middle};
+ghost use Rattle.zone_threads.specs.Scripts.{TallyOf, beginning};
+ghost use Rattle.zone_threads.specs.Words.{IsPartial, IsRecord};
+ghost use Rattle.zone_threads.specs.declared.live.Ending.TheVariants.{Fault};
+
+use crate::end::worked;
+use crate::gate::Gate;
+use crate::machine::{Machine, Zoned};
+use crate::merge::merged;
+use crate::part::{Part, Place, Start};
+use crate::run::Script;
+use crate::step::progress_of;
+use crate::tally::{Progress, SESSIONS};
+use crate::zone::{Back, Log};
+use std::alloc::{AllocError, Global};
+use std::marker::{Brand, PhantomData};
+use std::sync::Wait;
+use std::thread::Threads;
+use zone_turn::{Pass, Turn};
+
+/// Why lines were not run.
+#[derive(Drop)]
+pub enum Ending<F: Drop> {
+    /// An event ended so.
+    Fault(F),
+    /// Memory was refused.
+    Memory,
+}
+
+/// What sessions leave: the entries in the order of the one history, what zones share, the cells, and why lines were not run, if
+/// some were not.
+#[derive(Drop)]
+pub struct Lived<M: Zoned> {
+    pub entries: Vec<M::Entry>,
+    pub shared: M::Shared,
+    pub cells: Vec<Back<M::Cell>>,
+    pub ended: Option<Ending<M::Fault>>,
+}
+
+// Whether a script's lines were all run, and each of its tickets was answered.
+fn is_done<L>(tally: &[Progress], script: &Script<L>) -> bool
+    ensures { result ≡ true → Finished tally.now script.now.session (length script.now.lines.items) }
+{
+    match progress_of(tally, script.session) {
+        Ok(done) => done == script.lines.len() as u64,
+        Err(_) => false,
+    }
+}
+
+fn all_done<L>(tally: &[Progress], scripts: &[Script<L>]) -> bool
+    ensures { result ≡ true → All (λ x. Finished tally.now x.session (length x.lines.items)) scripts.now }
+{
+    for i in 0..scripts.len() {
+        if !is_done(tally, &scripts[i]) {
+            return false;
+        }
+    }
+    true
+}
+
+fn ending_of<F: Drop>(fault: Option<F>, is_finished: bool) -> Option<Ending<F>>
+    ensures none { result ≡ None → is_finished ≡ true }
+    ensures fault { (f : F) → result ≡ Some (Fault f) → fault ≡ Some f }
+{
+    match fault {
+        Some(fault) => Some(Ending::Fault(fault)),
+        None if is_finished => None,
+        None => Some(Ending::Memory),
+    }
+}
+
+fn fresh_tally(alloc: Global) -> Result<Vec<Progress>, AllocError>
+    ensures wide { IfOk result (λ v. length v.items ≡ 65) }
+    ensures fresh { IfOk result (λ v. TallyOf v.items beginning) }
+{
+    let mut tally = Vec::with_capacity(alloc, SESSIONS)?;
+    for _ in 0..SESSIONS {
+        tally.push(Progress::fresh())?;
+    }
+    Ok(tally)
+}
+
+// The cells of the logs.
+fn put_cells<C: Drop, E: Drop>(logs: Vec<Log<C, E>>, cells: &mut Vec<Back<C>>)
+    requires room { (cells.old.items ≡ []) × (vec_len logs ≤ vec_capacity cells.old) }
+    ensures { cells.new.items ≡ map back logs.items }
+{
+    for log in logs {
+        cells.push_reserved(Back {
+            place: log.place,
+            cell: log.cell,
+            marked: log.marked,
+        });
+    }
+}
+
+// Joins the logs into one list.
+fn joined<M: Machine, J: Start<M>, K: Place>(
+    part: Part<M, J>,
+    mut logs: Vec<Log<M::Cell, M::Entry>>,
+    mut cells: Vec<Back<M::Cell>>,
+    scripts: &[Script<M::Line>],
+) -> Result<Lived<M>, M::Shared>
+    requires ended { Ended M.machine J.start J.scripts K.zones part.shared part.tally.items part.order.items logs.items }
+    requires room { (cells.items ≡ []) × (vec_len logs ≤ vec_capacity cells) }
+    ensures over { IfOk result (λ r. Over M.machine J.start J.scripts K.zones r.shared r.entries.items r.cells.items) }
+    ensures finished { IfOk result (λ r. r.ended ≡ None → All (λ x. HasAll M.machine r.entries.items x.session (length x.lines.items)) scripts.now) }
+    ensures memory { IfErr result (λ m. (h : List M.Entry) × Middle M.machine J.start J.scripts m h) }
+{
+    let is_finished = all_done(&part.tally, scripts);
+    match merged(part.room, &part.order, &mut logs) {
+        Ok(entries) => {
+            put_cells(logs, &mut cells);
+            Ok(Lived {
+                entries,
+                shared: part.shared,
+                cells,
+                ended: ending_of(part.ended, is_finished),
+            })
+        }
+        Err(_) => Err(part.shared),
+    }
+}
+
+// Runs the scripts in a turn that is made.
+fn placed<
+    M: Machine + Send + Sync,
+    J: Start<M> + Send + Sync,
+    K: Place + Send + Sync,
+    R: Threads + Wait + Sync,
+    G: Gate + Sync,
+>(
+    rt: &R,
+    alloc: Global,
+    machine: &M,
+    gate: &G,
+    turn: Turn<Part<M, J>>,
+    first: Pass<Part<M, J>>,
+    cells: Vec<M::Cell>,
+    scripts: &[Script<M::Line>],
+    mut logs: Vec<Log<M::Cell, M::Entry>>,
+    backs: Vec<Back<M::Cell>>,
+) -> Result<Lived<M>, M::Shared>
+    requires turn { (turn ≡ K.turn) × (first.turn ≡ K.turn) × (first.knows ≡ first_view) }
+    requires cells { IsOpening M.machine J.start cells.items }
+    requires scripts { All (IsScript J.scripts) scripts.now }
+    requires zones { length cells.items ≡ K.zones }
+    requires few { length cells.items < PASSES_OUT_MAX }
+    requires room { (logs.items ≡ []) × (length cells.items ≤ vec_capacity logs) × (backs.items ≡ []) × (length cells.items ≤ vec_capacity backs) }
+    ensures over { IfOk result (λ r. Over M.machine J.start J.scripts K.zones r.shared r.entries.items r.cells.items) }
+    ensures finished { IfOk result (λ r. r.ended ≡ None → All (λ x. HasAll M.machine r.entries.items x.session (length x.lines.items)) scripts.now) }
+    ensures memory { IfErr result (λ m. (h : List M.Entry) × Middle M.machine J.start J.scripts m h) }
+{
+    let Ok(zones) = Vec::with_capacity(alloc, cells.len()) else {
+        return Err(turn.close(first).shared);
+    };
+    let part = worked::<M, J, K, R, G>(
+        rt, alloc, machine, gate, turn, first, cells, scripts, zones, &mut logs,
+    );
+    joined::<M, J, K>(part, logs, backs, scripts)
+}
+
+// Makes the turn. The lists that are wanted at the end are taken before.
+fn started<
+    M: Machine + Send + Sync,
+    J: Start<M> + Send + Sync,
+    R: Threads + Wait + Sync,
+    G: Gate + Sync,
+>(
+    rt: &R,
+    alloc: Global,
+    machine: &M,
+    gate: &G,
+    cells: Vec<M::Cell>,
+    shared: M::Shared,
+    scripts: &[Script<M::Line>],
+) -> Result<Lived<M>, M::Shared>
+    requires cells { IsOpening M.machine J.start cells.items }
+    requires shared { M.machine.shared_of shared (M.machine.common J.start) }
+    requires scripts { All (IsScript J.scripts) scripts.now }
+    requires few { length cells.items < PASSES_OUT_MAX }
+    ensures over { IfOk result (λ r. Over M.machine J.start J.scripts (length cells.items) r.shared r.entries.items r.cells.items) }
+    ensures finished { IfOk result (λ r. r.ended ≡ None → All (λ x. HasAll M.machine r.entries.items x.session (length x.lines.items)) scripts.now) }
+    ensures memory { IfErr result (λ m. (h : List M.Entry) × Middle M.machine J.start J.scripts m h) }
+{
+    let zones = cells.len();
+    let Ok(tally) = fresh_tally(alloc) else {
+        return Err(shared);
+    };
+    let Ok(logs) = Vec::with_capacity(alloc, zones) else {
+        return Err(shared);
+    };
+    let Ok(backs) = Vec::with_capacity(alloc, zones) else {
+        return Err(shared);
+    };
+    let part: Part<M, J> = Part {
+        shared,
+        tally,
+        order: Vec::new(alloc),
+        ended: None,
+        room: Vec::new(alloc),
+        entries: 0,
+        zones,
+        of: PhantomData,
+    };
+    match Turn::new(alloc, part) {
+        Ok((turn, first)) => placed::<M, J, Brand, R, G>(
+            rt, alloc, machine, gate, turn, first, cells, scripts, logs, backs,
+        ),
+        Err((_, part)) => Err(part.shared),
+    }
+}
+
+/// Runs each script on a thread of its own, over cells that have the places 1, 2 and so on. After a line that is answered by a ticket
+/// its session takes turns of that zone's daemon until the ticket is answered or a turn is stuck. What the scripts did is one history.
+/// Where memory was refused before a thread was started, or for the list of the entries, what zones share comes back alone.
+pub fn run_scripts<
+    M: Machine + Send + Sync,
+    J: Start<M> + Send + Sync,
+    R: Threads + Wait + Sync,
+    G: Gate + Sync,
+>(
+    rt: &R,
+    alloc: Global,
+    machine: &M,
+    gate: &G,
+    cells: Vec<M::Cell>,
+    shared: M::Shared,
+    scripts: &[Script<M::Line>],
+) -> Result<Lived<M>, M::Shared>
+    requires cells { IsOpening M.machine J.start cells.items }
+    requires shared { M.machine.shared_of shared (M.machine.common J.start) }
+    requires scripts { All (IsScript J.scripts) scripts.now }
+    requires others { (s : ℕ) → All (λ x. x.session ≢ s) scripts.now → J.scripts s ≡ [] }
+    requires few { (length cells.items < PASSES_OUT_MAX) × ((s : ℕ) → length (J.scripts s) < 2 ^ 64) }
+    ensures partial { IfOk result (λ r. IsPartial M.machine J.start J.scripts r.entries.items) }
+    ensures record { IfOk result (λ r. r.ended ≡ None → IsRecord M.machine J.start J.scripts r.entries.items) }
+    ensures shared { IfOk result (λ r. M.machine.is_sound r.shared ≡ true → M.machine.shared_of r.shared (M.machine.common (folded M.machine.one J.start r.entries.items))) }
+    ensures cells { IfOk result (λ r. All (IsBack M.machine J.start r.entries.items) r.cells.items) }
+    ensures there { IfOk result (λ r. AreAll (length cells.items) r.cells.items) }
+    ensures memory { IfErr result (λ m. (h : List M.Entry) × IsPartial M.machine J.start J.scripts h × (M.machine.is_sound m ≡ true → M.machine.shared_of m (M.machine.common (folded M.machine.one J.start h)))) }
+{
+    started::<M, J, R, G>(rt, alloc, machine, gate, cells, shared, scripts)
+}
