@@ -6,3 +6,5 @@ pub mod Goods
 pub mod Parts
 -- the machine of all zones as threads see it
 pub mod Definitions
+-- what the machine has from its caller
+pub mod Running

@@ -4,7 +4,7 @@ ghost use Rattle.brand_hooks.specs.declared.table.HookAnswer.{HookAnswer};
 ghost use Rattle.zone_cases.specs.Code.Cells.{CellOf, IsHeardIn};
 ghost use Rattle.zone_cases.specs.State.{State};
 ghost use Rattle.zone_cases.specs.State.Worlds.{world};
-ghost use Rattle.zone_cases.specs.declared.events.Subject.TheVariants.{Global, Zone};
+ghost use Rattle.zone_cases.specs.declared.events.Subject.TheVariants as subjects;
 ghost use Rattle.zone_machine.specs.Code.Reads.{is_turn};
 ghost use Rattle.zone_machine.specs.Machine.{subject};
 ghost use Rattle.daemon_threads.specs.Parts.{Answers, AreAsBefore, CellAnswers, PartOf, commons};
@@ -71,9 +71,9 @@ impl<D: Disk, N: Names> SharedPart<D, N> {
         requires sound { self.old.bank.sound ≡ true }
         requires hook { is_turn event ≡ true → IsHeardIn N.brands cell.old hook }
         ensures event { IfOk result (λ entry. entry.event ≡ event) }
-        ensures of { IfOk result (λ entry. entry.subject ≡ Zone zone.now) }
+        ensures of { IfOk result (λ entry. entry.subject ≡ subjects.Zone zone.now) }
         ensures sound { OnOk result (self.new.bank.sound ≡ true) }
-        ensures step { IfOk result (λ entry. (S : State) → CellOf cell.old (world zone.now S) → PartOf self.old (commons S) → subject S event ≡ Zone zone.now → CellAnswers zone.now S event entry cell.new self.new) }
+        ensures step { IfOk result (λ entry. (S : State) → CellOf cell.old (world zone.now S) → PartOf self.old (commons S) → subject S event ≡ subjects.Zone zone.now → CellAnswers zone.now S event entry cell.new self.new) }
         ensures err { OnErr result (self.new.bank.sound ≡ true → AreAsBefore cell.old self.old cell.new self.new) }
     {
         self.shown.make_place(alloc, zone)?;
@@ -93,9 +93,9 @@ impl<D: Disk, N: Names> SharedPart<D, N> {
     /// An event of the global zone.
     pub(crate) fn global_step(&mut self, alloc: Global, event: Event) -> Result<Entry, StepFault>
         ensures event { IfOk result (λ entry. entry.event ≡ event) }
-        ensures of { IfOk result (λ entry. entry.subject ≡ Global) }
+        ensures of { IfOk result (λ entry. entry.subject ≡ subjects.Global) }
         ensures sound { self.new.bank.sound ≡ self.old.bank.sound }
-        ensures step { IfOk result (λ entry. (S : State) → PartOf self.old (commons S) → subject S event ≡ Global → Answers S event entry self.new) }
+        ensures step { IfOk result (λ entry. (S : State) → PartOf self.old (commons S) → subject S event ≡ subjects.Global → Answers S event entry self.new) }
         ensures err { OnErr result (self.new ≡ self.old) }
     {
         global_step(alloc, &mut self.shared, &self.shown, event)
