@@ -1,10 +1,9 @@
 -- The passes are taken back, and what the closed turn tells.
-use Rattle.std.proofs.Common.{◌≡◌, ◌≢◌, ◌⊎◌, inl, inr, ℕ, ◌+◌, ◌-◌, ◌<◌, ◌≤◌, ◌==◌, Bool, true, false, List, [], ◌∷◌, ◌++◌, map, length, slice_index_or, sym, refl, ap, ◌∙◌, subst, arith, zero, suc, if◌then◌else◌, Err, IfOk, Ok, Result}
+use Rattle.std.proofs.Common.{◌≡◌, ◌≢◌, ◌⊎◌, inl, inr, ℕ, ◌+◌, ◌-◌, ◌<◌, ◌≤◌, ◌==◌, Bool, true, false, List, [], ◌∷◌, ◌++◌, map, length, slice_index_or, sym, refl, ap, ◌∙◌, subst, arith, zero, suc, Err, IfOk, Ok, Result}
 use Rattle.std.specs.List.{All}
 use Rattle.std.proofs.lemmas.List.Elements.{All-nil, All-cons}
 use mathlib.Core.List.{map-append}
 use mathlib.Core.Option.{Option, some, none}
-use lib.ListN.{get_elem?}
 use Rattle.zone_turn.specs.Histories.{own}
 use Rattle.zone_turn.specs.Passes.{Apart, IsKept, after_join, is_first, kept_of, role_after_join, role_first}
 use Rattle.zone_turn.specs.declared.views.View.{View}

@@ -4,7 +4,7 @@ use Rattle.std.proofs.lemmas.List.{append_assoc}
 use Rattle.zone_turn.specs.Histories.{own}
 use Rattle.zone_threads.specs.declared.zone.Log.{Log}
 use Rattle.zone_threads.specs.Ends.{Merges, back, log_of}
-use Rattle.zone_threads.proofs.Bools.{apart, are_apart, are_same, differ, is_same, no_same}
+use Rattle.zone_threads.proofs.Bools.{are_apart, are_same, differ, is_same, no_same}
 
 abbrev head_or : {A : Type 0} → A → List A → A
 head_or d [] = d

@@ -1,5 +1,5 @@
 -- What one event keeps.
-use Rattle.std.proofs.Common.{◌≡◌, ◌≢◌, ℕ, ◌-◌, ◌<◌, ◌≤◌, ◌&&◌, not, Bool, true, false, List, [], ◌∷◌, ◌++◌, map, length, take, drop, replicate, sym, refl, ap, ◌∙◌, subst, arith, zero, suc, slice_get, slice_index_or, Option, Some, None, is_some}
+use Rattle.std.proofs.Common.{◌≡◌, ◌≢◌, ℕ, ◌-◌, ◌<◌, ◌&&◌, not, Bool, true, false, List, [], ◌∷◌, ◌++◌, map, length, take, drop, replicate, sym, refl, ap, ◌∙◌, subst, arith, zero, suc, slice_get, slice_index_or, Some, None, is_some}
 use Rattle.std.specs.List.{All}
 use Rattle.std.proofs.lemmas.List.Elements.{All-append, All-cons, All-nil}
 use Rattle.std.proofs.lemmas.List.{append_assoc, drop-append-le, length-drop, take-append-drop, take_all}
@@ -11,7 +11,6 @@ use Rattle.zone_threads.specs.Records.{Middle, Stands, spread}
 use Rattle.zone_threads.specs.Scripts.{TallyOf, beginning, fresh, is_line_at, may, noted, progress_one, session}
 use Rattle.zone_threads.specs.Zones.{Did, Logged, left_by}
 use Rattle.zone_threads.specs.declared.tally.Progress.{Progress}
-use Rattle.zone_threads.specs.declared.machine.Said.TheVariants as says
 use Rattle.zone_threads.proofs.Bools.{both, no_same}
 use Rattle.zone_threads.proofs.Histories.{folded_append, locals_behind, right_append, turn_may}
 

@@ -1,9 +1,9 @@
 -- What keeps to the scripts step by step is a record in words of its own.
-use Rattle.std.proofs.Common.{◌≡◌, ◌≢◌, ◌⊎◌, inl, inr, ℕ, ◌+◌, ◌%◌, ◌<◌, ◌≤◌, ◌==◌, ◌&&◌, not, Bool, true, false, List, [], ◌∷◌, ◌++◌, length, drop, sym, refl, ap, ◌∙◌, subst, arith, zero, suc, if◌then◌else◌, slice_get, Option, Some, None, is_some}
+use Rattle.std.proofs.Common.{◌≡◌, ◌≢◌, ◌⊎◌, inl, inr, ℕ, ◌+◌, ◌%◌, ◌<◌, ◌≤◌, ◌==◌, ◌&&◌, not, Bool, true, false, List, [], ◌∷◌, length, drop, sym, refl, ap, ◌∙◌, subst, arith, zero, suc, if◌then◌else◌, slice_get, Option, Some, None, is_some}
 use Rattle.zone_threads.specs.Folds.{all_right, folded}
 use Rattle.zone_threads.specs.Machines.{Definitions}
 use Rattle.zone_threads.specs.Records.{Middle}
-use Rattle.zone_threads.specs.Scripts.{after_turn, answers, awaits_after, beginning, fresh, is_idle, is_line_at, may, noted, progress_one, session, ticket_of}
+use Rattle.zone_threads.specs.Scripts.{after_turn, answers, awaits_after, beginning, is_idle, is_line_at, may, noted, progress_one, session, ticket_of}
 use Rattle.zone_threads.specs.Words.{IsPartial, IsRecord, all_answered, are_lines, begin_lines, ends, entries_of, is_answered, is_answered_if, is_turn, none_idle, opens}
 use Rattle.zone_threads.specs.Ends.{HasAll}
 use Rattle.zone_threads.specs.declared.machine.Told.{Told}

@@ -1,5 +1,5 @@
 -- What is left at the end.
-use Rattle.std.specs.Prelude.{◌≡◌, ◌≢◌, ℕ, ◌+◌, ◌<◌, ◌≤◌, ◌==◌, Bool, true, false, List, [], ◌∷◌, ◌++◌, length, map, slice_index_or, Option, None, if◌then◌else◌}
+use Rattle.std.specs.Prelude.{◌≡◌, ◌≢◌, ℕ, ◌+◌, ◌<◌, ◌≤◌, ◌==◌, false, List, [], ◌∷◌, ◌++◌, length, map, slice_index_or, None, if◌then◌else◌}
 use Rattle.std.specs.List.{All}
 use Rattle.zone_turn.specs.Histories.{own}
 use Rattle.zone_turn.specs.declared.views.Roster.{Roster}

@@ -1,5 +1,5 @@
 -- A machine of zones: what one zone has, what all share, and what an entry does to each.
-use Rattle.std.specs.Prelude.{◌≡◌, ◌≢◌, ℕ, Bool, true, List}
+use Rattle.std.specs.Prelude.{◌≡◌, ◌≢◌, ℕ, Bool, true}
 use Rattle.zone_threads.specs.declared.machine.Said.TheVariants.{Idle}
 use Rattle.zone_threads.specs.declared.machine.Told.{Told}
 
@@ -17,6 +17,8 @@ pub record Definitions (State Cell Shared Line Entry Heard : Type 0) : Type 1 wh
   -- the place of an entry's zone, and what the entry says
   pub by : Entry → ℕ
   pub told : Entry → Told
+  -- the place of the zone to which a session's line belongs
+  pub place_of : Common → ℕ → Line → ℕ
   -- whether an entry is one of this line
   pub is_line : Line → Entry → Bool
   -- what a zone has after an entry of its own

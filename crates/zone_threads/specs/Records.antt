@@ -1,5 +1,5 @@
 -- What the part that goes round stands for.
-use Rattle.std.specs.Prelude.{◌≡◌, ◌≤◌, ℕ, true, List, [], ◌∷◌, ◌++◌, length, map, replicate}
+use Rattle.std.specs.Prelude.{◌≡◌, ℕ, true, List, [], ◌∷◌, ◌++◌, length, map, replicate}
 use Rattle.zone_threads.specs.Folds.{folded, all_right}
 use Rattle.zone_threads.specs.Machines.{Definitions}
 use Rattle.zone_threads.specs.Scripts.{TallyOf, beginning, may, noted}

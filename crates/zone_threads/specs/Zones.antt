@@ -1,5 +1,5 @@
 -- What a zone under its lock keeps.
-use Rattle.std.specs.Prelude.{◌≡◌, ◌≢◌, ℕ, ◌≤◌, slice_get, Some, Bool, true, false, List, [], length, take, drop, Option}
+use Rattle.std.specs.Prelude.{◌≡◌, ◌≢◌, Err, None, Ok, Option, Result, Some, ℕ, ◌≤◌, Bool, true, false, List, length, take, drop}
 use Rattle.atomic_table.specs.Seated.{TableId}
 use Rattle.zone_turn.specs.Passes.{Holder, is_idle}
 use Rattle.zone_threads.specs.Folds.{folded, all_right}
@@ -8,6 +8,9 @@ use Rattle.zone_threads.specs.Scripts.{TallyOf, may, noted}
 use Rattle.zone_threads.specs.declared.tally.Progress.{Progress}
 use Rattle.zone_threads.specs.declared.step.Job.{Job}
 use Rattle.zone_threads.specs.declared.step.Job.TheVariants as jobs
+use Rattle.zone_threads.specs.declared.tally.Ticket.{Ticket}
+use Rattle.zone_threads.specs.declared.step.Outcome.{Outcome}
+use Rattle.zone_threads.specs.declared.step.Outcome.TheVariants as outcomes
 use Rattle.zone_threads.specs.declared.step.Ask.{Ask}
 use Rattle.zone_threads.specs.declared.step.Ask.TheVariants as asks
 
@@ -41,6 +44,10 @@ module _ {State Cell Shared Line Entry Heard : Type 0} (D : Definitions State Ce
     pub shared : D.shared_of m (D.common (D.one s e))
     pub tally : TallyOf ts (noted D t e)
 
+  -- what an entry did, from whatever state cell and shared part stood for, and however far each session was
+  abbrev pub Does : (scripts : ℕ → List Line) → (p : ℕ) → Cell → Shared → List Progress → Cell → Shared → List Progress → Entry → Type 0
+  Does scripts p c m ts c' m' ts' e = (s : State) (t : ℕ → Progress) → D.cell_of c (D.world p s) → D.shared_of m (D.common s) → TallyOf ts t → Did scripts p c' m' ts' e s t
+
   -- a turn is one before which the zone's hooks answered so, and a line is one of these, which are the session's
   abbrev pub IsJob : (ℕ → List Line) → (s : ℕ) → (lines : List Line) → Cell → Job Heard → Type 0
   IsJob scripts s lines cell (jobs.Turn heard) = D.heard cell heard
@@ -54,3 +61,12 @@ IsAsk scripts s lines asks.Turn = Unit {0}
 IsAsk scripts s lines asks.Give = Unit {0}
 IsAsk scripts s lines asks.Look = Unit {0}
 IsAsk scripts s lines (asks.Line number) = (s ≢ 0) × (lines ≡ scripts s)
+
+abbrev pub where_free : ℕ → Option Ticket → Result ℕ Outcome
+where_free done None = Ok done
+where_free done (Some ticket) = Err (outcomes.Waits ticket.place)
+
+-- where a session is: at a line, or it waits; one that isn't there can do nothing
+abbrev pub where_at : Option Progress → Result ℕ Outcome
+where_at None = Err outcomes.Ended
+where_at (Some t) = where_free t.done t.awaits

@@ -30,7 +30,7 @@ use zone_turn::{Pass, Turn};
 pub enum Ending<F: Drop> {
     /// An event ended so.
     Fault(F),
-    /// Memory was refused.
+    /// Memory was refused, or a line belongs to the zone of a place that no cell has.
     Memory,
 }
 

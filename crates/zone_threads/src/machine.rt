@@ -1,5 +1,6 @@
 //! What threads ask of a machine of zones.
-ghost use Rattle.std.specs.Prelude.{◌≡◌, ◌≢◌, ℕ, IfOk, IfSome, IfNone, IsNone, OnErr, OnOk, true};
+ghost use Rattle.std.specs.Prelude.{◌≡◌, ◌≢◌, ℕ, Err, IfOk, IfSome, IsNone, OnErr, OnOk, true};
+ghost use Rattle.zone_threads.specs.declared.machine.Stop.TheVariants.{Elsewhere};
 ghost use Rattle.zone_threads.specs.Machines.{Definitions, IsLineOf, IsTurnOf, Laws, Stepped, Turned, Unfinished};
 
 use std::alloc::AllocError;
@@ -26,7 +27,7 @@ pub struct Told {
     pub said: Said,
 }
 
-/// Why an event was not done.
+/// Why a line was not run.
 #[derive(Drop)]
 pub enum Stop<F: Drop> {
     /// It belongs to another zone, which has this place.
@@ -96,7 +97,7 @@ pub trait Machine: Zoned {
         shared: &mut Self::Shared,
         place: u32,
         heard: Self::Heard,
-    ) -> Result<Self::Entry, Stop<Self::Fault>>
+    ) -> Result<Self::Entry, Self::Fault>
         requires sound { Self.machine.is_sound shared.old ≡ true }
         requires heard { Self.machine.heard cell.old heard }
         ensures turn { IfOk result (IsTurnOf Self.machine place) }
@@ -114,6 +115,8 @@ pub trait Machine: Zoned {
     ) -> Result<Self::Entry, Stop<Self::Fault>>
         requires sound { Self.machine.is_sound shared.old ≡ true }
         ensures line { IfOk result (IsLineOf Self.machine place session line.now) }
+        ensures here { OnOk result ((k : Self.machine.Common) → Self.machine.shared_of shared.old k → Self.machine.place_of k session line.now ≡ place) }
+        ensures elsewhere { (p : ℕ) → result ≡ Err (Elsewhere p) → (p ≢ place) × ((k : Self.machine.Common) → Self.machine.shared_of shared.old k → Self.machine.place_of k session line.now ≡ p) }
         ensures step { IfOk result (λ e. (s : Self.State) → Self.machine.cell_of cell.old (Self.machine.world place s) → Self.machine.shared_of shared.old (Self.machine.common s) → Stepped Self.machine place cell.new shared.new e s) }
         ensures err { OnErr result (Unfinished Self.machine cell.old shared.old cell.new shared.new) };
 

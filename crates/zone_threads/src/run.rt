@@ -1,5 +1,5 @@
 //! The workers.
-ghost use Rattle.std.specs.Prelude.{◌≡◌, ◌≤◌};
+ghost use Rattle.std.specs.Prelude.{◌≡◌};
 ghost use Rattle.zone_threads.specs.Ends.{IsScript};
 
 use crate::gate::Gate;

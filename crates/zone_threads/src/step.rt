@@ -1,11 +1,11 @@
 //! One event of a zone, on its cell and the part.
-ghost use Rattle.std.specs.Prelude.{◌≡◌, ◌≢◌, ◌<◌, ◌≤◌, ◌++◌, ℕ, List, Some, true, false, ◌∷◌, [], None, length, take, drop, slice_index_or, vec_len, vec_capacity, IfOk, OnErr};
+ghost use Rattle.std.specs.Prelude.{◌≡◌, ◌≢◌, ◌<◌, ◌≤◌, ◌++◌, ℕ, List, Some, true, false, ◌∷◌, [], None, length, take, drop, slice_get, slice_index_or, vec_len, vec_capacity, IfOk, OnErr};
 ghost use Rattle.std.specs.List.{All};
 ghost use Rattle.zone_turn.specs.Histories.{own};
-ghost use Rattle.zone_threads.specs.Machines.{AsBefore};
+ghost use Rattle.zone_threads.specs.Machines.{Unfinished};
 ghost use Rattle.zone_threads.specs.Records.{Stands};
-ghost use Rattle.zone_threads.specs.Scripts.{TallyOf, fresh};
-ghost use Rattle.zone_threads.specs.Zones.{Did, IsAsk, IsJob, Logged, left_by};
+ghost use Rattle.zone_threads.specs.Scripts.{fresh};
+ghost use Rattle.zone_threads.specs.Zones.{Does, IsAsk, IsJob, Logged, left_by, where_at};
 
 use crate::machine::{Machine, Stop, Told};
 use crate::part::{Part, Start};
@@ -86,10 +86,9 @@ fn try_turn<M: Machine, J: Start<M>>(
     requires sound { M.machine.is_sound part.old.shared ≡ true }
     requires few { length part.old.tally.items ≤ 65 }
     requires heard { M.machine.heard cell.old heard }
-    ensures did { IfOk result (λ e. (s : M.State) (t : ℕ → Progress) → M.machine.cell_of cell.old (M.machine.world place s) → M.machine.shared_of part.old.shared (M.machine.common s) → TallyOf part.old.tally.items t
-        → Did M.machine J.scripts place cell.new part.new.shared part.new.tally.items e s t) }
+    ensures did { IfOk result (Does M.machine J.scripts place cell.old part.old.shared part.old.tally.items cell.new part.new.shared part.new.tally.items) }
     ensures tally { OnErr result (part.new.tally ≡ part.old.tally) }
-    ensures same { OnErr result (M.machine.is_sound part.new.shared ≡ true → AsBefore M.machine cell.old part.old.shared cell.new part.new.shared) }
+    ensures same { OnErr result (Unfinished M.machine cell.old part.old.shared cell.new part.new.shared) }
     ensures order { part.new.order ≡ part.old.order }
     ensures wide { length part.new.tally.items ≡ length part.old.tally.items }
 {
@@ -101,13 +100,14 @@ fn try_turn<M: Machine, J: Start<M>>(
             note(&mut part.tally, place, machine.told(&entry));
             Ok(entry)
         }
-        Err(stop) => Err(stopped(part, stop)),
+        Err(fault) => Err(stopped(part, Stop::Fault(fault))),
     }
 }
 
 /// Where a session is: at a line, or it waits.
 pub(crate) fn progress_of(tally: &[Progress], session: u8) -> Result<u64, Outcome>
-    ensures { IfOk result (λ done. (session < length tally.now) × (slice_index_or tally.now session fresh ≡ record { done = done; awaits = None })) }
+    ensures at { IfOk result (λ done. (session < length tally.now) × (slice_index_or tally.now session fresh ≡ record { done = done; awaits = None })) }
+    ensures exact { result ≡ where_at (slice_get tally.now session) }
 {
     match tally.get(session as usize) {
         Some(progress) => match progress.awaits {
@@ -131,10 +131,9 @@ fn try_line<M: Machine, J: Start<M>>(
     requires sound { M.machine.is_sound part.old.shared ≡ true }
     requires few { length part.old.tally.items ≤ 65 }
     requires script { (session ≢ 0) × (lines.now ≡ J.scripts session) }
-    ensures did { IfOk result (λ e. (s : M.State) (t : ℕ → Progress) → M.machine.cell_of cell.old (M.machine.world place s) → M.machine.shared_of part.old.shared (M.machine.common s) → TallyOf part.old.tally.items t
-        → Did M.machine J.scripts place cell.new part.new.shared part.new.tally.items e s t) }
+    ensures did { IfOk result (Does M.machine J.scripts place cell.old part.old.shared part.old.tally.items cell.new part.new.shared part.new.tally.items) }
     ensures tally { OnErr result (part.new.tally ≡ part.old.tally) }
-    ensures same { OnErr result (M.machine.is_sound part.new.shared ≡ true → AsBefore M.machine cell.old part.old.shared cell.new part.new.shared) }
+    ensures same { OnErr result (Unfinished M.machine cell.old part.old.shared cell.new part.new.shared) }
     ensures order { part.new.order ≡ part.old.order }
     ensures wide { length part.new.tally.items ≡ length part.old.tally.items }
 {
@@ -169,10 +168,9 @@ fn attempt<M: Machine, J: Start<M>>(
     requires sound { M.machine.is_sound part.old.shared ≡ true }
     requires few { length part.old.tally.items ≤ 65 }
     requires job { IsJob M.machine J.scripts session lines.now cell.old job }
-    ensures did { IfOk result (λ e. (s : M.State) (t : ℕ → Progress) → M.machine.cell_of cell.old (M.machine.world place s) → M.machine.shared_of part.old.shared (M.machine.common s) → TallyOf part.old.tally.items t
-        → Did M.machine J.scripts place cell.new part.new.shared part.new.tally.items e s t) }
+    ensures did { IfOk result (Does M.machine J.scripts place cell.old part.old.shared part.old.tally.items cell.new part.new.shared part.new.tally.items) }
     ensures tally { OnErr result (part.new.tally ≡ part.old.tally) }
-    ensures same { OnErr result (M.machine.is_sound part.new.shared ≡ true → AsBefore M.machine cell.old part.old.shared cell.new part.new.shared) }
+    ensures same { OnErr result (Unfinished M.machine cell.old part.old.shared cell.new part.new.shared) }
     ensures order { part.new.order ≡ part.old.order }
     ensures wide { length part.new.tally.items ≡ length part.old.tally.items }
 {

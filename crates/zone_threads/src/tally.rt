@@ -1,5 +1,5 @@
 //! How far each session is.
-ghost use Rattle.std.specs.Prelude.{◌≡◌, ◌<◌, ◌≤◌, ℕ, List, length, slice_index_or};
+ghost use Rattle.std.specs.Prelude.{◌≡◌, ◌<◌, ◌≤◌, ℕ, length, slice_index_or};
 ghost use Rattle.std.specs.List.{All};
 ghost use Rattle.zone_threads.specs.Folds.{folded};
 ghost use Rattle.zone_threads.specs.Scripts.{TallyOf, after_turn, answers, fresh, noted, progress_one, ticket_of};

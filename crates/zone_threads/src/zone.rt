@@ -1,5 +1,5 @@
 //! A zone under its lock, with its log and its pass.
-ghost use Rattle.std.specs.Prelude.{◌≡◌, ◌≢◌, ◌≤◌, [], true, IfOk};
+ghost use Rattle.std.specs.Prelude.{◌≡◌, ◌≤◌, [], true, IfOk};
 ghost use Rattle.zone_turn.specs.Passes.{is_idle};
 ghost use Rattle.zone_threads.specs.Ends.{LeftBy};
 ghost use Rattle.zone_threads.specs.Zones.{IsAsk};

@@ -1,4 +1,4 @@
-use Rattle.std.proofs.Common.{◌≡◌, ◌+◌, ◌≤◌, [], length, true, vec_capacity, vec_len}
+use Rattle.std.proofs.Common.{◌≡◌, ◌+◌, [], length, true, vec_capacity, vec_len}
 use Rattle.zone_turn.specs.Passes.{is_idle}
 use Rattle.zone_turn.specs.declared.views.Role.TheVariants.{First}
 use Rattle.zone_threads.specs.Ends.{roster}

@@ -1,4 +1,4 @@
-use Rattle.std.proofs.Common.{rules, ◌≡◌, ◌+◌, [], length, true, sym, ap, vec_len, ◌∙◌}
+use Rattle.std.proofs.Common.{rules, ◌≡◌, ◌+◌, [], length, vec_len}
 use Rattle.zone_threads.proofs.Gathering.{ended}
 use Rattle.zone_threads.proofs.end.finish.Goals as goal
 

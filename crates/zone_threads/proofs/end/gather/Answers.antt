@@ -1,4 +1,4 @@
-use Rattle.std.proofs.Common.{rules, ◌≡◌, ◌+◌, [], subst, sym, vec_len}
+use Rattle.std.proofs.Common.{rules, ◌≡◌, ◌+◌, subst, vec_len}
 use Rattle.zone_turn.specs.declared.views.Role.TheVariants.{First}
 use Rattle.zone_threads.specs.Ends.{pairs, roster}
 use Rattle.zone_threads.proofs.end.gather.Goals as goal

@@ -1,4 +1,3 @@
-use Rattle.std.proofs.Common.{rules, ◌≡◌}
 use Rattle.zone_threads.proofs.Gathering.{first_stays, gathered}
 use Rattle.zone_threads.proofs.end.keep.Goals as goal
 

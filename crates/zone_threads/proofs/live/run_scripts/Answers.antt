@@ -1,4 +1,3 @@
-use Rattle.std.proofs.Common.{◌≡◌, IfOk, Ok, Err, Result}
 use Rattle.std.proofs.lemmas.Result.{IfErr-weaker, IfOk-weaker}
 use Rattle.zone_threads.proofs.Gathering.{both_ok, each_done, or_none}
 use Rattle.zone_threads.proofs.Words.{partial, whole}

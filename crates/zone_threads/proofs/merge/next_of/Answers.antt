@@ -1,4 +1,4 @@
-use Rattle.std.proofs.Common.{rules, ◌≡◌, ◌∷◌, ◌==◌, ◌<◌, [], length, ap, sym, ◌∙◌, subst, List, map, slice_index_or, slice_set, if◌then◌else◌}
+use Rattle.std.proofs.Common.{rules, ◌≡◌, ◌∷◌, ◌==◌, ◌<◌, [], length, ap, sym, ◌∙◌, subst, List, map, slice_set, if◌then◌else◌}
 use Rattle.std.proofs.lemmas.Option.{IfSome_then}
 use Rattle.zone_threads.specs.declared.zone.Log.{Log}
 use Rattle.zone_threads.specs.Ends.{back, log_of}

@@ -1,5 +1,5 @@
-use Rattle.std.proofs.Common.{rules, ◌≡◌, ◌∷◌, ◌++◌, ◌-◌, ◌+◌, [], sym, ap, ◌∙◌, subst, ℕ, List, replicate, suc, arith}
-use Rattle.zone_threads.specs.Ends.{Merges, log_of}
+use Rattle.std.proofs.Common.{◌≡◌, ◌∷◌, ◌++◌, ◌-◌, ◌+◌, sym, ◌∙◌, subst, ℕ, List, replicate, suc, arith}
+use Rattle.zone_threads.specs.Ends.{Merges}
 use Rattle.zone_threads.proofs.Merging.{no_more, one_more}
 use Rattle.zone_threads.proofs.merge.take_run.Goals.{in-Some+in_ok-push, in_default}
 use Rattle.zone_threads.proofs.merge.take_run.Goals as goal

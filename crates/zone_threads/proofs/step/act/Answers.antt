@@ -1,6 +1,5 @@
-use Rattle.std.proofs.Common.{◌≡◌, ◌++◌, ◌∷◌, ◌-◌, [], Bool, List, ℕ, ap, drop, false, rules, subst, sym, true, ◌∙◌}
+use Rattle.std.proofs.Common.{◌≡◌, ◌++◌, ◌∷◌, ◌-◌, [], ap, drop, false, rules, subst, sym, true, ◌∙◌}
 use Rattle.zone_threads.specs.Records.{Stands}
-use Rattle.zone_threads.specs.declared.tally.Progress.{Progress}
 use Rattle.zone_threads.proofs.Bools.{apart}
 use Rattle.zone_threads.proofs.Steps.{added, kept_shared, noted_rest, quiet, quiet_cell}
 use Rattle.zone_threads.proofs.step.act.Goals.{else-not-is_sound-2, then-not-is_sound-2}

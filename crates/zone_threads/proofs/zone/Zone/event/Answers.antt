@@ -1,7 +1,5 @@
-use Rattle.std.proofs.Common.{rules, ◌≡◌, ◌++◌, ◌-◌, ◌<◌, [], List, ap, drop, get_or, length, subst, sym, take, ◌∙◌, ℕ}
+use Rattle.std.proofs.Common.{rules, ◌≡◌, ◌++◌, ◌-◌, ◌<◌, ap, drop, get_or, length, subst, sym, take, ◌∙◌, ℕ}
 use Rattle.zone_turn.specs.Histories.{own}
-use Rattle.zone_turn.specs.Passes.{idle_with}
-use Rattle.zone_turn.specs.declared.views.Stage.TheVariants.{Out}
 use Rattle.zone_threads.specs.Records.{Stands}
 use Rattle.zone_threads.specs.Zones.{IsZone}
 use Rattle.zone_threads.proofs.Gives.{gave}
