@@ -17,7 +17,7 @@ use Rattle.zone_cases.specs.declared.events.Subject.TheVariants.{Zone}
 use Rattle.zone_cases.specs.declared.replies.Head.{Head}
 use Rattle.zone_cases.specs.declared.replies.Head.TheVariants.{Ticket, Turned}
 use Rattle.zone_machine.proofs.Local_laws.{local-turn}
-use Rattle.zone_machine.specs.Machine.{opening}
+use Rattle.zone_machine.specs.Machine.{opening, subject}
 use Rattle.zone_machine.specs.Machine.Common.{Common, common}
 use Rattle.zone_machine.specs.Machine.Histories.{after, after_entry}
 use Rattle.zone_machine.specs.Machine.Local.{is_busy, is_local}
@@ -26,7 +26,7 @@ use Rattle.zone_threads.specs.Machines.{Laws}
 use Rattle.zone_threads.specs.declared.machine.Said.TheVariants as says
 use Rattle.zoneadmd_steps.specs.declared.requests.TurnReply.{TurnReply}
 use Rattle.zoneadmd_steps.specs.declared.requests.TurnReply.TheVariants.{Finished, Idle, Stuck}
-use Rattle.daemon_threads.proofs.Worlds.{brands-one, commits-local, shown-local}
+use Rattle.daemon_threads.proofs.Worlds.{brands-one, commits-local, shown-local, whose-local}
 use Rattle.daemon_threads.specs.Definitions.{daemons, is_busy_of, is_placed, line_says, place_world, said_by, session_of, state_in, turn_says, turned_says}
 
 -- the history in its order
@@ -110,6 +110,13 @@ module _ (zones : List Name) where
       at_zone None h = absurd (false≢true h)
       at_zone (Some z) h = commits-local z S e h
 
+  local-whose : (p : ℕ) (S : State) (e : Entry) → is_local_at zones p (world_at zones p S) e ≡ true → (n : ℕ) (text : List ℕ) → subject (after_entry S e) (Session n text) ≡ subject S (Session n text)
+  local-whose p S e local n text = at_zone (zone_at zones p) local
+    where
+      at_zone : (o : Option Name) → is_local_of o (world_of_zone o S) e ≡ true → subject (after_entry S e) (Session n text) ≡ subject S (Session n text)
+      at_zone None h = absurd (false≢true h)
+      at_zone (Some z) h = whose-local z S e h n text
+
   -- a local turn is one of the zone of its place
   record IsOfPlace (p : ℕ) (w : World) (e : Entry) : Type 0 where
     zone : Name
@@ -151,7 +158,7 @@ laws D zones brands commits apart = record {
     local_common = λ p h e local.
         let S = state_in brands commits h in
         let is = (and_parts (is_placed zones p (zone_at zones p)) (is_local_at zones p (world_at zones p S) e) local).1 in
-        λ i. record { common = local-common zones brands commits p h e is i; shown = λ y. local-shown zones p S e is y i; commits = local-commits zones p S e is i };
+        λ i. record { common = local-common zones brands commits p h e is i; shown = λ y. local-shown zones p S e is y i; commits = local-commits zones p S e is i; whose = λ n text. local-whose zones p S e is n text i };
     local_by = λ p w e local. let found = local-of zones p w.zone w.world e local in ap (place_of zones) (local-turn found.zone w.world e found.local).1.subject ∙ found.place;
     local_turn = λ p w e local. let found = local-of zones p w.zone w.world e local in ap session_of (local-turn found.zone w.world e found.local).1.event;
     local_works = λ p w e local. local-idle w.zone w.world e (and_parts (is_placed zones p w.zone) (is_local_of w.zone w.world e) local).1;

@@ -1,31 +1,36 @@
 -- What an event leaves of a cell and of what the zones share, as threads see it.
-use Rattle.std.proofs.Common.{◌≡◌, ◌&&◌, ◌∷◌, [], ℕ, List, Bool, Option, Some, None, Result, Ok, Err, true, false, ap, nat_eq, refl, subst, sym, ◌∙◌}
+use Rattle.std.proofs.Common.{◌≡◌, ◌&&◌, ◌∷◌, [], ℕ, List, Bool, Option, Some, None, Result, Ok, Err, true, false, ap, arith, nat_eq, refl, subst, sym, ◌∙◌}
 use Rattle.std.specs.Prelude.{◌≢◌, OnErr, IfErr, bytes_eq, not, if◌then◌else◌}
-use Rattle.std.proofs.lemmas.Bool.{and_from, eqb-true, false_from_ne_true, false≢true}
+use Rattle.std.proofs.lemmas.Bool.{and_from, eq-eqb, eqb-true, false_from_ne_true, false≢true}
 use Rattle.brand_hooks.specs.Brands.{Tabled}
+use Rattle.brand_hooks.specs.declared.table.HookAnswer.{HookAnswer}
 use Rattle.commit_journal.specs.declared.records.Commit.{Commit}
-use Rattle.session_records.specs.Places.{AreApart, is_right_at, place_of, world_of_zone, zone_at}
+use Rattle.session_records.specs.Places.{AreApart, is_local_of, is_right_at, own_world_by, own_world_one, place_of, world_of_zone, zone_at}
 use Rattle.zn_base.specs.Names.{Name}
 use Rattle.zn_io.specs.Disk.{View}
 use Rattle.zone_disk.specs.Bank.{Account}
-use Rattle.zone_cases.specs.Code.Cells.{CellOf, cell_world, outside_of}
+use Rattle.zone_cases.specs.Code.Cells.{CellOf, IsHeardIn, outside_of}
 use Rattle.zone_cases.specs.State.{State, bodies_of}
 use Rattle.zone_cases.specs.State.Worlds.{World, world}
 use Rattle.zone_cases.specs.declared.cell.Cell.{Cell}
 use Rattle.zone_cases.specs.declared.events.Entry.{Entry}
 use Rattle.zone_cases.specs.declared.events.Event.{Event}
 use Rattle.zone_cases.specs.declared.events.Subject.TheVariants.{Global, Zone}
+use Rattle.zone_machine.proofs.Alone.{local-world}
+use Rattle.zone_machine.proofs.Local_laws.{local-turn}
 use Rattle.zone_machine.proofs.Own_worlds.{leaves}
 use Rattle.zone_machine.proofs.Same_laws.{reply-Decides, subject-Decides}
 use Rattle.zone_machine.proofs.Writing.{commits-global}
 use Rattle.zone_machine.specs.Code.Cell_steps.{CellLeaves, IsAllowedCellStep}
 use Rattle.zone_machine.specs.Code.Cells.{SharedOf}
 use Rattle.zone_machine.specs.Code.Global_steps.{IsGlobalStep}
+use Rattle.zone_machine.specs.Code.Local_turns.{IsAsItWas, IsLocalTurn}
 use Rattle.zone_machine.specs.Code.Records.{BankLeft, IsReady, KeepsBodiesInCell}
 use Rattle.zone_machine.specs.Code.Shown_zones.{shown_in}
 use Rattle.zone_machine.specs.Machine.{one, subject}
 use Rattle.zone_machine.specs.Machine.Common.{Common, common}
-use Rattle.zone_machine.specs.Machine.Histories.{after_entry, concerns, entry_at, is_allowed, is_told}
+use Rattle.zone_machine.specs.Machine.Histories.{after_entry, concerns, entry_at, is_allowed, is_told, world_one}
+use Rattle.zone_machine.specs.Machine.Local.{is_local}
 use Rattle.zone_machine.specs.Machine.Pools.{allowed}
 use Rattle.zone_machine.specs.Machine.Same.{same_reply, same_subject}
 use Rattle.zone_machine.specs.Shown.{shown, shown_by, world_shown}
@@ -36,14 +41,15 @@ use Rattle.zone_machine.specs.declared.machine.shown.ShownZones.{ShownZones}
 use Rattle.zone_pools.proofs.Owned_laws.{same_self, same_true}
 use Rattle.zone_pools.proofs.Same_laws.{grant-Decides}
 use Rattle.zone_pools.specs.Same.{same_grant}
-use Rattle.zone_threads.specs.Machines.{Stepped}
+use Rattle.zone_threads.specs.Machines.{Stepped, Turned, Unfinished}
 use Rattle.zoneadmd_steps.specs.Code.Desks.{as_desk}
 use Rattle.zoneadmd_steps.specs.Objects.{ids_of}
 use Rattle.daemon_threads.proofs.Places_meet.{brands-in, place-some}
-use Rattle.daemon_threads.proofs.Worlds.{brands-one}
-use Rattle.daemon_threads.specs.Definitions.{CellIn, IsZoneCell, daemons, place_world, state_in}
+use Rattle.daemon_threads.proofs.Worlds.{brands-by, brands-one}
+use Rattle.daemon_threads.specs.Definitions.{CellIn, PlaceWorld, daemons, is_placed, place_world, state_in}
 use Rattle.daemon_threads.specs.Goods.{Goods}
 use Rattle.daemon_threads.specs.Parts.{Answers, AreAsBefore, CellAnswers, Commons, PartOf, commons}
+use Rattle.daemon_threads.specs.Running.{IsDoneIn}
 use Rattle.daemon_threads.specs.declared.cell.PlaceCell.TheVariants as cells
 
 -- the table of what the zones show, once a zone's cell was noted
@@ -69,7 +75,7 @@ cell-answers z S e entry c d m n step bodies notes cell part of =
     let answered = step S cell part.shared of in
     let T : State = (one S e (allowed S e)).state in
     let left : T ≡ after_entry S entry = sym (ap (after_entry S) answered.told) in
-    let after : PartOf n (commons T) = record { shared = answered.shared; shown = noted z S T m.shown n.shown d notes answered.cell (λ y other. other-worlds z S e y of other) part.shown; bodies = bodies S cell part.shared of part.bodies } in
+    let after : PartOf n (commons T) = record { state = T; is = refl; shared = answered.shared; shown = noted z S T m.shown n.shown d notes answered.cell (λ y other. other-worlds z S e y of other) part.shown; bodies = bodies S cell part.shared of part.bodies } in
     record {
       answers = record { told = answered.told; part = subst (λ U. PartOf n (commons U)) left after };
       cell = subst (λ U. CellOf d (world z U)) left answered.cell;
@@ -84,6 +90,8 @@ global-answers S e entry m n step shown bank part of =
     record {
       told = answered.told;
       part = record {
+        state = after_entry S entry;
+        is = refl;
         shared = answered.shared;
         shown = λ z. answered.shown z ∙ ap (λ t. shown_in t z) (sym shown);
         bodies = ap (λ (U : State). bodies_of U.commits) (sym left) ∙ (ap bodies_of (commits-global S e (allowed S e) of) ∙ (part.bodies ∙ ap (λ b. b.records) (sym bank)));
@@ -95,7 +103,7 @@ pub as-before : {D : Type 0} (z : Name) (e : Event) (v w : View) (fault : StepFa
     → ((y : Name) → shown_in n.shown y ≡ shown_in m.shown y) → n.bank.sound ≡ true → AreAsBefore c m d n
 as-before z e v w Memory c d m n leaves left shows sound = record {
   cell = λ x cell. cell ∙ sym (leaves.world (outside_of x));
-  part = λ k part. record { shared = part.shared ∙ sym leaves.common; shown = λ y. part.shown y ∙ sym (shows y); bodies = part.bodies ∙ ap (λ b. b.records) (sym left.0) };
+  part = λ k part. record { state = part.state; is = part.is; shared = part.shared ∙ sym leaves.common; shown = λ y. part.shown y ∙ sym (shows y); bodies = part.bodies ∙ ap (λ b. b.records) (sym left.0) };
 }
 as-before z e v w BadGrant c d m n leaves left shows sound = absurd leaves
 as-before z e v w WouldRecord c d m n leaves left shows sound = absurd left
@@ -120,12 +128,15 @@ right-entry zones S e placed =
     ((grant-Decides g g).1 refl))
     (ap not (false_from_ne_true (nat_eq (place_of zones (subject S e)) 0) (λ none. placed (eqb-true (place_of zones (subject S e)) 0 none))))
 
-module _ {D : Type 0} (zones : List Name) (apart : AreApart zones) (brands : List Tabled) (commits : List Commit) (p : ℕ) (h : List Entry) where
+one-some : (n : ℕ) → n ≡ 1 → n ≡ 0 → ⊥
+one-some n is none = absurd (omega (arith, is, none))
+
+module _ (zones : List Name) (apart : AreApart zones) (brands : List Tabled) (commits : List Commit) (p : ℕ) (h : List Entry) where
   abbrev S : State
   S = state_in brands commits h
 
   -- a step of a zone is what threads ask for
-  pub zone-stepped : (z : Name) (e : Event) (entry : Entry) (d : Cell) (n : Goods D) → zone_at zones p ≡ Some z → subject S e ≡ Zone z → CellAnswers z S e entry d n → n.bank.sound ≡ true
+  pub zone-stepped : {D : Type 0} (z : Name) (e : Event) (entry : Entry) (d : Cell) (n : Goods D) → zone_at zones p ≡ Some z → subject S e ≡ Zone z → CellAnswers z S e entry d n → n.bank.sound ≡ true
       → Stepped (daemons D zones brands commits) p (cells.Zone z d) n entry h
   zone-stepped z e entry d n is of answered sound =
       let T : State = after_entry S entry in
@@ -142,20 +153,50 @@ module _ {D : Type 0} (zones : List Name) (apart : AreApart zones) (brands : Lis
       }
 
   -- and one of the global zone
-  pub global-stepped : (e : Event) (entry : Entry) (n : Goods D) → zone_at zones p ≡ None → subject S e ≡ Global → Answers S e entry n → n.bank.sound ≡ true
+  pub global-stepped : {D : Type 0} (e : Event) (entry : Entry) (n : Goods D) → zone_at zones p ≡ None → subject S e ≡ Global → Answers S e entry n → n.bank.sound ≡ true
       → Stepped (daemons D zones brands commits) p cells.Global n entry h
   global-stepped e entry n is of answered sound =
-      let placed : place_of zones (subject S e) ≢ 0 = λ none. one-some (sym (ap (place_of zones) of) ∙ none) in
+      let placed : place_of zones (subject S e) ≢ 0 = one-some (place_of zones (subject S e)) (ap (place_of zones) of) in
       record {
         is_right = subst (λ x. is_right_at zones S x ≡ true) (sym answered.told) (right-entry zones S e placed);
         cell = is;
         shared = answered.part;
         sound = sound;
       }
-    where
-      one-some : 1 ≢ 0
-      one-some same = cc
 
   -- a cell in its place has its zone's world
   pub cell-there : (z : Name) (c : Cell) → CellIn brands (cells.Zone z c) (place_world zones p S) → CellOf c (world z S)
-  cell-there z c in = subst (λ o. CellOf c (world_of_zone o S)) in.zone in.cell
+  cell-there z c has = subst (λ o. CellOf c (world_of_zone o S)) has.zone has.cell
+
+-- a local turn on a cell is one in every world that the cell may have
+pub done-in : (zones : List Name) (apart : AreApart zones) (p : ℕ) (z : Name) (brands : List Tabled) (c : Cell) (answer : HookAnswer) (e : Entry) (d : Cell) → zone_at zones p ≡ Some z → IsHeardIn brands c answer → IsLocalTurn z c answer e d
+    → (w : World) → CellOf c w → w.brands ≡ brands → IsDoneIn zones p z e d w
+done-in zones apart p z brands c answer e d at heard turn w cell same =
+    let done = local-world z c answer e d turn w cell (subst (λ b. IsHeardIn b c answer) (sym same) heard) in
+    let own : own_world_one w e ≡ world_one z w e = ap (λ s. own_world_by s w e) (local-turn z w e done.0).1.subject in
+    record {
+      place = apart p z at;
+      local = done.0;
+      brands = ap (λ (v : World). v.brands) own ∙ brands-by e.subject z w e.event e.grant;
+      cell = subst (CellOf d) (sym own) done.1;
+    }
+
+-- so threads have what they ask for
+pub done-turned : {D : Type 0} (zones : List Name) (brands : List Tabled) (commits : List Commit) (p : ℕ) (z : Name) (c : Cell) (e : Entry) (d : Cell) → ((w : World) → CellOf c w → w.brands ≡ brands → IsDoneIn zones p z e d w)
+    → (w : PlaceWorld) → CellIn brands (cells.Zone z c) w → Turned (daemons D zones brands commits) p (cells.Zone z d) e w
+done-turned zones brands commits p z c e d does w has =
+    let done = does w.world has.cell has.brands_are in
+    record {
+      is_next = subst (λ o. (is_placed zones p o && is_local_of o w.world e) ≡ true) (sym has.zone) (and_from (nat_eq (place_of zones (Zone z)) p) (is_local z w.world e) (eq-eqb (place_of zones (Zone z)) p done.place) done.local);
+      cell = record { zone = has.zone; brands_are = done.brands ∙ has.brands_are; cell = done.cell };
+    }
+
+-- a cell that is as it was has the worlds that it had
+pub still-in : (brands : List Tabled) (z : Name) (c d : Cell) → IsAsItWas c d → (w : PlaceWorld) → CellIn brands (cells.Zone z c) w → CellIn brands (cells.Zone z d) w
+still-in brands z c d same w has = record { zone = has.zone; brands_are = has.brands_are; cell = has.cell ∙ sym (same (outside_of w.world)) }
+
+pub unfinished : {D : Type 0} (zones : List Name) (brands : List Tabled) (commits : List Commit) (z : Name) (c : Cell) (m : Goods D) (d : Cell) (n : Goods D) → (n.bank.sound ≡ true → AreAsBefore c m d n)
+    → Unfinished (daemons D zones brands commits) (cells.Zone z c) m (cells.Zone z d) n
+unfinished zones brands commits z c m d n kept sound =
+    let before = kept sound in
+    record { cell = λ w has. record { zone = has.zone; brands_are = has.brands_are; cell = before.cell w.world has.cell }; shared = before.part }

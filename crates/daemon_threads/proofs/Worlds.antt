@@ -12,9 +12,10 @@ use Rattle.zone_pools.proofs.Holding.{not_same}
 use Rattle.zone_pools.proofs.Owned_laws.{same_true}
 use Rattle.zone_pools.specs.Firsts.{first_of}
 use Rattle.zone_pools.specs.declared.grant.Grant.{Grant}
+use Rattle.zone_cases.specs.Session.Lines.{line_of}
 use Rattle.zone_cases.specs.State.{State}
-use Rattle.zone_cases.specs.State.Decisions.{Act, act_of, acts_world, after_came_world, turned}
-use Rattle.zone_cases.specs.State.Edits.{Edit, Of_objects, console_gone_world, edit, edit_world, edits, edits_world, keeps_console}
+use Rattle.zone_cases.specs.State.Decisions.{Act, act_of, acts_world, after_came_world, sweeps, turned}
+use Rattle.zone_cases.specs.State.Edits.{Edit, Of_objects, Set_desk, console_gone_world, edit, edit_world, edits, edits_world, keeps_console}
 use Rattle.zone_cases.specs.State.Worlds.{World, view_of, world}
 use Rattle.zone_cases.specs.declared.events.Entry.{Entry}
 use Rattle.zone_cases.specs.declared.events.Event.{Event}
@@ -23,11 +24,12 @@ use Rattle.zone_cases.specs.declared.events.Subject.{Subject}
 use Rattle.zone_cases.specs.declared.events.Subject.TheVariants.{Global, Whole, Zone}
 use Rattle.zone_machine.proofs.Local_laws.{Local, local-one, local-turn, world-after}
 use Rattle.zone_machine.proofs.Own_worlds.{leaves, world-one}
-use Rattle.zone_machine.specs.Machine.{Answered, decide, one, session_number, subject, whole_world}
+use Rattle.zone_machine.specs.Machine.{Answered, decide, one, session_number, session_subject, subject, whole_world}
 use Rattle.zone_machine.specs.Machine.Histories.{after_entry, concerns, world_by}
 use Rattle.zone_machine.specs.Machine.Local.{is_local}
 use Rattle.zone_machine.specs.Shown.{shown}
 use Rattle.zoneadmd_steps.specs.Arrivals.{Arrival, New_claim, New_id, New_process, New_record, No_new_thing}
+use Rattle.zoneadmd_steps.specs.Desks.{Desk}
 use Rattle.zoneadmd_steps.specs.Local.{is_of_own}
 use Rattle.zoneadmd_steps.specs.Turns.{Turned}
 use Rattle.zoneadmd_steps.specs.Objects.{Devices_are, Ids_change, Object_edit, Of_mounts, Processes_go, ids_after, keeping_zid}
@@ -122,3 +124,27 @@ pub commits-local : (z : Name) (S : State) (e : Entry) → is_local z (world z S
 commits-local z S e local =
     let found = local-turn z (world z S) e local in
     ap (λ (r : Answered). r.state.commits) (local-one z S e found.0 found.1) ∙ commits-edits z None (turned found.0).edits S
+
+-- and all processes, and what each session does; so each line stays whose it was
+record Holds_all (S T : State) : Type 0 where
+  processes : T.processes ≡ S.processes
+  sessions : T.sessions ≡ S.sessions
+
+holds-edits : (z : Name) (es : List Object_edit) (d : Desk) (S : State) → list_all is_of_own es ≡ true → Holds_all S (edits z None (map Of_objects es ++ Set_desk d ∷ []) S)
+unfolding edit
+holds-edits z [] d S own = record { processes = refl; sessions = refl }
+holds-edits z (Of_mounts e ∷ es) d S own = let rest = holds-edits z es d (edit z None (Of_objects (Of_mounts e)) S) own in record { processes = rest.processes; sessions = rest.sessions }
+holds-edits z (Devices_are ds ∷ es) d S own = let rest = holds-edits z es d (edit z None (Of_objects (Devices_are ds)) S) own in record { processes = rest.processes; sessions = rest.sessions }
+holds-edits z (Ids_change f ∷ es) d S own = let rest = holds-edits z es d (edit z None (Of_objects (Ids_change f)) S) own in record { processes = rest.processes; sessions = rest.sessions }
+holds-edits z (_ ∷ es) d S own = absurd (false≢true own)
+
+pub whose-local : (z : Name) (S : State) (e : Entry) → is_local z (world z S) e ≡ true → (n : ℕ) (text : List ℕ) → subject (after_entry S e) (Session n text) ≡ subject S (Session n text)
+unfolding subject
+whose-local z S e local n text =
+    let found = local-turn z (world z S) e local in let t = found.0 in let l = found.1 in
+    let rest = holds-edits z t.objects t.desk S l.stays.own in
+    let processes : (after_entry S e).processes ≡ S.processes =
+    ap (λ (r : Answered). r.state.processes) (local-one z S e t l) ∙ (ap (λ o. (edits z None (map Of_objects t.objects ++ Set_desk t.desk ∷ sweeps o) S).processes) l.stays.ended ∙ rest.processes) in
+    let sessions : (after_entry S e).sessions ≡ S.sessions =
+    ap (λ (r : Answered). r.state.sessions) (local-one z S e t l) ∙ (ap (λ o. (edits z None (map Of_objects t.objects ++ Set_desk t.desk ∷ sweeps o) S).sessions) l.stays.ended ∙ rest.sessions) in
+    λ i. session_subject (line_of text) (processes i) (sessions i n)

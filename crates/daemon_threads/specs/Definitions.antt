@@ -121,6 +121,7 @@ daemons D zones brands commits = record {
   right = λ h e. is_right_at zones (state_in brands commits h) e;
   by = λ e. place_of zones e.subject;
   told = told;
+  place_of = λ k n line. place_of zones (k.whose n line);
   is_line = λ line e. is_text line e.event;
   world_one = λ w e. record w { world = own_world_one w.world e };
   is_local = λ p w e. is_placed zones p w.zone && is_local_of w.zone w.world e;

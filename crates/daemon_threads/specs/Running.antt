@@ -1,5 +1,5 @@
 -- What the machine has from its caller.
-use Rattle.std.specs.Prelude.{◌≡◌, ℕ, List, Option, Some, ◌≢◌, true}
+use Rattle.std.specs.Prelude.{◌≡◌, ◌<◌, ℕ, List, length, true}
 use Rattle.std.specs.Fn.{Shared}
 use denote.Ref.{Bor}
 use Rattle.brand_hooks.specs.Brands.{Hooked, Tabled, tables_of}
@@ -20,6 +20,7 @@ pub record IsSet {F : Type 0} (g : Shared F (Bor Change × Unit {0}) HookAnswer)
   pub zones_are : names ≡ zones
   pub brands_are : tables_of bs ≡ brands
   pub follow : AllFollow g bs
+  pub few : length names < 4294967290
 
 -- a local turn of z was done on a cell that had a world
 pub record IsDoneIn (zones : List Name) (p : ℕ) (z : Name) (e : Entry) (d : Cell) (w : World) : Type 0 where
