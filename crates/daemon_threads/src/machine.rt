@@ -1,16 +1,16 @@
 //! The machine of all zones, under threads.
-ghost use Rattle.std.specs.Prelude.{◌≡◌, ℕ, List, IfOk, IfSome, None, OnErr, Some, true};
+ghost use Rattle.std.specs.Prelude.{◌≡◌, ◌≢◌, ℕ, List, Err, IfOk, IfSome, None, OnErr, OnOk, Some, false, true};
 ghost use Rattle.brand_hooks.specs.declared.table.HookAnswer.{HookAnswer};
 ghost use Rattle.session_records.specs.Places.{place_of, zone_at};
 ghost use Rattle.zone_cases.specs.Code.Cells.{CellOf, IsHeardIn};
 ghost use Rattle.zone_cases.specs.State.Worlds.{World};
 ghost use Rattle.zone_cases.specs.declared.events.Entry.{Entry};
-ghost use Rattle.zone_cases.specs.declared.events.Event.TheVariants as events;
 ghost use Rattle.zone_cases.specs.declared.events.Subject.TheVariants as subjects;
 ghost use Rattle.zone_machine.specs.Code.Local_turns.{IsAsItWas};
 ghost use Rattle.zone_machine.specs.Code.Reads.{is_turn};
 ghost use Rattle.zone_machine.specs.Machine.{subject};
-ghost use Rattle.zone_threads.specs.Machines.{Stepped, Unfinished};
+ghost use Rattle.zone_threads.specs.Machines.{IsTurnOf, Stepped, Unfinished};
+ghost use Rattle.zone_threads.specs.declared.machine.Stop.TheVariants.{Elsewhere};
 ghost use Rattle.daemon_threads.specs.Definitions.{CellIn, daemons, place_world, state_in};
 ghost use Rattle.daemon_threads.specs.Parts.{PartOf, commons};
 ghost use Rattle.daemon_threads.specs.Running.{IsDoneIn, IsSet};
@@ -128,4 +128,190 @@ impl<'b, D: Disk, F: Fn(&Change) -> HookAnswer, N: Names> Daemons<'b, D, F, N> {
     {
         shared.global_step(self.alloc, event)
     }
+
+    // A turn of a zone's daemon, in the zone's place.
+    fn turn_at(
+        &self,
+        place: u32,
+        zone: &ZoneName,
+        cell: &mut Cell,
+        shared: &mut SharedPart<D, N>,
+        heard: HookAnswer,
+    ) -> Result<Entry, StepFault>
+        requires ready { IsSet F.Fn N.zones N.brands self.now.zones.items self.now.brands.now }
+        requires sound { shared.old.bank.sound ≡ true }
+        requires heard { IsHeardIn N.brands cell.old heard }
+        ensures turn { IfOk result (IsTurnOf (daemons D N.zones N.brands N.commits) place) }
+        ensures step { IfOk result (λ e. (h : List Entry) → CellIn N.brands (cells.Zone zone.now cell.old) (place_world N.zones place (state_in N.brands N.commits h)) → PartOf shared.old (commons (state_in N.brands N.commits h)) → Stepped (daemons D N.zones N.brands N.commits) place (cells.Zone zone.now cell.new) shared.new e h) }
+        ensures err { OnErr result (Unfinished (daemons D N.zones N.brands N.commits) (cells.Zone zone.now cell.old) shared.old (cells.Zone zone.now cell.new) shared.new) }
+    {
+        if !self.is_at(place, zone) {
+            return Err(StepFault::Memory);
+        }
+        let event = Event::Turn {
+            zone: zone.copy(self.alloc)?,
+        };
+        self.zone_event(place, zone, cell, shared, event, heard)
+    }
+
+    // A line of a session that belongs to a zone, where the zone has this place.
+    fn zone_line(
+        &self,
+        place: u32,
+        cell: &mut PlaceCell,
+        shared: &mut SharedPart<D, N>,
+        zone: &ZoneName,
+        event: Event,
+    ) -> Result<Entry, Stop<StepFault>>
+        requires ready { IsSet F.Fn N.zones N.brands self.now.zones.items self.now.brands.now }
+        requires sound { shared.old.bank.sound ≡ true }
+        requires line { is_turn event ≡ false }
+        ensures event { IfOk result (λ e. (e.event ≡ event) × (place_of N.zones e.subject ≡ place)) }
+        ensures here { OnOk result (place_of N.zones (subjects.Zone zone.now) ≡ place) }
+        ensures elsewhere { (p : ℕ) → result ≡ Err (Elsewhere p) → (p ≢ place) × (place_of N.zones (subjects.Zone zone.now) ≡ p) }
+        ensures step { IfOk result (λ e. (h : List Entry) → CellIn N.brands cell.old (place_world N.zones place (state_in N.brands N.commits h)) → PartOf shared.old (commons (state_in N.brands N.commits h)) → subject (state_in N.brands N.commits h) event ≡ subjects.Zone zone.now → Stepped (daemons D N.zones N.brands N.commits) place cell.new shared.new e h) }
+        ensures err { OnErr result (Unfinished (daemons D N.zones N.brands N.commits) cell.old shared.old cell.new shared.new) }
+    {
+        let at = self.place_of(zone);
+        if at != place {
+            return Err(Stop::Elsewhere(at));
+        }
+        match cell {
+            PlaceCell::Zone(name, cell) => {
+                if &*name != zone || !self.is_at(place, name) {
+                    return Err(Stop::Fault(StepFault::Memory));
+                }
+                match self.zone_event(place, name, cell, shared, event, HookAnswer::Proceed) {
+                    Ok(entry) => Ok(entry),
+                    Err(fault) => Err(Stop::Fault(fault)),
+                }
+            }
+            PlaceCell::Global => Err(Stop::Fault(StepFault::Memory)),
+        }
+    }
+
+    // A line of a session that belongs to the global zone, where that has this place.
+    fn global_line(
+        &self,
+        place: u32,
+        cell: &PlaceCell,
+        shared: &mut SharedPart<D, N>,
+        event: Event,
+    ) -> Result<Entry, Stop<StepFault>>
+        requires sound { shared.old.bank.sound ≡ true }
+        ensures event { IfOk result (λ e. (e.event ≡ event) × (place_of N.zones e.subject ≡ place)) }
+        ensures here { OnOk result (place_of N.zones subjects.Global ≡ place) }
+        ensures elsewhere { (p : ℕ) → result ≡ Err (Elsewhere p) → (p ≢ place) × (place_of N.zones subjects.Global ≡ p) }
+        ensures step { IfOk result (λ e. (h : List Entry) → CellIn N.brands cell.now (place_world N.zones place (state_in N.brands N.commits h)) → PartOf shared.old (commons (state_in N.brands N.commits h)) → subject (state_in N.brands N.commits h) event ≡ subjects.Global → Stepped (daemons D N.zones N.brands N.commits) place cell.now shared.new e h) }
+        ensures err { OnErr result (shared.new ≡ shared.old) }
+    {
+        if place != 1 {
+            return Err(Stop::Elsewhere(1));
+        }
+        match cell {
+            PlaceCell::Global => match self.global_event(shared, event) {
+                Ok(entry) => Ok(entry),
+                Err(fault) => Err(Stop::Fault(fault)),
+            },
+            PlaceCell::Zone(_, _) => Err(Stop::Fault(StepFault::Memory)),
+        }
+    }
+}
+
+impl<'b, D: Disk + Drop + Send, F: Fn(&Change) -> HookAnswer, N: Names + Send> Zoned
+    for Daemons<'b, D, F, N>
+{
+    type State = LinkedList<Entry>;
+
+    type Cell = PlaceCell;
+
+    type Shared = SharedPart<D, N>;
+
+    type Line = Text;
+
+    type Entry = Entry;
+
+    type Heard = HookAnswer;
+
+    type Fault = StepFault;
+
+    ghost use Rattle.daemon_threads.specs.Definitions.{daemons};
+
+    ghost machine = { daemons D N.zones N.brands N.commits };
+}
+
+impl<'b, D: Disk + Drop + Send, F: Fn(&Change) -> HookAnswer, N: Names + Send> Machine
+    for Daemons<'b, D, F, N>
+{
+    ghost use Rattle.daemon_threads.specs.Running.{IsSet};
+    ghost use Rattle.daemon_threads.proofs.Places_meet.{laws};
+
+    ghost ready = { λ m. IsSet F.Fn N.zones N.brands m.zones.items m.brands.now };
+
+    fn told(&self, entry: &Entry) -> Told {
+        told(entry)
+    }
+
+    fn is_sound(&self, shared: &SharedPart<D, N>) -> bool {
+        shared.is_sound()
+    }
+
+    fn is_busy(&self, cell: &PlaceCell, shared: &SharedPart<D, N>) -> bool {
+        match cell {
+            PlaceCell::Global => false,
+            PlaceCell::Zone(zone, cell) => shared.is_busy(zone, cell),
+        }
+    }
+
+    fn hear(&self, cell: &PlaceCell) -> HookAnswer {
+        match cell {
+            PlaceCell::Global => HookAnswer::Proceed,
+            PlaceCell::Zone(_, cell) => self.hear_zone(cell),
+        }
+    }
+
+    fn local_turn(&self, cell: &mut PlaceCell, place: u32) -> Result<Option<Entry>, AllocError> {
+        match cell {
+            PlaceCell::Global => Ok(None),
+            PlaceCell::Zone(zone, cell) => self.local_turn_at(place, zone, cell),
+        }
+    }
+
+    fn turn(
+        &self,
+        cell: &mut PlaceCell,
+        shared: &mut SharedPart<D, N>,
+        place: u32,
+        heard: HookAnswer,
+    ) -> Result<Entry, StepFault> {
+        match cell {
+            PlaceCell::Global => Err(StepFault::Memory),
+            PlaceCell::Zone(zone, cell) => self.turn_at(place, zone, cell, shared, heard),
+        }
+    }
+
+    fn line(
+        &self,
+        cell: &mut PlaceCell,
+        shared: &mut SharedPart<D, N>,
+        place: u32,
+        session: u8,
+        line: &Text,
+    ) -> Result<Entry, Stop<StepFault>> {
+        let Ok(text) = line.copy(self.alloc) else {
+            return Err(Stop::Fault(StepFault::Memory));
+        };
+        let event = Event::Session {
+            number: session,
+            text,
+        };
+        match shared.subject(self.alloc, &event) {
+            Ok(Subject::Zone(zone)) => self.zone_line(place, cell, shared, &zone, event),
+            Ok(Subject::Global) => self.global_line(place, cell, shared, event),
+            Ok(Subject::Whole) => Err(Stop::Fault(StepFault::Memory)),
+            Err(fault) => Err(Stop::Fault(fault)),
+        }
+    }
+
+    ghost laws = { laws D N.zones N.brands N.commits N.apart };
 }

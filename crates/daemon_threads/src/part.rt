@@ -6,6 +6,7 @@ ghost use Rattle.zone_cases.specs.State.{State};
 ghost use Rattle.zone_cases.specs.State.Worlds.{world};
 ghost use Rattle.zone_cases.specs.declared.events.Subject.TheVariants as subjects;
 ghost use Rattle.zone_machine.specs.Code.Reads.{is_turn};
+ghost use Rattle.zone_machine.specs.Machine.Local.{is_busy};
 ghost use Rattle.zone_machine.specs.Machine.{subject};
 ghost use Rattle.daemon_threads.specs.Parts.{Answers, AreAsBefore, CellAnswers, PartOf, commons};
 
@@ -50,6 +51,13 @@ impl<D: Disk, N: Names> SharedPart<D, N> {
         ensures { result ≡ self.now.bank.sound }
     {
         self.bank.sound()
+    }
+
+    /// Whether a zone is stored and its daemon has a request.
+    pub(crate) fn is_busy(&self, zone: &ZoneName, cell: &Cell) -> bool
+        ensures { (S : State) → CellOf cell.now (world zone.now S) → PartOf self.now (commons S) → result ≡ is_busy (world zone.now S) }
+    {
+        is_busy(zone, cell, &self.shared)
     }
 
     /// Whose an event is.
