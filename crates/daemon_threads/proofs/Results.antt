@@ -1,6 +1,6 @@
 -- What is known of an answer, from what is known of it already.
-use Rattle.std.proofs.Common.{IfOk, Option, Some, None, Result, Ok, Err}
-use Rattle.std.specs.Prelude.{IfErr, IfSome, OnErr, OnOk}
+use Rattle.std.proofs.Common.{◌≡◌, IfOk, Option, Some, None, Result, Ok, Err, refl}
+use Rattle.std.specs.Prelude.{IfErr, IfSome, IsNone, OnErr, OnOk}
 
 pub if_ok : {A B : Type 0} (r : Result A B) (P Q : A → Type 0) → ((a : A) → P a → Q a) → IfOk r P → IfOk r Q
 if_ok (Ok a) P Q f h = f a h
@@ -24,3 +24,7 @@ if_ok_on (Err e) P Q R f h k = tt
 pub on_err : {A B : Type 0} (r : Result A B) (P Q : Type 0) → (P → Q) → OnErr r P → OnErr r Q
 on_err (Ok a) P Q f h = tt
 on_err (Err e) P Q f h = f h
+
+pub is_none : {A : Type 0} (o : Option A) → IsNone o → o ≡ None
+is_none None h = refl
+is_none (Some a) h = absurd h

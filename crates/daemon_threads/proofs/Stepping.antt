@@ -44,8 +44,8 @@ use Rattle.zone_pools.specs.Same.{same_grant}
 use Rattle.zone_threads.specs.Machines.{Stepped, Turned, Unfinished}
 use Rattle.zoneadmd_steps.specs.Code.Desks.{as_desk}
 use Rattle.zoneadmd_steps.specs.Objects.{ids_of}
-use Rattle.daemon_threads.proofs.Places_meet.{brands-in, place-some}
-use Rattle.daemon_threads.proofs.Worlds.{brands-by, brands-one}
+use Rattle.daemon_threads.specs.Meets.{brands-in, place-some}
+use Rattle.daemon_threads.specs.Worlds.{brands-by, brands-one}
 use Rattle.daemon_threads.specs.Definitions.{CellIn, PlaceWorld, daemons, is_placed, place_world, state_in}
 use Rattle.daemon_threads.specs.Goods.{Goods}
 use Rattle.daemon_threads.specs.Parts.{Answers, AreAsBefore, CellAnswers, Commons, PartOf, commons}

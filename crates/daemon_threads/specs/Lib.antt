@@ -8,3 +8,7 @@ pub mod Parts
 pub mod Definitions
 -- what the machine has from its caller
 pub mod Running
+-- what an event leaves of the brands, and what a local turn leaves of what zones share
+pub mod Worlds
+-- the machine meets the laws that threads rest on
+pub mod Meets

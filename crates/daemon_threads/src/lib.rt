@@ -3,14 +3,12 @@
 #![tactic(auto)]
 
 mod cell;
-mod laws;
 mod machine;
 mod names;
 mod part;
 mod told;
 
 pub use cell::PlaceCell;
-pub use laws::daemons_meet_the_laws;
 pub use machine::Daemons;
 pub use names::Names;
 pub use part::SharedPart;

@@ -31,7 +31,7 @@ use zone_machine::{StepFault, hear, local_turn};
 use zone_threads::{Machine, Stop, Told, Zoned};
 
 /// The machine of all zones under threads: the zones that have places, from 2 on, and the brands whose hooks it asks.
-pub struct Daemons<'b, D: Disk, F: Fn(&Change) -> HookAnswer, N: Names> {
+pub struct Daemons<'b, D: Disk, F, N: Names> {
     pub alloc: Global,
     pub zones: Vec<ZoneName>,
     pub brands: &'b Brands<F>,
@@ -218,9 +218,7 @@ impl<'b, D: Disk, F: Fn(&Change) -> HookAnswer, N: Names> Daemons<'b, D, F, N> {
     }
 }
 
-impl<'b, D: Disk + Drop + Send, F: Fn(&Change) -> HookAnswer, N: Names + Send> Zoned
-    for Daemons<'b, D, F, N>
-{
+impl<'b, D: Disk + Drop + Send, F, N: Names + Send> Zoned for Daemons<'b, D, F, N> {
     type State = LinkedList<Entry>;
 
     type Cell = PlaceCell;
@@ -244,7 +242,7 @@ impl<'b, D: Disk + Drop + Send, F: Fn(&Change) -> HookAnswer, N: Names + Send> M
     for Daemons<'b, D, F, N>
 {
     ghost use Rattle.daemon_threads.specs.Running.{IsSet};
-    ghost use Rattle.daemon_threads.proofs.Places_meet.{laws};
+    ghost use Rattle.daemon_threads.specs.Meets.{laws};
 
     ghost ready = { λ m. IsSet F.Fn N.zones N.brands m.zones.items m.brands.now };
 

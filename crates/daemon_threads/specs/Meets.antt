@@ -26,7 +26,7 @@ use Rattle.zone_threads.specs.Machines.{Laws}
 use Rattle.zone_threads.specs.declared.machine.Said.TheVariants as says
 use Rattle.zoneadmd_steps.specs.declared.requests.TurnReply.{TurnReply}
 use Rattle.zoneadmd_steps.specs.declared.requests.TurnReply.TheVariants.{Finished, Idle, Stuck}
-use Rattle.daemon_threads.proofs.Worlds.{brands-one, commits-local, shown-local, whose-local}
+use Rattle.daemon_threads.specs.Worlds.{brands-one, commits-local, shown-local, whose-local}
 use Rattle.daemon_threads.specs.Definitions.{daemons, is_busy_of, is_placed, line_says, place_world, said_by, session_of, state_in, turn_says, turned_says}
 
 -- the history in its order
