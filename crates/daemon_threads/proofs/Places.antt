@@ -1,5 +1,5 @@
 -- The places of zones in their list.
-use Rattle.std.proofs.Common.{◌≡◌, ◌∷◌, [], ℕ, zero, suc, ◌+◌, ◌-◌, ◌<◌, ◌≤◌, List, Bool, Option, Some, None, true, false, ap, arith, drop, nat_eq, refl, sym, ◌∙◌}
+use Rattle.std.proofs.Common.{◌≡◌, ◌∷◌, [], ℕ, zero, suc, ◌+◌, ◌-◌, ◌<◌, ◌≤◌, List, Some, true, false, ap, arith, drop, nat_eq, refl, ◌∙◌}
 use Rattle.std.specs.Prelude.{bytes_eq, length, slice_get, slice_index_or, if◌then◌else◌}
 use Rattle.std.proofs.lemmas.Bool.{eq-eqb, eqb-true, false_from_ne_true}
 use Rattle.zn_base.specs.Names.{Name}

@@ -1,5 +1,6 @@
 -- What is known of an answer, from what is known of it already.
 use Rattle.std.proofs.Common.{◌≡◌, IfOk, Option, Some, None, Result, Ok, Err, refl}
+use Rattle.std.proofs.lemmas.Bool.{true≢false}
 use Rattle.std.specs.Prelude.{IfErr, IfSome, IsNone, OnErr, OnOk}
 
 pub if_ok : {A B : Type 0} (r : Result A B) (P Q : A → Type 0) → ((a : A) → P a → Q a) → IfOk r P → IfOk r Q
@@ -27,4 +28,4 @@ on_err (Err e) P Q f h = f h
 
 pub is_none : {A : Type 0} (o : Option A) → IsNone o → o ≡ None
 is_none None h = refl
-is_none (Some a) h = absurd h
+is_none (Some a) h = absurd (true≢false h)

@@ -1,6 +1,6 @@
 -- What an event leaves of a cell and of what the zones share, as threads see it.
-use Rattle.std.proofs.Common.{◌≡◌, ◌&&◌, ◌∷◌, [], ℕ, List, Bool, Option, Some, None, Result, Ok, Err, true, false, ap, arith, nat_eq, refl, subst, sym, ◌∙◌}
-use Rattle.std.specs.Prelude.{◌≢◌, OnErr, IfErr, bytes_eq, not, if◌then◌else◌}
+use Rattle.std.proofs.Common.{◌≡◌, ◌&&◌, ℕ, List, Bool, Some, None, true, false, ap, arith, nat_eq, refl, subst, sym, ◌∙◌}
+use Rattle.std.specs.Prelude.{◌≢◌, bytes_eq, not, if◌then◌else◌}
 use Rattle.std.proofs.lemmas.Bool.{and_from, eq-eqb, eqb-true, false_from_ne_true, false≢true}
 use Rattle.brand_hooks.specs.Brands.{Tabled}
 use Rattle.brand_hooks.specs.declared.table.HookAnswer.{HookAnswer}
@@ -22,13 +22,12 @@ use Rattle.zone_machine.proofs.Own_worlds.{leaves}
 use Rattle.zone_machine.proofs.Same_laws.{reply-Decides, subject-Decides}
 use Rattle.zone_machine.proofs.Writing.{commits-global}
 use Rattle.zone_machine.specs.Code.Cell_steps.{CellLeaves, IsAllowedCellStep}
-use Rattle.zone_machine.specs.Code.Cells.{SharedOf}
 use Rattle.zone_machine.specs.Code.Global_steps.{IsGlobalStep}
 use Rattle.zone_machine.specs.Code.Local_turns.{IsAsItWas, IsLocalTurn}
 use Rattle.zone_machine.specs.Code.Records.{BankLeft, IsReady, KeepsBodiesInCell}
 use Rattle.zone_machine.specs.Code.Shown_zones.{shown_in}
 use Rattle.zone_machine.specs.Machine.{one, subject}
-use Rattle.zone_machine.specs.Machine.Common.{Common, common}
+use Rattle.zone_machine.specs.Machine.Common.{common}
 use Rattle.zone_machine.specs.Machine.Histories.{after_entry, concerns, entry_at, is_allowed, is_told, world_one}
 use Rattle.zone_machine.specs.Machine.Local.{is_local}
 use Rattle.zone_machine.specs.Machine.Pools.{allowed}
@@ -40,7 +39,6 @@ use Rattle.zone_machine.specs.declared.machine.shared.Shared.{Shared}
 use Rattle.zone_machine.specs.declared.machine.shown.ShownZones.{ShownZones}
 use Rattle.zone_pools.proofs.Owned_laws.{same_self, same_true}
 use Rattle.zone_pools.proofs.Same_laws.{grant-Decides}
-use Rattle.zone_pools.specs.Same.{same_grant}
 use Rattle.zone_threads.specs.Machines.{Stepped, Turned, Unfinished}
 use Rattle.zoneadmd_steps.specs.Code.Desks.{as_desk}
 use Rattle.zoneadmd_steps.specs.Objects.{ids_of}
@@ -48,7 +46,7 @@ use Rattle.daemon_threads.specs.Meets.{brands-in, place-some}
 use Rattle.daemon_threads.specs.Worlds.{brands-by, brands-one}
 use Rattle.daemon_threads.specs.Definitions.{CellIn, PlaceWorld, daemons, is_placed, place_world, state_in}
 use Rattle.daemon_threads.specs.Goods.{Goods}
-use Rattle.daemon_threads.specs.Parts.{Answers, AreAsBefore, CellAnswers, Commons, PartOf, commons}
+use Rattle.daemon_threads.specs.Parts.{Answers, AreAsBefore, CellAnswers, PartOf, commons}
 use Rattle.daemon_threads.specs.Running.{IsDoneIn}
 use Rattle.daemon_threads.specs.declared.cell.PlaceCell.TheVariants as cells
 

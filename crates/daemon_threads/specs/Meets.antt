@@ -1,6 +1,6 @@
 -- The laws of the machine as threads see it.
 use Rattle.std.proofs.Common.{◌≡◌, ◌&&◌, ◌∷◌, ◌++◌, [], ℕ, ◌+◌, ◌≤◌, List, Bool, Option, Some, None, true, false, ap, arith, nat_eq, refl, subst, sym, ◌∙◌}
-use Rattle.std.specs.Prelude.{◌≢◌, bytes_eq, not}
+use Rattle.std.specs.Prelude.{◌≢◌, not}
 use Rattle.std.proofs.lemmas.Bool.{and_parts, eqb-true, false≢true}
 use Rattle.brand_hooks.specs.Brands.{Tabled}
 use Rattle.commit_journal.specs.declared.records.Commit.{Commit}
@@ -18,7 +18,7 @@ use Rattle.zone_cases.specs.declared.replies.Head.{Head}
 use Rattle.zone_cases.specs.declared.replies.Head.TheVariants.{Ticket, Turned}
 use Rattle.zone_machine.proofs.Local_laws.{local-turn}
 use Rattle.zone_machine.specs.Machine.{opening, subject}
-use Rattle.zone_machine.specs.Machine.Common.{Common, common}
+use Rattle.zone_machine.specs.Machine.Common.{common}
 use Rattle.zone_machine.specs.Machine.Histories.{after, after_entry}
 use Rattle.zone_machine.specs.Machine.Local.{is_busy, is_local}
 use Rattle.zone_machine.specs.Shown.{shown}
@@ -27,7 +27,7 @@ use Rattle.zone_threads.specs.declared.machine.Said.TheVariants as says
 use Rattle.zoneadmd_steps.specs.declared.requests.TurnReply.{TurnReply}
 use Rattle.zoneadmd_steps.specs.declared.requests.TurnReply.TheVariants.{Finished, Idle, Stuck}
 use Rattle.daemon_threads.specs.Worlds.{brands-one, commits-local, shown-local, whose-local}
-use Rattle.daemon_threads.specs.Definitions.{daemons, is_busy_of, is_placed, line_says, place_world, said_by, session_of, state_in, turn_says, turned_says}
+use Rattle.daemon_threads.specs.Definitions.{daemons, is_busy_of, is_placed, line_says, said_by, session_of, state_in, turn_says, turned_says}
 
 -- the history in its order
 abbrev backwards : List Entry → List Entry
@@ -149,18 +149,18 @@ module _ (zones : List Name) where
 
 pub laws : (D : Type 0) (zones : List Name) (brands : List Tabled) (commits : List Commit) → AreApart zones → Laws (daemons D zones brands commits)
 laws D zones brands commits apart = record {
-    others_stay = λ p h e right other. ap (λ w. record { zone = zone_at zones p; world = w }) (others-stay zones (state_in brands commits h) e apart right p other);
-    own_moves = λ h e right. ap (λ w. record { zone = zone_at zones (place_of zones e.subject); world = w }) (own-moves zones (state_in brands commits h) e right);
-    local_right = λ p h e local.
-        let S = state_in brands commits h in
-        let parts = and_parts (is_placed zones p (zone_at zones p)) (is_local_at zones p (world_at zones p S) e) local in
-        local-right-at zones p apart S e (local-some zones p parts.0) parts.1;
-    local_common = λ p h e local.
-        let S = state_in brands commits h in
-        let is = (and_parts (is_placed zones p (zone_at zones p)) (is_local_at zones p (world_at zones p S) e) local).1 in
-        λ i. record { common = local-common zones brands commits p h e is i; shown = λ y. local-shown zones p S e is y i; commits = local-commits zones p S e is i; whose = λ n text. local-whose zones p S e is n text i };
-    local_by = λ p w e local. let found = local-of zones p w.zone w.world e local in ap (place_of zones) (local-turn found.zone w.world e found.local).1.subject ∙ found.place;
-    local_turn = λ p w e local. let found = local-of zones p w.zone w.world e local in ap session_of (local-turn found.zone w.world e found.local).1.event;
-    local_works = λ p w e local. local-idle w.zone w.world e (and_parts (is_placed zones p w.zone) (is_local_of w.zone w.world e) local).1;
-    busy_works = λ h e right turn busy. busy-idle zones (state_in brands commits h) e right busy;
-  }
+  others_stay = λ p h e right other. ap (λ w. record { zone = zone_at zones p; world = w }) (others-stay zones (state_in brands commits h) e apart right p other);
+  own_moves = λ h e right. ap (λ w. record { zone = zone_at zones (place_of zones e.subject); world = w }) (own-moves zones (state_in brands commits h) e right);
+  local_right = λ p h e local.
+      let S = state_in brands commits h in
+      let parts = and_parts (is_placed zones p (zone_at zones p)) (is_local_at zones p (world_at zones p S) e) local in
+      local-right-at zones p apart S e (local-some zones p parts.0) parts.1;
+  local_common = λ p h e local.
+      let S = state_in brands commits h in
+      let is = (and_parts (is_placed zones p (zone_at zones p)) (is_local_at zones p (world_at zones p S) e) local).1 in
+      λ i. record { common = local-common zones brands commits p h e is i; shown = λ y. local-shown zones p S e is y i; commits = local-commits zones p S e is i; whose = λ n text. local-whose zones p S e is n text i };
+  local_by = λ p w e local. let found = local-of zones p w.zone w.world e local in ap (place_of zones) (local-turn found.zone w.world e found.local).1.subject ∙ found.place;
+  local_turn = λ p w e local. let found = local-of zones p w.zone w.world e local in ap session_of (local-turn found.zone w.world e found.local).1.event;
+  local_works = λ p w e local. local-idle w.zone w.world e (and_parts (is_placed zones p w.zone) (is_local_of w.zone w.world e) local).1;
+  busy_works = λ h e right turn busy. busy-idle zones (state_in brands commits h) e right busy;
+}

@@ -1,6 +1,5 @@
 -- What a run of threads is about.
-use Rattle.std.specs.Prelude.{◌≡◌, [], Option, Some, None}
-use Rattle.std.proofs.Common.{ap}
+use Rattle.std.specs.Prelude.{[]}
 use Rattle.session_records.specs.Places.{AreApart}
 
 -- no zone has a place

@@ -1,14 +1,11 @@
 -- What an event leaves of the brands, and what a local turn leaves of what a zone shows and of what is stored.
-use Rattle.std.proofs.Common.{◌≡◌, ◌∷◌, ◌++◌, ◌&&◌, [], ℕ, List, Bool, Option, Some, None, true, false, map, refl, ap, sym, subst, ◌∙◌}
+use Rattle.std.proofs.Common.{◌≡◌, ◌∷◌, ◌++◌, [], ℕ, List, Bool, Option, Some, None, true, false, map, refl, ap, sym, subst, ◌∙◌}
 use Rattle.std.specs.Prelude.{bytes_eq}
 use Rattle.std.specs.List.{list_all}
 use Rattle.std.proofs.lemmas.Bool.{false≢true}
-use Rattle.brand_hooks.specs.Brands.{Tabled}
-use Rattle.commit_journal.specs.declared.records.Commit.{Commit}
 use Rattle.kernel_objects.specs.Kernel.{zid_of}
 use Rattle.kernel_objects.specs.declared.objects.Id.{Id}
 use Rattle.zn_base.specs.Names.{Name}
-use Rattle.zone_pools.proofs.Holding.{not_same}
 use Rattle.zone_pools.proofs.Owned_laws.{same_true}
 use Rattle.zone_pools.specs.Firsts.{first_of}
 use Rattle.zone_pools.specs.declared.grant.Grant.{Grant}

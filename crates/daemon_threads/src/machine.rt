@@ -114,11 +114,7 @@ impl<'b, D: Disk, F: Fn(&Change) -> HookAnswer, N: Names> Daemons<'b, D, F, N> {
     }
 
     // A line of the global zone, in its place.
-    fn global_event(
-        &self,
-        shared: &mut SharedPart<D, N>,
-        event: Event,
-    ) -> Result<Entry, StepFault>
+    fn global_event(&self, shared: &mut SharedPart<D, N>, event: Event) -> Result<Entry, StepFault>
         requires sound { shared.old.bank.sound ≡ true }
         ensures event { IfOk result (λ e. e.event ≡ event) }
         ensures of { IfOk result (λ e. e.subject ≡ subjects.Global) }
@@ -239,8 +235,7 @@ impl<'b, D: Disk + Drop + Send, F, N: Names + Send> Zoned for Daemons<'b, D, F, 
 }
 
 impl<'b, D: Disk + Drop + Send, F: Fn(&Change) -> HookAnswer, N: Names + Send> Machine
-    for Daemons<'b, D, F, N>
-{
+    for Daemons<'b, D, F, N> {
     ghost use Rattle.daemon_threads.specs.Running.{IsSet};
     ghost use Rattle.daemon_threads.specs.Meets.{laws};
 

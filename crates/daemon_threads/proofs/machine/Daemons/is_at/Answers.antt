@@ -1,4 +1,4 @@
-use Rattle.std.proofs.Common.{◌≡◌, ◌<◌, ◌≤◌, Some, ap, length, rules, sym, ◌-◌, ◌∙◌}
+use Rattle.std.proofs.Common.{◌≡◌, ◌<◌, length, rules, sym, ◌-◌, ◌∙◌}
 use Rattle.std.specs.Prelude.{slice_index_or}
 use Rattle.zone_pools.proofs.Owned_laws.{same_true}
 use Rattle.daemon_threads.proofs.Places.{zone-at}
