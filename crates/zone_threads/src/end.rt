@@ -74,6 +74,7 @@ fn end_zone<M: Machine, J: Start<M>, K: Place, W: Wait>(
     zone: Mutex<Zone<M, J, K>>,
     logs: &mut Vec<Log<M::Cell, M::Entry>>,
 )
+    requires ready { M.ready machine.now }
     requires turn { (turn.now ≡ K.turn) × (first.old.turn ≡ K.turn) }
     requires idle { is_idle first.old.knows ≡ true }
     requires first { is_first first.old.knows ≡ true }
@@ -101,6 +102,7 @@ fn gather<M: Machine, J: Start<M>, K: Place, W: Wait>(
     mut zones: Vec<Mutex<Zone<M, J, K>>>,
     logs: &mut Vec<Log<M::Cell, M::Entry>>,
 )
+    requires ready { M.ready machine.now }
     requires turn { (turn.now ≡ K.turn) × (first.old.turn ≡ K.turn) }
     requires idle { is_idle first.old.knows ≡ true }
     requires first { is_first first.old.knows ≡ true }
@@ -129,6 +131,7 @@ fn finish<M: Machine, J: Start<M>, K: Place, W: Wait>(
     zones: Vec<Mutex<Zone<M, J, K>>>,
     logs: &mut Vec<Log<M::Cell, M::Entry>>,
 ) -> Part<M, J>
+    requires ready { M.ready machine.now }
     requires turn { (turn ≡ K.turn) × (first.turn ≡ K.turn) }
     requires idle { (is_idle first.knows ≡ true) × (first.knows.list ≡ []) }
     requires first { first.knows.role ≡ First (roster (vec_len zones + 1) (vec_len zones) []) }
@@ -150,6 +153,7 @@ fn work_at<M: Machine, J: Start<M>, K: Place, W: Wait, G: Gate>(
     scripts: &[Script<M::Line>],
     at: usize,
 )
+    requires ready { M.ready machine.now }
     requires turn { turn.now ≡ K.turn }
     requires near { at < length scripts.now }
     requires scripts { All (IsScript J.scripts) scripts.now }
@@ -174,6 +178,7 @@ fn work_all<
     zones: &[Mutex<Zone<M, J, K>>],
     scripts: &[Script<M::Line>],
 )
+    requires ready { M.ready machine.now }
     requires turn { turn.now ≡ K.turn }
     requires scripts { All (IsScript J.scripts) scripts.now }
 {
@@ -182,6 +187,7 @@ fn work_all<
         alloc,
         scripts.len(),
         &|i: usize|
+            requires ready { M.ready machine.now }
             requires turn { turn.now ≡ K.turn }
             requires near { i < length scripts.now }
             requires scripts { All (IsScript J.scripts) scripts.now }
@@ -212,6 +218,7 @@ pub(crate) fn worked<
     mut zones: Vec<Mutex<Zone<M, J, K>>>,
     logs: &mut Vec<Log<M::Cell, M::Entry>>,
 ) -> Part<M, J>
+    requires ready { M.ready machine.now }
     requires turn { (turn ≡ K.turn) × (first.turn ≡ K.turn) × (first.knows ≡ first_view) }
     requires cells { IsOpening M.machine J.start cells.items }
     requires scripts { All (IsScript J.scripts) scripts.now }

@@ -148,6 +148,7 @@ fn placed<
     mut logs: Vec<Log<M::Cell, M::Entry>>,
     backs: Vec<Back<M::Cell>>,
 ) -> Result<Lived<M>, M::Shared>
+    requires ready { M.ready machine.now }
     requires turn { (turn ≡ K.turn) × (first.turn ≡ K.turn) × (first.knows ≡ first_view) }
     requires cells { IsOpening M.machine J.start cells.items }
     requires scripts { All (IsScript J.scripts) scripts.now }
@@ -182,6 +183,7 @@ fn started<
     shared: M::Shared,
     scripts: &[Script<M::Line>],
 ) -> Result<Lived<M>, M::Shared>
+    requires ready { M.ready machine.now }
     requires cells { IsOpening M.machine J.start cells.items }
     requires shared { M.machine.shared_of shared (M.machine.common J.start) }
     requires scripts { All (IsScript J.scripts) scripts.now }
@@ -235,6 +237,7 @@ pub fn run_scripts<
     shared: M::Shared,
     scripts: &[Script<M::Line>],
 ) -> Result<Lived<M>, M::Shared>
+    requires ready { M.ready machine.now }
     requires cells { IsOpening M.machine J.start cells.items }
     requires shared { M.machine.shared_of shared (M.machine.common J.start) }
     requires scripts { All (IsScript J.scripts) scripts.now }

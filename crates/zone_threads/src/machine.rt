@@ -64,6 +64,9 @@ pub trait Zoned {
 
 /// What threads ask of a machine of zones. Its laws are what they rest on.
 pub trait Machine: Zoned {
+    /// What holds of a machine that is in use, as that its hooks answer what is known of them.
+    ghost ready: { Self → Type 0 };
+
     /// Whose an entry is, and what it says.
     fn told(&self, entry: &Self::Entry) -> Told
         ensures { result ≡ Self.machine.told entry.now };
@@ -78,6 +81,7 @@ pub trait Machine: Zoned {
 
     /// Asks the hooks of a zone, which are not asked while the shared part is held.
     fn hear(&self, cell: &Self::Cell) -> Self::Heard
+        requires ready { ready self.now }
         ensures { Self.machine.heard cell.now result };
 
     /// The next turn of a zone's daemon, where it needs nothing that zones share.
@@ -86,6 +90,7 @@ pub trait Machine: Zoned {
         cell: &mut Self::Cell,
         place: u32,
     ) -> Result<Option<Self::Entry>, AllocError>
+        requires ready { ready self.now }
         ensures some { IfOk result (λ turn. IfSome turn (λ e. (w : Self.machine.World) → Self.machine.cell_of cell.old w → Turned Self.machine place cell.new e w)) }
         ensures none { IfOk result (λ turn. IsNone turn → (w : Self.machine.World) → Self.machine.cell_of cell.old w → Self.machine.cell_of cell.new w) }
         ensures err { OnErr result ((w : Self.machine.World) → Self.machine.cell_of cell.old w → Self.machine.cell_of cell.new w) };
@@ -98,6 +103,7 @@ pub trait Machine: Zoned {
         place: u32,
         heard: Self::Heard,
     ) -> Result<Self::Entry, Self::Fault>
+        requires ready { ready self.now }
         requires sound { Self.machine.is_sound shared.old ≡ true }
         requires heard { Self.machine.heard cell.old heard }
         ensures turn { IfOk result (IsTurnOf Self.machine place) }
@@ -113,6 +119,7 @@ pub trait Machine: Zoned {
         session: u8,
         line: &Self::Line,
     ) -> Result<Self::Entry, Stop<Self::Fault>>
+        requires ready { ready self.now }
         requires sound { Self.machine.is_sound shared.old ≡ true }
         ensures line { IfOk result (IsLineOf Self.machine place session line.now) }
         ensures here { OnOk result ((k : Self.machine.Common) → Self.machine.shared_of shared.old k → Self.machine.place_of k session line.now ≡ place) }

@@ -29,6 +29,7 @@ fn visit<M: Machine, J: Start<M>, K: Place, W: Wait, G: Gate>(
     script: &Script<M::Line>,
     ask: Ask,
 ) -> Result<Told, Outcome>
+    requires ready { M.ready machine.now }
     requires turn { turn.now ≡ K.turn }
     requires script { IsScript J.scripts script.now }
 {
@@ -78,6 +79,7 @@ pub(crate) fn work<M: Machine, J: Start<M>, K: Place, W: Wait, G: Gate>(
     zones: &[Mutex<Zone<M, J, K>>],
     script: &Script<M::Line>,
 )
+    requires ready { M.ready machine.now }
     requires turn { turn.now ≡ K.turn }
     requires script { IsScript J.scripts script.now }
 {

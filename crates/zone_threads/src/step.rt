@@ -52,6 +52,7 @@ pub enum Outcome {
 
 /// What is asked, with what the zone's hooks answer before a turn.
 pub(crate) fn job_of<M: Machine>(machine: &M, cell: &M::Cell, ask: Ask) -> Job<M::Heard>
+    requires ready { M.ready machine.now }
     ensures { (scripts : ℕ → List M.Line) (s : ℕ) (lines : List M.Line) → IsAsk scripts s lines ask → IsJob M.machine scripts s lines cell.now result }
 {
     match ask {
@@ -83,6 +84,7 @@ fn try_turn<M: Machine, J: Start<M>>(
     place: u32,
     heard: M::Heard,
 ) -> Result<M::Entry, Outcome>
+    requires ready { M.ready machine.now }
     requires sound { M.machine.is_sound part.old.shared ≡ true }
     requires few { length part.old.tally.items ≤ 65 }
     requires heard { M.machine.heard cell.old heard }
@@ -128,6 +130,7 @@ fn try_line<M: Machine, J: Start<M>>(
     lines: &[M::Line],
     number: u64,
 ) -> Result<M::Entry, Outcome>
+    requires ready { M.ready machine.now }
     requires sound { M.machine.is_sound part.old.shared ≡ true }
     requires few { length part.old.tally.items ≤ 65 }
     requires script { (session ≢ 0) × (lines.now ≡ J.scripts session) }
@@ -165,6 +168,7 @@ fn attempt<M: Machine, J: Start<M>>(
     lines: &[M::Line],
     job: Job<M::Heard>,
 ) -> Result<M::Entry, Outcome>
+    requires ready { M.ready machine.now }
     requires sound { M.machine.is_sound part.old.shared ≡ true }
     requires few { length part.old.tally.items ≤ 65 }
     requires job { IsJob M.machine J.scripts session lines.now cell.old job }
@@ -208,6 +212,7 @@ pub(crate) fn act<M: Machine, J: Start<M>>(
     lines: &[M::Line],
     job: Job<M::Heard>,
 ) -> Result<Told, Outcome>
+    requires ready { M.ready machine.now }
     requires few { length part.old.tally.items ≤ 65 }
     requires job { IsJob M.machine J.scripts session lines.now cell.old job }
     requires room { (given ≤ vec_len log.old) × (vec_len log.old < vec_capacity log.old) × (vec_len part.old.order < vec_capacity part.old.order) }

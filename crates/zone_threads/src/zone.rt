@@ -75,6 +75,7 @@ impl<M: Machine, J: Start<M>, K: Place> Zone<M, J, K> {
     /// The next turn of the zone's daemon, where it is local, under the zone's lock alone. There is none where it has many entries that
     /// it hasn't given. Room is taken for an entry behind it, too.
     pub(crate) fn local(&mut self, machine: &M) -> Result<Option<Told>, AllocError>
+        requires ready { M.ready machine.now }
         ensures place { self.new.0 ≡ self.old.0 }
     {
         if self.marked || self.log.len() - self.given >= LOCALS_MAX {
@@ -103,6 +104,7 @@ impl<M: Machine, J: Start<M>, K: Place> Zone<M, J, K> {
         lines: &[M::Line],
         ask: Ask,
     ) -> Result<Told, Outcome>
+        requires ready { M.ready machine.now }
         requires turn { turn.now ≡ K.turn }
         requires ask { IsAsk J.scripts session lines.now ask }
         ensures place { self.new.0 ≡ self.old.0 }
@@ -172,6 +174,7 @@ impl<M: Machine, J: Start<M>, K: Place> Zone<M, J, K> {
         machine: &M,
         turn: &Turn<Part<M, J>>,
     ) -> (Pass<Part<M, J>>, Log<M::Cell, M::Entry>)
+        requires ready { M.ready machine.now }
         requires turn { turn.now ≡ K.turn }
         ensures cell { LeftBy M.machine J.start result.1 }
         ensures near { result.1.place ≤ K.zones }

@@ -1,0 +1,3 @@
+pub mod Stepping
+pub mod Results
+pub mod Places

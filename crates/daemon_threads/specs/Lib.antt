@@ -1,0 +1,14 @@
+-- what a run of threads is about
+pub mod Names
+-- what the zones share, to contracts
+pub mod Goods
+-- what lies in a place and what the zones share, and what an event leaves of them
+pub mod Parts
+-- the machine of all zones as threads see it
+pub mod Definitions
+-- what the machine has from its caller
+pub mod Running
+-- what an event leaves of the brands, and what a local turn leaves of what zones share
+pub mod Worlds
+-- the machine meets the laws that threads rest on
+pub mod Meets

@@ -1,0 +1,14 @@
+//! The machine of all zones under sessions on threads: the definitions by which `zone_threads` sees it, their laws, and the machine
+//! itself, in which each zone's cell lies apart from what zones share.
+#![tactic(auto)]
+
+mod cell;
+mod machine;
+mod names;
+mod part;
+mod told;
+
+pub use cell::PlaceCell;
+pub use machine::Daemons;
+pub use names::Names;
+pub use part::SharedPart;

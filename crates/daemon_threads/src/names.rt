@@ -1,0 +1,33 @@
+//! What a run of threads is about.
+use std::marker::Brand;
+
+/// What a run of threads is about: the zones that have a place, each once; the brands that there are; and what was stored before any
+/// event.
+pub trait Names {
+    ghost use Rattle.std.specs.Prelude.{List};
+    ghost use Rattle.zn_base.specs.Names.{Name};
+    ghost use Rattle.brand_hooks.specs.Brands.{Tabled};
+    ghost use Rattle.commit_journal.specs.declared.records.Commit.{Commit};
+    ghost use Rattle.session_records.specs.Places.{AreApart};
+
+    ghost zones: { List Name };
+
+    ghost brands: { List Tabled };
+
+    ghost commits: { List Commit };
+
+    ghost apart: { AreApart zones };
+}
+
+impl Names for Brand {
+    ghost use Rattle.std.specs.Prelude.{[]};
+    ghost use Rattle.daemon_threads.specs.Names.{none_apart};
+
+    ghost zones = { [] };
+
+    ghost brands = { [] };
+
+    ghost commits = { [] };
+
+    ghost apart = { none_apart };
+}
