@@ -28,25 +28,28 @@ impl Gate for Open {
 // For how many turns of a loop a zone waits for another.
 const TURNS_MAX: u64 = 20_000_000;
 
-// Each of two zones waits at its third event until the other has come to its third, and how many of them saw the other come is
-// counted. Both do only where the two events are under way at once: one that is over before the other begins has waited in vain.
+// Each of the zones 2 and 3 waits at its event of this number, from 1 on, until the other has come to its own, and how many of them saw
+// the other come is counted. Both do only where the two events are under way at once: one that is over before the other begins has waited
+// in vain. At the zone 1, where all sessions look first for their lines' zones, nobody waits.
 #[derive(Drop)]
-struct Third {
-    first: AtomicU64,
-    second: AtomicU64,
+struct Meeting {
+    at: u64,
+    at_2: AtomicU64,
+    at_3: AtomicU64,
     met: AtomicU64,
 }
 
-impl Gate for Third {
+impl Gate for Meeting {
     fn pass<W: Wait>(&self, _rt: &W, place: u32) {
-        let (mine, other) = if place == 1 {
-            (&self.first, &self.second)
-        } else {
-            (&self.second, &self.first)
+        let (mine, other) = match place {
+            2 => (&self.at_2, &self.at_3),
+            3 => (&self.at_3, &self.at_2),
+            _ => return,
         };
-        if mine.fetch_add(1, Ordering::SeqCst) == 2 {
+        let before = mine.fetch_add(1, Ordering::SeqCst);
+        if before.wrapping_add(1) == self.at {
             for _ in 0..TURNS_MAX {
-                if other.load(Ordering::SeqCst) >= 3 {
+                if other.load(Ordering::SeqCst) >= self.at {
                     self.met.fetch_add(1, Ordering::SeqCst);
                     break;
                 }
@@ -71,11 +74,12 @@ fn cells(alloc: Global, many: u32) -> Result<Vec<Cell>, AllocError>
     Ok(cells)
 }
 
-// So many lines of a session. The first is in the zone of the session's number, and all are, or they go round the zones. Each third
-// line is answered by a ticket, if its zone isn't busy.
+// So many lines of a session, which are all in the zone of this place, or go round the zones from there. Each third line is answered by
+// a ticket, if its zone isn't busy.
 fn script(
     alloc: Global,
     session: u8,
+    from: u32,
     many: u32,
     zones: u32,
     goes_round: bool,
@@ -83,7 +87,7 @@ fn script(
     ensures { IfOk result (λ s. s.session ≡ session) }
 {
     let mut lines = Vec::new(alloc);
-    let mut place = session as u32;
+    let mut place = from;
     for number in 0..many {
         lines.push(Line {
             number,
@@ -97,10 +101,11 @@ fn script(
     Ok(Script { session, lines })
 }
 
-// A script for each of these, which say whether its lines go round.
+// A script for each of these, which say whether its lines go round. The first one begins at this place, and each at the next.
 fn scripts(
     alloc: Global,
     rounds: &[bool],
+    from: u32,
     many: u32,
     zones: u32,
 ) -> Result<Vec<Script<Line>>, AllocError>
@@ -109,7 +114,14 @@ fn scripts(
 {
     let mut scripts = Vec::new(alloc);
     for i in 0..rounds.len() {
-        scripts.push(script(alloc, i as u8 + 1, many, zones, rounds[i])?)?;
+        scripts.push(script(
+            alloc,
+            i as u8 + 1,
+            from.saturating_add(i as u32),
+            many,
+            zones,
+            rounds[i],
+        )?)?;
     }
     Ok(scripts)
 }
@@ -176,7 +188,7 @@ fn lines_done(lived: &Lived<Toy>) -> u64 {
 #[test]
 fn one_session(rt: HostRuntime) -> Result<(), Fail> {
     let alloc = rt.alloc();
-    let scripts = scripts(alloc, &[true], 30, 3)?;
+    let scripts = scripts(alloc, &[true], 1, 30, 3)?;
     let lived = run_all(&rt, alloc, &Open, 3, 1000, &scripts)?;
     assert!(rt; lived.ended.is_none());
     // 30 lines, and five turns for each of ten tickets.
@@ -189,7 +201,7 @@ fn one_session(rt: HostRuntime) -> Result<(), Fail> {
 #[test]
 fn four_sessions(rt: HostRuntime) -> Result<(), Fail> {
     let alloc = rt.alloc();
-    let scripts = scripts(alloc, &[true, false, true, false], 60, 4)?;
+    let scripts = scripts(alloc, &[true, false, true, false], 1, 60, 4)?;
     let lived = run_all(&rt, alloc, &Open, 4, 1000, &scripts)?;
     assert!(rt; lived.ended.is_none());
     assert_eq!(rt; lines_done(&lived), 240);
@@ -200,7 +212,7 @@ fn four_sessions(rt: HostRuntime) -> Result<(), Fail> {
 #[test]
 fn a_fault_in_the_middle(rt: HostRuntime) -> Result<(), Fail> {
     let alloc = rt.alloc();
-    let scripts = scripts(alloc, &[true, true, true], 60, 4)?;
+    let scripts = scripts(alloc, &[true, true, true], 1, 60, 4)?;
     let lived = run_all(&rt, alloc, &Open, 4, 50, &scripts)?;
     assert!(rt; matches!(lived.ended, Some(Ending::Fault(_))));
     assert_eq!(rt; lines_done(&lived), 50);
@@ -219,25 +231,28 @@ fn a_fault_in_the_middle(rt: HostRuntime) -> Result<(), Fail> {
 #[test]
 fn no_such_zone(rt: HostRuntime) -> Result<(), Fail> {
     let alloc = rt.alloc();
-    let scripts = scripts(alloc, &[true], 30, 3)?;
+    let scripts = scripts(alloc, &[true], 1, 30, 3)?;
     let lived = run_all(&rt, alloc, &Open, 2, 1000, &scripts)?;
     assert!(rt; matches!(lived.ended, Some(Ending::Memory)));
     assert_eq!(rt; lines_done(&lived), 2);
     Ok(())
 }
 
-// Two zones' events are under way at once: each waits in the middle of one of its own for the other to be in one.
+// Two zones' events are under way at once: a line of each, then a local turn of each, and then a turn of each that needs what they share.
 #[test]
 fn two_zones_at_once(rt: HostRuntime) -> Result<(), Fail> {
     let alloc = rt.alloc();
-    let scripts = scripts(alloc, &[false, false], 9, 2)?;
-    let gate = Third {
-        first: AtomicU64::new(0),
-        second: AtomicU64::new(0),
-        met: AtomicU64::new(0),
-    };
-    let lived = run_all(&rt, alloc, &gate, 2, 100, &scripts)?;
-    assert!(rt; lived.ended.is_none());
-    assert_eq!(rt; gate.met.load(Ordering::SeqCst), 2);
+    let scripts = scripts(alloc, &[false, false], 2, 9, 3)?;
+    for at in [1, 3, 6] {
+        let gate = Meeting {
+            at,
+            at_2: AtomicU64::new(0),
+            at_3: AtomicU64::new(0),
+            met: AtomicU64::new(0),
+        };
+        let lived = run_all(&rt, alloc, &gate, 3, 100, &scripts)?;
+        assert!(rt; lived.ended.is_none(), "at {at}");
+        assert_eq!(rt; gate.met.load(Ordering::SeqCst), 2, "at {at}");
+    }
     Ok(())
 }
