@@ -1,0 +1,258 @@
+//! Runs of the toy machine.
+ghost use Rattle.std.specs.Prelude.{◌≡◌, ◌≢◌, ◌<◌, ◌^◌, ℕ, [], length, IfOk};
+ghost use Rattle.std.specs.List.{All};
+ghost use Rattle.zone_turn.specs.declared.limits.TheConstants.{PASSES_OUT_MAX};
+ghost use Rattle.zone_threads.specs.Ends.{IsOpening, IsScript};
+ghost use Rattle.threads_tests.specs.Runs.{Numbered};
+ghost use Rattle.threads_tests.specs.Toys.{toy};
+
+use crate::starts::{Fresh, Lines};
+use crate::toy::{Cell, Line, Pool, Toy};
+use std::alloc::{AllocError, Global};
+use std::marker::Brand;
+use std::sync::Wait;
+use std::sync::atomic::{AtomicU64, Ordering};
+use std::test::*;
+use std::thread;
+use std::thread::Threads;
+use zone_threads::{Ending, Gate, Lived, Script, run_scripts};
+
+// A gate at which nobody waits.
+#[derive(Drop)]
+struct Open;
+
+impl Gate for Open {
+    fn pass<W: Wait>(&self, _rt: &W, _place: u32) {}
+}
+
+// For how many turns of a loop a zone waits for another.
+const TURNS_MAX: u64 = 20_000_000;
+
+// Each of the zones 2 and 3 waits at its event of this number, from 1 on, until the other has come to its own, and how many of them saw
+// the other come is counted. Both do only where the two events are under way at once: one that is over before the other begins has waited
+// in vain. At the zone 1, where all sessions look first for their lines' zones, nobody waits.
+#[derive(Drop)]
+struct Meeting {
+    at: u64,
+    at_2: AtomicU64,
+    at_3: AtomicU64,
+    met: AtomicU64,
+}
+
+impl Gate for Meeting {
+    fn pass<W: Wait>(&self, _rt: &W, place: u32) {
+        let (mine, other) = match place {
+            2 => (&self.at_2, &self.at_3),
+            3 => (&self.at_3, &self.at_2),
+            _ => return,
+        };
+        let before = mine.fetch_add(1, Ordering::SeqCst);
+        if before.wrapping_add(1) == self.at {
+            for _ in 0..TURNS_MAX {
+                if other.load(Ordering::SeqCst) >= self.at {
+                    self.met.fetch_add(1, Ordering::SeqCst);
+                    break;
+                }
+                thread::yield_now();
+            }
+        }
+    }
+}
+
+// So many zones, none of which is busy.
+fn cells(alloc: Global, many: u32) -> Result<Vec<Cell>, AllocError>
+    ensures { IfOk result (λ v. (length v.items ≡ many) × IsOpening toy [] v.items) }
+{
+    let mut cells = Vec::new(alloc);
+    for _ in 0..many {
+        cells.push(Cell {
+            is_busy: false,
+            left: 0,
+            ticket: 0,
+        })?;
+    }
+    Ok(cells)
+}
+
+// So many lines of a session, which are all in the zone of this place, or go round the zones from there. Each third line is answered by
+// a ticket, if its zone isn't busy.
+fn script(
+    alloc: Global,
+    session: u8,
+    from: u32,
+    many: u32,
+    zones: u32,
+    goes_round: bool,
+) -> Result<Script<Line>, AllocError>
+    ensures { IfOk result (λ s. s.session ≡ session) }
+{
+    let mut lines = Vec::new(alloc);
+    let mut place = from;
+    for number in 0..many {
+        lines.push(Line {
+            number,
+            place,
+            turns: if number % 3 == 0 { 5 } else { 0 },
+        })?;
+        if goes_round {
+            place = if place < zones { place + 1 } else { 1 };
+        }
+    }
+    Ok(Script { session, lines })
+}
+
+// A script for each of these, which say whether its lines go round. The first one begins at this place, and each at the next.
+fn scripts(
+    alloc: Global,
+    rounds: &[bool],
+    from: u32,
+    many: u32,
+    zones: u32,
+) -> Result<Vec<Script<Line>>, AllocError>
+    requires { length rounds.now < 65 }
+    ensures { IfOk result (λ v. Numbered 1 v.items × (length v.items ≡ length rounds.now)) }
+{
+    let mut scripts = Vec::new(alloc);
+    for i in 0..rounds.len() {
+        scripts.push(script(
+            alloc,
+            i as u8 + 1,
+            from.saturating_add(i as u32),
+            many,
+            zones,
+            rounds[i],
+        )?)?;
+    }
+    Ok(scripts)
+}
+
+// Runs scripts, which are of these lines, over so many zones, with so much in the pool.
+fn run<L: Lines + Send + Sync, R: Threads + Wait + Sync, G: Gate + Sync>(
+    rt: &R,
+    alloc: Global,
+    gate: &G,
+    zones: u32,
+    all: u64,
+    scripts: &[Script<Line>],
+) -> Result<Lived<Toy>, AllocError>
+    requires zones { zones < PASSES_OUT_MAX }
+    requires scripts { All (IsScript L.lines) scripts.now }
+    requires others { (s : ℕ) → All (λ x. x.session ≢ s) scripts.now → L.lines s ≡ [] }
+    requires few { (s : ℕ) → length (L.lines s) < 2 ^ 64 }
+{
+    let pool = Pool {
+        drawn: 0,
+        all,
+        is_sound: true,
+    };
+    match run_scripts::<Toy, Fresh<L>, R, G>(
+        rt,
+        alloc,
+        &Toy,
+        gate,
+        cells(alloc, zones)?,
+        pool,
+        scripts,
+    ) {
+        Ok(lived) => Ok(lived),
+        Err(_) => Err(AllocError),
+    }
+}
+
+// Runs scripts whose sessions are numbered.
+fn run_all<R: Threads + Wait + Sync, G: Gate + Sync>(
+    rt: &R,
+    alloc: Global,
+    gate: &G,
+    zones: u32,
+    all: u64,
+    scripts: &[Script<Line>],
+) -> Result<Lived<Toy>, AllocError>
+    requires zones { zones < PASSES_OUT_MAX }
+    requires scripts { Numbered 1 scripts.now × (length scripts.now < 65) }
+{
+    run::<Brand, R, G>(rt, alloc, gate, zones, all, scripts)
+}
+
+// How many lines were done.
+fn lines_done(lived: &Lived<Toy>) -> u64 {
+    let mut lines: u64 = 0;
+    for entry in lived.entries.iter() {
+        if entry.told.session != 0 {
+            lines = lines.saturating_add(1);
+        }
+    }
+    lines
+}
+
+#[test]
+fn one_session(rt: HostRuntime) -> Result<(), Fail> {
+    let alloc = rt.alloc();
+    let scripts = scripts(alloc, &[true], 1, 30, 3)?;
+    let lived = run_all(&rt, alloc, &Open, 3, 1000, &scripts)?;
+    assert!(rt; lived.ended.is_none());
+    // 30 lines, and five turns for each of ten tickets.
+    assert_eq!(rt; lived.entries.len(), 80);
+    assert_eq!(rt; lived.cells.len(), 3);
+    assert_eq!(rt; lived.shared.drawn, 30);
+    Ok(())
+}
+
+#[test]
+fn four_sessions(rt: HostRuntime) -> Result<(), Fail> {
+    let alloc = rt.alloc();
+    let scripts = scripts(alloc, &[true, false, true, false], 1, 60, 4)?;
+    let lived = run_all(&rt, alloc, &Open, 4, 1000, &scripts)?;
+    assert!(rt; lived.ended.is_none());
+    assert_eq!(rt; lines_done(&lived), 240);
+    assert_eq!(rt; lived.shared.drawn, 240);
+    Ok(())
+}
+
+#[test]
+fn a_fault_in_the_middle(rt: HostRuntime) -> Result<(), Fail> {
+    let alloc = rt.alloc();
+    let scripts = scripts(alloc, &[true, true, true], 1, 60, 4)?;
+    let lived = run_all(&rt, alloc, &Open, 4, 50, &scripts)?;
+    assert!(rt; matches!(lived.ended, Some(Ending::Fault(_))));
+    assert_eq!(rt; lines_done(&lived), 50);
+    assert_eq!(rt; lived.shared.drawn, 50);
+    let mut marked: u64 = 0;
+    for back in lived.cells.iter() {
+        if back.marked {
+            marked = marked.saturating_add(1);
+        }
+    }
+    assert_eq!(rt; marked, 1);
+    Ok(())
+}
+
+// A line belongs to a zone that isn't there.
+#[test]
+fn no_such_zone(rt: HostRuntime) -> Result<(), Fail> {
+    let alloc = rt.alloc();
+    let scripts = scripts(alloc, &[true], 1, 30, 3)?;
+    let lived = run_all(&rt, alloc, &Open, 2, 1000, &scripts)?;
+    assert!(rt; matches!(lived.ended, Some(Ending::Memory)));
+    assert_eq!(rt; lines_done(&lived), 2);
+    Ok(())
+}
+
+// Two zones' events are under way at once: a line of each, then a local turn of each, and then a turn of each that needs what they share.
+#[test]
+fn two_zones_at_once(rt: HostRuntime) -> Result<(), Fail> {
+    let alloc = rt.alloc();
+    let scripts = scripts(alloc, &[false, false], 2, 9, 3)?;
+    for at in [1, 3, 6] {
+        let gate = Meeting {
+            at,
+            at_2: AtomicU64::new(0),
+            at_3: AtomicU64::new(0),
+            met: AtomicU64::new(0),
+        };
+        let lived = run_all(&rt, alloc, &gate, 3, 100, &scripts)?;
+        assert!(rt; lived.ended.is_none(), "at {at}");
+        assert_eq!(rt; gate.met.load(Ordering::SeqCst), 2, "at {at}");
+    }
+    Ok(())
+}
