@@ -17,7 +17,7 @@ use Rattle.zones_run.specs.declared.fault.RunFault.{RunFault}
 use Rattle.zones_run.specs.declared.words.Mode.{Mode}
 use Rattle.zones_run.specs.declared.fault.RunFault.TheVariants.{Disk, Memory, Read, Write}
 use Rattle.zones_run.specs.declared.outcome.Complaint.{Complaint}
-use Rattle.zones_run.specs.declared.outcome.Complaint.TheVariants.{BadGrant, End, FirstRefused, Grammar, Limit, Line, NotAStore}
+use Rattle.zones_run.specs.declared.outcome.Complaint.TheVariants.{BadGrant, End, FirstRefused, FirstRefusedEntry, Grammar, Limit, Line, NotAStore}
 use Rattle.zones_run.proofs.Fronts.{after_known-nil, behind_nothing}
 use Rattle.zones_run.proofs.TraceEnds.{ends_run, fails_with, lines_some, whole_front, whole_replies}
 use Rattle.zones_run.proofs.TraceRecords.{nearly_all}
@@ -37,6 +37,7 @@ some_status (End refusal) = omega arith
 some_status (Grammar number fault) = omega arith
 some_status (BadGrant number) = omega arith
 some_status (FirstRefused number) = omega arith
+some_status (FirstRefusedEntry number) = omega arith
 some_status (Limit number) = omega arith
 some_status (NotAStore fault) = omega arith
 
@@ -46,6 +47,7 @@ no_fault_status (End refusal) is = omega arith
 no_fault_status (Grammar number fault) is = omega arith
 no_fault_status (BadGrant number) is = omega arith
 no_fault_status (FirstRefused number) is = omega arith
+no_fault_status (FirstRefusedEntry number) is = omega arith
 no_fault_status (Limit number) is = omega arith
 no_fault_status (NotAStore fault) is = omega arith
 
@@ -61,6 +63,7 @@ input_status (End refusal) of is = omega (arith, is)
 input_status (Grammar number fault) of is = omega (arith, is)
 input_status (BadGrant number) of is = omega (arith, is)
 input_status (FirstRefused number) of is = omega (arith, is)
+input_status (FirstRefusedEntry number) of is = omega (arith, is)
 input_status (Limit number) of is = omega (arith, is)
 input_status (NotAStore fault) of is = of
 

@@ -5,7 +5,7 @@ use Rattle.trace_text.specs.Faults.{fault_text}
 use Rattle.commit_journal.specs.declared.fault.StoreFault.{StoreFault}
 use Rattle.commit_journal.specs.declared.fault.StoreFault.TheVariants.{BadRecord, BankFull, DiskFault, Memory, NotAStore as No_store, RecordForm}
 use Rattle.zones_run.specs.declared.outcome.Complaint.{Complaint}
-use Rattle.zones_run.specs.declared.outcome.Complaint.TheVariants.{Line, End, Grammar, BadGrant, FirstRefused, Limit, NotAStore}
+use Rattle.zones_run.specs.declared.outcome.Complaint.TheVariants.{Line, End, Grammar, BadGrant, FirstRefused, FirstRefusedEntry, Limit, NotAStore}
 use Rattle.zones_run.specs.Statuses.{status_grammar, status_limit, status_not_a_store, status_refused}
 use Rattle.zones_run.specs.Output.{Output}
 use Rattle.zones_run.specs.Refusals.{refusal_text}
@@ -25,6 +25,7 @@ complaint_text (End refusal) = codes "end: " ++ refusal_text refusal ++ 10 ∷ [
 complaint_text (Grammar number fault) = codes "line " ++ decimal number ++ codes ": " ++ fault_text fault ++ 10 ∷ []
 complaint_text (BadGrant number) = codes "line " ++ decimal number ++ codes ": 105 BadGrant" ++ 10 ∷ []
 complaint_text (FirstRefused number) = codes "first refused line: " ++ decimal number ++ 10 ∷ []
+complaint_text (FirstRefusedEntry number) = codes "first refused entry: " ++ decimal number ++ 10 ∷ []
 complaint_text (Limit number) = codes "limit at line " ++ decimal number ++ 10 ∷ []
 complaint_text (NotAStore fault) = codes "not a store: " ++ store_fault_text fault ++ 10 ∷ []
 
@@ -34,6 +35,7 @@ complaint_status (End refusal) = status_refused
 complaint_status (Grammar number fault) = status_grammar
 complaint_status (BadGrant number) = status_grammar
 complaint_status (FirstRefused number) = status_refused
+complaint_status (FirstRefusedEntry number) = status_refused
 complaint_status (Limit number) = status_limit
 complaint_status (NotAStore fault) = status_not_a_store
 

@@ -29,6 +29,8 @@ help_text = text_of_lines (
     codes "  bulk N     make N zones, from 1 to 256, by a script that is run as script runs its input," ∷
     codes "             and write how many events were answered and refused, and how many zones run" ∷
     codes "             and are installed then" ∷
+    codes "  live       run each session's lines on a thread of its own, with the turns that they wait" ∷
+    codes "             for, and write the record: each event behind what it was given, and its reply" ∷
     codes "  index      write a line for each stored zone" ∷
     codes "  --help     write this text" ∷
     codes "  --version  write the version" ∷
@@ -38,8 +40,8 @@ help_text = text_of_lines (
     codes "The exit status is 0 where all is done, 1 where a line or the end of the input is" ∷
     codes "refused, 2 for a faulty command line, 3 for a line outside the grammar of a trace, 4" ∷
     codes "for a read fault, 5 for a write fault, 6 for a fault of the disk, 7 where zones.store" ∷
-    codes "is no store, 8 for a line above 4096 bytes or more than 200000 lines, and 9 where" ∷
-    codes "memory runs out." ∷
+    codes "is no store, 8 for a line above 4096 bytes or more than 200000 lines (4000 of live)," ∷
+    codes "and 9 where memory runs out." ∷
     [] ∷
     codes "docs/CODES.md says what each code means, and what to do about it." ∷
     [])

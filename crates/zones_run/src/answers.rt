@@ -36,6 +36,7 @@ fn is_refused_turn(turn: &TurnReply) -> bool
     }
 }
 
+/// Whether a reply is a refusal: `err`, `failed` or `stuck`, or `finished` with another outcome than `ok`.
 pub fn is_refusal(head: &Head) -> bool
     ensures { result ≡ is_refusal head.now }
 {

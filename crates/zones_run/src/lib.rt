@@ -21,10 +21,17 @@ mod trace;
 mod turns;
 mod words;
 
+pub use answers::is_refusal;
 pub use fault::RunFault;
 pub use laws::{
     bulk_comes_to_its_end, crashes_leave_stored_states, declares_first, entries_are_the_machines,
     exports_what_is_denoted, only_script_puts_in, purged_traces_are_answered_alike,
     refuses_at_what_is_denoted, script_turns_end, turns_that_are_put_in_end,
 };
-pub use run::{fail, run_zones};
+pub use outcome::Complaint;
+pub use run::{complain, fail, run_zones, tell};
+pub use status::{
+    DISK_FAULT, DONE, GRAMMAR, LIMIT, NO_MEMORY, NOT_A_STORE, READ_FAULT, REFUSED, USAGE,
+    WRITE_FAULT,
+};
+pub use words::USAGE_LINE;

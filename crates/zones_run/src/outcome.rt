@@ -22,6 +22,8 @@ pub enum Complaint {
     BadGrant(u64),
     /// A trace is done, and this is its first line that was refused.
     FirstRefused(u64),
+    /// Live sessions are done, and this is the first entry of their record that was refused.
+    FirstRefusedEntry(u64),
     /// A line is past a limit.
     Limit(u64),
     /// What is on the disk is no store.
@@ -48,9 +50,10 @@ impl Complaint {
         ensures { result ≡ complaint_status self.now }
     {
         match self {
-            Complaint::Line(_, _) | Complaint::End(_) | Complaint::FirstRefused(_) => {
-                status::REFUSED
-            }
+            Complaint::Line(_, _)
+            | Complaint::End(_)
+            | Complaint::FirstRefused(_)
+            | Complaint::FirstRefusedEntry(_) => status::REFUSED,
             Complaint::Grammar(_, _) | Complaint::BadGrant(_) => status::GRAMMAR,
             Complaint::Limit(_) => status::LIMIT,
             Complaint::NotAStore(_) => status::NOT_A_STORE,
@@ -83,6 +86,9 @@ impl Complaint {
             }
             Complaint::FirstRefused(number) => {
                 push_numbered(&mut line, b"first refused line: ", *number)?;
+            }
+            Complaint::FirstRefusedEntry(number) => {
+                push_numbered(&mut line, b"first refused entry: ", *number)?;
             }
             Complaint::Limit(number) => push_numbered(&mut line, b"limit at line ", *number)?,
             Complaint::NotAStore(fault) => {

@@ -39,8 +39,8 @@ use std::alloc::{AllocError, Global};
 use zn_io::{Disk, Sink, Source, write_all};
 use zone_machine::Machine;
 
-// Tries a line once; its failure changes nothing but the count of faults.
-fn tell<E: Sink>(err: &mut E, line: &[u8])
+/// Tries a line once; its failure changes nothing but the count of faults.
+pub fn tell<E: Sink>(err: &mut E, line: &[u8])
     ensures front { TakesFront (E.holds err.old) (E.holds err.new) (E.faults err.old) (E.faults err.new) line.now }
     ensures later { E.faults err.old ≤ E.faults err.new }
 {
@@ -92,8 +92,8 @@ fn write_text<K: Sink, E: Sink>(out: &mut K, err: &mut E, text: &[u8]) -> u8
     }
 }
 
-// Writes the line that ends a run. Where a refusal can't be written, that is a write fault.
-fn complain<E: Sink>(alloc: Global, err: &mut E, complaint: Complaint) -> u8
+/// Writes the line that ends a run. Where a refusal can't be written, that is a write fault.
+pub fn complain<E: Sink>(alloc: Global, err: &mut E, complaint: Complaint) -> u8
     ensures statuses { (result ≡ complaint_status complaint) ⊎ (result ≡ WRITE_FAULT) ⊎ (result ≡ NO_MEMORY) }
     ensures refused { result ≡ REFUSED → E.holds err.new ≡ after_known (E.holds err.old) (complaint_text complaint) }
     ensures line { IsDecided result → TakesFront (E.holds err.old) (E.holds err.new) (E.faults err.old) (E.faults err.new) (complaint_text complaint) }

@@ -28,6 +28,8 @@ COMMAND is one of
   bulk N     make N zones, from 1 to 256, by a script that is run as script runs its input,
              and write how many events were answered and refused, and how many zones run
              and are installed then
+  live       run each session's lines on a thread of its own, with the turns that they wait
+             for, and write the record: each event behind what it was given, and its reply
   index      write a line for each stored zone
   --help     write this text
   --version  write the version
@@ -35,8 +37,8 @@ COMMAND is one of
 The exit status is 0 where all is done, 1 where a line or the end of the input is
 refused, 2 for a faulty command line, 3 for a line outside the grammar of a trace, 4
 for a read fault, 5 for a write fault, 6 for a fault of the disk, 7 where zones.store
-is no store, 8 for a line above 4096 bytes or more than 200000 lines, and 9 where
-memory runs out.\n
+is no store, 8 for a line above 4096 bytes or more than 200000 lines (4000 of live),
+and 9 where memory runs out.\n
 docs/CODES.md says what each code means, and what to do about it.\n";
 
 /// What is told of the events of a script.

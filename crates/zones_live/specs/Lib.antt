@@ -1,0 +1,4 @@
+-- what an input of live sessions declares and types, what is written of their record, and what a whole run comes to
+pub mod Sorting
+pub mod Records
+pub mod Living

@@ -1,0 +1,76 @@
+-- What a run of live sessions comes to, over the store of some commits and a whole input.
+use Rattle.std.specs.Prelude.{◌≡◌, ◌≢◌, ◌⊎◌, ◌∷◌, [], ℕ, Bool, true, false, List, Option, codes}
+use Rattle.zn_io.specs.Disk.{View}
+use Rattle.brand_hooks.specs.Brands.{Tabled}
+use Rattle.commit_journal.specs.declared.records.Commit.{Commit}
+use Rattle.daemon_threads.specs.Sessions.{LeavesChanges}
+use Rattle.live_input.specs.Input.{Input}
+use Rattle.live_input.specs.declared.reading.Ending.{Ending}
+use Rattle.live_input.specs.declared.reading.Ending.TheVariants.{End, Grammar as Bad_line, Limit as Past_limit}
+use Rattle.session_records.specs.Records.{IsRunPartial, IsRunRecord}
+use Rattle.zone_cases.specs.declared.events.Entry.{Entry}
+use Rattle.zone_cases.specs.declared.events.Event.{Event}
+use Rattle.zone_machine.specs.Machine.{opening}
+use Rattle.zones_live.specs.Records.{record_text, told_record}
+use Rattle.zones_live.specs.Sorting.{declared_in, typed_in}
+use Rattle.zones_run.specs.Complaints.{complaint_output}
+use Rattle.zones_run.specs.Output.{Output, written}
+use Rattle.zones_run.specs.Recording.{KeepsStore}
+use Rattle.zones_run.specs.Run.{HasFront, TellsLine, TellsText}
+use Rattle.zones_run.specs.Statuses.{status_disk_fault, status_done, status_grammar, status_limit, status_no_memory, status_not_a_store, status_read_fault, status_refused, status_usage, status_write_fault}
+use Rattle.zones_run.specs.declared.outcome.Complaint.TheVariants.{Grammar, Limit}
+
+-- the words of the command
+abbrev pub IsForm : List (List ℕ) → Type 0
+IsForm words = words ≡ codes "live" ∷ []
+
+-- the record of the events, or a part of it
+abbrev pub IsRecordOf : List Tabled → List Commit → List Event → List Entry → Type 0
+IsRecordOf brands R events h = IsRunRecord brands R (declared_in events) (typed_in events) h
+
+abbrev pub IsPartOf : List Tabled → List Commit → List Event → List Entry → Type 0
+IsPartOf brands R events h = IsRunPartial brands R (declared_in events) (typed_in events) h
+
+-- a run that wrote a record of the events, to the end or up to a fault of a sink; and on the disk is what it changed
+pub record WroteRecord (brands : List Tabled) (R : List Commit) (events : List Event) (status : ℕ) (held holds told tells : Option (List ℕ)) (before now : ℕ) (v w : View) : Type 0 where
+  pub entries : List Entry
+  pub whole : IsRecordOf brands R events entries
+  pub text : TellsText (told_record entries) status held holds
+  pub line : TellsLine (told_record entries).err status told tells before now
+  pub left : LeavesChanges true (opening brands R) entries v w
+
+-- a run that a fault ended: what was answered is a part of such a record, or nothing was; and a front of its text was written.
+-- Where the disk failed, one more commit may have been under way
+pub record WrotePart (settled : Bool) (brands : List Tabled) (R : List Commit) (events : List Event) (held holds : Option (List ℕ)) (v w : View) : Type 0 where
+  pub entries : List Entry
+  pub part : (entries ≡ []) ⊎ IsPartOf brands R events entries
+  pub text : HasFront held holds (record_text entries)
+  pub left : LeavesChanges settled (opening brands R) entries v w
+
+-- nothing was run
+pub record WroteNothing (R : List Commit) (held holds : Option (List ℕ)) (v w : View) : Type 0 where
+  pub nothing : holds ≡ held
+  pub left : KeepsStore R v w
+
+-- a run that a line of the input ended before anything was run
+pub record WroteComplaint (o : Output) (R : List Commit) (status : ℕ) (held holds told tells : Option (List ℕ)) (before now : ℕ) (v w : View) : Type 0 where
+  pub text : TellsText o status held holds
+  pub line : TellsLine o.err status told tells before now
+  pub left : KeepsStore R v w
+
+-- what a line that ends an input is told as
+abbrev pub ending_output : Ending → Output
+ending_output End = written []
+ending_output (Bad_line number fault) = complaint_output (Grammar number fault)
+ending_output (Past_limit number) = complaint_output (Limit number)
+
+-- the run of a whole input, over the store of some commits, by its status. The record is whole just where its input was read to its end;
+-- where memory or the disk failed it is a part, and where the source failed or a line ended the input nothing was run
+pub record LivesOn (brands : List Tabled) (R : List Commit) (input : Input) (status : ℕ) (held holds told tells : Option (List ℕ)) (before now : ℕ) (v w : View) : Type 0 where
+  pub done : (status ≡ status_done) ⊎ ((status ≡ status_refused) ⊎ (status ≡ status_write_fault)) → (input.ending ≡ End) × WroteRecord brands R input.events status held holds told tells before now v w
+  pub ended : (status ≡ status_grammar) ⊎ (status ≡ status_limit) → WroteComplaint (ending_output input.ending) R status held holds told tells before now v w
+  pub memory : status ≡ status_no_memory → WrotePart true brands R input.events held holds v w
+  pub disk : status ≡ status_disk_fault → WrotePart false brands R input.events held holds v w
+  pub read : status ≡ status_read_fault → WroteNothing R held holds v w
+  pub form : status ≢ status_usage
+  pub store : status ≢ status_not_a_store

@@ -1,0 +1,11 @@
+//! The command `live`: sessions run at once, each on a thread of its own, over the store on a disk, and the record of what they did is
+//! written, which anybody can check and replay.
+#![tactic(auto)]
+
+mod declaring;
+mod run;
+mod sorting;
+mod writing;
+
+pub use run::run_live;
+pub use sorting::Sorted;
