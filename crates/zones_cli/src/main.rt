@@ -1,5 +1,5 @@
-//! The program `zones`: its words, its two brands, its standard streams and the file of its store, handed to `zones_run`,
-//! whose answer is the exit status.
+//! The program `zones`: its words, its two brands, its standard streams and the file of its store, handed to `zones_run`, or
+//! where sessions are to run at once to `zones_live`, whose answer is the exit status.
 #![tactic(auto)]
 
 ghost use Rattle.std.specs.Prelude.{◌≡◌, ◌∷◌, [], IfOk, IsOkUnless, Ok, codes, true};
@@ -14,7 +14,10 @@ use std::alloc::{AllocError, Global};
 use std::env;
 use std::io::ErrorKind;
 use std::process::ExitCode;
+use std::sync::Wait;
 use zn_io::{FileDisk, StdSink, StdSource};
+use zone_threads::Gate;
+use zones_live::run_live;
 use zones_run::{RunFault, fail, run_zones};
 
 // The file of the store, in the current folder.
@@ -26,6 +29,14 @@ const BEFORE_CLONE: Change = Change {
     before: true,
     kind: ChangeKind::Clone,
 };
+
+// Nobody waits before an event.
+#[derive(Drop)]
+struct OpenGate;
+
+impl Gate for OpenGate {
+    fn pass<W: Wait>(&self, _rt: &W, _place: u32) {}
+}
 
 // The hook of the brand `ipkg`: each change proceeds.
 fn proceeds(_change: &Change) -> HookAnswer
@@ -110,14 +121,29 @@ fn main(rt: HostRuntime) -> ExitCode {
         return ExitCode::from(fail(&mut err, RunFault::Memory));
     };
     let disk = FileDisk::new(&rt, STORE_NAME);
-    let (status, _) = run_zones(
-        rt.alloc(),
-        &words,
-        &mut source,
-        &mut out,
-        &mut err,
-        disk,
-        &brands,
-    );
+    let is_live = matches!(words.first(), Some(word) if word.as_str() == "live");
+    let (status, _) = if is_live {
+        run_live(
+            &rt,
+            rt.alloc(),
+            &words,
+            &mut source,
+            &mut out,
+            &mut err,
+            disk,
+            &brands,
+            &OpenGate,
+        )
+    } else {
+        run_zones(
+            rt.alloc(),
+            &words,
+            &mut source,
+            &mut out,
+            &mut err,
+            disk,
+            &brands,
+        )
+    };
     ExitCode::from(status)
 }
