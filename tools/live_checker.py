@@ -1,6 +1,6 @@
 #!/usr/bin/env python3
 """Says whether a text is a record of sessions that ran at once, as `zones live` is to write it for an input: by the rules
-of such a record and the plain model in trace_model.py, and not by a program. No command writes one yet.
+of such a record and the plain model in trace_model.py, and not by a program.
 
     tools/live_checker.py [--part] [--earlier TRACE] INPUT RECORD
     tools/live_checker.py --self-test [--count N] [--seed S]
