@@ -172,14 +172,20 @@ sorts_typed events e m text old new is same types differ numbered =
     sorts_more events e old new (same ∙ (sym (append-nil old.declared.items) ∙ ap (λ x. old.declared.items ++ declared_by x) (sym is)))
     (λ n. types n ∙ ap (λ x. scripts_of old.scripts.items n ++ typed_by n x) (sym is)) differ (λ is_so. numbered (subst IsNumbered is is_so))
 
--- an event that is neither a declaration nor a session's line
-pub sorts_other : (events : List Event) (e : Event) (sorted : Sorted) → ((what : Declaration) → e ≡ System what → ⊥) → ((m : ℕ) (text : List ℕ) → e ≡ Session m text → ⊥) → Sorts events sorted → Sorts (events ++ e ∷ []) sorted
-sorts_other events (System what) sorted undeclared untyped is = absurd (undeclared what refl)
-sorts_other events (Session m text) sorted undeclared untyped is = absurd (untyped m text refl)
-sorts_other events (Turn zone) sorted undeclared untyped is = sorts_more events (Turn zone) sorted sorted (sym (append-nil sorted.declared.items)) (λ n. sym (append-nil (scripts_of sorted.scripts.items n))) (λ d. d) (λ _ a. a) is
-sorts_other events (Process zone pid call) sorted undeclared untyped is = sorts_more events (Process zone pid call) sorted sorted (sym (append-nil sorted.declared.items)) (λ n. sym (append-nil (scripts_of sorted.scripts.items n))) (λ d. d) (λ _ a. a) is
-sorts_other events Restart sorted undeclared untyped is = sorts_more events Restart sorted sorted (sym (append-nil sorted.declared.items)) (λ n. sym (append-nil (scripts_of sorted.scripts.items n))) (λ d. d) (λ _ a. a) is
+-- an event that declares nothing, and that no session types
+left_out : (events : List Event) (e : Event) (sorted : Sorted) → declared_by e ≡ [] → ((n : ℕ) → typed_by n e ≡ []) → Sorts events sorted → Sorts (events ++ e ∷ []) sorted
+left_out events e sorted none nobody =
+    sorts_more events e sorted sorted (sym (ap (λ l. sorted.declared.items ++ l) none ∙ append-nil sorted.declared.items))
+    (λ n. sym (ap (λ l. scripts_of sorted.scripts.items n ++ l) (nobody n) ∙ append-nil (scripts_of sorted.scripts.items n))) (λ d. d) (λ _ a. a)
 
+pub sorts_other : (events : List Event) (e : Event) (sorted : Sorted) → ((what : Declaration) → e ≡ System what → ⊥) → ((m : ℕ) (text : List ℕ) → e ≡ Session m text → ⊥) → Sorts events sorted → Sorts (events ++ e ∷ []) sorted
+sorts_other events (System what) sorted undeclared untyped = absurd (undeclared what refl)
+sorts_other events (Session m text) sorted undeclared untyped = absurd (untyped m text refl)
+sorts_other events (Turn zone) sorted undeclared untyped = left_out events (Turn zone) sorted refl (λ n. refl)
+sorts_other events (Process zone pid call) sorted undeclared untyped = left_out events (Process zone pid call) sorted refl (λ n. refl)
+sorts_other events Restart sorted undeclared untyped = left_out events Restart sorted refl (λ n. refl)
+
+-- what three clauses say of the same `Ok`
 pub on_three : {T E : Type 0} (r : Result T E) (P Q R S : Type 0) → (P → Q → R → S) → OnOk r P → OnOk r Q → OnOk r R → OnOk r S
 on_three (Ok x) P Q R S f p q r = f p q r
 on_three (Err e) P Q R S f p q r = tt
