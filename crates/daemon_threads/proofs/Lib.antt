@@ -1,3 +1,4 @@
 pub mod Stepping
 pub mod Results
 pub mod Places
+pub mod Same_records
