@@ -2,3 +2,4 @@ pub mod Stepping
 pub mod Results
 pub mod Places
 pub mod Same_records
+pub mod Leaving
