@@ -1,3 +1,5 @@
 pub mod Stepping
 pub mod Results
 pub mod Places
+pub mod Same_records
+pub mod Leaving

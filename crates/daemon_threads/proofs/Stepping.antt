@@ -27,7 +27,6 @@ use Rattle.zone_machine.specs.Code.Local_turns.{IsAsItWas, IsLocalTurn}
 use Rattle.zone_machine.specs.Code.Records.{BankLeft, IsReady, KeepsBodiesInCell}
 use Rattle.zone_machine.specs.Code.Shown_zones.{shown_in}
 use Rattle.zone_machine.specs.Machine.{one, subject}
-use Rattle.zone_machine.specs.Machine.Common.{common}
 use Rattle.zone_machine.specs.Machine.Histories.{after_entry, concerns, entry_at, is_allowed, is_told, world_one}
 use Rattle.zone_machine.specs.Machine.Local.{is_local}
 use Rattle.zone_machine.specs.Machine.Pools.{allowed}

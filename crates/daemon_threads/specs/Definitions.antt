@@ -1,6 +1,6 @@
 -- The machine of all zones as threads see it: its places, and what an entry does to each. Its states are histories from before any
 -- event, the latest entry first.
-use Rattle.std.specs.Prelude.{◌≡◌, ℕ, List, [], ◌∷◌, ◌&&◌, Bool, false, Option, Some, None, bytes_eq, nat_eq}
+use Rattle.std.specs.Prelude.{◌≡◌, ℕ, List, [], ◌∷◌, ◌&&◌, Bool, false, Option, Some, None, bytes_eq, nat_eq, if◌then◌else◌}
 use Rattle.brand_hooks.specs.Brands.{Tabled}
 use Rattle.brand_hooks.specs.declared.table.HookAnswer.{HookAnswer}
 use Rattle.commit_journal.specs.declared.records.Commit.{Commit}
@@ -43,13 +43,17 @@ pub record PlaceWorld : Type 0 where
 abbrev pub place_world : List Name → ℕ → State → PlaceWorld
 place_world zones p S = record { zone = zone_at zones p; world = world_at zones p S }
 
--- the session whose line an event is, or 0
+-- the number that stands for a session where there is none
+abbrev pub no_session : ℕ
+no_session = 255
+
+-- the session whose line an event is, 0 of a turn, and of any other event that there is none, since no record of sessions has it
 abbrev pub session_of : Event → ℕ
-session_of (Session n text) = n
+session_of (Session n text) = if nat_eq n 0 then no_session else n
 session_of (Turn z) = 0
-session_of (Call_of z pid c) = 0
-session_of (System what) = 0
-session_of Restart = 0
+session_of (Call_of z pid c) = no_session
+session_of (System what) = no_session
+session_of Restart = no_session
 
 -- what an answer says
 abbrev pub turn_says : TurnReply → Said

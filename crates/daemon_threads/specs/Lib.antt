@@ -12,3 +12,5 @@ pub mod Running
 pub mod Worlds
 -- the machine meets the laws that threads rest on
 pub mod Meets
+-- what sessions leave: their record, and what the disk has of it
+pub mod Sessions

@@ -9,7 +9,7 @@ use Rattle.session_records.specs.Places.{AreApart, is_local_at, is_local_of, is_
 use Rattle.session_records.specs.Records.{is_idle_head, may_stand}
 use Rattle.zn_base.specs.Names.{Name}
 use Rattle.zone_cases.specs.State.{State}
-use Rattle.zone_cases.specs.State.Worlds.{World, world}
+use Rattle.zone_cases.specs.State.Worlds.{World}
 use Rattle.zone_cases.specs.declared.events.Entry.{Entry}
 use Rattle.zone_cases.specs.declared.events.Event.{Event}
 use Rattle.zone_cases.specs.declared.events.Event.TheVariants.{Process as Call_of, Restart, Session, System, Turn}

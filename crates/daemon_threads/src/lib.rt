@@ -6,9 +6,11 @@ mod cell;
 mod machine;
 mod names;
 mod part;
+mod sessions;
 mod told;
 
 pub use cell::PlaceCell;
 pub use machine::Daemons;
 pub use names::Names;
 pub use part::SharedPart;
+pub use sessions::{Live, run_sessions};

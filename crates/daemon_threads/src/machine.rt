@@ -291,6 +291,9 @@ impl<'b, D: Disk + Drop + Send, F: Fn(&Change) -> HookAnswer, N: Names + Send> M
         session: u8,
         line: &Text,
     ) -> Result<Entry, Stop<StepFault>> {
+        if session == 0 {
+            return Err(Stop::Fault(StepFault::Memory));
+        }
         let Ok(text) = line.copy(self.alloc) else {
             return Err(Stop::Fault(StepFault::Memory));
         };

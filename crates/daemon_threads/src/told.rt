@@ -6,13 +6,18 @@ use zone_cases::{Entry, Event, Head};
 use zone_threads::{Said, Told};
 use zoneadmd_steps::TurnReply;
 
-// The session whose line an event is, or 0.
+// Stands for a session where there is none.
+const NO_SESSION: u8 = 255;
+
+// The session whose line an event is, 0 of a turn, and of any other event that there is none.
 fn session_of(event: &Event) -> u8
     ensures { result ≡ session_of event.now }
 {
     match event {
+        Event::Session { number: 0, .. } => NO_SESSION,
         Event::Session { number, .. } => *number,
-        Event::Turn { .. } | Event::Process { .. } | Event::System(_) | Event::Restart => 0,
+        Event::Turn { .. } => 0,
+        Event::Process { .. } | Event::System(_) | Event::Restart => NO_SESSION,
     }
 }
 

@@ -24,7 +24,6 @@ abbrev pub toy : Definitions (List Entry) Cell Pool Line Entry (Unit {0})
 toy = record {
   World = Bool;
   Common = ℕ;
-  blank = [];
   world = busy_at;
   common = drawn_by;
   one = λ s e. e ∷ s;

@@ -87,7 +87,7 @@ module _ {State Cell Shared Line Entry Heard : Type 0} (D : Definitions State Ce
         record {
           legal = right_append D.right D.one start h locals mid.legal fit.legal;
           kept = right_append (may D scripts) (noted D) beginning h locals mid.kept fit.kept;
-          shared = λ sound. subst (D.shared_of m) c (mid.shared sound);
+          shared = subst (D.shared_of m) c mid.shared;
         },
         fit.mine,
         ap (D.world p) (folded_append D.one start h locals) ∙ (fit.after ∙ (ap (λ (w : D.World). folded D.world_one w locals) w ∙ sym (folded_append D.world_one (D.world p start) mine locals))),

@@ -6,7 +6,7 @@ use Rattle.std.proofs.lemmas.List.{append_assoc, drop-append-le, length-drop, ta
 use mathlib.Core.List.{map-append}
 use Rattle.zone_turn.specs.Histories.{own}
 use Rattle.zone_threads.specs.Folds.{all_right, folded}
-use Rattle.zone_threads.specs.Machines.{Definitions, IsLineOf, IsTurnOf, Laws, Stepped}
+use Rattle.zone_threads.specs.Machines.{Definitions, IsLineOf, IsTurnOf, Laws, Stepped, Unfinished}
 use Rattle.zone_threads.specs.Records.{Middle, Stands, spread}
 use Rattle.zone_threads.specs.Scripts.{TallyOf, beginning, fresh, is_line_at, may, noted, progress_one, session}
 use Rattle.zone_threads.specs.Zones.{Did, Logged, left_by}
@@ -72,10 +72,6 @@ module _ {State Cell Shared Line Entry Heard : Type 0} (D : Definitions State Ce
   pub stands_same : (start : State) (scripts : ℕ → List Line) (m m' : Shared) (ts ts' : List Progress) (rs rs' : List (ℕ × ℕ)) (h : List Entry) → m' ≡ m → ts' ≡ ts → rs' ≡ rs → Stands D start scripts m ts rs h → Stands D start scripts m' ts' rs' h
   stands_same start scripts m m' ts ts' rs rs' h a b c = subst (λ (T : Type 0). T) (sym (λ i. Stands D start scripts (a i) (b i) (c i) h))
 
-  -- the shared part is as it was
-  pub kept_shared : (m m' : Shared) → m' ≡ m → D.is_sound m' ≡ true → (D.is_sound m ≡ true) × ((k : D.Common) → D.shared_of m k → D.shared_of m' k)
-  kept_shared m m' is sound = (ap D.is_sound (sym is) ∙ sound, λ k of. subst (λ (x : Shared). D.shared_of x k) (sym is) of)
-
   -- a session's next line was done
   pub line_done : (scripts : ℕ → List Line) (p s number : ℕ) (line : Line) (k : Cell) (m : Shared) (ts ts' : List Progress) (e : Entry) (S : State) (t : ℕ → Progress) → Stepped D p k m e S → IsLineOf D p s line e → s ≢ 0 → slice_get (scripts s) number ≡ Some line
       → s < length ts → slice_index_or ts s fresh ≡ record { done = number; awaits = None } → TallyOf ts t → length ts' ≡ length ts
@@ -115,10 +111,10 @@ module _ {State Cell Shared Line Entry Heard : Type 0} (D : Definitions State Ce
   tally_behind = subst (TallyOf ts1) (sym (folded_append (noted D) beginning h (drop given log))) (noting (folded (noted D) beginning h) behind.1 stands.tally)
 
   -- nothing new was done
-  pub quiet : (m' : Shared) (qs : List (ℕ × ℕ)) (n : ℕ) → (D.is_sound m' ≡ true → (D.is_sound m ≡ true) × ((k : D.Common) → D.shared_of m k → D.shared_of m' k)) → n ≡ length log - given → qs ≡ rs ++ (p, n) ∷ [] → Stands D start scripts m' ts1 qs all × All (λ e. D.by e ≡ p) (drop given log)
+  pub quiet : (m' : Shared) (qs : List (ℕ × ℕ)) (n : ℕ) → (D.shared_of m (D.common (folded D.one start all)) → D.shared_of m' (D.common (folded D.one start all))) → n ≡ length log - given → qs ≡ rs ++ (p, n) ∷ [] → Stands D start scripts m' ts1 qs all × All (λ e. D.by e ≡ p) (drop given log)
   quiet m' qs n same many more = (
     record {
-      middle = record { legal = behind.0.legal; kept = behind.0.kept; shared = λ sound. (same sound).1 (D.common (folded D.one start all)) (behind.0.shared (same sound).0) };
+      middle = record { legal = behind.0.legal; kept = behind.0.kept; shared = same behind.0.shared };
       tally = tally_behind;
       wide = wide ∙ stands.wide;
       order = order_grows D p n rs qs h (drop given log) stands.order behind.1 (many ∙ sym (length-drop given log)) more;
@@ -126,18 +122,26 @@ module _ {State Cell Shared Line Entry Heard : Type 0} (D : Definitions State Ce
     behind.1,
   )
 
+  -- the shared part is as it was
+  pub kept_shared : (m' : Shared) → m' ≡ m → D.shared_of m (D.common (folded D.one start all)) → D.shared_of m' (D.common (folded D.one start all))
+  kept_shared m' is = subst (λ (x : Shared). D.shared_of x (D.common (folded D.one start all))) (sym is)
+
+  -- an event that wasn't done was one in the state that the local entries leave
+  pub left_shared : (cell' : Cell) (m' : Shared) → marked ≡ false → Unfinished D p cell m cell' m' → D.shared_of m (D.common (folded D.one start all)) → D.shared_of m' (D.common (folded D.one start all))
+  left_shared cell' m' free left = left.shared (folded D.one start all) (subst (D.cell_of cell) (sym behind.2) (logged.stands free))
+
   -- and the cell stands for what it stood for
   pub quiet_cell : (cell' : Cell) (marked' : Bool) → (marked' ≡ false → (marked ≡ false) × ((w : D.World) → D.cell_of cell w → D.cell_of cell' w)) → marked' ≡ false → D.cell_of cell' (left_by D start p log)
   quiet_cell cell' marked' same free = (same free).1 (left_by D start p log) (logged.stands (same free).0)
 
   -- an entry was added
-  pub added : (m' : Shared) (ts' : List Progress) (qs : List (ℕ × ℕ)) (n : ℕ) (e : Entry) (cell' : Cell) (log' : List Entry) → marked ≡ false → D.is_sound m ≡ true
+  pub added : (m' : Shared) (ts' : List Progress) (qs : List (ℕ × ℕ)) (n : ℕ) (e : Entry) (cell' : Cell) (log' : List Entry) → marked ≡ false
       → ((s : State) (t : ℕ → Progress) → D.cell_of cell (D.world p s) → D.shared_of m (D.common s) → TallyOf ts1 t → Did D scripts p cell' m' ts' e s t)
       → length ts' ≡ length ts1 → log' ≡ log ++ e ∷ [] → n ≡ length log' - given → qs ≡ rs ++ (p, n) ∷ []
       → Stands D start scripts m' ts' qs (h ++ drop given log') × All (λ e. D.by e ≡ p) (drop given log') × D.cell_of cell' (left_by D start p log')
-  added m' ts' qs n e cell' log' free sound did wide' grown many more =
+  added m' ts' qs n e cell' log' free did wide' grown many more =
       let s : State = folded D.one start all in
-      let d = did s (folded (noted D) beginning all) (subst (D.cell_of cell) (sym behind.2) (logged.stands free)) (behind.0.shared sound) tally_behind in
+      let d = did s (folded (noted D) beginning all) (subst (D.cell_of cell) (sym behind.2) (logged.stands free)) behind.0.shared tally_behind in
       let batch : drop given log' ≡ drop given log ++ e ∷ [] = ap (drop given) grown ∙ drop-append-le given log (e ∷ []) logged.within in
       let h' : h ++ drop given log' ≡ all ++ e ∷ [] = ap (λ l. h ++ l) batch ∙ sym (append_assoc h (drop given log) (e ∷ [])) in
       let mine' : All (λ (x : Entry). D.by x ≡ p) (drop given log') = subst (All (λ (x : Entry). D.by x ≡ p)) (sym batch) (All-append (λ (x : Entry). D.by x ≡ p) (drop given log) (e ∷ []) behind.1 (All-cons (λ (x : Entry). D.by x ≡ p) e [] d.mine (All-nil (λ (x : Entry). D.by x ≡ p)))) in
@@ -148,7 +152,7 @@ module _ {State Cell Shared Line Entry Heard : Type 0} (D : Definitions State Ce
           middle = record {
             legal = subst (λ l. all_right D.right D.one start l ≡ true) (sym h') (right_append D.right D.one start all (e ∷ []) behind.0.legal (both _ _ d.is_right refl));
             kept = subst (λ l. all_right (may D scripts) (noted D) beginning l ≡ true) (sym h') (right_append (may D scripts) (noted D) beginning all (e ∷ []) behind.0.kept (both _ _ d.may_come refl));
-            shared = λ k. subst (λ (s : State). D.shared_of m' (D.common s)) (sym after) d.shared;
+            shared = subst (λ (s : State). D.shared_of m' (D.common s)) (sym after) d.shared;
           };
           tally = subst (TallyOf ts') (sym noted_after) d.tally;
           wide = wide' ∙ (wide ∙ stands.wide);

@@ -6,8 +6,6 @@ use Rattle.zone_threads.specs.declared.machine.Told.{Told}
 pub record Definitions (State Cell Shared Line Entry Heard : Type 0) : Type 1 where
   pub World : Type 0
   pub Common : Type 0
-  -- some state
-  pub blank : State
   -- what the zone of a place has, and what zones share
   pub world : ℕ → State → World
   pub common : State → Common
@@ -29,7 +27,7 @@ pub record Definitions (State Cell Shared Line Entry Heard : Type 0) : Type 1 wh
   pub is_busy : World → Bool
   -- whether a shared part may still be used
   pub is_sound : Shared → Bool
-  -- what a cell and a shared part stand for
+  -- what a cell and a shared part stand for, a part that may be used no more for less
   pub cell_of : Cell → World → Type 0
   pub shared_of : Shared → Common → Type 0
   -- whether this is what the hooks of a cell's zone answer
@@ -48,14 +46,11 @@ module _ {State Cell Shared Line Entry Heard : Type 0} (D : Definitions State Ce
     pub is_next : D.is_local p w e ≡ true
     pub cell : D.cell_of c (D.world_one w e)
 
-  -- what they stood for they stand for
-  pub record AsBefore (c : Cell) (m : Shared) (d : Cell) (n : Shared) : Type 0 where
-    pub cell : (w : D.World) → D.cell_of c w → D.cell_of d w
-    pub shared : (k : D.Common) → D.shared_of m k → D.shared_of n k
-
-  -- an event that wasn't done changed nothing, unless the shared part may not be used any more
-  abbrev pub Unfinished : Cell → Shared → Cell → Shared → Type 0
-  Unfinished c m d n = D.is_sound n ≡ true → AsBefore c m d n
+  -- an event that wasn't done left the zone of a place as it was, unless the shared part may not be used any more, and of what zones
+  -- share what a part that is used no more stands for too
+  pub record Unfinished (p : ℕ) (c : Cell) (m : Shared) (d : Cell) (n : Shared) : Type 0 where
+    pub cell : D.is_sound n ≡ true → (w : D.World) → D.cell_of c w → D.cell_of d w
+    pub shared : (s : State) → D.cell_of c (D.world p s) → D.shared_of m (D.common s) → D.shared_of n (D.common s)
 
   -- an entry of a turn of the zone of a place
   pub record IsTurnOf (p : ℕ) (e : Entry) : Type 0 where

@@ -15,7 +15,7 @@ module _ {State Cell Shared Line Entry Heard : Type 0} (D : Definitions State Ce
   pub record Middle (start : State) (scripts : ℕ → List Line) (m : Shared) (h : List Entry) : Type 0 where
     pub legal : all_right D.right D.one start h ≡ true
     pub kept : all_right (may D scripts) (noted D) beginning h ≡ true
-    pub shared : D.is_sound m ≡ true → D.shared_of m (D.common (folded D.one start h))
+    pub shared : D.shared_of m (D.common (folded D.one start h))
 
   pub record Stands (start : State) (scripts : ℕ → List Line) (m : Shared) (ts : List Progress) (rs : List (ℕ × ℕ)) (h : List Entry) : Type 0 where
     pub middle : Middle start scripts m h

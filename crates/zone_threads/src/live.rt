@@ -245,10 +245,10 @@ pub fn run_scripts<
     requires few { (length cells.items < PASSES_OUT_MAX) × ((s : ℕ) → length (J.scripts s) < 2 ^ 64) }
     ensures partial { IfOk result (λ r. IsPartial M.machine J.start J.scripts r.entries.items) }
     ensures record { IfOk result (λ r. r.ended ≡ None → IsRecord M.machine J.start J.scripts r.entries.items) }
-    ensures shared { IfOk result (λ r. M.machine.is_sound r.shared ≡ true → M.machine.shared_of r.shared (M.machine.common (folded M.machine.one J.start r.entries.items))) }
+    ensures shared { IfOk result (λ r. M.machine.shared_of r.shared (M.machine.common (folded M.machine.one J.start r.entries.items))) }
     ensures cells { IfOk result (λ r. All (IsBack M.machine J.start r.entries.items) r.cells.items) }
     ensures there { IfOk result (λ r. AreAll (length cells.items) r.cells.items) }
-    ensures memory { IfErr result (λ m. (h : List M.Entry) × IsPartial M.machine J.start J.scripts h × (M.machine.is_sound m ≡ true → M.machine.shared_of m (M.machine.common (folded M.machine.one J.start h)))) }
+    ensures memory { IfErr result (λ m. (h : List M.Entry) × IsPartial M.machine J.start J.scripts h × M.machine.shared_of m (M.machine.common (folded M.machine.one J.start h))) }
 {
     started::<M, J, R, G>(rt, alloc, machine, gate, cells, shared, scripts)
 }

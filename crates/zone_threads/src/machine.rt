@@ -77,7 +77,7 @@ pub trait Machine: Zoned {
 
     /// Whether a zone's daemon has something to do, by its cell and what zones share.
     fn is_busy(&self, cell: &Self::Cell, shared: &Self::Shared) -> bool
-        ensures { (p : ℕ) (s : Self.State) → Self.machine.cell_of cell.now (Self.machine.world p s) → Self.machine.shared_of shared.now (Self.machine.common s) → result ≡ Self.machine.is_busy (Self.machine.world p s) };
+        ensures { Self.machine.is_sound shared.now ≡ true → (p : ℕ) (s : Self.State) → Self.machine.cell_of cell.now (Self.machine.world p s) → Self.machine.shared_of shared.now (Self.machine.common s) → result ≡ Self.machine.is_busy (Self.machine.world p s) };
 
     /// Asks the hooks of a zone, which are not asked while the shared part is held.
     fn hear(&self, cell: &Self::Cell) -> Self::Heard
@@ -108,7 +108,7 @@ pub trait Machine: Zoned {
         requires heard { Self.machine.heard cell.old heard }
         ensures turn { IfOk result (IsTurnOf Self.machine place) }
         ensures step { IfOk result (λ e. (s : Self.State) → Self.machine.cell_of cell.old (Self.machine.world place s) → Self.machine.shared_of shared.old (Self.machine.common s) → Stepped Self.machine place cell.new shared.new e s) }
-        ensures err { OnErr result (Unfinished Self.machine cell.old shared.old cell.new shared.new) };
+        ensures err { OnErr result (Unfinished Self.machine place cell.old shared.old cell.new shared.new) };
 
     /// A line of a session, where it belongs to the zone.
     fn line(
@@ -125,7 +125,7 @@ pub trait Machine: Zoned {
         ensures here { OnOk result ((k : Self.machine.Common) → Self.machine.shared_of shared.old k → Self.machine.place_of k session line.now ≡ place) }
         ensures elsewhere { (p : ℕ) → result ≡ Err (Elsewhere p) → (p ≢ place) × ((k : Self.machine.Common) → Self.machine.shared_of shared.old k → Self.machine.place_of k session line.now ≡ p) }
         ensures step { IfOk result (λ e. (s : Self.State) → Self.machine.cell_of cell.old (Self.machine.world place s) → Self.machine.shared_of shared.old (Self.machine.common s) → Stepped Self.machine place cell.new shared.new e s) }
-        ensures err { OnErr result (Unfinished Self.machine cell.old shared.old cell.new shared.new) };
+        ensures err { OnErr result (Unfinished Self.machine place cell.old shared.old cell.new shared.new) };
 
     ghost laws: { Laws Self.machine };
 }

@@ -16,14 +16,6 @@ pub trait Start<M: Zoned> {
     ghost scripts: { ℕ → List M.Line };
 }
 
-impl<M: Zoned> Start<M> for Brand {
-    ghost use Rattle.std.specs.Prelude.{[]};
-
-    ghost start = { M.machine.blank };
-
-    ghost scripts = { λ s. [] };
-}
-
 /// Which turn it is, and how many zones there are.
 pub trait Place {
     ghost use Rattle.std.specs.Prelude.{ℕ};

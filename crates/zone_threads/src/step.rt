@@ -90,7 +90,7 @@ fn try_turn<M: Machine, J: Start<M>>(
     requires heard { M.machine.heard cell.old heard }
     ensures did { IfOk result (Does M.machine J.scripts place cell.old part.old.shared part.old.tally.items cell.new part.new.shared part.new.tally.items) }
     ensures tally { OnErr result (part.new.tally ≡ part.old.tally) }
-    ensures same { OnErr result (Unfinished M.machine cell.old part.old.shared cell.new part.new.shared) }
+    ensures same { OnErr result (Unfinished M.machine place cell.old part.old.shared cell.new part.new.shared) }
     ensures order { part.new.order ≡ part.old.order }
     ensures wide { length part.new.tally.items ≡ length part.old.tally.items }
 {
@@ -136,7 +136,7 @@ fn try_line<M: Machine, J: Start<M>>(
     requires script { (session ≢ 0) × (lines.now ≡ J.scripts session) }
     ensures did { IfOk result (Does M.machine J.scripts place cell.old part.old.shared part.old.tally.items cell.new part.new.shared part.new.tally.items) }
     ensures tally { OnErr result (part.new.tally ≡ part.old.tally) }
-    ensures same { OnErr result (Unfinished M.machine cell.old part.old.shared cell.new part.new.shared) }
+    ensures same { OnErr result (Unfinished M.machine place cell.old part.old.shared cell.new part.new.shared) }
     ensures order { part.new.order ≡ part.old.order }
     ensures wide { length part.new.tally.items ≡ length part.old.tally.items }
 {
@@ -174,7 +174,7 @@ fn attempt<M: Machine, J: Start<M>>(
     requires job { IsJob M.machine J.scripts session lines.now cell.old job }
     ensures did { IfOk result (Does M.machine J.scripts place cell.old part.old.shared part.old.tally.items cell.new part.new.shared part.new.tally.items) }
     ensures tally { OnErr result (part.new.tally ≡ part.old.tally) }
-    ensures same { OnErr result (Unfinished M.machine cell.old part.old.shared cell.new part.new.shared) }
+    ensures same { OnErr result (Unfinished M.machine place cell.old part.old.shared cell.new part.new.shared) }
     ensures order { part.new.order ≡ part.old.order }
     ensures wide { length part.new.tally.items ≡ length part.old.tally.items }
 {
