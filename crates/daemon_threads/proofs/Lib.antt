@@ -1,3 +1,4 @@
+pub mod Disks
 pub mod Stepping
 pub mod Results
 pub mod Places

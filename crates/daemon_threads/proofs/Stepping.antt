@@ -1,17 +1,18 @@
 -- What an event leaves of a cell and of what the zones share, as threads see it.
-use Rattle.std.proofs.Common.{◌≡◌, ◌&&◌, ℕ, List, Bool, Some, None, true, false, ap, arith, nat_eq, refl, subst, sym, ◌∙◌}
+use Rattle.std.proofs.Common.{◌≡◌, ◌&&◌, ◌++◌, ℕ, List, Bool, Some, None, true, false, ap, arith, nat_eq, refl, subst, sym, ◌∙◌}
 use Rattle.std.specs.Prelude.{◌≢◌, bytes_eq, not, if◌then◌else◌}
-use Rattle.std.proofs.lemmas.Bool.{and_from, eq-eqb, eqb-true, false_from_ne_true, false≢true}
+use Rattle.std.proofs.lemmas.Bool.{and_from, eqb-true, false_from_ne_true, false≢true}
 use Rattle.brand_hooks.specs.Brands.{Tabled}
 use Rattle.brand_hooks.specs.declared.table.HookAnswer.{HookAnswer}
 use Rattle.commit_journal.specs.declared.records.Commit.{Commit}
-use Rattle.session_records.specs.Places.{AreApart, is_local_of, is_right_at, own_world_by, own_world_one, place_of, world_of_zone, zone_at}
+use Rattle.session_records.specs.Places.{AreApart, is_right_at, own_world_by, own_world_one, place_of, world_of_zone, zone_at}
 use Rattle.zn_base.specs.Names.{Name}
 use Rattle.zn_io.specs.Disk.{View}
 use Rattle.zone_disk.specs.Bank.{Account}
 use Rattle.zone_cases.specs.Code.Cells.{CellOf, IsHeardIn, outside_of}
 use Rattle.zone_cases.specs.State.{State, bodies_of}
-use Rattle.zone_cases.specs.State.Worlds.{World, world}
+use Rattle.zone_cases.specs.State.Decisions.{act_of}
+use Rattle.zone_cases.specs.State.Worlds.{World, view as view_in, world}
 use Rattle.zone_cases.specs.declared.cell.Cell.{Cell}
 use Rattle.zone_cases.specs.declared.events.Entry.{Entry}
 use Rattle.zone_cases.specs.declared.events.Event.{Event}
@@ -20,32 +21,35 @@ use Rattle.zone_machine.proofs.Alone.{local-world}
 use Rattle.zone_machine.proofs.Local_laws.{local-turn}
 use Rattle.zone_machine.proofs.Own_worlds.{leaves}
 use Rattle.zone_machine.proofs.Same_laws.{reply-Decides, subject-Decides}
-use Rattle.zone_machine.proofs.Writing.{commits-global}
+use Rattle.zone_machine.proofs.Writing.{commits-global, commits-zone}
 use Rattle.zone_machine.specs.Code.Cell_steps.{CellLeaves, IsAllowedCellStep}
 use Rattle.zone_machine.specs.Code.Global_steps.{IsGlobalStep}
 use Rattle.zone_machine.specs.Code.Local_turns.{IsAsItWas, IsLocalTurn}
-use Rattle.zone_machine.specs.Code.Records.{BankLeft, IsReady, KeepsBodiesInCell}
+use Rattle.zone_machine.specs.Code.Records.{BankLeft, GoesInCell, IsReady, KeepsBodiesInCell, Passes}
+use Rattle.zone_machine.specs.Code.Rooms.{Alike}
 use Rattle.zone_machine.specs.Code.Shown_zones.{shown_in}
-use Rattle.zone_machine.specs.Machine.{one, subject}
+use Rattle.zone_machine.specs.Machine.{decide, one, subject}
+use Rattle.zone_machine.specs.Machine.Changes.{committed}
 use Rattle.zone_machine.specs.Machine.Histories.{after_entry, concerns, entry_at, is_allowed, is_told, world_one}
-use Rattle.zone_machine.specs.Machine.Local.{is_local}
+use Rattle.zone_machine.specs.Machine.Images.{Goes, NowHolds}
 use Rattle.zone_machine.specs.Machine.Pools.{allowed}
 use Rattle.zone_machine.specs.Machine.Same.{same_reply, same_subject}
 use Rattle.zone_machine.specs.Shown.{shown, shown_by, world_shown}
 use Rattle.zone_machine.specs.declared.faults.StepFault.{StepFault}
 use Rattle.zone_machine.specs.declared.faults.StepFault.TheVariants.{BadGrant, DiskFault, Memory, NoStore, WouldRecord}
-use Rattle.zone_machine.specs.declared.machine.shared.Shared.{Shared}
 use Rattle.zone_machine.specs.declared.machine.shown.ShownZones.{ShownZones}
 use Rattle.zone_pools.proofs.Owned_laws.{same_self, same_true}
 use Rattle.zone_pools.proofs.Same_laws.{grant-Decides}
-use Rattle.zone_threads.specs.Machines.{Stepped, Turned, Unfinished}
+use Rattle.zone_threads.specs.Machines.{Stepped, Unfinished}
 use Rattle.zoneadmd_steps.specs.Code.Desks.{as_desk}
 use Rattle.zoneadmd_steps.specs.Objects.{ids_of}
 use Rattle.daemon_threads.specs.Meets.{brands-in, place-some}
 use Rattle.daemon_threads.specs.Worlds.{brands-by, brands-one}
-use Rattle.daemon_threads.specs.Definitions.{CellIn, PlaceWorld, daemons, is_placed, place_world, state_in}
+use Rattle.daemon_threads.specs.Definitions.{CellIn, PlaceWorld, daemons, place_world, state_in}
+use Rattle.daemon_threads.proofs.Disks.{committed-few, disk-on, disk-torn, ready-holds}
+use Rattle.daemon_threads.specs.Disks.{DiskOf}
 use Rattle.daemon_threads.specs.Goods.{Goods}
-use Rattle.daemon_threads.specs.Parts.{Answers, AreAsBefore, CellAnswers, PartOf, commons}
+use Rattle.daemon_threads.specs.Parts.{Answers, CellAnswers, IsUndone, Stands, commons}
 use Rattle.daemon_threads.specs.Running.{IsDoneIn}
 use Rattle.daemon_threads.specs.declared.cell.PlaceCell.TheVariants as cells
 
@@ -65,55 +69,97 @@ other-worlds : (z : Name) (S : State) (e : Event) (y : Name) → subject S e ≡
 other-worlds z S e y of other =
     leaves y S e (allowed S e) (ap (concerns y) of ∙ false_from_ne_true (bytes_eq y z) (λ same. false≢true (sym other ∙ subst (λ x. bytes_eq z x ≡ true) (sym (same_true y z same)) (same_self z))))
 
--- an event of z on its cell and what the zones share
-pub cell-answers : {D : Type 0} (z : Name) (S : State) (e : Event) (entry : Entry) (c d : Cell) (m n : Goods D) → IsAllowedCellStep z c m.shared e entry d n.shared
-    → KeepsBodiesInCell z None c m.shared e m.bank.records n.bank.records → Notes z d m.shown n.shown → CellOf c (world z S) → PartOf m (commons S) → subject S e ≡ Zone z → CellAnswers z S e entry d n
-cell-answers z S e entry c d m n step bodies notes cell part of =
-    let answered = step S cell part.shared of in
-    let T : State = (one S e (allowed S e)).state in
-    let left : T ≡ after_entry S entry = sym (ap (after_entry S) answered.told) in
-    let after : PartOf n (commons T) = record { state = T; is = refl; shared = answered.shared; shown = noted z S T m.shown n.shown d notes answered.cell (λ y other. other-worlds z S e y of other) part.shown; bodies = bodies S cell part.shared of part.bodies } in
-    record {
-      answers = record { told = answered.told; part = subst (λ U. PartOf n (commons U)) left after };
-      cell = subst (λ U. CellOf d (world z U)) left answered.cell;
-    }
+module _ {D : Type 0} (view : D → View) (v : View) (before : List Commit) where
+  -- what the disk has after an event of z
+  disk-after : (z : Name) (S : State) (e : Event) (m n : Goods D) → subject S e ≡ Zone z → m.bank.sound ≡ true → n.bank.sound ≡ true → DiskOf v before m.bank.sound (view m.bank.disk) S.commits
+      → (let T = (one S e (allowed S e)).state in Goes S.commits T.commits (view m.bank.disk) (view n.bank.disk) → Passes (view m.bank.disk) (view n.bank.disk) → ((view n.bank.disk).Keeps → NowHolds (view n.bank.disk) T.commits) → DiskOf v before n.bank.sound (view n.bank.disk) T.commits)
+  disk-after z S e m n of was sound disk goes passes holds =
+      let new : List Commit = committed z (act_of (decide (view_in z S) e) (allowed S e)).came in
+      let more : (one S e (allowed S e)).state.commits ≡ S.commits ++ new = commits-zone S e (allowed S e) z of in
+      let w = view m.bank.disk in
+      let u = view n.bank.disk in
+      subst (λ b. DiskOf v before b u (one S e (allowed S e)).state.commits) (sym sound)
+      (subst (DiskOf v before true u) (sym more)
+      (disk-on v before w S.commits (subst (λ b. DiskOf v before b w S.commits) was disk) u new (subst (λ l. Goes S.commits l w u) more goes) passes (subst (λ l. u.Keeps → NowHolds u l) more holds)))
 
--- an event of the global zone on what the zones share
-pub global-answers : {D : Type 0} (S : State) (e : Event) (entry : Entry) (m n : Goods D) → IsGlobalStep m.shared m.shown e entry n.shared → n.shown ≡ m.shown → n.bank ≡ m.bank → PartOf m (commons S) → subject S e ≡ Global → Answers S e entry n
-global-answers S e entry m n step shown bank part of =
-    let answered = step S part.shared part.shown of in
-    let T : State = (one S e (allowed S e)).state in
-    let left : T ≡ after_entry S entry = sym (ap (after_entry S) answered.told) in
-    record {
-      told = answered.told;
-      part = record {
-        state = after_entry S entry;
-        is = refl;
-        shared = answered.shared;
-        shown = λ z. answered.shown z ∙ ap (λ t. shown_in t z) (sym shown);
-        bodies = ap (λ (U : State). bodies_of U.commits) (sym left) ∙ (ap bodies_of (commits-global S e (allowed S e) of) ∙ (part.bodies ∙ ap (λ b. b.records) (sym bank)));
-      };
-    }
+  -- what it has where it failed in one
+  disk-failed : (z : Name) (S : State) (e : Event) (m n : Goods D) → subject S e ≡ Zone z → m.bank.sound ≡ true → n.bank.sound ≡ false → DiskOf v before m.bank.sound (view m.bank.disk) S.commits
+      → Goes S.commits (one S e (allowed S e)).state.commits (view m.bank.disk) (view n.bank.disk) → Passes (view m.bank.disk) (view n.bank.disk) → DiskOf v before n.bank.sound (view n.bank.disk) S.commits
+  disk-failed z S e m n of was fails disk goes passes =
+      let came = (act_of (decide (view_in z S) e) (allowed S e)).came in
+      let new : List Commit = committed z came in
+      let more : (one S e (allowed S e)).state.commits ≡ S.commits ++ new = commits-zone S e (allowed S e) z of in
+      let w = view m.bank.disk in
+      let u = view n.bank.disk in
+      subst (λ b. DiskOf v before b u S.commits) (sym fails)
+      (disk-torn v before w S.commits (subst (λ b. DiskOf v before b w S.commits) was disk) u new (subst (λ l. Goes S.commits l w u) more goes) passes (committed-few z came))
 
--- an event of z that wasn't done
-pub as-before : {D : Type 0} (z : Name) (e : Event) (v w : View) (fault : StepFault) (c d : Cell) (m n : Goods D) → CellLeaves fault z None c m.shared e d n.shared → BankLeft true fault m.bank n.bank v w n.shared
-    → ((y : Name) → shown_in n.shown y ≡ shown_in m.shown y) → n.bank.sound ≡ true → AreAsBefore c m d n
-as-before z e v w Memory c d m n leaves left shows sound = record {
-  cell = λ x cell. cell ∙ sym (leaves.world (outside_of x));
-  part = λ k part. record { state = part.state; is = part.is; shared = part.shared ∙ sym leaves.common; shown = λ y. part.shown y ∙ sym (shows y); bodies = part.bodies ∙ ap (λ b. b.records) (sym left.0) };
-}
-as-before z e v w BadGrant c d m n leaves left shows sound = absurd leaves
-as-before z e v w WouldRecord c d m n leaves left shows sound = absurd left
-as-before z e v w DiskFault c d m n leaves left shows sound = absurd (false≢true (sym left.1 ∙ sound))
-as-before z e v w (NoStore fault) c d m n leaves left shows sound = absurd left
+  -- an event of z on its cell and what the zones share
+  pub cell-answers : (z : Name) (S : State) (e : Event) (entry : Entry) (c d : Cell) (m n : Goods D) → IsAllowedCellStep z c m.shared e entry d n.shared
+      → KeepsBodiesInCell z None c m.shared e m.bank.records n.bank.records → GoesInCell z None c m.shared e m.bank.records (view m.bank.disk) (view n.bank.disk) → Passes (view m.bank.disk) (view n.bank.disk) → IsReady (view n.bank.disk) n.bank n.shared
+      → Notes z d m.shown n.shown → m.bank.sound ≡ true → CellOf c (world z S) → Stands view v before m (commons S) → subject S e ≡ Zone z → CellAnswers view v before z S e entry d n
+  cell-answers z S e entry c d m n step bodies goes passes ready notes sound cell stands of =
+      let part = stands.part sound in
+      let answered = step S cell part.shared of in
+      let T : State = (one S e (allowed S e)).state in
+      let left : T ≡ after_entry S entry = sym (ap (after_entry S) answered.told) in
+      let has : bodies_of T.commits ≡ n.bank.records = bodies S cell part.shared of part.bodies in
+      let after : Stands view v before n (commons T) = record {
+        part = λ is. record { state = T; is = refl; shared = answered.shared; shown = noted z S T m.shown n.shown d notes answered.cell (λ y other. other-worlds z S e y of other) part.shown; bodies = has };
+        disk = disk-after z S e m n of sound ready.sound stands.disk (goes S cell part.shared of part.bodies) passes (λ keeps. ready-holds T n.bank n.shared (view n.bank.disk) has answered.shared ready keeps);
+      } in
+      record {
+        answers = record { told = answered.told; stands = subst (λ U. Stands view v before n (commons U)) left after };
+        cell = subst (λ U. CellOf d (world z U)) left answered.cell;
+      }
 
--- a bank that may be written still is ready
-pub left-ready : {D : Type 0} (v w : View) (fault : StepFault) (a b : Account D) (s : Shared) → BankLeft true fault a b v w s → b.sound ≡ true → IsReady w b s
-left-ready v w Memory a b s left sound = left.1
-left-ready v w BadGrant a b s left sound = left.1
-left-ready v w WouldRecord a b s left sound = absurd left
-left-ready v w DiskFault a b s left sound = absurd (false≢true (sym left.1 ∙ sound))
-left-ready v w (NoStore fault) a b s left sound = absurd left
+  -- an event of the global zone on what the zones share
+  pub global-answers : (S : State) (e : Event) (entry : Entry) (m n : Goods D) → IsGlobalStep m.shared m.shown e entry n.shared → n.shown ≡ m.shown → n.bank ≡ m.bank → m.bank.sound ≡ true → Stands view v before m (commons S) → subject S e ≡ Global → Answers view v before S e entry n
+  global-answers S e entry m n step shown bank sound stands of =
+      let part = stands.part sound in
+      let answered = step S part.shared part.shown of in
+      let T : State = (one S e (allowed S e)).state in
+      let left : T ≡ after_entry S entry = sym (ap (after_entry S) answered.told) in
+      let same : S.commits ≡ (after_entry S entry).commits = sym (commits-global S e (allowed S e) of) ∙ ap (λ (U : State). U.commits) left in
+      record {
+        told = answered.told;
+        stands = record {
+          part = λ is. record {
+            state = after_entry S entry;
+            is = refl;
+            shared = answered.shared;
+            shown = λ z. answered.shown z ∙ ap (λ t. shown_in t z) (sym shown);
+            bodies = ap bodies_of (sym same) ∙ (part.bodies ∙ ap (λ b. b.records) (sym bank));
+          };
+          disk = subst (λ (b : Account D). DiskOf v before b.sound (view b.disk) (after_entry S entry).commits) (sym bank) (subst (DiskOf v before m.bank.sound (view m.bank.disk)) same stands.disk);
+        };
+      }
+
+  -- an event of z in which memory ran out
+  undone-memory : (z : Name) (e : Event) (c d : Cell) (m n : Goods D) → Alike c m.shared d n.shared → n.bank ≡ m.bank → ((y : Name) → shown_in n.shown y ≡ shown_in m.shown y) → IsUndone view v before z e c m d n
+  undone-memory z e c d m n alike bank shows = record {
+    cell = λ sound x cell. cell ∙ sym (alike.world (outside_of x));
+    stands = λ S cell of stands. record {
+      part = λ sound. let part = stands.part (ap (λ b. b.sound) (sym bank) ∙ sound) in
+          record { state = part.state; is = part.is; shared = part.shared ∙ sym alike.common; shown = λ y. part.shown y ∙ sym (shows y); bodies = part.bodies ∙ ap (λ b. b.records) (sym bank) };
+      disk = subst (λ (b : Account D). DiskOf v before b.sound (view b.disk) S.commits) (sym bank) stands.disk;
+    };
+  }
+
+  -- one that wasn't done
+  pub undone : (z : Name) (e : Event) (fault : StepFault) (c d : Cell) (m n : Goods D) → CellLeaves fault z None c m.shared e d n.shared → BankLeft true fault m.bank n.bank (view m.bank.disk) (view n.bank.disk) n.shared
+      → GoesInCell z None c m.shared e m.bank.records (view m.bank.disk) (view n.bank.disk) → Passes (view m.bank.disk) (view n.bank.disk) → ((y : Name) → shown_in n.shown y ≡ shown_in m.shown y) → m.bank.sound ≡ true → IsUndone view v before z e c m d n
+  undone z e Memory c d m n leaves left goes passes shows was = undone-memory z e c d m n leaves left.0 shows
+  undone z e BadGrant c d m n leaves left goes passes shows was = absurd leaves
+  undone z e WouldRecord c d m n leaves left goes passes shows was = absurd left
+  undone z e DiskFault c d m n leaves left goes passes shows was = record {
+    cell = λ sound. absurd (false≢true (sym left.1 ∙ sound));
+    stands = λ S cell of stands. let part = stands.part was in record {
+      part = λ sound. absurd (false≢true (sym left.1 ∙ sound));
+      disk = disk-failed z S e m n of was left.1 stands.disk (goes S cell part.shared of part.bodies) passes;
+    };
+  }
+  undone z e (NoStore fault) c d m n leaves left goes passes shows was = absurd left
 
 -- the entry that the definitions give is right
 right-entry : (zones : List Name) (S : State) (e : Event) → place_of zones (subject S e) ≢ 0 → is_right_at zones S (entry_at S e (allowed S e)) ≡ true
@@ -133,9 +179,9 @@ module _ (zones : List Name) (apart : AreApart zones) (brands : List Tabled) (co
   S = state_in brands commits h
 
   -- a step of a zone is what threads ask for
-  pub zone-stepped : {D : Type 0} (z : Name) (e : Event) (entry : Entry) (d : Cell) (n : Goods D) → zone_at zones p ≡ Some z → subject S e ≡ Zone z → CellAnswers z S e entry d n → n.bank.sound ≡ true
-      → Stepped (daemons D zones brands commits) p (cells.Zone z d) n entry h
-  zone-stepped z e entry d n is of answered sound =
+  pub zone-stepped : {D : Type 0} (view : D → View) (v : View) (before : List Commit) (z : Name) (e : Event) (entry : Entry) (d : Cell) (n : Goods D) → zone_at zones p ≡ Some z → subject S e ≡ Zone z → CellAnswers view v before z S e entry d n → n.bank.sound ≡ true
+      → Stepped (daemons view v before zones brands commits) p (cells.Zone z d) n entry h
+  zone-stepped view v before z e entry d n is of answered sound =
       let T : State = after_entry S entry in
       let placed : place_of zones (subject S e) ≢ 0 = λ none. place-some zones p z is (sym (apart p z is) ∙ (ap (place_of zones) (sym of) ∙ none)) in
       record {
@@ -145,19 +191,19 @@ module _ (zones : List Name) (apart : AreApart zones) (brands : List Tabled) (co
           brands_are = ap (λ o. (world_of_zone o T).brands) is ∙ (brands-one S entry.event entry.grant ∙ brands-in brands commits h);
           cell = subst (λ o. CellOf d (world_of_zone o T)) (sym is) answered.cell;
         };
-        shared = answered.answers.part;
+        shared = answered.answers.stands;
         sound = sound;
       }
 
   -- and one of the global zone
-  pub global-stepped : {D : Type 0} (e : Event) (entry : Entry) (n : Goods D) → zone_at zones p ≡ None → subject S e ≡ Global → Answers S e entry n → n.bank.sound ≡ true
-      → Stepped (daemons D zones brands commits) p cells.Global n entry h
-  global-stepped e entry n is of answered sound =
+  pub global-stepped : {D : Type 0} (view : D → View) (v : View) (before : List Commit) (e : Event) (entry : Entry) (n : Goods D) → zone_at zones p ≡ None → subject S e ≡ Global → Answers view v before S e entry n → n.bank.sound ≡ true
+      → Stepped (daemons view v before zones brands commits) p cells.Global n entry h
+  global-stepped view v before e entry n is of answered sound =
       let placed : place_of zones (subject S e) ≢ 0 = one-some (place_of zones (subject S e)) (ap (place_of zones) of) in
       record {
         is_right = subst (λ x. is_right_at zones S x ≡ true) (sym answered.told) (right-entry zones S e placed);
         cell = is;
-        shared = answered.part;
+        shared = answered.stands;
         sound = sound;
       }
 
@@ -178,22 +224,19 @@ done-in zones apart p z brands c answer e d at heard turn w cell same =
       cell = subst (CellOf d) (sym own) done.1;
     }
 
--- so threads have what they ask for
-pub done-turned : {D : Type 0} (zones : List Name) (brands : List Tabled) (commits : List Commit) (p : ℕ) (z : Name) (c : Cell) (e : Entry) (d : Cell) → ((w : World) → CellOf c w → w.brands ≡ brands → IsDoneIn zones p z e d w)
-    → (w : PlaceWorld) → CellIn brands (cells.Zone z c) w → Turned (daemons D zones brands commits) p (cells.Zone z d) e w
-done-turned zones brands commits p z c e d does w has =
-    let done = does w.world has.cell has.brands_are in
-    record {
-      is_next = subst (λ o. (is_placed zones p o && is_local_of o w.world e) ≡ true) (sym has.zone) (and_from (nat_eq (place_of zones (Zone z)) p) (is_local z w.world e) (eq-eqb (place_of zones (Zone z)) p done.place) done.local);
-      cell = record { zone = has.zone; brands_are = done.brands ∙ has.brands_are; cell = done.cell };
-    }
-
 -- a cell that is as it was has the worlds that it had
 pub still-in : (brands : List Tabled) (z : Name) (c d : Cell) → IsAsItWas c d → (w : PlaceWorld) → CellIn brands (cells.Zone z c) w → CellIn brands (cells.Zone z d) w
 still-in brands z c d same w has = record { zone = has.zone; brands_are = has.brands_are; cell = has.cell ∙ sym (same (outside_of w.world)) }
 
-pub unfinished : {D : Type 0} (zones : List Name) (brands : List Tabled) (commits : List Commit) (z : Name) (c : Cell) (m : Goods D) (d : Cell) (n : Goods D) → (n.bank.sound ≡ true → AreAsBefore c m d n)
-    → Unfinished (daemons D zones brands commits) (cells.Zone z c) m (cells.Zone z d) n
-unfinished zones brands commits z c m d n kept sound =
-    let before = kept sound in
-    record { cell = λ w has. record { zone = has.zone; brands_are = has.brands_are; cell = before.cell w.world has.cell }; shared = before.part }
+-- nor has a cell of a place others where an event wasn't done
+pub kept-in : {D : Type 0} (view : D → View) (v : View) (before : List Commit) (brands : List Tabled) (z : Name) (e : Event) (c : Cell) (m : Goods D) (d : Cell) (n : Goods D) → IsUndone view v before z e c m d n
+    → n.bank.sound ≡ true → (w : PlaceWorld) → CellIn brands (cells.Zone z c) w → CellIn brands (cells.Zone z d) w
+kept-in view v before brands z e c m d n undone sound w has = record { zone = has.zone; brands_are = has.brands_are; cell = undone.cell sound w.world has.cell }
+
+-- a turn that wasn't done
+pub unfinished : {D : Type 0} (view : D → View) (v : View) (before : List Commit) (zones : List Name) (apart : AreApart zones) (brands : List Tabled) (commits : List Commit) (p : ℕ) (z : Name) (e : Event) (c : Cell) (m : Goods D) (d : Cell) (n : Goods D) → ((S : State) → subject S e ≡ Zone z)
+    → IsUndone view v before z e c m d n → Unfinished (daemons view v before zones brands commits) p (cells.Zone z c) m (cells.Zone z d) n
+unfinished view v before zones apart brands commits p z e c m d n of undone = record {
+  cell = kept-in view v before brands z e c m d n undone;
+  shared = λ h has stands. let S = state_in brands commits h in undone.stands S (cell-there zones apart brands commits p h z c has) (of S) stands;
+}

@@ -6,6 +6,7 @@ use Rattle.brand_hooks.specs.declared.table.HookAnswer.{HookAnswer}
 use Rattle.commit_journal.specs.declared.records.Commit.{Commit}
 use Rattle.session_records.specs.Places.{is_local_of, is_right_at, own_world_one, place_of, world_at, zone_at}
 use Rattle.zn_base.specs.Names.{Name}
+use Rattle.zn_io.specs.Disk.{View}
 use Rattle.zone_cases.specs.Code.Cells.{CellOf, IsHeardIn}
 use Rattle.zone_cases.specs.State.{State}
 use Rattle.zone_cases.specs.State.Worlds.{World}
@@ -26,7 +27,7 @@ use Rattle.zone_threads.specs.declared.machine.Told.{Told}
 use Rattle.zoneadmd_steps.specs.declared.requests.TurnReply.{TurnReply}
 use Rattle.zoneadmd_steps.specs.declared.requests.TurnReply.TheVariants.{Finished, Idle, Stuck}
 use Rattle.daemon_threads.specs.Goods.{Goods}
-use Rattle.daemon_threads.specs.Parts.{Commons, PartOf, commons}
+use Rattle.daemon_threads.specs.Parts.{Commons, Stands, commons}
 use Rattle.daemon_threads.specs.declared.cell.PlaceCell.{PlaceCell}
 use Rattle.daemon_threads.specs.declared.cell.PlaceCell.TheVariants as cells
 
@@ -113,12 +114,12 @@ abbrev pub IsHeardOf : List Tabled → PlaceCell → HookAnswer → Type 0
 IsHeardOf brands cells.Global answer = Unit {0}
 IsHeardOf brands (cells.Zone z c) answer = IsHeardIn brands c answer
 
--- the machine of all zones, in which these zones have a place, where there are these brands and this is stored before any event
-abbrev pub daemons : (D : Type 0) → List Name → List Tabled → List Commit → Definitions (List Entry) PlaceCell (Goods D) (List ℕ) Entry HookAnswer
-daemons D zones brands commits = record {
+-- the machine of all zones, in which these zones have a place, where there are these brands and this is stored before any event. Its disk
+-- began as the view v, where `before` was stored
+abbrev pub daemons : {D : Type 0} → (D → View) → (v : View) → (before : List Commit) → List Name → List Tabled → List Commit → Definitions (List Entry) PlaceCell (Goods D) (List ℕ) Entry HookAnswer
+daemons view v before zones brands commits = record {
   World = PlaceWorld;
   Common = Commons;
-  blank = [];
   world = λ p h. place_world zones p (state_in brands commits h);
   common = λ h. commons (state_in brands commits h);
   one = λ h e. e ∷ h;
@@ -132,6 +133,6 @@ daemons D zones brands commits = record {
   is_busy = λ w. is_busy_of w.zone w.world;
   is_sound = λ m. m.bank.sound;
   cell_of = CellIn brands;
-  shared_of = PartOf;
+  shared_of = Stands view v before;
   heard = IsHeardOf brands;
 }

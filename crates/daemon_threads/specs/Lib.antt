@@ -2,6 +2,8 @@
 pub mod Names
 -- what the zones share, to contracts
 pub mod Goods
+-- what the disk of that has since a moment
+pub mod Disks
 -- what lies in a place and what the zones share, and what an event leaves of them
 pub mod Parts
 -- the machine of all zones as threads see it

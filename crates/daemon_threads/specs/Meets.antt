@@ -8,6 +8,7 @@ use Rattle.session_records.proofs.Places_laws.{busy-works, local-leaves-common, 
 use Rattle.session_records.specs.Places.{AreApart, is_local_at, is_local_of, is_right_at, place_of, state_after, world_at, world_of_zone, zone_at, zone_from}
 use Rattle.session_records.specs.Records.{is_idle_head, may_stand}
 use Rattle.zn_base.specs.Names.{Name}
+use Rattle.zn_io.specs.Disk.{View}
 use Rattle.zone_cases.specs.State.{State}
 use Rattle.zone_cases.specs.State.Worlds.{World}
 use Rattle.zone_cases.specs.declared.events.Entry.{Entry}
@@ -147,8 +148,8 @@ module _ (zones : List Name) where
       at_event (System what) is said = cc
       at_event Restart is said = cc
 
-pub laws : (D : Type 0) (zones : List Name) (brands : List Tabled) (commits : List Commit) → AreApart zones → Laws (daemons D zones brands commits)
-laws D zones brands commits apart = record {
+pub laws : {D : Type 0} (view : D → View) (v : View) (before : List Commit) (zones : List Name) (brands : List Tabled) (commits : List Commit) → AreApart zones → Laws (daemons view v before zones brands commits)
+laws view v before zones brands commits apart = record {
   others_stay = λ p h e right other. ap (λ w. record { zone = zone_at zones p; world = w }) (others-stay zones (state_in brands commits h) e apart right p other);
   own_moves = λ h e right. ap (λ w. record { zone = zone_at zones (place_of zones e.subject); world = w }) (own-moves zones (state_in brands commits h) e right);
   local_right = λ p h e local.

@@ -11,8 +11,8 @@ ghost use Rattle.zone_machine.specs.Code.Reads.{is_turn};
 ghost use Rattle.zone_machine.specs.Machine.{subject};
 ghost use Rattle.zone_threads.specs.Machines.{IsTurnOf, Stepped, Unfinished};
 ghost use Rattle.zone_threads.specs.declared.machine.Stop.TheVariants.{Elsewhere};
-ghost use Rattle.daemon_threads.specs.Definitions.{CellIn, daemons, place_world, state_in};
-ghost use Rattle.daemon_threads.specs.Parts.{PartOf, commons};
+ghost use Rattle.daemon_threads.specs.Definitions.{CellIn, PlaceWorld, daemons, place_world, state_in};
+ghost use Rattle.daemon_threads.specs.Parts.{IsUndone, Stands, commons};
 ghost use Rattle.daemon_threads.specs.Running.{IsDoneIn, IsSet};
 ghost use Rattle.daemon_threads.specs.declared.cell.PlaceCell.TheVariants as cells;
 
@@ -106,9 +106,9 @@ impl<'b, D: Disk, F: Fn(&Change) -> HookAnswer, N: Names> Daemons<'b, D, F, N> {
         requires there { zone_at N.zones place ≡ Some zone.now }
         ensures event { IfOk result (λ e. e.event ≡ event) }
         ensures of { IfOk result (λ e. e.subject ≡ subjects.Zone zone.now) }
-        ensures step { IfOk result (λ e. (h : List Entry) → CellIn N.brands (cells.Zone zone.now cell.old) (place_world N.zones place (state_in N.brands N.commits h)) → PartOf shared.old (commons (state_in N.brands N.commits h))
-            → subject (state_in N.brands N.commits h) event ≡ subjects.Zone zone.now → Stepped (daemons D N.zones N.brands N.commits) place (cells.Zone zone.now cell.new) shared.new e h) }
-        ensures err { OnErr result (Unfinished (daemons D N.zones N.brands N.commits) (cells.Zone zone.now cell.old) shared.old (cells.Zone zone.now cell.new) shared.new) }
+        ensures step { IfOk result (λ e. (h : List Entry) → CellIn N.brands (cells.Zone zone.now cell.old) (place_world N.zones place (state_in N.brands N.commits h)) → Stands D.view N.view N.stored shared.old (commons (state_in N.brands N.commits h))
+            → subject (state_in N.brands N.commits h) event ≡ subjects.Zone zone.now → Stepped (daemons D.view N.view N.stored N.zones N.brands N.commits) place (cells.Zone zone.now cell.new) shared.new e h) }
+        ensures err { OnErr result (IsUndone D.view N.view N.stored zone.now event cell.old shared.old cell.new shared.new) }
     {
         shared.zone_step(self.alloc, zone, cell, event, hook)
     }
@@ -118,8 +118,8 @@ impl<'b, D: Disk, F: Fn(&Change) -> HookAnswer, N: Names> Daemons<'b, D, F, N> {
         requires sound { shared.old.bank.sound ≡ true }
         ensures event { IfOk result (λ e. e.event ≡ event) }
         ensures of { IfOk result (λ e. e.subject ≡ subjects.Global) }
-        ensures step { IfOk result (λ e. (p : ℕ) (h : List Entry) → zone_at N.zones p ≡ None → PartOf shared.old (commons (state_in N.brands N.commits h))
-            → subject (state_in N.brands N.commits h) event ≡ subjects.Global → Stepped (daemons D N.zones N.brands N.commits) p cells.Global shared.new e h) }
+        ensures step { IfOk result (λ e. (p : ℕ) (h : List Entry) → zone_at N.zones p ≡ None → Stands D.view N.view N.stored shared.old (commons (state_in N.brands N.commits h))
+            → subject (state_in N.brands N.commits h) event ≡ subjects.Global → Stepped (daemons D.view N.view N.stored N.zones N.brands N.commits) p cells.Global shared.new e h) }
         ensures err { OnErr result (shared.new ≡ shared.old) }
     {
         shared.global_step(self.alloc, event)
@@ -137,9 +137,9 @@ impl<'b, D: Disk, F: Fn(&Change) -> HookAnswer, N: Names> Daemons<'b, D, F, N> {
         requires ready { IsSet F.Fn N.zones N.brands self.now.zones.items self.now.brands.now }
         requires sound { shared.old.bank.sound ≡ true }
         requires heard { IsHeardIn N.brands cell.old heard }
-        ensures turn { IfOk result (IsTurnOf (daemons D N.zones N.brands N.commits) place) }
-        ensures step { IfOk result (λ e. (h : List Entry) → CellIn N.brands (cells.Zone zone.now cell.old) (place_world N.zones place (state_in N.brands N.commits h)) → PartOf shared.old (commons (state_in N.brands N.commits h)) → Stepped (daemons D N.zones N.brands N.commits) place (cells.Zone zone.now cell.new) shared.new e h) }
-        ensures err { OnErr result (Unfinished (daemons D N.zones N.brands N.commits) (cells.Zone zone.now cell.old) shared.old (cells.Zone zone.now cell.new) shared.new) }
+        ensures turn { IfOk result (IsTurnOf (daemons D.view N.view N.stored N.zones N.brands N.commits) place) }
+        ensures step { IfOk result (λ e. (h : List Entry) → CellIn N.brands (cells.Zone zone.now cell.old) (place_world N.zones place (state_in N.brands N.commits h)) → Stands D.view N.view N.stored shared.old (commons (state_in N.brands N.commits h)) → Stepped (daemons D.view N.view N.stored N.zones N.brands N.commits) place (cells.Zone zone.now cell.new) shared.new e h) }
+        ensures err { OnErr result (Unfinished (daemons D.view N.view N.stored N.zones N.brands N.commits) place (cells.Zone zone.now cell.old) shared.old (cells.Zone zone.now cell.new) shared.new) }
     {
         if !self.is_at(place, zone) {
             return Err(StepFault::Memory);
@@ -165,8 +165,9 @@ impl<'b, D: Disk, F: Fn(&Change) -> HookAnswer, N: Names> Daemons<'b, D, F, N> {
         ensures event { IfOk result (λ e. (e.event ≡ event) × (place_of N.zones e.subject ≡ place)) }
         ensures here { OnOk result (place_of N.zones (subjects.Zone zone.now) ≡ place) }
         ensures elsewhere { (p : ℕ) → result ≡ Err (Elsewhere p) → (p ≢ place) × (place_of N.zones (subjects.Zone zone.now) ≡ p) }
-        ensures step { IfOk result (λ e. (h : List Entry) → CellIn N.brands cell.old (place_world N.zones place (state_in N.brands N.commits h)) → PartOf shared.old (commons (state_in N.brands N.commits h)) → subject (state_in N.brands N.commits h) event ≡ subjects.Zone zone.now → Stepped (daemons D N.zones N.brands N.commits) place cell.new shared.new e h) }
-        ensures err { OnErr result (Unfinished (daemons D N.zones N.brands N.commits) cell.old shared.old cell.new shared.new) }
+        ensures step { IfOk result (λ e. (h : List Entry) → CellIn N.brands cell.old (place_world N.zones place (state_in N.brands N.commits h)) → Stands D.view N.view N.stored shared.old (commons (state_in N.brands N.commits h)) → subject (state_in N.brands N.commits h) event ≡ subjects.Zone zone.now → Stepped (daemons D.view N.view N.stored N.zones N.brands N.commits) place cell.new shared.new e h) }
+        ensures kept { OnErr result (shared.new.bank.sound ≡ true → (w : PlaceWorld) → CellIn N.brands cell.old w → CellIn N.brands cell.new w) }
+        ensures left { OnErr result ((h : List Entry) → CellIn N.brands cell.old (place_world N.zones place (state_in N.brands N.commits h)) → Stands D.view N.view N.stored shared.old (commons (state_in N.brands N.commits h)) → subject (state_in N.brands N.commits h) event ≡ subjects.Zone zone.now → Stands D.view N.view N.stored shared.new (commons (state_in N.brands N.commits h))) }
     {
         let at = self.place_of(zone);
         if at != place {
@@ -198,7 +199,7 @@ impl<'b, D: Disk, F: Fn(&Change) -> HookAnswer, N: Names> Daemons<'b, D, F, N> {
         ensures event { IfOk result (λ e. (e.event ≡ event) × (place_of N.zones e.subject ≡ place)) }
         ensures here { OnOk result (place_of N.zones subjects.Global ≡ place) }
         ensures elsewhere { (p : ℕ) → result ≡ Err (Elsewhere p) → (p ≢ place) × (place_of N.zones subjects.Global ≡ p) }
-        ensures step { IfOk result (λ e. (h : List Entry) → CellIn N.brands cell.now (place_world N.zones place (state_in N.brands N.commits h)) → PartOf shared.old (commons (state_in N.brands N.commits h)) → subject (state_in N.brands N.commits h) event ≡ subjects.Global → Stepped (daemons D N.zones N.brands N.commits) place cell.now shared.new e h) }
+        ensures step { IfOk result (λ e. (h : List Entry) → CellIn N.brands cell.now (place_world N.zones place (state_in N.brands N.commits h)) → Stands D.view N.view N.stored shared.old (commons (state_in N.brands N.commits h)) → subject (state_in N.brands N.commits h) event ≡ subjects.Global → Stepped (daemons D.view N.view N.stored N.zones N.brands N.commits) place cell.now shared.new e h) }
         ensures err { OnErr result (shared.new ≡ shared.old) }
     {
         if place != 1 {
@@ -231,7 +232,7 @@ impl<'b, D: Disk + Drop + Send, F, N: Names + Send> Zoned for Daemons<'b, D, F, 
 
     ghost use Rattle.daemon_threads.specs.Definitions.{daemons};
 
-    ghost machine = { daemons D N.zones N.brands N.commits };
+    ghost machine = { daemons D.view N.view N.stored N.zones N.brands N.commits };
 }
 
 impl<'b, D: Disk + Drop + Send, F: Fn(&Change) -> HookAnswer, N: Names + Send> Machine
@@ -309,5 +310,5 @@ impl<'b, D: Disk + Drop + Send, F: Fn(&Change) -> HookAnswer, N: Names + Send> M
         }
     }
 
-    ghost laws = { laws D N.zones N.brands N.commits N.apart };
+    ghost laws = { laws D.view N.view N.stored N.zones N.brands N.commits N.apart };
 }

@@ -1,11 +1,12 @@
 //! What a run of threads is about.
 use std::marker::Brand;
 
-/// What a run of threads is about: the zones that have a place, each once; the brands that there are; and what was stored before any
-/// event.
+/// What a run of threads is about: the zones that have a place, each once; the brands that there are; what was stored before any
+/// event; and what the disk was when the run began, with what was stored then.
 pub trait Names {
     ghost use Rattle.std.specs.Prelude.{List};
     ghost use Rattle.zn_base.specs.Names.{Name};
+    ghost use Rattle.zn_io.specs.Disk.{View};
     ghost use Rattle.brand_hooks.specs.Brands.{Tabled};
     ghost use Rattle.commit_journal.specs.declared.records.Commit.{Commit};
     ghost use Rattle.session_records.specs.Places.{AreApart};
@@ -16,18 +17,26 @@ pub trait Names {
 
     ghost commits: { List Commit };
 
+    ghost view: { View };
+
+    ghost stored: { List Commit };
+
     ghost apart: { AreApart zones };
 }
 
 impl Names for Brand {
     ghost use Rattle.std.specs.Prelude.{[]};
-    ghost use Rattle.daemon_threads.specs.Names.{none_apart};
+    ghost use Rattle.daemon_threads.specs.Names.{no_disk, none_apart};
 
     ghost zones = { [] };
 
     ghost brands = { [] };
 
     ghost commits = { [] };
+
+    ghost view = { no_disk };
+
+    ghost stored = { [] };
 
     ghost apart = { none_apart };
 }

@@ -8,7 +8,7 @@ ghost use Rattle.zone_cases.specs.declared.events.Subject.TheVariants as subject
 ghost use Rattle.zone_machine.specs.Code.Reads.{is_turn};
 ghost use Rattle.zone_machine.specs.Machine.Local.{is_busy};
 ghost use Rattle.zone_machine.specs.Machine.{subject};
-ghost use Rattle.daemon_threads.specs.Parts.{Answers, AreAsBefore, CellAnswers, PartOf, commons};
+ghost use Rattle.daemon_threads.specs.Parts.{Answers, CellAnswers, IsUndone, PartOf, Stands, commons};
 
 use crate::names::Names;
 use brand_hooks::HookAnswer;
@@ -81,8 +81,8 @@ impl<D: Disk, N: Names> SharedPart<D, N> {
         ensures event { IfOk result (λ entry. entry.event ≡ event) }
         ensures of { IfOk result (λ entry. entry.subject ≡ subjects.Zone zone.now) }
         ensures sound { OnOk result (self.new.bank.sound ≡ true) }
-        ensures step { IfOk result (λ entry. (S : State) → CellOf cell.old (world zone.now S) → PartOf self.old (commons S) → subject S event ≡ subjects.Zone zone.now → CellAnswers zone.now S event entry cell.new self.new) }
-        ensures err { OnErr result (self.new.bank.sound ≡ true → AreAsBefore cell.old self.old cell.new self.new) }
+        ensures step { IfOk result (λ entry. (S : State) → CellOf cell.old (world zone.now S) → Stands D.view N.view N.stored self.old (commons S) → subject S event ≡ subjects.Zone zone.now → CellAnswers D.view N.view N.stored zone.now S event entry cell.new self.new) }
+        ensures err { OnErr result (IsUndone D.view N.view N.stored zone.now event cell.old self.old cell.new self.new) }
     {
         self.shown.make_place(alloc, zone)?;
         let entry = cell_step(
@@ -103,7 +103,7 @@ impl<D: Disk, N: Names> SharedPart<D, N> {
         ensures event { IfOk result (λ entry. entry.event ≡ event) }
         ensures of { IfOk result (λ entry. entry.subject ≡ subjects.Global) }
         ensures sound { self.new.bank.sound ≡ self.old.bank.sound }
-        ensures step { IfOk result (λ entry. (S : State) → PartOf self.old (commons S) → subject S event ≡ subjects.Global → Answers S event entry self.new) }
+        ensures step { IfOk result (λ entry. self.old.bank.sound ≡ true → (S : State) → Stands D.view N.view N.stored self.old (commons S) → subject S event ≡ subjects.Global → Answers D.view N.view N.stored S event entry self.new) }
         ensures err { OnErr result (self.new ≡ self.old) }
     {
         global_step(alloc, &mut self.shared, &self.shown, event)

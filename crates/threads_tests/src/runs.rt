@@ -61,7 +61,7 @@ impl Gate for Meeting {
 
 // So many zones, none of which is busy.
 fn cells(alloc: Global, many: u32) -> Result<Vec<Cell>, AllocError>
-    ensures { IfOk result (λ v. (length v.items ≡ many) × IsOpening toy [] v.items) }
+    ensures { IfOk result (λ v. (length v.items ≡ many) × IsOpening toy (λ s. s ≡ []) v.items) }
 {
     let mut cells = Vec::new(alloc);
     for _ in 0..many {

@@ -23,9 +23,9 @@ pub struct Fresh<L> {
 }
 
 impl<L: Lines> Start<Toy> for Fresh<L> {
-    ghost use Rattle.std.specs.Prelude.{[]};
+    ghost use Rattle.std.specs.Prelude.{◌≡◌, []};
 
-    ghost start = { [] };
+    ghost starts = { λ s. s ≡ [] };
 
     ghost scripts = { L.lines };
 }

@@ -12,7 +12,7 @@ use Rattle.zone_turn.specs.declared.views.Role.TheVariants.{First, Other, Spent}
 use Rattle.zone_threads.specs.Folds.{all_right}
 use Rattle.zone_threads.specs.Ends.{AreAll, Ended, Finished, HasAll, IsBack, IsScript, LeftBy, back, log_of, pair, pairs, roster}
 use Rattle.zone_threads.specs.Machines.{Definitions, Laws}
-use Rattle.zone_threads.specs.Records.{Stands}
+use Rattle.zone_threads.specs.Records.{Stands, StandsFrom}
 use Rattle.zone_threads.specs.Zones.{left_by}
 use Rattle.zone_threads.specs.declared.tally.Progress.{Progress}
 use Rattle.zone_threads.specs.declared.run.Script.{Script}
@@ -61,12 +61,12 @@ module _ {Cell Entry : Type 0} (by : Entry → ℕ) where
       here rest (inl (suc k, es, is)) false q = rw q (rest (inl (k, es, is)))
 
 module _ {State Cell Shared Line Entry Heard : Type 0} (D : Definitions State Cell Shared Line Entry Heard) (L : Laws D) where
-  backs_of : (start : State) (h : List Entry) (logs : List (Log Cell Entry)) → all_right D.right D.one start h ≡ true → All (λ (k : ℕ × List Entry). own D.by k.0 h ≡ k.1) (pairs logs) → All (LeftBy D start) logs → All (IsBack D start h) (map back logs)
-  backs_of start h [] legal all left = All-nil (IsBack D start h)
-  backs_of start h (l ∷ ls) legal all left =
+  backs_of : (starts : State → Type 0) (start : State) (from : starts start) (h : List Entry) (logs : List (Log Cell Entry)) → all_right D.right D.one start h ≡ true → All (λ (k : ℕ × List Entry). own D.by k.0 h ≡ k.1) (pairs logs) → All (LeftBy D starts) logs → All (IsBack D start h) (map back logs)
+  backs_of starts start from h [] legal all left = All-nil (IsBack D start h)
+  backs_of starts start from h (l ∷ ls) legal all left =
       All-cons (IsBack D start h) (back l) (map back ls)
-      (λ m. subst (D.cell_of l.cell) (sym (own_world D L l.place start h legal ∙ ap (left_by D start l.place) (all 0 (pair l) (omega arith)))) (left 0 l (omega arith) m))
-      (backs_of start h ls legal (λ k d n. all (suc k) d (omega arith)) (λ k d n. left (suc k) d (omega arith)))
+      (λ m. subst (D.cell_of l.cell) (sym (own_world D L l.place start h legal ∙ ap (left_by D start l.place) (all 0 (pair l) (omega arith)))) (left 0 l (omega arith) start from m))
+      (backs_of starts start from h ls legal (λ k d n. all (suc k) d (omega arith)) (λ k d n. left (suc k) d (omega arith)))
 
 -- the cells are all there
 module _ {Cell Entry : Type 0} where
@@ -98,17 +98,17 @@ module _ {Cell Entry : Type 0} where
       }
 
 module _ {State Cell Shared Line Entry Heard : Type 0} (D : Definitions State Cell Shared Line Entry Heard) (L : Laws D) where
-  pub ended : (start : State) (scripts : ℕ → List Line) (zones : ℕ) (m : Shared) (ts : List Progress) (rs : List (ℕ × ℕ)) (logs : List (Log Cell Entry)) (v : View Entry) (made : ℕ) (h : List Entry)
-      → Stands D start scripts m ts rs h → own D.by 0 h ≡ v.list → All (λ (k : ℕ × List Entry). own D.by k.0 h ≡ k.1) (kept_of v.role) → Apart (kept_of v.role) → ((n : ℕ) → n ≢ 0 → IsKept (kept_of v.role) n ⊎ (own D.by n h ≡ []))
-      → v.list ≡ [] → v.role ≡ First (roster made 0 (pairs logs)) → All (LeftBy D start) logs → All (λ (l : Log Cell Entry). l.place ≤ zones) logs → length logs ≡ zones → Ended D start scripts zones m ts rs logs
-  ended start scripts zones m ts rs logs v made h stands first all differ_all others empty role left near count =
+  pub ended : (starts : State → Type 0) (scripts : ℕ → List Line) (zones : ℕ) (m : Shared) (ts : List Progress) (rs : List (ℕ × ℕ)) (logs : List (Log Cell Entry)) (v : View Entry) (made : ℕ) (h : List Entry)
+      → StandsFrom D starts scripts m ts rs h → own D.by 0 h ≡ v.list → All (λ (k : ℕ × List Entry). own D.by k.0 h ≡ k.1) (kept_of v.role) → Apart (kept_of v.role) → ((n : ℕ) → n ≢ 0 → IsKept (kept_of v.role) n ⊎ (own D.by n h ≡ []))
+      → v.list ≡ [] → v.role ≡ First (roster made 0 (pairs logs)) → All (LeftBy D starts) logs → All (λ (l : Log Cell Entry). l.place ≤ zones) logs → length logs ≡ zones → Ended D starts scripts zones m ts rs logs
+  ended starts scripts zones m ts rs logs v made h stands first all differ_all others empty role left near count =
       let kept : kept_of v.role ≡ pairs logs = ap kept_of role in
       let mine : All (λ (k : ℕ × List Entry). own D.by k.0 h ≡ k.1) (pairs logs) = subst (All (λ (k : ℕ × List Entry). own D.by k.0 h ≡ k.1)) kept all in
       record {
         h = h;
-        stands = stands;
+        stands = stands.each;
         each = λ p. kept_log D.by h p logs mine (at p);
-        backs = backs_of D L start h logs stands.middle.legal mine left;
+        backs = λ start from. backs_of D L starts start from h logs (stands.each start from).middle.legal mine left;
         all_back = all_there zones logs (subst Apart kept differ_all) near count;
       }
     where

@@ -1,5 +1,5 @@
 -- What one event keeps.
-use Rattle.std.proofs.Common.{◌≡◌, ◌≢◌, ℕ, ◌-◌, ◌<◌, ◌&&◌, not, Bool, true, false, List, [], ◌∷◌, ◌++◌, map, length, take, drop, replicate, sym, refl, ap, ◌∙◌, subst, arith, zero, suc, slice_get, slice_index_or, Some, None, is_some}
+use Rattle.std.proofs.Common.{◌≡◌, ◌≢◌, ℕ, ◌-◌, ◌<◌, ◌≤◌, ◌&&◌, not, Bool, true, false, List, [], ◌∷◌, ◌++◌, map, length, take, drop, replicate, sym, refl, ap, ◌∙◌, subst, arith, zero, suc, slice_get, slice_index_or, Some, None, is_some}
 use Rattle.std.specs.List.{All}
 use Rattle.std.proofs.lemmas.List.Elements.{All-append, All-cons, All-nil}
 use Rattle.std.proofs.lemmas.List.{append_assoc, drop-append-le, length-drop, take-append-drop, take_all}
@@ -7,7 +7,7 @@ use mathlib.Core.List.{map-append}
 use Rattle.zone_turn.specs.Histories.{own}
 use Rattle.zone_threads.specs.Folds.{all_right, folded}
 use Rattle.zone_threads.specs.Machines.{Definitions, IsLineOf, IsTurnOf, Laws, Stepped, Unfinished}
-use Rattle.zone_threads.specs.Records.{Middle, Stands, spread}
+use Rattle.zone_threads.specs.Records.{Middle, Stands, StandsFrom, spread}
 use Rattle.zone_threads.specs.Scripts.{TallyOf, beginning, fresh, is_line_at, may, noted, progress_one, session}
 use Rattle.zone_threads.specs.Zones.{Did, Logged, left_by}
 use Rattle.zone_threads.specs.declared.tally.Progress.{Progress}
@@ -62,6 +62,11 @@ module _ {State Cell Shared Line Entry Heard : Type 0} (D : Definitions State Ce
       let inside : n < length ts = subst (λ k. n < k) wide near in
       each n inside ∙ (ap (λ x. progress_one n x p (D.told e)) (tally n inside) ∙ ap (λ q. progress_one n (t n) q (D.told e)) (sym mine))
 
+  -- an entry more of a place
+  pub mine_more : (p given : ℕ) (log log' : List Entry) (e : Entry) → given ≤ length log → log' ≡ log ++ e ∷ [] → D.by e ≡ p → All (λ (x : Entry). D.by x ≡ p) (drop given log) → All (λ (x : Entry). D.by x ≡ p) (drop given log')
+  mine_more p given log log' e within grown is mine = subst (All (λ (x : Entry). D.by x ≡ p)) (sym (ap (drop given) grown ∙ drop-append-le given log (e ∷ []) within))
+      (All-append (λ (x : Entry). D.by x ≡ p) (drop given log) (e ∷ []) mine (All-cons (λ (x : Entry). D.by x ≡ p) e [] is (All-nil (λ (x : Entry). D.by x ≡ p))))
+
   -- what was read of a log is the rest of it
   pub noted_rest : (p given : ℕ) (log read : List Entry) (ts ts1 : List Progress) → read ≡ log
       → ((t : ℕ → Progress) → All (λ (e : Entry). D.by e ≡ p) (take (length read - given) (drop given read)) → TallyOf ts t → TallyOf ts1 (folded (noted D) t (take (length read - given) (drop given read))))
@@ -69,8 +74,8 @@ module _ {State Cell Shared Line Entry Heard : Type 0} (D : Definitions State Ce
   noted_rest p given log read ts ts1 is noting = subst (λ (l : List Entry). (t : ℕ → Progress) → All (λ (e : Entry). D.by e ≡ p) l → TallyOf ts t → TallyOf ts1 (folded (noted D) t l)) (rest_is given read ∙ ap (drop given) is) noting
 
   -- what is as it was stands for what it stood for
-  pub stands_same : (start : State) (scripts : ℕ → List Line) (m m' : Shared) (ts ts' : List Progress) (rs rs' : List (ℕ × ℕ)) (h : List Entry) → m' ≡ m → ts' ≡ ts → rs' ≡ rs → Stands D start scripts m ts rs h → Stands D start scripts m' ts' rs' h
-  stands_same start scripts m m' ts ts' rs rs' h a b c = subst (λ (T : Type 0). T) (sym (λ i. Stands D start scripts (a i) (b i) (c i) h))
+  pub from_same : (starts : State → Type 0) (scripts : ℕ → List Line) (m m' : Shared) (ts ts' : List Progress) (rs rs' : List (ℕ × ℕ)) (h : List Entry) → m' ≡ m → ts' ≡ ts → rs' ≡ rs → StandsFrom D starts scripts m ts rs h → StandsFrom D starts scripts m' ts' rs' h
+  from_same starts scripts m m' ts ts' rs rs' h a b c = subst (λ (T : Type 0). T) (sym (λ i. StandsFrom D starts scripts (a i) (b i) (c i) h))
 
   -- a session's next line was done
   pub line_done : (scripts : ℕ → List Line) (p s number : ℕ) (line : Line) (k : Cell) (m : Shared) (ts ts' : List Progress) (e : Entry) (S : State) (t : ℕ → Progress) → Stepped D p k m e S → IsLineOf D p s line e → s ≢ 0 → slice_get (scripts s) number ≡ Some line

@@ -54,30 +54,30 @@ module _ {Cell Entry : Type 0} where
     pub each : (p : ℕ) → own by p rest ≡ log_of logs p
 
 module _ {State Cell Shared Line Entry Heard : Type 0} (D : Definitions State Cell Shared Line Entry Heard) where
-  -- unless it is marked, the cell stands for the world that the log leaves
-  abbrev pub LeftBy : State → Log Cell Entry → Type 0
-  LeftBy start l = l.marked ≡ false → D.cell_of l.cell (left_by D start l.place l.entries.items)
+  -- from each of some states on: unless it is marked, the cell stands for the world that the log leaves
+  abbrev pub LeftBy : (State → Type 0) → Log Cell Entry → Type 0
+  LeftBy starts l = (start : State) → starts start → l.marked ≡ false → D.cell_of l.cell (left_by D start l.place l.entries.items)
 
   -- unless it is marked, it stands for its world after the history
   abbrev pub IsBack : State → List Entry → Back Cell → Type 0
   IsBack start h b = b.marked ≡ false → D.cell_of b.cell (D.world b.place (folded D.one start h))
 
-  -- the cells stand for what the zones of the places 1, 2 and so on begin with
-  abbrev pub IsOpening : State → List Cell → Type 0
-  IsOpening start cells = (i : ℕ) (d : Cell) → i < length cells → D.cell_of (slice_index_or cells i d) (D.world (i + 1) start)
+  -- the cells stand for what the zones of the places 1, 2 and so on begin with in each of some states
+  abbrev pub IsOpening : (State → Type 0) → List Cell → Type 0
+  IsOpening starts cells = (start : State) → starts start → (i : ℕ) (d : Cell) → i < length cells → D.cell_of (slice_index_or cells i d) (D.world (i + 1) start)
 
   -- there is one history for which the part stands, the logs are the entries of each place in it, and the cells are all there
-  pub record Ended (start : State) (scripts : ℕ → List Line) (zones : ℕ) (m : Shared) (ts : List Progress) (rs : List (ℕ × ℕ)) (logs : List (Log Cell Entry)) : Type 0 where
+  pub record Ended (starts : State → Type 0) (scripts : ℕ → List Line) (zones : ℕ) (m : Shared) (ts : List Progress) (rs : List (ℕ × ℕ)) (logs : List (Log Cell Entry)) : Type 0 where
     pub h : List Entry
-    pub stands : Stands D start scripts m ts rs h
+    pub stands : (start : State) → starts start → Stands D start scripts m ts rs h
     pub each : (p : ℕ) → own D.by p h ≡ log_of logs p
-    pub backs : All (IsBack start h) (map back logs)
+    pub backs : (start : State) → starts start → All (IsBack start h) (map back logs)
     pub all_back : AreAll zones (map back logs)
 
-  -- a history that keeps to the scripts, and the cells after it
-  pub record Over (start : State) (scripts : ℕ → List Line) (zones : ℕ) (m : Shared) (h : List Entry) (cells : List (Back Cell)) : Type 0 where
-    pub middle : Middle D start scripts m h
-    pub backs : All (IsBack start h) cells
+  -- a history that keeps to the scripts from each of some states on, and the cells after it
+  pub record Over (starts : State → Type 0) (scripts : ℕ → List Line) (zones : ℕ) (m : Shared) (h : List Entry) (cells : List (Back Cell)) : Type 0 where
+    pub middle : (start : State) → starts start → Middle D start scripts m h
+    pub backs : (start : State) → starts start → All (IsBack start h) cells
     pub there : AreAll zones cells
 
   abbrev pub HasAll : List Entry → ℕ → ℕ → Type 0

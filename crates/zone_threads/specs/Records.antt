@@ -22,3 +22,8 @@ module _ {State Cell Shared Line Entry Heard : Type 0} (D : Definitions State Ce
     pub tally : TallyOf ts (folded (noted D) beginning h)
     pub wide : length ts ≡ 65
     pub order : spread rs ≡ map D.by h
+
+  -- from each of some states on
+  pub record StandsFrom (starts : State → Type 0) (scripts : ℕ → List Line) (m : Shared) (ts : List Progress) (rs : List (ℕ × ℕ)) (h : List Entry) : Type 0 where
+    pub wide : length ts ≡ 65
+    pub each : (start : State) → starts start → Stands start scripts m ts rs h

@@ -1,6 +1,7 @@
 -- What a zone under its lock keeps.
 use Rattle.std.specs.Prelude.{◌≡◌, ◌≢◌, Err, None, Ok, Option, Result, Some, ℕ, ◌≤◌, Bool, true, false, List, length, take, drop}
 use Rattle.atomic_table.specs.Seated.{TableId}
+use Rattle.std.specs.List.{All}
 use Rattle.zone_turn.specs.Passes.{Holder, is_idle}
 use Rattle.zone_threads.specs.Folds.{folded, all_right}
 use Rattle.zone_threads.specs.Machines.{Definitions}
@@ -31,8 +32,11 @@ module _ {State Cell Shared Line Entry Heard : Type 0} (D : Definitions State Ce
     pub locals : all_right (D.is_local p) D.world_one (left_by start p (take given log)) (drop given log) ≡ true
     pub stands : marked ≡ false → D.cell_of cell (left_by start p log)
 
-  pub record IsZone (start : State) (turn : TableId) (p : ℕ) (cell : Cell) (log : List Entry) (given : ℕ) (marked : Bool) (holder : Holder Entry) : Type 0 where
-    pub logged : Logged start p cell log given marked
+  -- so it is from each of some states on, and the entries since the last give are of its place
+  pub record IsZone (starts : State → Type 0) (turn : TableId) (p : ℕ) (cell : Cell) (log : List Entry) (given : ℕ) (marked : Bool) (holder : Holder Entry) : Type 0 where
+    pub near : given ≤ length log
+    pub mine : All (λ (e : Entry). D.by e ≡ p) (drop given log)
+    pub logged : (start : State) → starts start → Logged start p cell log given marked
     pub seated : Seated turn p (take given log) holder
 
   -- what a step of a zone left, from whatever state and progress

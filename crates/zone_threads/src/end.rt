@@ -25,7 +25,7 @@ fn deal<M: Machine, J: Start<M>, K: Place>(
     zones: &mut Vec<Mutex<Zone<M, J, K>>>,
 )
     requires turn { (turn.now ≡ K.turn) × (first.old.turn ≡ K.turn) × (first.old.knows ≡ first_view) }
-    requires cells { IsOpening M.machine J.start cells.items }
+    requires cells { IsOpening M.machine J.starts cells.items }
     requires zones { length cells.items ≤ K.zones }
     requires room { (length cells.items < PASSES_OUT_MAX) × (vec_len zones.old ≡ 0) × (length cells.items ≤ vec_capacity zones.old) }
     ensures turn { (first.new.turn ≡ K.turn) × (is_idle first.new.knows ≡ true) × (first.new.knows.list ≡ []) }
@@ -86,7 +86,7 @@ fn end_zone<M: Machine, J: Start<M>, K: Place, W: Wait>(
     ensures logs { vec_len logs.new ≡ vec_len logs.old + 1 }
     ensures capacity { vec_capacity logs.new ≡ vec_capacity logs.old }
     ensures roster { (made out : ℕ) → first.old.knows.role ≡ First (roster made (out + 1) (pairs logs.old.items)) → first.new.knows.role ≡ First (roster made out (pairs logs.new.items)) }
-    ensures cells { All (LeftBy M.machine J.start) logs.old.items → All (LeftBy M.machine J.start) logs.new.items }
+    ensures cells { All (LeftBy M.machine J.starts) logs.old.items → All (LeftBy M.machine J.starts) logs.new.items }
     ensures near { All (λ l. l.place ≤ K.zones) logs.old.items → All (λ l. l.place ≤ K.zones) logs.new.items }
 {
     let (pass, log) = zone.into_inner().end(rt, machine, turn);
@@ -113,7 +113,7 @@ fn gather<M: Machine, J: Start<M>, K: Place, W: Wait>(
     ensures list { first.new.knows.list ≡ first.old.knows.list }
     ensures count { vec_len logs.new ≡ vec_len zones }
     ensures roster { (made : ℕ) → first.old.knows.role ≡ First (roster made (vec_len zones) []) → first.new.knows.role ≡ First (roster made 0 (pairs logs.new.items)) }
-    ensures cells { All (LeftBy M.machine J.start) logs.new.items }
+    ensures cells { All (LeftBy M.machine J.starts) logs.new.items }
     ensures near { All (λ l. l.place ≤ K.zones) logs.new.items }
 {
     while let Some(zone) = zones.pop() {
@@ -137,7 +137,7 @@ fn finish<M: Machine, J: Start<M>, K: Place, W: Wait>(
     requires first { first.knows.role ≡ First (roster (vec_len zones + 1) (vec_len zones) []) }
     requires zones { vec_len zones ≡ K.zones }
     requires room { (logs.old.items ≡ []) × (vec_len zones ≤ vec_capacity logs.old) }
-    ensures { Ended M.machine J.start J.scripts K.zones result.shared result.tally.items result.order.items logs.new.items }
+    ensures { Ended M.machine J.starts J.scripts K.zones result.shared result.tally.items result.order.items logs.new.items }
 {
     gather(rt, machine, &turn, &mut first, zones, logs);
     turn.close(first)
@@ -220,11 +220,11 @@ pub(crate) fn worked<
 ) -> Part<M, J>
     requires ready { M.ready machine.now }
     requires turn { (turn ≡ K.turn) × (first.turn ≡ K.turn) × (first.knows ≡ first_view) }
-    requires cells { IsOpening M.machine J.start cells.items }
+    requires cells { IsOpening M.machine J.starts cells.items }
     requires scripts { All (IsScript J.scripts) scripts.now }
     requires zones { length cells.items ≡ K.zones }
     requires room { (length cells.items < PASSES_OUT_MAX) × (vec_len zones ≡ 0) × (length cells.items ≤ vec_capacity zones) × (logs.old.items ≡ []) × (length cells.items ≤ vec_capacity logs.old) }
-    ensures { Ended M.machine J.start J.scripts K.zones result.shared result.tally.items result.order.items logs.new.items }
+    ensures { Ended M.machine J.starts J.scripts K.zones result.shared result.tally.items result.order.items logs.new.items }
 {
     deal(alloc, &turn, &mut first, cells, &mut zones);
     work_all(rt, alloc, machine, gate, &turn, zones.as_slice(), scripts);

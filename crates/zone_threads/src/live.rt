@@ -108,11 +108,11 @@ fn joined<M: Machine, J: Start<M>, K: Place>(
     mut cells: Vec<Back<M::Cell>>,
     scripts: &[Script<M::Line>],
 ) -> Result<Lived<M>, M::Shared>
-    requires ended { Ended M.machine J.start J.scripts K.zones part.shared part.tally.items part.order.items logs.items }
+    requires ended { Ended M.machine J.starts J.scripts K.zones part.shared part.tally.items part.order.items logs.items }
     requires room { (cells.items ≡ []) × (vec_len logs ≤ vec_capacity cells) }
-    ensures over { IfOk result (λ r. Over M.machine J.start J.scripts K.zones r.shared r.entries.items r.cells.items) }
-    ensures finished { IfOk result (λ r. r.ended ≡ None → All (λ x. HasAll M.machine r.entries.items x.session (length x.lines.items)) scripts.now) }
-    ensures memory { IfErr result (λ m. (h : List M.Entry) × Middle M.machine J.start J.scripts m h) }
+    ensures over { IfOk result (λ r. Over M.machine J.starts J.scripts K.zones r.shared r.entries.items r.cells.items) }
+    ensures finished { IfOk result (λ r. (start : M.State) → J.starts start → r.ended ≡ None → All (λ x. HasAll M.machine r.entries.items x.session (length x.lines.items)) scripts.now) }
+    ensures memory { IfErr result (λ m. (h : List M.Entry) × ((start : M.State) → J.starts start → Middle M.machine start J.scripts m h)) }
 {
     let is_finished = all_done(&part.tally, scripts);
     match merged(part.room, &part.order, &mut logs) {
@@ -150,14 +150,14 @@ fn placed<
 ) -> Result<Lived<M>, M::Shared>
     requires ready { M.ready machine.now }
     requires turn { (turn ≡ K.turn) × (first.turn ≡ K.turn) × (first.knows ≡ first_view) }
-    requires cells { IsOpening M.machine J.start cells.items }
+    requires cells { IsOpening M.machine J.starts cells.items }
     requires scripts { All (IsScript J.scripts) scripts.now }
     requires zones { length cells.items ≡ K.zones }
     requires few { length cells.items < PASSES_OUT_MAX }
     requires room { (logs.items ≡ []) × (length cells.items ≤ vec_capacity logs) × (backs.items ≡ []) × (length cells.items ≤ vec_capacity backs) }
-    ensures over { IfOk result (λ r. Over M.machine J.start J.scripts K.zones r.shared r.entries.items r.cells.items) }
-    ensures finished { IfOk result (λ r. r.ended ≡ None → All (λ x. HasAll M.machine r.entries.items x.session (length x.lines.items)) scripts.now) }
-    ensures memory { IfErr result (λ m. (h : List M.Entry) × Middle M.machine J.start J.scripts m h) }
+    ensures over { IfOk result (λ r. Over M.machine J.starts J.scripts K.zones r.shared r.entries.items r.cells.items) }
+    ensures finished { IfOk result (λ r. (start : M.State) → J.starts start → r.ended ≡ None → All (λ x. HasAll M.machine r.entries.items x.session (length x.lines.items)) scripts.now) }
+    ensures memory { IfErr result (λ m. (h : List M.Entry) × ((start : M.State) → J.starts start → Middle M.machine start J.scripts m h)) }
 {
     let Ok(zones) = Vec::with_capacity(alloc, cells.len()) else {
         return Err(turn.close(first).shared);
@@ -184,13 +184,13 @@ fn started<
     scripts: &[Script<M::Line>],
 ) -> Result<Lived<M>, M::Shared>
     requires ready { M.ready machine.now }
-    requires cells { IsOpening M.machine J.start cells.items }
-    requires shared { M.machine.shared_of shared (M.machine.common J.start) }
+    requires cells { IsOpening M.machine J.starts cells.items }
+    requires shared { (start : M.State) → J.starts start → M.machine.shared_of shared (M.machine.common start) }
     requires scripts { All (IsScript J.scripts) scripts.now }
     requires few { length cells.items < PASSES_OUT_MAX }
-    ensures over { IfOk result (λ r. Over M.machine J.start J.scripts (length cells.items) r.shared r.entries.items r.cells.items) }
-    ensures finished { IfOk result (λ r. r.ended ≡ None → All (λ x. HasAll M.machine r.entries.items x.session (length x.lines.items)) scripts.now) }
-    ensures memory { IfErr result (λ m. (h : List M.Entry) × Middle M.machine J.start J.scripts m h) }
+    ensures over { IfOk result (λ r. Over M.machine J.starts J.scripts (length cells.items) r.shared r.entries.items r.cells.items) }
+    ensures finished { IfOk result (λ r. (start : M.State) → J.starts start → r.ended ≡ None → All (λ x. HasAll M.machine r.entries.items x.session (length x.lines.items)) scripts.now) }
+    ensures memory { IfErr result (λ m. (h : List M.Entry) × ((start : M.State) → J.starts start → Middle M.machine start J.scripts m h)) }
 {
     let zones = cells.len();
     let Ok(tally) = fresh_tally(alloc) else {
@@ -238,17 +238,17 @@ pub fn run_scripts<
     scripts: &[Script<M::Line>],
 ) -> Result<Lived<M>, M::Shared>
     requires ready { M.ready machine.now }
-    requires cells { IsOpening M.machine J.start cells.items }
-    requires shared { M.machine.shared_of shared (M.machine.common J.start) }
+    requires cells { IsOpening M.machine J.starts cells.items }
+    requires shared { (start : M.State) → J.starts start → M.machine.shared_of shared (M.machine.common start) }
     requires scripts { All (IsScript J.scripts) scripts.now }
     requires others { (s : ℕ) → All (λ x. x.session ≢ s) scripts.now → J.scripts s ≡ [] }
     requires few { (length cells.items < PASSES_OUT_MAX) × ((s : ℕ) → length (J.scripts s) < 2 ^ 64) }
-    ensures partial { IfOk result (λ r. IsPartial M.machine J.start J.scripts r.entries.items) }
-    ensures record { IfOk result (λ r. r.ended ≡ None → IsRecord M.machine J.start J.scripts r.entries.items) }
-    ensures shared { IfOk result (λ r. M.machine.shared_of r.shared (M.machine.common (folded M.machine.one J.start r.entries.items))) }
-    ensures cells { IfOk result (λ r. All (IsBack M.machine J.start r.entries.items) r.cells.items) }
+    ensures partial { IfOk result (λ r. (start : M.State) → J.starts start → IsPartial M.machine start J.scripts r.entries.items) }
+    ensures record { IfOk result (λ r. (start : M.State) → J.starts start → r.ended ≡ None → IsRecord M.machine start J.scripts r.entries.items) }
+    ensures shared { IfOk result (λ r. (start : M.State) → J.starts start → M.machine.shared_of r.shared (M.machine.common (folded M.machine.one start r.entries.items))) }
+    ensures cells { IfOk result (λ r. (start : M.State) → J.starts start → All (IsBack M.machine start r.entries.items) r.cells.items) }
     ensures there { IfOk result (λ r. AreAll (length cells.items) r.cells.items) }
-    ensures memory { IfErr result (λ m. (h : List M.Entry) × IsPartial M.machine J.start J.scripts h × M.machine.shared_of m (M.machine.common (folded M.machine.one J.start h))) }
+    ensures memory { IfErr result (λ m. (h : List M.Entry) × ((start : M.State) → J.starts start → IsPartial M.machine start J.scripts h × M.machine.shared_of m (M.machine.common (folded M.machine.one start h)))) }
 {
     started::<M, J, R, G>(rt, alloc, machine, gate, cells, shared, scripts)
 }

@@ -91,6 +91,7 @@ pub trait Machine: Zoned {
         place: u32,
     ) -> Result<Option<Self::Entry>, AllocError>
         requires ready { ready self.now }
+        ensures turn { IfOk result (λ turn. IfSome turn (IsTurnOf Self.machine place)) }
         ensures some { IfOk result (λ turn. IfSome turn (λ e. (w : Self.machine.World) → Self.machine.cell_of cell.old w → Turned Self.machine place cell.new e w)) }
         ensures none { IfOk result (λ turn. IsNone turn → (w : Self.machine.World) → Self.machine.cell_of cell.old w → Self.machine.cell_of cell.new w) }
         ensures err { OnErr result ((w : Self.machine.World) → Self.machine.cell_of cell.old w → Self.machine.cell_of cell.new w) };

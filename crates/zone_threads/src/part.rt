@@ -7,11 +7,11 @@ use std::alloc::AllocError;
 use std::marker::{Brand, PhantomData};
 use zone_turn::Storied;
 
-/// What all began with: the state, and the lines of each session by its number.
+/// What all began with: one of these states, whichever it was, and the lines of each session by its number.
 pub trait Start<M: Zoned> {
     ghost use Rattle.std.specs.Prelude.{ℕ, List};
 
-    ghost start: { M.State };
+    ghost starts: { M.State → Type 0 };
 
     ghost scripts: { ℕ → List M.Line };
 }
@@ -54,11 +54,11 @@ pub struct Part<M: Zoned, J: Start<M>> {
 }
 
 impl<M: Zoned, J: Start<M>> Storied for Part<M, J> {
-    ghost use Rattle.zone_threads.specs.Records.{Stands};
+    ghost use Rattle.zone_threads.specs.Records.{StandsFrom};
 
     type Entry = M::Entry;
 
-    ghost stands_for = { λ p h. Stands M.machine J.start J.scripts p.shared p.tally.items p.order.items h };
+    ghost stands_for = { λ p h. StandsFrom M.machine J.starts J.scripts p.shared p.tally.items p.order.items h };
 
     ghost belongs_to = { λ e. M.machine.by e };
 }

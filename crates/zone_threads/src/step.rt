@@ -88,6 +88,7 @@ fn try_turn<M: Machine, J: Start<M>>(
     requires sound { M.machine.is_sound part.old.shared ≡ true }
     requires few { length part.old.tally.items ≤ 65 }
     requires heard { M.machine.heard cell.old heard }
+    ensures mine { IfOk result (λ e. M.machine.by e ≡ place) }
     ensures did { IfOk result (Does M.machine J.scripts place cell.old part.old.shared part.old.tally.items cell.new part.new.shared part.new.tally.items) }
     ensures tally { OnErr result (part.new.tally ≡ part.old.tally) }
     ensures same { OnErr result (Unfinished M.machine place cell.old part.old.shared cell.new part.new.shared) }
@@ -134,6 +135,7 @@ fn try_line<M: Machine, J: Start<M>>(
     requires sound { M.machine.is_sound part.old.shared ≡ true }
     requires few { length part.old.tally.items ≤ 65 }
     requires script { (session ≢ 0) × (lines.now ≡ J.scripts session) }
+    ensures mine { IfOk result (λ e. M.machine.by e ≡ place) }
     ensures did { IfOk result (Does M.machine J.scripts place cell.old part.old.shared part.old.tally.items cell.new part.new.shared part.new.tally.items) }
     ensures tally { OnErr result (part.new.tally ≡ part.old.tally) }
     ensures same { OnErr result (Unfinished M.machine place cell.old part.old.shared cell.new part.new.shared) }
@@ -172,6 +174,7 @@ fn attempt<M: Machine, J: Start<M>>(
     requires sound { M.machine.is_sound part.old.shared ≡ true }
     requires few { length part.old.tally.items ≤ 65 }
     requires job { IsJob M.machine J.scripts session lines.now cell.old job }
+    ensures mine { IfOk result (λ e. M.machine.by e ≡ place) }
     ensures did { IfOk result (Does M.machine J.scripts place cell.old part.old.shared part.old.tally.items cell.new part.new.shared part.new.tally.items) }
     ensures tally { OnErr result (part.new.tally ≡ part.old.tally) }
     ensures same { OnErr result (Unfinished M.machine place cell.old part.old.shared cell.new part.new.shared) }
@@ -217,8 +220,9 @@ pub(crate) fn act<M: Machine, J: Start<M>>(
     requires job { IsJob M.machine J.scripts session lines.now cell.old job }
     requires room { (given ≤ vec_len log.old) × (vec_len log.old < vec_capacity log.old) × (vec_len part.old.order < vec_capacity part.old.order) }
     ensures grown { (new : List M.Entry) × (log.new.items ≡ log.old.items ++ new) }
-    ensures stands { (h : List M.Entry) → Stands M.machine J.start J.scripts part.old.shared part.old.tally.items part.old.order.items h → own M.machine.by place h ≡ take given log.old.items → Logged M.machine J.start place cell.old log.old.items given marked.old
-        → Stands M.machine J.start J.scripts part.new.shared part.new.tally.items part.new.order.items (h ++ drop given log.new.items) × All (λ e. M.machine.by e ≡ place) (drop given log.new.items) × (marked.new ≡ false → M.machine.cell_of cell.new (left_by M.machine J.start place log.new.items)) }
+    ensures mine { All (λ e. M.machine.by e ≡ place) (drop given log.old.items) → All (λ e. M.machine.by e ≡ place) (drop given log.new.items) }
+    ensures stands { (start : M.State) (h : List M.Entry) → Stands M.machine start J.scripts part.old.shared part.old.tally.items part.old.order.items h → own M.machine.by place h ≡ take given log.old.items → Logged M.machine start place cell.old log.old.items given marked.old
+        → Stands M.machine start J.scripts part.new.shared part.new.tally.items part.new.order.items (h ++ drop given log.new.items) × All (λ e. M.machine.by e ≡ place) (drop given log.new.items) × (marked.new ≡ false → M.machine.cell_of cell.new (left_by M.machine start place log.new.items)) }
     ensures wide { length part.new.tally.items ≡ length part.old.tally.items }
 {
     note_all(machine, &mut part.tally, place, &log[given..]);

@@ -50,14 +50,14 @@ impl<M: Zoned, J: Start<M>, K: Place> Model for Zone<M, J, K> {
 
     ghost view = { λ z. (z.place, z.log.items) };
 
-    ghost invariant = { λ z. IsZone M.machine J.start K.turn z.place z.cell z.log.items z.given z.marked z.pass × (z.place ≤ K.zones) };
+    ghost invariant = { λ z. IsZone M.machine J.starts K.turn z.place z.cell z.log.items z.given z.marked z.pass × (z.place ≤ K.zones) };
 }
 
 impl<M: Machine, J: Start<M>, K: Place> Zone<M, J, K> {
     /// A zone that has done nothing.
     pub(crate) fn new(alloc: Global, pass: Pass<Part<M, J>>, place: u32, cell: M::Cell) -> Self
         requires pass { (pass.turn ≡ K.turn) × (is_idle pass.knows ≡ true) × (pass.knows.number ≡ place) × (pass.knows.list ≡ []) }
-        requires cell { M.machine.cell_of cell (M.machine.world place J.start) }
+        requires cell { (start : M.State) → J.starts start → M.machine.cell_of cell (M.machine.world place start) }
         requires near { place ≤ K.zones }
         ensures { result ≡ (place, []) }
     {
@@ -140,7 +140,7 @@ impl<M: Machine, J: Start<M>, K: Place> Zone<M, J, K> {
 
     // The pass and the log, where all of it was given.
     fn taken_apart(self) -> Result<(Pass<Part<M, J>>, Log<M::Cell, M::Entry>), Self>
-        ensures cell { IfOk result (λ r. LeftBy M.machine J.start r.1) }
+        ensures cell { IfOk result (λ r. LeftBy M.machine J.starts r.1) }
         ensures near { IfOk result (λ r. r.1.place ≤ K.zones) }
         ensures pass { IfOk result (λ r. (r.0.turn ≡ K.turn) × (is_idle r.0.knows ≡ true) × (r.0.knows.number ≡ r.1.place) × (r.0.knows.list ≡ r.1.entries.items)) }
     {
@@ -176,7 +176,7 @@ impl<M: Machine, J: Start<M>, K: Place> Zone<M, J, K> {
     ) -> (Pass<Part<M, J>>, Log<M::Cell, M::Entry>)
         requires ready { M.ready machine.now }
         requires turn { turn.now ≡ K.turn }
-        ensures cell { LeftBy M.machine J.start result.1 }
+        ensures cell { LeftBy M.machine J.starts result.1 }
         ensures near { result.1.place ≤ K.zones }
         ensures pass { (result.0.turn ≡ K.turn) × (is_idle result.0.knows ≡ true) × (result.0.knows.number ≡ result.1.place) × (result.0.knows.list ≡ result.1.entries.items) }
     {

@@ -7,5 +7,5 @@ use Rattle.daemon_threads.proofs.machine.Daemons.global_event.Goals as goal
 pub returns-clause-step : goal.returns-clause-step
 returns-clause-step g c =
     if_ok c.global_step.result _ _
-    (λ e step p h is part of. global-stepped g.N.Names.zones g.N.Names.apart g.N.Names.brands g.N.Names.commits p h c.args.event e c.global_step.new.self is of (step (state_in g.N.Names.brands g.N.Names.commits h) part of) (c.global_step.ensures.sound ∙ c.requires.sound))
+    (λ e step p h is stands of. global-stepped g.N.Names.zones g.N.Names.apart g.N.Names.brands g.N.Names.commits p h g.D.Disk.view g.N.Names.view g.N.Names.stored c.args.event e c.global_step.new.self is of (step c.requires.sound (state_in g.N.Names.brands g.N.Names.commits h) stands of) (c.global_step.ensures.sound ∙ c.requires.sound))
     c.global_step.ensures.step

@@ -2,18 +2,25 @@ use Rattle.std.proofs.Common.{◌≡◌, ap, rules, subst, sym, true, ◌∙◌}
 use Rattle.std.specs.Prelude.{bytes_eq}
 use Rattle.zone_pools.proofs.Owned_laws.{same_true}
 use Rattle.zone_cases.specs.declared.events.Subject.TheVariants.{Zone}
-use Rattle.zone_threads.specs.Machines.{AsBefore}
-use Rattle.daemon_threads.specs.Definitions.{CellIn, daemons, place_world, state_in}
-use Rattle.daemon_threads.specs.declared.cell.PlaceCell.TheVariants as cells
+use Rattle.daemon_threads.proofs.Stepping.{cell-there, kept-in}
+use Rattle.daemon_threads.specs.Definitions.{CellIn, place_world, state_in}
 use Rattle.daemon_threads.proofs.machine.Daemons.zone_line.Goals as goal
 
 pub returns-in-Ok-clause-step : goal.returns-in-Ok-clause-step
-returns-in-Ok-clause-step g c = λ h has part of.
+returns-in-Ok-clause-step g c = λ h has stands of.
     let zones = g.N.Names.zones in let brands = g.N.Names.brands in let commits = g.N.Names.commits in
     let same : bytes_eq c.in-Zone.name c.args.zone.now ≡ true = search rules in
     let is : c.in-Zone.name ≡ c.args.zone.now = same_true c.in-Zone.name c.args.zone.now same in
-    c.in-Ok.ensures.step h (subst (λ k. CellIn brands k (place_world zones c.args.place (state_in brands commits h))) c.in-Zone.is has) part (of ∙ ap Zone (sym is))
+    c.in-Ok.ensures.step h (subst (λ k. CellIn brands k (place_world zones c.args.place (state_in brands commits h))) c.in-Zone.is has) stands (of ∙ ap Zone (sym is))
 
-pub returns-in-Err-clause-err : goal.returns-in-Err-clause-err
-returns-in-Err-clause-err g c = λ sound.
-    subst (λ k. AsBefore (daemons g.row.D.Denot g.N.Names.zones g.N.Names.brands g.N.Names.commits) k c.args.shared.now (cells.Zone c.in-Zone.name c.zone_event.new.cell) c.zone_event.new.shared) (sym c.in-Zone.is) (c.in-Err.ensures.err sound)
+pub returns-in-Err-clause-kept : goal.returns-in-Err-clause-kept
+returns-in-Err-clause-kept g c = λ sound w has.
+    kept-in g.D.Disk.view g.N.Names.view g.N.Names.stored g.N.Names.brands c.in-Zone.name c.args.event c.in-Zone.cell c.args.shared.now c.zone_event.new.cell c.zone_event.new.shared c.in-Err.ensures.err sound w (subst (λ k. CellIn g.N.Names.brands k w) c.in-Zone.is has)
+
+pub returns-in-Err-clause-left : goal.returns-in-Err-clause-left
+returns-in-Err-clause-left g c = λ h has stands of.
+    let zones = g.N.Names.zones in let brands = g.N.Names.brands in let commits = g.N.Names.commits in
+    let same : bytes_eq c.in-Zone.name c.args.zone.now ≡ true = search rules in
+    let is : c.in-Zone.name ≡ c.args.zone.now = same_true c.in-Zone.name c.args.zone.now same in
+    c.in-Err.ensures.err.stands (state_in brands commits h)
+    (cell-there zones g.N.Names.apart brands commits c.args.place h c.in-Zone.name c.in-Zone.cell (subst (λ k. CellIn brands k (place_world zones c.args.place (state_in brands commits h))) c.in-Zone.is has)) (of ∙ ap Zone (sym is)) stands
