@@ -235,12 +235,12 @@ const ENDED: &[Row] = &[
     (
         Given {
             input: b"S 1 zoneadm list\n",
-            disk: b"ab",
+            disk: b"\x01b",
             ..LIVE
         },
         7,
         b"",
-        b"not a store: 61 NotAStore 0\n",
+        b"not a store: 61 NotAStore 1\n",
     ),
 ];
 
