@@ -8,6 +8,7 @@ use Rattle.commit_journal.specs.declared.records.Commit.{Commit}
 use Rattle.zn_base.specs.Names.{Name}
 use Rattle.zn_io.proofs.Moments.{joined, weaker}
 use Rattle.zn_io.specs.Disk.{IsSound, Leaves, View}
+use Rattle.zn_io.specs.Streams.{Rose}
 use Rattle.zone_cases.specs.State.{State, bodies_of}
 use Rattle.zone_disk.specs.Bank.{Account}
 use Rattle.zone_disk.specs.Image.{Stands as Image_stands}
@@ -18,7 +19,8 @@ use Rattle.zone_machine.specs.Machine.Common.{common}
 use Rattle.zone_machine.specs.Machine.Images.{Goes, Holds, HoldsEither, NowHolds}
 use Rattle.zone_machine.specs.declared.machine.shared.Shared.{Shared}
 use Rattle.zoneadmd_steps.specs.Arrivals.{Arrival, New_claim, New_id, New_process, New_record, No_new_thing}
-use Rattle.daemon_threads.specs.Disks.{DiskOf, HoldsSome}
+use Rattle.daemon_threads.specs.Disks.{DiskOf}
+use Rattle.daemon_threads.specs.Sessions.{HoldsSome}
 
 passes-on : (u v w : View) → Passes u v → Passes v w → Passes u w
 passes-on u v w a b = record { model = (λ k. b.model.0 (a.model.0 k), λ k. a.model.1 (b.model.1 k)); faults = omega (arith, a.faults, b.faults) }
@@ -68,6 +70,7 @@ disk-begins v before sound holds = record {
   };
   now = λ keeps image now. inl (holds keeps image now);
   passes = record { model = (λ k. k, λ k. k); faults = omega arith };
+  rose = λ is. absurd (false≢true (sym is));
 }
 
 module _ (v : View) (before : List Commit) (w : View) (commits : List Commit) (d : DiskOf v before true w commits) (u : View) (new : List Commit) (goes : Goes commits (commits ++ new) w u) (passes : Passes w u) where
@@ -88,11 +91,12 @@ module _ (v : View) (before : List Commit) (w : View) (commits : List Commit) (d
     any_moment = λ keeps. subst (λ l. Leaves v u (HoldsSome before l)) (sym (append-nil (d.more ++ new))) (since keeps);
     now = λ keeps image now. inl (holds (passes.model.0 (d.passes.model.0 keeps)) image now);
     passes = passes-on v w u d.passes passes;
+    rose = λ is. absurd (false≢true (sym is));
   }
 
   -- the disk failed in an event
-  pub disk-torn : length new ≤ 1 → DiskOf v before false u commits
-  disk-torn few = record {
+  pub disk-torn : length new ≤ 1 → Rose w.faults u.faults → DiskOf v before false u commits
+  disk-torn few rose = record {
     more = d.more;
     grown = d.grown;
     perhaps = new;
@@ -101,4 +105,5 @@ module _ (v : View) (before : List Commit) (w : View) (commits : List Commit) (d
     any_moment = since;
     now = λ keeps image now. goes.now (d.passes.model.0 keeps) image now;
     passes = passes-on v w u d.passes passes;
+    rose = λ is. omega (arith, rose, d.passes.faults);
   }

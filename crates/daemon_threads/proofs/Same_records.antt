@@ -4,11 +4,11 @@ use Rattle.std.specs.Prelude.{◌==◌, ◌&&◌, ◌||◌, bytes_eq, not, if◌
 use Rattle.std.specs.List.{list_all}
 use Rattle.std.proofs.lemmas.Bool.{and_from, and_parts, eq-eqb, eqb-true, false≢true, ne_eqb}
 use Rattle.brand_hooks.specs.Brands.{Tabled}
-use Rattle.commit_journal.specs.declared.records.Commit.{Commit}
 use Rattle.session_records.specs.Places.{is_right_at, place_from, place_of, zone_from}
 use Rattle.session_records.specs.Records as records
 use Rattle.session_records.specs.Records.{awaited, ends_head, is_idle_head, is_line_of, lines_of, may_stand, typed_by}
 use Rattle.zn_base.specs.Names.{Name}
+use Rattle.zn_io.specs.Disk.{View}
 use Rattle.zone_cases.specs.declared.events.Entry.{Entry}
 use Rattle.zone_cases.specs.declared.events.Event.{Event}
 use Rattle.zone_cases.specs.declared.events.Event.TheVariants.{Process as Call_of, Restart, Session, System, Turn}
@@ -33,7 +33,8 @@ use Rattle.zoneadmd_steps.specs.declared.requests.TurnReply.TheVariants.{Finishe
 use Rattle.brand_hooks.specs.declared.table.HookAnswer.{HookAnswer}
 use Rattle.daemon_threads.specs.Goods.{Goods}
 use Rattle.daemon_threads.specs.declared.cell.PlaceCell.{PlaceCell}
-use Rattle.daemon_threads.specs.Definitions.{daemons, is_text, line_says, no_session, said_by, session_of, state_in, turn_says, turned_says}
+use Rattle.daemon_threads.specs.declared.past.Past.{Past}
+use Rattle.daemon_threads.specs.Definitions.{daemons, is_text, line_says, no_session, said_by, session_of, state_of, turn_says, turned_says}
 
 -- the zone that a place is given to has it
 zone-from : (n : ℕ) (zones : List Name) (z : Name) → place_from n zones z ≢ 0 → (n ≤ place_from n zones z) × (zone_from n zones (place_from n zones z) ≡ Some z)
@@ -102,18 +103,18 @@ module _ (zones : List Name) where
   AllFit [] = Unit {0}
   AllFit (e ∷ h) = Fits e × AllFit h
 
-  module _ (D : Type 0) (brands : List Tabled) (commits : List Commit) where
-    abbrev M : Definitions (List Entry) PlaceCell (Goods D) (List ℕ) Entry HookAnswer
-    M = daemons D zones brands commits
+  module _ {D : Type 0} (view : D → View) (v : View) (brands : List Tabled) where
+    abbrev M : Definitions Past PlaceCell (Goods D) (List ℕ) Entry HookAnswer
+    M = daemons view v zones brands
 
     -- the history is legal
-    legal : (g h : List Entry) → all_right M.right M.one g h ≡ true → is_legal (state_in brands commits g) h ≡ true
+    legal : (g : Past) (h : List Entry) → all_right M.right M.one g h ≡ true → is_legal (state_of brands g) h ≡ true
     legal g [] is = refl
     legal g (e ∷ h) is =
-        let S = state_in brands commits g in
-        let parts = and_parts (is_right_at zones S e) (all_right M.right M.one (e ∷ g) h) is in
+        let S = state_of brands g in
+        let parts = and_parts (is_right_at zones S e) (all_right M.right M.one (M.one g e) h) is in
         let right = and_parts (is_told S e && is_allowed S e.event e.grant) (not (nat_eq (place_of zones e.subject) 0)) parts.0 in
-        and_from _ _ right.0 (legal (e ∷ g) h parts.1)
+        and_from _ _ right.0 (legal (M.one g e) h parts.1)
 
     -- and none of its entries is of no session
     none-in : (xs : List Entry) → begin_lines M [] xs ≡ true → xs ≡ []
@@ -130,11 +131,11 @@ module _ (zones : List Name) where
         at_test true t none = absurd (head-of e (entries_of M no_session h) none)
         at_test false t none = ((λ is. false≢true (sym t ∙ eq-eqb (session_of e.event) no_session is)), none)
 
-    fits : (g h : List Entry) → all_right M.right M.one g h ≡ true → entries_of M no_session h ≡ [] → AllFit h
+    fits : (g : Past) (h : List Entry) → all_right M.right M.one g h ≡ true → entries_of M no_session h ≡ [] → AllFit h
     fits g [] is none = tt
     fits g (e ∷ h) is none =
-        let S = state_in brands commits g in
-        let parts = and_parts (is_right_at zones S e) (all_right M.right M.one (e ∷ g) h) is in
+        let S = state_of brands g in
+        let parts = and_parts (is_right_at zones S e) (all_right M.right M.one (M.one g e) h) is in
         let right = and_parts (is_told S e && is_allowed S e.event e.grant) (not (nat_eq (place_of zones e.subject) 0)) parts.0 in
         let told = and_parts (is_told S e) (is_allowed S e.event e.grant) right.0 in
         let whose = (subject-Decides e.subject (subject S e.event)).0 (and_parts (same_subject e.subject (subject S e.event)) (same_reply e.reply (one S e.event e.grant).reply) told.0).0 in
@@ -144,7 +145,7 @@ module _ (zones : List Name) where
             turned = λ z turn. whose ∙ (ap (subject S) turn ∙ subject-turn S z);
             mine = others.0;
           },
-          fits (e ∷ g) h parts.1 others.1,
+          fits (M.one g e) h parts.1 others.1,
         )
 
     -- each entry is a line, or a turn that isn't idle
@@ -319,7 +320,7 @@ module _ (zones : List Name) where
         let parts = and_parts (words.is_answered_if M late (session_of e.event) (if session_of e.event == 0 then None else ticket_of (place_of zones e.subject) (said_by e.event e.reply.head)) h) (words.all_answered M late h) is in
         and_from _ _ (answered-to late e.event e.subject e.reply.head h fit.0.mine fit.0.placed fit.1 parts.0) (tickets late h fit.1 parts.1)
 
-    module _ (g : List Entry) (scripts : records.Scripts) (none : scripts 0 ≡ []) (no_other : scripts no_session ≡ []) (h : List Entry) where
+    module _ (g : Past) (scripts : records.Scripts) (none : scripts 0 ≡ []) (no_other : scripts no_session ≡ []) (h : List Entry) where
       some-255 : no_session ≢ 0
       some-255 is = absurd (omega (arith, is))
 
@@ -327,7 +328,7 @@ module _ (zones : List Name) where
       fit-from right lines = fits g h right (none-in (entries_of M no_session h) (subst (λ ls. begin_lines M ls (entries_of M no_session h) ≡ true) no_other lines))
 
       -- a part of a record for threads is one for sessions
-      pub partial : words.IsPartial M g scripts h → records.IsPartial (state_in brands commits g) scripts h
+      pub partial : words.IsPartial M g scripts h → records.IsPartial (state_of brands g) scripts h
       partial r =
           let fit = fit-from r.legal (r.lines no_session some-255) in
           record {
@@ -342,7 +343,7 @@ module _ (zones : List Name) where
           at_session n false t fit = let some : n ≢ 0 = λ is. false≢true (sym t ∙ eq-eqb n 0 is) in begins n h (scripts n) some fit (r.lines n some)
 
       -- and the whole is the whole
-      pub whole : words.IsRecord M g scripts h → records.IsRecord (state_in brands commits g) scripts h
+      pub whole : words.IsRecord M g scripts h → records.IsRecord (state_of brands g) scripts h
       whole r =
           let fit = fit-from r.legal (are-begun (scripts no_session) (entries_of M no_session h) (r.lines no_session some-255)) in
           record {

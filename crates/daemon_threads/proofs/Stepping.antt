@@ -8,8 +8,9 @@ use Rattle.commit_journal.specs.declared.records.Commit.{Commit}
 use Rattle.session_records.specs.Places.{AreApart, is_right_at, own_world_by, own_world_one, place_of, world_of_zone, zone_at}
 use Rattle.zn_base.specs.Names.{Name}
 use Rattle.zn_io.specs.Disk.{View}
+use Rattle.zn_io.specs.Streams.{Rose}
 use Rattle.zone_disk.specs.Bank.{Account}
-use Rattle.zone_cases.specs.Code.Cells.{CellOf, IsHeardIn, outside_of}
+use Rattle.zone_cases.specs.Code.Cells.{CellOf, IsHeardIn, cell_world, outside_of}
 use Rattle.zone_cases.specs.State.{State, bodies_of}
 use Rattle.zone_cases.specs.State.Decisions.{act_of}
 use Rattle.zone_cases.specs.State.Worlds.{World, view as view_in, world}
@@ -45,13 +46,15 @@ use Rattle.zoneadmd_steps.specs.Code.Desks.{as_desk}
 use Rattle.zoneadmd_steps.specs.Objects.{ids_of}
 use Rattle.daemon_threads.specs.Meets.{brands-in, place-some}
 use Rattle.daemon_threads.specs.Worlds.{brands-by, brands-one}
-use Rattle.daemon_threads.specs.Definitions.{CellIn, PlaceWorld, daemons, place_world, state_in}
+use Rattle.daemon_threads.specs.Definitions.{CellIn, PlaceWorld, daemons, place_world, session_of, state_of}
 use Rattle.daemon_threads.proofs.Disks.{committed-few, disk-on, disk-torn, ready-holds}
 use Rattle.daemon_threads.specs.Disks.{DiskOf}
 use Rattle.daemon_threads.specs.Goods.{Goods}
 use Rattle.daemon_threads.specs.Parts.{Answers, CellAnswers, IsUndone, Stands, commons}
 use Rattle.daemon_threads.specs.Running.{IsDoneIn}
 use Rattle.daemon_threads.specs.declared.cell.PlaceCell.TheVariants as cells
+use Rattle.daemon_threads.specs.declared.past.Past.{Past}
+use Rattle.zone_cases.specs.State.Declarations.{none_declared}
 
 -- the table of what the zones show, once a zone's cell was noted
 abbrev pub Notes : Name → Cell → ShownZones → ShownZones → Type 0
@@ -84,15 +87,15 @@ module _ {D : Type 0} (view : D → View) (v : View) (before : List Commit) wher
 
   -- what it has where it failed in one
   disk-failed : (z : Name) (S : State) (e : Event) (m n : Goods D) → subject S e ≡ Zone z → m.bank.sound ≡ true → n.bank.sound ≡ false → DiskOf v before m.bank.sound (view m.bank.disk) S.commits
-      → Goes S.commits (one S e (allowed S e)).state.commits (view m.bank.disk) (view n.bank.disk) → Passes (view m.bank.disk) (view n.bank.disk) → DiskOf v before n.bank.sound (view n.bank.disk) S.commits
-  disk-failed z S e m n of was fails disk goes passes =
+      → Goes S.commits (one S e (allowed S e)).state.commits (view m.bank.disk) (view n.bank.disk) → Passes (view m.bank.disk) (view n.bank.disk) → Rose (view m.bank.disk).faults (view n.bank.disk).faults → DiskOf v before n.bank.sound (view n.bank.disk) S.commits
+  disk-failed z S e m n of was fails disk goes passes rose =
       let came = (act_of (decide (view_in z S) e) (allowed S e)).came in
       let new : List Commit = committed z came in
       let more : (one S e (allowed S e)).state.commits ≡ S.commits ++ new = commits-zone S e (allowed S e) z of in
       let w = view m.bank.disk in
       let u = view n.bank.disk in
       subst (λ b. DiskOf v before b u S.commits) (sym fails)
-      (disk-torn v before w S.commits (subst (λ b. DiskOf v before b w S.commits) was disk) u new (subst (λ l. Goes S.commits l w u) more goes) passes (committed-few z came))
+      (disk-torn v before w S.commits (subst (λ b. DiskOf v before b w S.commits) was disk) u new (subst (λ l. Goes S.commits l w u) more goes) passes (committed-few z came) rose)
 
   -- an event of z on its cell and what the zones share
   pub cell-answers : (z : Name) (S : State) (e : Event) (entry : Entry) (c d : Cell) (m n : Goods D) → IsAllowedCellStep z c m.shared e entry d n.shared
@@ -135,11 +138,12 @@ module _ {D : Type 0} (view : D → View) (v : View) (before : List Commit) wher
         };
       }
 
+module _ {D : Type 0} (view : D → View) (v : View) where
   -- an event of z in which memory ran out
-  undone-memory : (z : Name) (e : Event) (c d : Cell) (m n : Goods D) → Alike c m.shared d n.shared → n.bank ≡ m.bank → ((y : Name) → shown_in n.shown y ≡ shown_in m.shown y) → IsUndone view v before z e c m d n
+  undone-memory : (z : Name) (e : Event) (c d : Cell) (m n : Goods D) → Alike c m.shared d n.shared → n.bank ≡ m.bank → ((y : Name) → shown_in n.shown y ≡ shown_in m.shown y) → IsUndone view v z e c m d n
   undone-memory z e c d m n alike bank shows = record {
     cell = λ sound x cell. cell ∙ sym (alike.world (outside_of x));
-    stands = λ S cell of stands. record {
+    stands = λ before S cell of stands. record {
       part = λ sound. let part = stands.part (ap (λ b. b.sound) (sym bank) ∙ sound) in
           record { state = part.state; is = part.is; shared = part.shared ∙ sym alike.common; shown = λ y. part.shown y ∙ sym (shows y); bodies = part.bodies ∙ ap (λ b. b.records) (sym bank) };
       disk = subst (λ (b : Account D). DiskOf v before b.sound (view b.disk) S.commits) (sym bank) stands.disk;
@@ -148,15 +152,15 @@ module _ {D : Type 0} (view : D → View) (v : View) (before : List Commit) wher
 
   -- one that wasn't done
   pub undone : (z : Name) (e : Event) (fault : StepFault) (c d : Cell) (m n : Goods D) → CellLeaves fault z None c m.shared e d n.shared → BankLeft true fault m.bank n.bank (view m.bank.disk) (view n.bank.disk) n.shared
-      → GoesInCell z None c m.shared e m.bank.records (view m.bank.disk) (view n.bank.disk) → Passes (view m.bank.disk) (view n.bank.disk) → ((y : Name) → shown_in n.shown y ≡ shown_in m.shown y) → m.bank.sound ≡ true → IsUndone view v before z e c m d n
+      → GoesInCell z None c m.shared e m.bank.records (view m.bank.disk) (view n.bank.disk) → Passes (view m.bank.disk) (view n.bank.disk) → ((y : Name) → shown_in n.shown y ≡ shown_in m.shown y) → m.bank.sound ≡ true → IsUndone view v z e c m d n
   undone z e Memory c d m n leaves left goes passes shows was = undone-memory z e c d m n leaves left.0 shows
   undone z e BadGrant c d m n leaves left goes passes shows was = absurd leaves
   undone z e WouldRecord c d m n leaves left goes passes shows was = absurd left
   undone z e DiskFault c d m n leaves left goes passes shows was = record {
     cell = λ sound. absurd (false≢true (sym left.1 ∙ sound));
-    stands = λ S cell of stands. let part = stands.part was in record {
+    stands = λ before S cell of stands. let part = stands.part was in record {
       part = λ sound. absurd (false≢true (sym left.1 ∙ sound));
-      disk = disk-failed z S e m n of was left.1 stands.disk (goes S cell part.shared of part.bodies) passes;
+      disk = disk-failed view v before z S e m n of was left.1 stands.disk (goes S cell part.shared of part.bodies) passes left.0;
     };
   }
   undone z e (NoStore fault) c d m n leaves left goes passes shows was = absurd left
@@ -174,21 +178,21 @@ right-entry zones S e placed =
 one-some : (n : ℕ) → n ≡ 1 → n ≡ 0 → ⊥
 one-some n is none = absurd (omega (arith, is, none))
 
-module _ (zones : List Name) (apart : AreApart zones) (brands : List Tabled) (commits : List Commit) (p : ℕ) (h : List Entry) where
+module _ (zones : List Name) (apart : AreApart zones) (brands : List Tabled) (p : ℕ) (s : Past) where
   abbrev S : State
-  S = state_in brands commits h
+  S = state_of brands s
 
   -- a step of a zone is what threads ask for
-  pub zone-stepped : {D : Type 0} (view : D → View) (v : View) (before : List Commit) (z : Name) (e : Event) (entry : Entry) (d : Cell) (n : Goods D) → zone_at zones p ≡ Some z → subject S e ≡ Zone z → CellAnswers view v before z S e entry d n → n.bank.sound ≡ true
-      → Stepped (daemons view v before zones brands commits) p (cells.Zone z d) n entry h
-  zone-stepped view v before z e entry d n is of answered sound =
+  pub zone-stepped : {D : Type 0} (view : D → View) (v : View) (z : Name) (e : Event) (entry : Entry) (d : Cell) (n : Goods D) → zone_at zones p ≡ Some z → subject S e ≡ Zone z → CellAnswers view v s.stored z S e entry d n → n.bank.sound ≡ true
+      → Stepped (daemons view v zones brands) p (cells.Zone z d) n entry s
+  zone-stepped view v z e entry d n is of answered sound =
       let T : State = after_entry S entry in
       let placed : place_of zones (subject S e) ≢ 0 = λ none. place-some zones p z is (sym (apart p z is) ∙ (ap (place_of zones) (sym of) ∙ none)) in
       record {
         is_right = subst (λ x. is_right_at zones S x ≡ true) (sym answered.answers.told) (right-entry zones S e placed);
         cell = record {
           zone = is;
-          brands_are = ap (λ o. (world_of_zone o T).brands) is ∙ (brands-one S entry.event entry.grant ∙ brands-in brands commits h);
+          brands_are = ap (λ o. (world_of_zone o T).brands) is ∙ (brands-one S entry.event entry.grant ∙ brands-in brands s.commits s.entries);
           cell = subst (λ o. CellOf d (world_of_zone o T)) (sym is) answered.cell;
         };
         shared = answered.answers.stands;
@@ -196,9 +200,9 @@ module _ (zones : List Name) (apart : AreApart zones) (brands : List Tabled) (co
       }
 
   -- and one of the global zone
-  pub global-stepped : {D : Type 0} (view : D → View) (v : View) (before : List Commit) (e : Event) (entry : Entry) (n : Goods D) → zone_at zones p ≡ None → subject S e ≡ Global → Answers view v before S e entry n → n.bank.sound ≡ true
-      → Stepped (daemons view v before zones brands commits) p cells.Global n entry h
-  global-stepped view v before e entry n is of answered sound =
+  pub global-stepped : {D : Type 0} (view : D → View) (v : View) (e : Event) (entry : Entry) (n : Goods D) → zone_at zones p ≡ None → subject S e ≡ Global → Answers view v s.stored S e entry n → n.bank.sound ≡ true
+      → Stepped (daemons view v zones brands) p cells.Global n entry s
+  global-stepped view v e entry n is of answered sound =
       let placed : place_of zones (subject S e) ≢ 0 = one-some (place_of zones (subject S e)) (ap (place_of zones) of) in
       record {
         is_right = subst (λ x. is_right_at zones S x ≡ true) (sym answered.told) (right-entry zones S e placed);
@@ -224,19 +228,39 @@ done-in zones apart p z brands c answer e d at heard turn w cell same =
       cell = subst (CellOf d) (sym own) done.1;
     }
 
+-- a cell has some world that has these brands
+some-world : List Tabled → Cell → World
+some-world brands c = cell_world (record { stored = None; declared = none_declared; brands = brands }) c
+
+has-some : (brands : List Tabled) (c : Cell) → CellOf c (some-world brands c)
+unfolding some-world
+has-some brands c = refl
+
+its-brands : (brands : List Tabled) (c : Cell) → (some-world brands c).brands ≡ brands
+unfolding some-world
+its-brands brands c = refl
+
+-- so a local turn is a turn of its place
+pub turn-of : (zones : List Name) (apart : AreApart zones) (p : ℕ) (z : Name) (brands : List Tabled) (c : Cell) (answer : HookAnswer) (e : Entry) (d : Cell) → zone_at zones p ≡ Some z → IsHeardIn brands c answer → IsLocalTurn z c answer e d
+    → (place_of zones e.subject ≡ p) × (session_of e.event ≡ 0)
+turn-of zones apart p z brands c answer e d at heard turn =
+    let w = some-world brands c in
+    let done = done-in zones apart p z brands c answer e d at heard turn w (has-some brands c) (its-brands brands c) in
+    let found = local-turn z w e done.local in (ap (place_of zones) found.1.subject ∙ done.place, ap session_of found.1.event)
+
 -- a cell that is as it was has the worlds that it had
 pub still-in : (brands : List Tabled) (z : Name) (c d : Cell) → IsAsItWas c d → (w : PlaceWorld) → CellIn brands (cells.Zone z c) w → CellIn brands (cells.Zone z d) w
 still-in brands z c d same w has = record { zone = has.zone; brands_are = has.brands_are; cell = has.cell ∙ sym (same (outside_of w.world)) }
 
 -- nor has a cell of a place others where an event wasn't done
-pub kept-in : {D : Type 0} (view : D → View) (v : View) (before : List Commit) (brands : List Tabled) (z : Name) (e : Event) (c : Cell) (m : Goods D) (d : Cell) (n : Goods D) → IsUndone view v before z e c m d n
+pub kept-in : {D : Type 0} (view : D → View) (v : View) (brands : List Tabled) (z : Name) (e : Event) (c : Cell) (m : Goods D) (d : Cell) (n : Goods D) → IsUndone view v z e c m d n
     → n.bank.sound ≡ true → (w : PlaceWorld) → CellIn brands (cells.Zone z c) w → CellIn brands (cells.Zone z d) w
-kept-in view v before brands z e c m d n undone sound w has = record { zone = has.zone; brands_are = has.brands_are; cell = undone.cell sound w.world has.cell }
+kept-in view v brands z e c m d n undone sound w has = record { zone = has.zone; brands_are = has.brands_are; cell = undone.cell sound w.world has.cell }
 
 -- a turn that wasn't done
-pub unfinished : {D : Type 0} (view : D → View) (v : View) (before : List Commit) (zones : List Name) (apart : AreApart zones) (brands : List Tabled) (commits : List Commit) (p : ℕ) (z : Name) (e : Event) (c : Cell) (m : Goods D) (d : Cell) (n : Goods D) → ((S : State) → subject S e ≡ Zone z)
-    → IsUndone view v before z e c m d n → Unfinished (daemons view v before zones brands commits) p (cells.Zone z c) m (cells.Zone z d) n
-unfinished view v before zones apart brands commits p z e c m d n of undone = record {
-  cell = kept-in view v before brands z e c m d n undone;
-  shared = λ h has stands. let S = state_in brands commits h in undone.stands S (cell-there zones apart brands commits p h z c has) (of S) stands;
+pub unfinished : {D : Type 0} (view : D → View) (v : View) (zones : List Name) (apart : AreApart zones) (brands : List Tabled) (p : ℕ) (z : Name) (e : Event) (c : Cell) (m : Goods D) (d : Cell) (n : Goods D) → ((S : State) → subject S e ≡ Zone z)
+    → IsUndone view v z e c m d n → Unfinished (daemons view v zones brands) p (cells.Zone z c) m (cells.Zone z d) n
+unfinished view v zones apart brands p z e c m d n of undone = record {
+  cell = kept-in view v brands z e c m d n undone;
+  shared = λ s has stands. let S = state_of brands s in undone.stands s.stored S (cell-there zones apart brands p s z c has) (of S) stands;
 }

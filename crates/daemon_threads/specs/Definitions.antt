@@ -1,5 +1,5 @@
--- The machine of all zones as threads see it: its places, and what an entry does to each. Its states are histories from before any
--- event, the latest entry first.
+-- The machine of all zones as threads see it: its places, and what an entry does to each. Its states are histories from what was stored
+-- before any event, the latest entry first.
 use Rattle.std.specs.Prelude.{◌≡◌, ℕ, List, [], ◌∷◌, ◌&&◌, Bool, false, Option, Some, None, bytes_eq, nat_eq, if◌then◌else◌}
 use Rattle.brand_hooks.specs.Brands.{Tabled}
 use Rattle.brand_hooks.specs.declared.table.HookAnswer.{HookAnswer}
@@ -27,14 +27,18 @@ use Rattle.zone_threads.specs.declared.machine.Told.{Told}
 use Rattle.zoneadmd_steps.specs.declared.requests.TurnReply.{TurnReply}
 use Rattle.zoneadmd_steps.specs.declared.requests.TurnReply.TheVariants.{Finished, Idle, Stuck}
 use Rattle.daemon_threads.specs.Goods.{Goods}
-use Rattle.daemon_threads.specs.Parts.{Commons, Stands, commons}
+use Rattle.daemon_threads.specs.Parts.{Known, Stands, commons}
 use Rattle.daemon_threads.specs.declared.cell.PlaceCell.{PlaceCell}
 use Rattle.daemon_threads.specs.declared.cell.PlaceCell.TheVariants as cells
+use Rattle.daemon_threads.specs.declared.past.Past.{Past}
 
 -- the state that a history leaves
 abbrev pub state_in : List Tabled → List Commit → List Entry → State
 state_in brands commits [] = opening brands commits
 state_in brands commits (e ∷ h) = after_entry (state_in brands commits h) e
+
+abbrev pub state_of : List Tabled → Past → State
+state_of brands s = state_in brands s.commits s.entries
 
 -- what a place has: its zone, if it is one's, and that zone's world
 pub record PlaceWorld : Type 0 where
@@ -114,25 +118,24 @@ abbrev pub IsHeardOf : List Tabled → PlaceCell → HookAnswer → Type 0
 IsHeardOf brands cells.Global answer = Unit {0}
 IsHeardOf brands (cells.Zone z c) answer = IsHeardIn brands c answer
 
--- the machine of all zones, in which these zones have a place, where there are these brands and this is stored before any event. Its disk
--- began as the view v, where `before` was stored
-abbrev pub daemons : {D : Type 0} → (D → View) → (v : View) → (before : List Commit) → List Name → List Tabled → List Commit → Definitions (List Entry) PlaceCell (Goods D) (List ℕ) Entry HookAnswer
-daemons view v before zones brands commits = record {
+-- the machine of all zones, in which these zones have a place and there are these brands. Its disk was the view v when the sessions began
+abbrev pub daemons : {D : Type 0} → (D → View) → (v : View) → List Name → List Tabled → Definitions Past PlaceCell (Goods D) (List ℕ) Entry HookAnswer
+daemons view v zones brands = record {
   World = PlaceWorld;
-  Common = Commons;
-  world = λ p h. place_world zones p (state_in brands commits h);
-  common = λ h. commons (state_in brands commits h);
-  one = λ h e. e ∷ h;
-  right = λ h e. is_right_at zones (state_in brands commits h) e;
+  Common = Known;
+  world = λ p s. place_world zones p (state_of brands s);
+  common = λ s. record { stored = s.stored; now = commons (state_of brands s) };
+  one = λ s e. record s { entries = e ∷ s.entries };
+  right = λ s e. is_right_at zones (state_of brands s) e;
   by = λ e. place_of zones e.subject;
   told = told;
-  place_of = λ k n line. place_of zones (k.whose n line);
+  place_of = λ k n line. place_of zones (k.now.whose n line);
   is_line = λ line e. is_text line e.event;
   world_one = λ w e. record w { world = own_world_one w.world e };
   is_local = λ p w e. is_placed zones p w.zone && is_local_of w.zone w.world e;
   is_busy = λ w. is_busy_of w.zone w.world;
   is_sound = λ m. m.bank.sound;
   cell_of = CellIn brands;
-  shared_of = Stands view v before;
+  shared_of = λ m k. Stands view v k.stored m k.now;
   heard = IsHeardOf brands;
 }

@@ -28,7 +28,7 @@ use Rattle.zone_threads.specs.declared.machine.Said.TheVariants as says
 use Rattle.zoneadmd_steps.specs.declared.requests.TurnReply.{TurnReply}
 use Rattle.zoneadmd_steps.specs.declared.requests.TurnReply.TheVariants.{Finished, Idle, Stuck}
 use Rattle.daemon_threads.specs.Worlds.{brands-one, commits-local, shown-local, whose-local}
-use Rattle.daemon_threads.specs.Definitions.{daemons, is_busy_of, is_placed, line_says, said_by, session_of, state_in, turn_says, turned_says}
+use Rattle.daemon_threads.specs.Definitions.{daemons, is_busy_of, is_placed, line_says, said_by, session_of, state_in, state_of, turn_says, turned_says}
 
 -- the history in its order
 abbrev backwards : List Entry → List Entry
@@ -148,20 +148,20 @@ module _ (zones : List Name) where
       at_event (System what) is said = cc
       at_event Restart is said = cc
 
-pub laws : {D : Type 0} (view : D → View) (v : View) (before : List Commit) (zones : List Name) (brands : List Tabled) (commits : List Commit) → AreApart zones → Laws (daemons view v before zones brands commits)
-laws view v before zones brands commits apart = record {
-  others_stay = λ p h e right other. ap (λ w. record { zone = zone_at zones p; world = w }) (others-stay zones (state_in brands commits h) e apart right p other);
-  own_moves = λ h e right. ap (λ w. record { zone = zone_at zones (place_of zones e.subject); world = w }) (own-moves zones (state_in brands commits h) e right);
-  local_right = λ p h e local.
-      let S = state_in brands commits h in
+pub laws : {D : Type 0} (view : D → View) (v : View) (zones : List Name) (brands : List Tabled) → AreApart zones → Laws (daemons view v zones brands)
+laws view v zones brands apart = record {
+  others_stay = λ p s e right other. ap (λ w. record { zone = zone_at zones p; world = w }) (others-stay zones (state_of brands s) e apart right p other);
+  own_moves = λ s e right. ap (λ w. record { zone = zone_at zones (place_of zones e.subject); world = w }) (own-moves zones (state_of brands s) e right);
+  local_right = λ p s e local.
+      let S = state_of brands s in
       let parts = and_parts (is_placed zones p (zone_at zones p)) (is_local_at zones p (world_at zones p S) e) local in
       local-right-at zones p apart S e (local-some zones p parts.0) parts.1;
-  local_common = λ p h e local.
-      let S = state_in brands commits h in
+  local_common = λ p s e local.
+      let S = state_of brands s in
       let is = (and_parts (is_placed zones p (zone_at zones p)) (is_local_at zones p (world_at zones p S) e) local).1 in
-      λ i. record { common = local-common zones brands commits p h e is i; shown = λ y. local-shown zones p S e is y i; commits = local-commits zones p S e is i; whose = λ n text. local-whose zones p S e is n text i };
+      λ i. record { stored = s.stored; now = record { common = local-common zones brands s.commits p s.entries e is i; shown = λ y. local-shown zones p S e is y i; commits = local-commits zones p S e is i; whose = λ n text. local-whose zones p S e is n text i } };
   local_by = λ p w e local. let found = local-of zones p w.zone w.world e local in ap (place_of zones) (local-turn found.zone w.world e found.local).1.subject ∙ found.place;
   local_turn = λ p w e local. let found = local-of zones p w.zone w.world e local in ap session_of (local-turn found.zone w.world e found.local).1.event;
   local_works = λ p w e local. local-idle w.zone w.world e (and_parts (is_placed zones p w.zone) (is_local_of w.zone w.world e) local).1;
-  busy_works = λ h e right turn busy. busy-idle zones (state_in brands commits h) e right busy;
+  busy_works = λ s e right turn busy. busy-idle zones (state_of brands s) e right busy;
 }

@@ -43,6 +43,11 @@ pub record PartOf {D : Type 0} (m : Goods D) (k : Commons) : Type 0 where
   pub shown : (z : Name) → k.shown z ≡ shown_in m.shown z
   pub bodies : bodies_of k.commits ≡ m.bank.records
 
+-- the same, and what was stored when the sessions began
+pub record Known : Type 0 where
+  pub stored : List Commit
+  pub now : Commons
+
 -- what a part stands for whose disk began as the view v, where these commits were stored: while it may be used it has what is common to
 -- the zones of some state, and its disk has what is stored, whether or not it may be used
 pub record Stands {D : Type 0} (view : D → View) (v : View) (before : List Commit) (m : Goods D) (k : Commons) : Type 0 where
@@ -61,6 +66,6 @@ pub record CellAnswers {D : Type 0} (view : D → View) (v : View) (before : Lis
 
 -- an event of z that wasn't done: the cell has the worlds that it had, unless the part may not be used any more, and the part stands for
 -- what it stood for
-pub record IsUndone {D : Type 0} (view : D → View) (v : View) (before : List Commit) (z : Name) (e : Event) (c : Cell) (m : Goods D) (d : Cell) (n : Goods D) : Type 0 where
+pub record IsUndone {D : Type 0} (view : D → View) (v : View) (z : Name) (e : Event) (c : Cell) (m : Goods D) (d : Cell) (n : Goods D) : Type 0 where
   pub cell : n.bank.sound ≡ true → (w : World) → CellOf c w → CellOf d w
-  pub stands : (S : State) → CellOf c (world z S) → subject S e ≡ Zone z → Stands view v before m (commons S) → Stands view v before n (commons S)
+  pub stands : (before : List Commit) (S : State) → CellOf c (world z S) → subject S e ≡ Zone z → Stands view v before m (commons S) → Stands view v before n (commons S)

@@ -6,6 +6,7 @@ mod cell;
 mod machine;
 mod names;
 mod part;
+mod past;
 mod sessions;
 mod told;
 
@@ -13,4 +14,5 @@ pub use cell::PlaceCell;
 pub use machine::Daemons;
 pub use names::Names;
 pub use part::SharedPart;
+pub use past::Past;
 pub use sessions::{Live, run_sessions};

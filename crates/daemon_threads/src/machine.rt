@@ -1,28 +1,28 @@
 //! The machine of all zones, under threads.
-ghost use Rattle.std.specs.Prelude.{◌≡◌, ◌≢◌, ℕ, List, Err, IfOk, IfSome, None, OnErr, OnOk, Some, false, true};
+ghost use Rattle.std.specs.Prelude.{◌≡◌, ◌≢◌, ℕ, Err, IfOk, IfSome, None, OnErr, OnOk, Some, false, true};
 ghost use Rattle.brand_hooks.specs.declared.table.HookAnswer.{HookAnswer};
 ghost use Rattle.session_records.specs.Places.{place_of, zone_at};
 ghost use Rattle.zone_cases.specs.Code.Cells.{CellOf, IsHeardIn};
 ghost use Rattle.zone_cases.specs.State.Worlds.{World};
-ghost use Rattle.zone_cases.specs.declared.events.Entry.{Entry};
 ghost use Rattle.zone_cases.specs.declared.events.Subject.TheVariants as subjects;
 ghost use Rattle.zone_machine.specs.Code.Local_turns.{IsAsItWas};
 ghost use Rattle.zone_machine.specs.Code.Reads.{is_turn};
 ghost use Rattle.zone_machine.specs.Machine.{subject};
 ghost use Rattle.zone_threads.specs.Machines.{IsTurnOf, Stepped, Unfinished};
 ghost use Rattle.zone_threads.specs.declared.machine.Stop.TheVariants.{Elsewhere};
-ghost use Rattle.daemon_threads.specs.Definitions.{CellIn, PlaceWorld, daemons, place_world, state_in};
+ghost use Rattle.daemon_threads.specs.Definitions.{CellIn, PlaceWorld, daemons, place_world, session_of, state_of};
 ghost use Rattle.daemon_threads.specs.Parts.{IsUndone, Stands, commons};
 ghost use Rattle.daemon_threads.specs.Running.{IsDoneIn, IsSet};
 ghost use Rattle.daemon_threads.specs.declared.cell.PlaceCell.TheVariants as cells;
+ghost use Rattle.daemon_threads.specs.declared.past.Past.{Past};
 
 use crate::cell::PlaceCell;
 use crate::names::Names;
 use crate::part::SharedPart;
+use crate::past::Past;
 use crate::told::told;
 use brand_hooks::{Brands, Change, HookAnswer};
 use std::alloc::{AllocError, Global};
-use std::collections::LinkedList;
 use std::marker::PhantomData;
 use zn_base::{Text, ZoneName};
 use zn_io::Disk;
@@ -80,6 +80,7 @@ impl<'b, D: Disk, F: Fn(&Change) -> HookAnswer, N: Names> Daemons<'b, D, F, N> {
         cell: &mut Cell,
     ) -> Result<Option<Entry>, AllocError>
         requires ready { IsSet F.Fn N.zones N.brands self.now.zones.items self.now.brands.now }
+        ensures turn { IfOk result (λ turn. IfSome turn (λ e. (place_of N.zones e.subject ≡ place) × (session_of e.event ≡ 0))) }
         ensures some { IfOk result (λ turn. IfSome turn (λ e. (w : World) → CellOf cell.old w → w.brands ≡ N.brands → IsDoneIn N.zones place zone.now e cell.new w)) }
         ensures none { IfOk result (λ turn. turn ≡ None → IsAsItWas cell.old cell.new) }
         ensures memory { OnErr result (IsAsItWas cell.old cell.new) }
@@ -106,9 +107,9 @@ impl<'b, D: Disk, F: Fn(&Change) -> HookAnswer, N: Names> Daemons<'b, D, F, N> {
         requires there { zone_at N.zones place ≡ Some zone.now }
         ensures event { IfOk result (λ e. e.event ≡ event) }
         ensures of { IfOk result (λ e. e.subject ≡ subjects.Zone zone.now) }
-        ensures step { IfOk result (λ e. (h : List Entry) → CellIn N.brands (cells.Zone zone.now cell.old) (place_world N.zones place (state_in N.brands N.commits h)) → Stands D.view N.view N.stored shared.old (commons (state_in N.brands N.commits h))
-            → subject (state_in N.brands N.commits h) event ≡ subjects.Zone zone.now → Stepped (daemons D.view N.view N.stored N.zones N.brands N.commits) place (cells.Zone zone.now cell.new) shared.new e h) }
-        ensures err { OnErr result (IsUndone D.view N.view N.stored zone.now event cell.old shared.old cell.new shared.new) }
+        ensures step { IfOk result (λ e. (s : Past) → CellIn N.brands (cells.Zone zone.now cell.old) (place_world N.zones place (state_of N.brands s)) → Stands D.view N.view s.stored shared.old (commons (state_of N.brands s))
+            → subject (state_of N.brands s) event ≡ subjects.Zone zone.now → Stepped (daemons D.view N.view N.zones N.brands) place (cells.Zone zone.now cell.new) shared.new e s) }
+        ensures err { OnErr result (IsUndone D.view N.view zone.now event cell.old shared.old cell.new shared.new) }
     {
         shared.zone_step(self.alloc, zone, cell, event, hook)
     }
@@ -118,8 +119,8 @@ impl<'b, D: Disk, F: Fn(&Change) -> HookAnswer, N: Names> Daemons<'b, D, F, N> {
         requires sound { shared.old.bank.sound ≡ true }
         ensures event { IfOk result (λ e. e.event ≡ event) }
         ensures of { IfOk result (λ e. e.subject ≡ subjects.Global) }
-        ensures step { IfOk result (λ e. (p : ℕ) (h : List Entry) → zone_at N.zones p ≡ None → Stands D.view N.view N.stored shared.old (commons (state_in N.brands N.commits h))
-            → subject (state_in N.brands N.commits h) event ≡ subjects.Global → Stepped (daemons D.view N.view N.stored N.zones N.brands N.commits) p cells.Global shared.new e h) }
+        ensures step { IfOk result (λ e. (p : ℕ) (s : Past) → zone_at N.zones p ≡ None → Stands D.view N.view s.stored shared.old (commons (state_of N.brands s))
+            → subject (state_of N.brands s) event ≡ subjects.Global → Stepped (daemons D.view N.view N.zones N.brands) p cells.Global shared.new e s) }
         ensures err { OnErr result (shared.new ≡ shared.old) }
     {
         shared.global_step(self.alloc, event)
@@ -137,9 +138,9 @@ impl<'b, D: Disk, F: Fn(&Change) -> HookAnswer, N: Names> Daemons<'b, D, F, N> {
         requires ready { IsSet F.Fn N.zones N.brands self.now.zones.items self.now.brands.now }
         requires sound { shared.old.bank.sound ≡ true }
         requires heard { IsHeardIn N.brands cell.old heard }
-        ensures turn { IfOk result (IsTurnOf (daemons D.view N.view N.stored N.zones N.brands N.commits) place) }
-        ensures step { IfOk result (λ e. (h : List Entry) → CellIn N.brands (cells.Zone zone.now cell.old) (place_world N.zones place (state_in N.brands N.commits h)) → Stands D.view N.view N.stored shared.old (commons (state_in N.brands N.commits h)) → Stepped (daemons D.view N.view N.stored N.zones N.brands N.commits) place (cells.Zone zone.now cell.new) shared.new e h) }
-        ensures err { OnErr result (Unfinished (daemons D.view N.view N.stored N.zones N.brands N.commits) place (cells.Zone zone.now cell.old) shared.old (cells.Zone zone.now cell.new) shared.new) }
+        ensures turn { IfOk result (IsTurnOf (daemons D.view N.view N.zones N.brands) place) }
+        ensures step { IfOk result (λ e. (s : Past) → CellIn N.brands (cells.Zone zone.now cell.old) (place_world N.zones place (state_of N.brands s)) → Stands D.view N.view s.stored shared.old (commons (state_of N.brands s)) → Stepped (daemons D.view N.view N.zones N.brands) place (cells.Zone zone.now cell.new) shared.new e s) }
+        ensures err { OnErr result (Unfinished (daemons D.view N.view N.zones N.brands) place (cells.Zone zone.now cell.old) shared.old (cells.Zone zone.now cell.new) shared.new) }
     {
         if !self.is_at(place, zone) {
             return Err(StepFault::Memory);
@@ -165,9 +166,9 @@ impl<'b, D: Disk, F: Fn(&Change) -> HookAnswer, N: Names> Daemons<'b, D, F, N> {
         ensures event { IfOk result (λ e. (e.event ≡ event) × (place_of N.zones e.subject ≡ place)) }
         ensures here { OnOk result (place_of N.zones (subjects.Zone zone.now) ≡ place) }
         ensures elsewhere { (p : ℕ) → result ≡ Err (Elsewhere p) → (p ≢ place) × (place_of N.zones (subjects.Zone zone.now) ≡ p) }
-        ensures step { IfOk result (λ e. (h : List Entry) → CellIn N.brands cell.old (place_world N.zones place (state_in N.brands N.commits h)) → Stands D.view N.view N.stored shared.old (commons (state_in N.brands N.commits h)) → subject (state_in N.brands N.commits h) event ≡ subjects.Zone zone.now → Stepped (daemons D.view N.view N.stored N.zones N.brands N.commits) place cell.new shared.new e h) }
+        ensures step { IfOk result (λ e. (s : Past) → CellIn N.brands cell.old (place_world N.zones place (state_of N.brands s)) → Stands D.view N.view s.stored shared.old (commons (state_of N.brands s)) → subject (state_of N.brands s) event ≡ subjects.Zone zone.now → Stepped (daemons D.view N.view N.zones N.brands) place cell.new shared.new e s) }
         ensures kept { OnErr result (shared.new.bank.sound ≡ true → (w : PlaceWorld) → CellIn N.brands cell.old w → CellIn N.brands cell.new w) }
-        ensures left { OnErr result ((h : List Entry) → CellIn N.brands cell.old (place_world N.zones place (state_in N.brands N.commits h)) → Stands D.view N.view N.stored shared.old (commons (state_in N.brands N.commits h)) → subject (state_in N.brands N.commits h) event ≡ subjects.Zone zone.now → Stands D.view N.view N.stored shared.new (commons (state_in N.brands N.commits h))) }
+        ensures left { OnErr result ((s : Past) → CellIn N.brands cell.old (place_world N.zones place (state_of N.brands s)) → Stands D.view N.view s.stored shared.old (commons (state_of N.brands s)) → subject (state_of N.brands s) event ≡ subjects.Zone zone.now → Stands D.view N.view s.stored shared.new (commons (state_of N.brands s))) }
     {
         let at = self.place_of(zone);
         if at != place {
@@ -199,7 +200,7 @@ impl<'b, D: Disk, F: Fn(&Change) -> HookAnswer, N: Names> Daemons<'b, D, F, N> {
         ensures event { IfOk result (λ e. (e.event ≡ event) × (place_of N.zones e.subject ≡ place)) }
         ensures here { OnOk result (place_of N.zones subjects.Global ≡ place) }
         ensures elsewhere { (p : ℕ) → result ≡ Err (Elsewhere p) → (p ≢ place) × (place_of N.zones subjects.Global ≡ p) }
-        ensures step { IfOk result (λ e. (h : List Entry) → CellIn N.brands cell.now (place_world N.zones place (state_in N.brands N.commits h)) → Stands D.view N.view N.stored shared.old (commons (state_in N.brands N.commits h)) → subject (state_in N.brands N.commits h) event ≡ subjects.Global → Stepped (daemons D.view N.view N.stored N.zones N.brands N.commits) place cell.now shared.new e h) }
+        ensures step { IfOk result (λ e. (s : Past) → CellIn N.brands cell.now (place_world N.zones place (state_of N.brands s)) → Stands D.view N.view s.stored shared.old (commons (state_of N.brands s)) → subject (state_of N.brands s) event ≡ subjects.Global → Stepped (daemons D.view N.view N.zones N.brands) place cell.now shared.new e s) }
         ensures err { OnErr result (shared.new ≡ shared.old) }
     {
         if place != 1 {
@@ -216,7 +217,7 @@ impl<'b, D: Disk, F: Fn(&Change) -> HookAnswer, N: Names> Daemons<'b, D, F, N> {
 }
 
 impl<'b, D: Disk + Drop + Send, F, N: Names + Send> Zoned for Daemons<'b, D, F, N> {
-    type State = LinkedList<Entry>;
+    type State = Past;
 
     type Cell = PlaceCell;
 
@@ -232,7 +233,7 @@ impl<'b, D: Disk + Drop + Send, F, N: Names + Send> Zoned for Daemons<'b, D, F, 
 
     ghost use Rattle.daemon_threads.specs.Definitions.{daemons};
 
-    ghost machine = { daemons D.view N.view N.stored N.zones N.brands N.commits };
+    ghost machine = { daemons D.view N.view N.zones N.brands };
 }
 
 impl<'b, D: Disk + Drop + Send, F: Fn(&Change) -> HookAnswer, N: Names + Send> Machine
@@ -310,5 +311,5 @@ impl<'b, D: Disk + Drop + Send, F: Fn(&Change) -> HookAnswer, N: Names + Send> M
         }
     }
 
-    ghost laws = { laws D.view N.view N.stored N.zones N.brands N.commits N.apart };
+    ghost laws = { laws D.view N.view N.zones N.brands N.apart };
 }

@@ -1,25 +1,20 @@
 //! What a run of threads is about.
 use std::marker::Brand;
 
-/// What a run of threads is about: the zones that have a place, each once; the brands that there are; what was stored before any
-/// event; and what the disk was when the run began, with what was stored then.
+/// What a run of threads is about: the zones that have a place, each once; the brands that there are; and what the disk was
+/// when the run began.
 pub trait Names {
     ghost use Rattle.std.specs.Prelude.{List};
     ghost use Rattle.zn_base.specs.Names.{Name};
     ghost use Rattle.zn_io.specs.Disk.{View};
     ghost use Rattle.brand_hooks.specs.Brands.{Tabled};
-    ghost use Rattle.commit_journal.specs.declared.records.Commit.{Commit};
     ghost use Rattle.session_records.specs.Places.{AreApart};
 
     ghost zones: { List Name };
 
     ghost brands: { List Tabled };
 
-    ghost commits: { List Commit };
-
     ghost view: { View };
-
-    ghost stored: { List Commit };
 
     ghost apart: { AreApart zones };
 }
@@ -32,11 +27,7 @@ impl Names for Brand {
 
     ghost brands = { [] };
 
-    ghost commits = { [] };
-
     ghost view = { no_disk };
-
-    ghost stored = { [] };
 
     ghost apart = { none_apart };
 }

@@ -1,6 +1,7 @@
 //! What the zones share.
-ghost use Rattle.std.specs.Prelude.{◌≡◌, true, IfOk, OnErr, OnOk};
+ghost use Rattle.std.specs.Prelude.{◌≡◌, List, true, IfOk, OnErr, OnOk};
 ghost use Rattle.brand_hooks.specs.declared.table.HookAnswer.{HookAnswer};
+ghost use Rattle.commit_journal.specs.declared.records.Commit.{Commit};
 ghost use Rattle.zone_cases.specs.Code.Cells.{CellOf, IsHeardIn};
 ghost use Rattle.zone_cases.specs.State.{State};
 ghost use Rattle.zone_cases.specs.State.Worlds.{world};
@@ -81,8 +82,8 @@ impl<D: Disk, N: Names> SharedPart<D, N> {
         ensures event { IfOk result (λ entry. entry.event ≡ event) }
         ensures of { IfOk result (λ entry. entry.subject ≡ subjects.Zone zone.now) }
         ensures sound { OnOk result (self.new.bank.sound ≡ true) }
-        ensures step { IfOk result (λ entry. (S : State) → CellOf cell.old (world zone.now S) → Stands D.view N.view N.stored self.old (commons S) → subject S event ≡ subjects.Zone zone.now → CellAnswers D.view N.view N.stored zone.now S event entry cell.new self.new) }
-        ensures err { OnErr result (IsUndone D.view N.view N.stored zone.now event cell.old self.old cell.new self.new) }
+        ensures step { IfOk result (λ entry. (S : State) (before : List Commit) → CellOf cell.old (world zone.now S) → Stands D.view N.view before self.old (commons S) → subject S event ≡ subjects.Zone zone.now → CellAnswers D.view N.view before zone.now S event entry cell.new self.new) }
+        ensures err { OnErr result (IsUndone D.view N.view zone.now event cell.old self.old cell.new self.new) }
     {
         self.shown.make_place(alloc, zone)?;
         let entry = cell_step(
@@ -103,7 +104,7 @@ impl<D: Disk, N: Names> SharedPart<D, N> {
         ensures event { IfOk result (λ entry. entry.event ≡ event) }
         ensures of { IfOk result (λ entry. entry.subject ≡ subjects.Global) }
         ensures sound { self.new.bank.sound ≡ self.old.bank.sound }
-        ensures step { IfOk result (λ entry. self.old.bank.sound ≡ true → (S : State) → Stands D.view N.view N.stored self.old (commons S) → subject S event ≡ subjects.Global → Answers D.view N.view N.stored S event entry self.new) }
+        ensures step { IfOk result (λ entry. self.old.bank.sound ≡ true → (S : State) (before : List Commit) → Stands D.view N.view before self.old (commons S) → subject S event ≡ subjects.Global → Answers D.view N.view before S event entry self.new) }
         ensures err { OnErr result (self.new ≡ self.old) }
     {
         global_step(alloc, &mut self.shared, &self.shown, event)

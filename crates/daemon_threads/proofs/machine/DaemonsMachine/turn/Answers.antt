@@ -8,5 +8,5 @@ use Rattle.daemon_threads.proofs.machine.DaemonsMachine.turn.Goals as goal
 pub returns-in-Zone-clause-err : goal.returns-in-Zone-clause-err
 returns-in-Zone-clause-err g c =
     on_err c.turn_at.result _ _
-    (λ err. subst (λ k. Unfinished (daemons g.D.Disk.view g.N.Names.view g.N.Names.stored g.N.Names.zones g.N.Names.brands g.N.Names.commits) c.args.place k c.args.shared.now (cells.Zone c.in-Zone.zone c.turn_at.new.cell) c.turn_at.new.shared) (sym c.in-Zone.is) err)
+    (λ err. subst (λ k. Unfinished (daemons g.D.Disk.view g.N.Names.view g.N.Names.zones g.N.Names.brands) c.args.place k c.args.shared.now (cells.Zone c.in-Zone.zone c.turn_at.new.cell) c.turn_at.new.shared) (sym c.in-Zone.is) err)
     c.turn_at.ensures.err

@@ -10,6 +10,6 @@ returns-clause-step g c =
     let m : Goods g.row.D.Denot = record { shared = c.self.inside.shared; shown = c.self.inside.shown; bank = c.self.inside.bank } in
     let n : Goods g.row.D.Denot = record { shared = c.global_step.new.shared; shown = c.self.inside.shown; bank = c.self.inside.bank } in
     if_ok c.global_step.result _ _
-    (λ entry step sound S stands of.
-    global-answers g.D.Disk.view g.N.Names.view g.N.Names.stored S c.args.event entry m n step refl refl (ap (λ k. k.bank.sound) c.self.view_is ∙ sound) (subst (λ k. Stands g.D.Disk.view g.N.Names.view g.N.Names.stored k (commons S)) (sym c.self.view_is) stands) of)
+    (λ entry step sound S before stands of.
+    global-answers g.D.Disk.view g.N.Names.view before S c.args.event entry m n step refl refl (ap (λ k. k.bank.sound) c.self.view_is ∙ sound) (subst (λ k. Stands g.D.Disk.view g.N.Names.view before k (commons S)) (sym c.self.view_is) stands) of)
     c.global_step.ensures.ok
