@@ -5,6 +5,7 @@
 mod declaring;
 mod run;
 mod sorting;
+mod telling;
 mod writing;
 
 pub use run::run_live;

@@ -1,0 +1,67 @@
+-- What was written of a text, and what waits.
+use Rattle.std.proofs.Common.{◌≡◌, ◌+◌, ◌++◌, ◌∷◌, ◌∙◌, [], ℕ, List, Option, append-nil, append_assoc, ap, length, refl, suc, sym, take}
+use Rattle.std.proofs.Math.Seq.{take-append-add}
+use Rattle.zn_io.specs.Streams.{after_known}
+use Rattle.zones_run.specs.Run.{HasFront}
+use Rattle.zones_run.proofs.Fronts.{after_known-append, after_known-nil}
+use Rattle.zones_live.specs.Writing.{Waits}
+
+-- a front of a text is one of a longer text
+take-more : (n : ℕ) (xs ys : List ℕ) → (k : ℕ) × (take n xs ≡ take k (xs ++ ys))
+take-more 0 xs ys = (0, refl)
+take-more (suc n) [] ys = (0, refl)
+take-more (suc n) (x ∷ xs) ys = let more = take-more n xs ys in (suc more.0, ap (λ l. x ∷ l) more.1)
+
+module _ (held : Option (List ℕ)) where
+  pub front-more : (holds : Option (List ℕ)) (text more : List ℕ) → HasFront held holds text → HasFront held holds (text ++ more)
+  front-more holds text more front = let longer = take-more front.count text more in record { count = longer.0; taken = front.taken ∙ ap (after_known held) longer.1 }
+
+  pub front-all : (holds : Option (List ℕ)) (text : List ℕ) → holds ≡ after_known held text → HasFront held holds text
+  front-all holds text all = record { count = length text; taken = all ∙ ap (after_known held) (sym (take_all text)) }
+    where
+      take_all : (xs : List ℕ) → take (length xs) xs ≡ xs
+      take_all [] = refl
+      take_all (x ∷ xs) = ap (λ l. x ∷ l) (take_all xs)
+
+  pub front-none : (text : List ℕ) → HasFront held held text
+  front-none text = record { count = 0; taken = sym (after_known-nil held) }
+
+  -- nothing is written yet
+  pub waits-yet : (text : List ℕ) → Waits held held text text
+  waits-yet text = record { written = []; whole = refl; taken = sym (after_known-nil held) }
+
+  -- all is written
+  pub waits-none : (holds : Option (List ℕ)) (text : List ℕ) → holds ≡ after_known held text → Waits held holds [] text
+  waits-none holds text all = record { written = text; whole = sym (append-nil text); taken = all }
+
+  module _ (mid : Option (List ℕ)) (waiting text : List ℕ) (a : Waits held mid waiting text) where
+    behind : (more : List ℕ) → text ++ more ≡ a.written ++ (waiting ++ more)
+    behind more = ap (λ l. l ++ more) a.whole ∙ append_assoc a.written waiting more
+
+    taken-on : (holds : Option (List ℕ)) (bytes : List ℕ) → holds ≡ after_known mid bytes → holds ≡ after_known held (a.written ++ bytes)
+    taken-on holds bytes is = is ∙ ap (λ known. after_known known bytes) a.taken ∙ after_known-append held a.written bytes
+
+    -- more comes to wait behind what waits, and some of it is written
+    pub waits-on : (holds : Option (List ℕ)) (left more : List ℕ) → Waits mid holds left (waiting ++ more) → Waits held holds left (text ++ more)
+    waits-on holds left more b = record {
+      written = a.written ++ b.written;
+      whole = behind more ∙ ap (λ l. a.written ++ l) b.whole ∙ sym (append_assoc a.written b.written left);
+      taken = taken-on holds b.written b.taken;
+    }
+
+    -- or a front of both
+    pub front-on : (holds : Option (List ℕ)) (more : List ℕ) → HasFront mid holds (waiting ++ more) → HasFront held holds (text ++ more)
+    front-on holds more b = record {
+      count = length a.written + b.count;
+      taken = taken-on holds (take b.count (waiting ++ more)) b.taken ∙ ap (after_known held) (sym (take-append-add a.written (waiting ++ more) b.count) ∙ ap (take (length a.written + b.count)) (sym (behind more)));
+    }
+
+    -- all that waits is written
+    pub all-on : (holds : Option (List ℕ)) → holds ≡ after_known mid waiting → holds ≡ after_known held text
+    all-on holds is = taken-on holds waiting is ∙ ap (after_known held) (sym a.whole)
+
+    pub front-end : (holds : Option (List ℕ)) → HasFront mid holds waiting → HasFront held holds text
+    front-end holds b = record {
+      count = length a.written + b.count;
+      taken = taken-on holds (take b.count waiting) b.taken ∙ ap (after_known held) (sym (take-append-add a.written waiting b.count) ∙ ap (take (length a.written + b.count)) (sym a.whole));
+    }
