@@ -1,5 +1,5 @@
 -- What the whole input of `live` says: the events of its lines, in order, up to where they end.
-use Rattle.std.specs.Prelude.{◌≡◌, ℕ, ◌+◌, List, [], ◌∷◌, ◌++◌, length, Bool, true, false, ◌||◌, nat_lt, Some, None, Result, Ok, Err, if◌then◌else◌}
+use Rattle.std.specs.Prelude.{◌≡◌, ◌≢◌, ◌<◌, ℕ, ◌+◌, List, [], ◌∷◌, ◌++◌, length, Bool, true, false, ◌||◌, nat_lt, Some, None, Result, Ok, Err, if◌then◌else◌}
 use Rattle.zn_base.specs.Lines.{lines_of}
 use Rattle.trace_text.specs.Lines.{Said}
 use Rattle.trace_text.specs.Live.{live_of}
@@ -23,6 +23,14 @@ is_typed (Turn zone) = false
 is_typed (Process zone pid call) = false
 is_typed (System what) = false
 is_typed Restart = false
+
+-- a session that types has a number from 1 to 64
+abbrev pub IsNumbered : Event → Type 0
+IsNumbered (Session number text) = (number ≢ 0) × (number < 65)
+IsNumbered (Turn zone) = Unit {0}
+IsNumbered (Process zone pid call) = Unit {0}
+IsNumbered (System what) = Unit {0}
+IsNumbered Restart = Unit {0}
 
 -- whether a line says such an event
 abbrev pub types : Said → Bool

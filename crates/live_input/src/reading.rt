@@ -1,12 +1,13 @@
 //! The lines of an input are read as events, in order, up to where they end.
 ghost use Rattle.std.specs.Prelude.{◌≡◌, ◌⊎◌, ◌≤◌, ◌++◌, ◌∷◌, [], Err, IfErr, IfOk, IfSome, IsErrOf, OnErr, OnOk, length};
+ghost use Rattle.std.specs.List.{All};
 ghost use Rattle.zn_io.specs.Streams.{Rose};
 ghost use Rattle.trace_text.specs.Live.{live_of};
-ghost use Rattle.live_input.specs.Input.{Puts, ended_at, input_of, is_typed};
+ghost use Rattle.live_input.specs.Input.{IsNumbered, Puts, ended_at, input_of, is_typed};
 
 use input_lines::{Ahead, Got, ReadFault, next_line};
 use std::alloc::{AllocError, Global};
-use trace_text::{LineFault, read_live};
+use trace_text::{LineFault, read_events_are_right, read_live};
 use zn_io::Source;
 use zone_cases::Event;
 
@@ -80,9 +81,13 @@ pub fn read_lines<S: Source>(
 ) -> Result<Ending, ReadFault>
     requires { events.old.items ≡ [] }
     ensures whole { IfOk result (λ ending. IfSome (S.left source.old) (λ bytes. record { events = events.new.items; ending = ending } ≡ input_of bytes)) }
+    // Each session that types has a number from 1 to 64, whatever the source is known to hold.
+    ensures numbered { OnOk result (All IsNumbered events.new.items) }
     ensures failed { IsErrOf result ReadFault.Failed → Rose (S.faults source.old) (S.faults source.new) }
     ensures later { S.faults source.old ≤ S.faults source.new }
 {
+    // A law, by which each number of a session is one.
+    read_events_are_right();
     let mut ahead = Ahead::new();
     let mut line = Vec::new(alloc);
     let mut started = false;
