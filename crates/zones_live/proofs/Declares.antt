@@ -25,7 +25,7 @@ use Rattle.zones_live.specs.Declaring.{Declared}
 use Rattle.zones_run.specs.Recording.{KeepsStore}
 
 declare-commits : (S : State) (what : Declaration) (g : Grant) → (one S (System what) g).state.commits ≡ S.commits
-unfolding one, subject
+unfolding one subject
 declare-commits S what g = refl
 
 declare-changes : (S : State) (e : Entry) (what : Declaration) → e.event ≡ System what → change S e ≡ []

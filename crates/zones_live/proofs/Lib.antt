@@ -1,2 +1,4 @@
 mod Written
 mod Declares
+mod Lives
+mod Told

@@ -1,7 +1,13 @@
 -- What was written of a text, and what waits.
-use Rattle.std.proofs.Common.{◌≡◌, ◌+◌, ◌++◌, ◌∷◌, ◌∙◌, [], ℕ, List, Option, append-nil, append_assoc, ap, length, refl, suc, sym, take}
+use Rattle.std.proofs.Common.{◌≡◌, ◌≤◌, ◌<◌, ◌+◌, ◌++◌, ◌∷◌, ◌∙◌, [], ℕ, Err, List, Ok, Option, Result, append-nil, append_assoc, ap, arith, drop, length, refl, subst, suc, sym, take}
+use Rattle.std.specs.Prelude.{OnErr, OnOk, slice_index_or}
 use Rattle.std.proofs.Math.Seq.{take-append-add}
+use Rattle.std.proofs.lemmas.Grind.{flat_map-append}
+use Rattle.std.proofs.lemmas.List.{flat_map_more, take-append-drop, take_all, take_more}
 use Rattle.zn_io.specs.Streams.{after_known}
+use Rattle.trace_text.specs.Live.{entry_text}
+use Rattle.zone_cases.specs.declared.events.Entry.{Entry}
+use Rattle.zones_live.specs.Records.{record_text}
 use Rattle.zones_run.specs.Run.{HasFront}
 use Rattle.zones_run.proofs.Fronts.{after_known-append, after_known-nil}
 use Rattle.zones_live.specs.Writing.{Waits}
@@ -12,16 +18,38 @@ take-more 0 xs ys = (0, refl)
 take-more (suc n) [] ys = (0, refl)
 take-more (suc n) (x ∷ xs) ys = let more = take-more n xs ys in (suc more.0, ap (λ l. x ∷ l) more.1)
 
+pub record-append : (g h : List Entry) → record_text (g ++ h) ≡ record_text g ++ record_text h
+record-append g h = flat_map-append entry_text g h
+
+-- the text of one entry more
+pub record-next : (es : List Entry) (i : ℕ) (e : Entry) → i < length es → e ≡ slice_index_or es i e → record_text (take (i + 1) es) ≡ record_text (take i es) ++ entry_text e
+record-next es i e near is = ap record_text (take_more es i e near ∙ ap (λ (x : Entry). take i es ++ x ∷ []) (sym is)) ∙ sym (flat_map_more entry_text [] (take i es) e)
+
+pub record-whole : (es : List Entry) (i : ℕ) (e : Entry) → i < length es → e ≡ slice_index_or es i e → record_text es ≡ (record_text (take i es) ++ entry_text e) ++ record_text (drop (i + 1) es)
+record-whole es i e near is = ap record_text (sym (take-append-drop (i + 1) es)) ∙ record-append (take (i + 1) es) (drop (i + 1) es) ∙ ap (λ l. l ++ record_text (drop (i + 1) es)) (record-next es i e near is)
+
+pub record-all : (es : List Entry) (i : ℕ) → length es ≤ i → record_text (take i es) ≡ record_text es
+record-all es i all = ap record_text (take_all i es all)
+
+-- of each outcome
+pub on-err : {A E : Type 0} (r : Result A E) (P : Type 0) → P → OnErr r P
+on-err (Ok a) P holds = tt
+on-err (Err e) P holds = holds
+
+pub ok-lead : {A E : Type 0} (r : Result A E) (P Q : Type 0) → OnOk r P → (P → Q) → OnOk r Q
+ok-lead (Ok a) P Q holds lead = lead holds
+ok-lead (Err e) P Q holds lead = tt
+
+pub err-lead : {A E : Type 0} (r : Result A E) (P Q : Type 0) → OnErr r P → (P → Q) → OnErr r Q
+err-lead (Ok a) P Q holds lead = tt
+err-lead (Err e) P Q holds lead = lead holds
+
 module _ (held : Option (List ℕ)) where
   pub front-more : (holds : Option (List ℕ)) (text more : List ℕ) → HasFront held holds text → HasFront held holds (text ++ more)
   front-more holds text more front = let longer = take-more front.count text more in record { count = longer.0; taken = front.taken ∙ ap (after_known held) longer.1 }
 
   pub front-all : (holds : Option (List ℕ)) (text : List ℕ) → holds ≡ after_known held text → HasFront held holds text
-  front-all holds text all = record { count = length text; taken = all ∙ ap (after_known held) (sym (take_all text)) }
-    where
-      take_all : (xs : List ℕ) → take (length xs) xs ≡ xs
-      take_all [] = refl
-      take_all (x ∷ xs) = ap (λ l. x ∷ l) (take_all xs)
+  front-all holds text all = record { count = length text; taken = all ∙ ap (after_known held) (sym (take_all (length text) text (omega arith))) }
 
   pub front-none : (text : List ℕ) → HasFront held held text
   front-none text = record { count = 0; taken = sym (after_known-nil held) }

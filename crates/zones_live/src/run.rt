@@ -1,10 +1,10 @@
 //! The top call of `live`.
-ghost use Rattle.std.specs.Prelude.{◌≡◌, ◌≢◌, ◌⊎◌, ◌×◌, ◌<◌, ⊥, IfSome, List, false, map, string_bytes, true};
+ghost use Rattle.std.specs.Prelude.{◌≡◌, ◌≢◌, ◌⊎◌, ◌<◌, ⊥, IfSome, List, false, map, string_bytes, true};
 ghost use Rattle.std.specs.List.{All};
 ghost use Rattle.brand_hooks.specs.Brands.{Tabled, tables_of};
 ghost use Rattle.brand_hooks.specs.Hooks.{AllFollow};
 ghost use Rattle.commit_journal.specs.declared.records.Commit.{Commit};
-ghost use Rattle.live_input.specs.Input.{input_of};
+ghost use Rattle.live_input.specs.Input.{IsNumbered, input_of};
 ghost use Rattle.session_runs.specs.Far.{Differ, scripts_of};
 ghost use Rattle.zn_io.specs.Streams.{Rose, TakesFront};
 ghost use Rattle.zone_cases.specs.declared.events.Declaration.{Declaration};
@@ -163,4 +163,142 @@ fn run_on_store<
         Err((StoreFault::DiskFault, disk)) => (fail(err, RunFault::Disk), disk),
         Err((fault, disk)) => (complain(alloc, err, Complaint::NotAStore(fault)), disk),
     }
+}
+
+// What the events of an input declare and type is run.
+fn run_events<
+    R: Threads + Wait + Sync,
+    K: Sink,
+    E: Sink,
+    D: Disk + Drop + Send,
+    F: Fn(&Change) -> HookAnswer + Sync,
+    G: Gate + Sync,
+>(
+    rt: &R,
+    alloc: Global,
+    events: Vec<Event>,
+    out: &mut K,
+    err: &mut E,
+    disk: D,
+    brands: &Brands<F>,
+    gate: &G,
+) -> (u8, D)
+    requires follow { AllFollow F.Fn brands.now }
+    requires numbered { All IsNumbered events.items }
+    ensures statuses { IsDone result.0 ⊎ ((result.0 ≡ NO_MEMORY) ⊎ ((result.0 ≡ DISK_FAULT) ⊎ (result.0 ≡ NOT_A_STORE))) }
+    ensures runs { (R : List Commit) → IsStoreOf (D.view disk) R →
+        RunsOn (tables_of brands.now) R (declared_in events.items) (typed_in events.items) result.0 (K.holds out.old) (K.holds out.new) (E.holds err.old) (E.holds err.new) (E.faults err.old) (E.faults err.new) (D.view disk) (D.view result.1) }
+    ensures store { result.0 ≡ NOT_A_STORE → (D.view disk).Keeps → IsNoStore (D.view disk) }
+    ensures write_fault { result.0 ≡ WRITE_FAULT → Rose (K.faults out.old) (K.faults out.new) ⊎ Rose (E.faults err.old) (E.faults err.new) }
+    ensures disk_fault { result.0 ≡ DISK_FAULT → Rose (D.view disk).faults (D.view result.1).faults }
+    ensures disk_line { result.0 ≡ DISK_FAULT → TakesFront (E.holds err.old) (E.holds err.new) (E.faults err.old) (E.faults err.new) disk_fault_line }
+    ensures memory_line { result.0 ≡ NO_MEMORY → TakesFront (E.holds err.old) (E.holds err.new) (E.faults err.old) (E.faults err.new) memory_line }
+{
+    match sort(alloc, events) {
+        Ok(sorted) => run_on_store(rt, alloc, sorted, out, err, disk, brands, gate),
+        Err(AllocError) => (fail(err, RunFault::Memory), disk),
+    }
+}
+
+// All of the input is read, and run where nothing ends it before.
+fn run_input<
+    R: Threads + Wait + Sync,
+    S: Source,
+    K: Sink,
+    E: Sink,
+    D: Disk + Drop + Send,
+    F: Fn(&Change) -> HookAnswer + Sync,
+    G: Gate + Sync,
+>(
+    rt: &R,
+    alloc: Global,
+    src: &mut S,
+    out: &mut K,
+    err: &mut E,
+    disk: D,
+    brands: &Brands<F>,
+    gate: &G,
+) -> (u8, D)
+    requires { AllFollow F.Fn brands.now }
+    ensures statuses { IsStatus result.0 }
+    ensures usage { result.0 ≢ USAGE }
+    ensures lives { (R : List Commit) → IsStoreOf (D.view disk) R → IfSome (S.left src.old) (λ bytes.
+        LivesOn (tables_of brands.now) R (input_of bytes) result.0 (K.holds out.old) (K.holds out.new) (E.holds err.old) (E.holds err.new) (E.faults err.old) (E.faults err.new) (D.view disk) (D.view result.1)) }
+    ensures read_fault { result.0 ≡ READ_FAULT → Rose (S.faults src.old) (S.faults src.new) }
+    ensures read_line { result.0 ≡ READ_FAULT → TakesFront (E.holds err.old) (E.holds err.new) (E.faults err.old) (E.faults err.new) read_fault_line }
+    ensures write_fault { result.0 ≡ WRITE_FAULT → Rose (K.faults out.old) (K.faults out.new) ⊎ Rose (E.faults err.old) (E.faults err.new) }
+    ensures disk_fault { result.0 ≡ DISK_FAULT → Rose (D.view disk).faults (D.view result.1).faults }
+    ensures disk_line { result.0 ≡ DISK_FAULT → TakesFront (E.holds err.old) (E.holds err.new) (E.faults err.old) (E.faults err.new) disk_fault_line }
+    ensures store { result.0 ≡ NOT_A_STORE → (D.view disk).Keeps → IsNoStore (D.view disk) }
+    ensures memory_line { result.0 ≡ NO_MEMORY → TakesFront (E.holds err.old) (E.holds err.new) (E.faults err.old) (E.faults err.new) memory_line }
+{
+    let mut events = Vec::new(alloc);
+    match read_lines(alloc, src, &mut events) {
+        Ok(Ending::End) => run_events(rt, alloc, events, out, err, disk, brands, gate),
+        Ok(Ending::Grammar(number, fault)) => {
+            (
+                tell_ending(alloc, err, Complaint::Grammar(number, fault)),
+                disk,
+            )
+        }
+        Ok(Ending::Limit(number)) => (tell_ending(alloc, err, Complaint::Limit(number)), disk),
+        Err(fault) => (fail(err, RunFault::from(fault)), disk),
+    }
+}
+
+/// Does what the words say where these are `live` alone: reads what sessions declare and type to the end of the input, opens the store on
+/// the disk, runs each session's script on a thread of its own, and writes the record on standard output. Answers the exit status and the
+/// disk. It may wait.
+pub fn run_live<
+    R: Threads + Wait + Sync,
+    S: Source,
+    K: Sink,
+    E: Sink,
+    D: Disk + Drop + Send,
+    F: Fn(&Change) -> HookAnswer + Sync,
+    G: Gate + Sync,
+>(
+    rt: &R,
+    alloc: Global,
+    words: &[String],
+    src: &mut S,
+    out: &mut K,
+    err: &mut E,
+    disk: D,
+    brands: &Brands<F>,
+    gate: &G,
+) -> (u8, D)
+    requires { AllFollow F.Fn brands.now }
+    ensures statuses { IsStatus result.0 }
+
+    // Over a store and a whole input: the record that was written, and what is on the disk of it.
+    ensures lives { (R : List Commit) → IsForm (map string_bytes words.now) → IsStoreOf (D.view disk) R → IfSome (S.left src.old) (λ bytes.
+        LivesOn (tables_of brands.now) R (input_of bytes) result.0 (K.holds out.old) (K.holds out.new) (E.holds err.old) (E.holds err.new) (E.faults err.old) (E.faults err.new) (D.view disk) (D.view result.1)) }
+
+    // Status 2 comes exactly where the words are not this one.
+    ensures usage { result.0 ≡ USAGE → IsForm (map string_bytes words.now) → ⊥ }
+    ensures form { (IsForm (map string_bytes words.now) → ⊥) → (result.0 ≡ USAGE) × (result.1 ≡ disk) × (src.new ≡ src.old) }
+
+    // The source failed.
+    ensures read_fault { result.0 ≡ READ_FAULT → Rose (S.faults src.old) (S.faults src.new) }
+    ensures read_line { result.0 ≡ READ_FAULT → TakesFront (E.holds err.old) (E.holds err.new) (E.faults err.old) (E.faults err.new) read_fault_line }
+
+    // A sink failed.
+    ensures write_fault { result.0 ≡ WRITE_FAULT → Rose (K.faults out.old) (K.faults out.new) ⊎ Rose (E.faults err.old) (E.faults err.new) }
+
+    // The disk failed.
+    ensures disk_fault { result.0 ≡ DISK_FAULT → Rose (D.view disk).faults (D.view result.1).faults }
+    ensures disk_line { result.0 ≡ DISK_FAULT → TakesFront (E.holds err.old) (E.holds err.new) (E.faults err.old) (E.faults err.new) disk_fault_line }
+
+    // What is on the disk is no store.
+    ensures store { result.0 ≡ NOT_A_STORE → (D.view disk).Keeps → IsNoStore (D.view disk) }
+
+    // Memory ran out.
+    ensures memory_line { result.0 ≡ NO_MEMORY → TakesFront (E.holds err.old) (E.holds err.new) (E.faults err.old) (E.faults err.new) memory_line }
+{
+    if is_live(words) {
+        return run_input(rt, alloc, src, out, err, disk, brands, gate);
+    }
+    tell(err, USAGE_LINE);
+    (USAGE, disk)
 }

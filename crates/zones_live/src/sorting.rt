@@ -1,5 +1,5 @@
 //! The events of an input are sorted: what is declared, and what each session types.
-ghost use Rattle.std.specs.Prelude.{◌≡◌, ◌≢◌, ◌≤◌, ◌×◌, IfOk};
+ghost use Rattle.std.specs.Prelude.{◌≡◌, ◌≢◌, ◌≤◌, IfOk};
 ghost use Rattle.std.specs.List.{All};
 ghost use Rattle.zones_live.specs.Sorting.{Sorts};
 

@@ -46,12 +46,7 @@ fn tell_refused<E: Sink>(alloc: Global, err: &mut E, refused: Option<u64>) -> u8
 }
 
 // A whole record is written, and its first refused entry told.
-fn tell_whole<K: Sink, E: Sink>(
-    alloc: Global,
-    out: &mut K,
-    err: &mut E,
-    entries: &[Entry],
-) -> u8
+fn tell_whole<K: Sink, E: Sink>(alloc: Global, out: &mut K, err: &mut E, entries: &[Entry]) -> u8
     ensures statuses { IsDone result ⊎ (result ≡ NO_MEMORY) }
     ensures text { TellsText (told_record entries.now) result (K.holds out.old) (K.holds out.new) }
     ensures line { TellsLine (told_record entries.now).err result (E.holds err.old) (E.holds err.new) (E.faults err.old) (E.faults err.new) }

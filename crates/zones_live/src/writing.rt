@@ -45,11 +45,7 @@ fn write_waiting<K: Sink>(waiting: &mut Vec<u8>, out: &mut K) -> Result<(), RunF
 }
 
 // An entry's text waits behind what waits. Where many bytes do, all are written.
-fn put_entry<K: Sink>(
-    waiting: &mut Vec<u8>,
-    out: &mut K,
-    entry: &Entry,
-) -> Result<(), RunFault>
+fn put_entry<K: Sink>(waiting: &mut Vec<u8>, out: &mut K, entry: &Entry) -> Result<(), RunFault>
     ensures waits { OnOk result (Waits (K.holds out.old) (K.holds out.new) waiting.new.items (waiting.old.items ++ entry_text entry.now)) }
     ensures front { OnErr result (HasFront (K.holds out.old) (K.holds out.new) (waiting.old.items ++ entry_text entry.now)) }
     ensures only { IfErr result (λ fault. (fault ≡ RunFault.Memory) ⊎ (fault ≡ RunFault.Write)) }
