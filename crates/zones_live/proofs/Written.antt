@@ -1,5 +1,5 @@
 -- What was written of a text, and what waits.
-use Rattle.std.proofs.Common.{◌≡◌, ◌≤◌, ◌<◌, ◌+◌, ◌++◌, ◌∷◌, ◌∙◌, [], ℕ, Err, List, Ok, Option, Result, append-nil, append_assoc, ap, arith, drop, length, refl, subst, suc, sym, take}
+use Rattle.std.proofs.Common.{◌≡◌, ◌≤◌, ◌<◌, ◌+◌, ◌++◌, ◌∷◌, ◌∙◌, [], ℕ, Err, List, Ok, Option, Result, append-nil, append_assoc, ap, arith, drop, length, refl, subst, suc, sym, take, zero}
 use Rattle.std.specs.Prelude.{OnErr, OnOk, slice_index_or}
 use Rattle.std.proofs.Math.Seq.{take-append-add}
 use Rattle.std.proofs.lemmas.Grind.{flat_map-append}
@@ -14,7 +14,7 @@ use Rattle.zones_live.specs.Writing.{Waits}
 
 -- a front of a text is one of a longer text
 take-more : (n : ℕ) (xs ys : List ℕ) → (k : ℕ) × (take n xs ≡ take k (xs ++ ys))
-take-more 0 xs ys = (0, refl)
+take-more zero xs ys = (0, refl)
 take-more (suc n) [] ys = (0, refl)
 take-more (suc n) (x ∷ xs) ys = let more = take-more n xs ys in (suc more.0, ap (λ l. x ∷ l) more.1)
 
@@ -50,6 +50,11 @@ module _ (held : Option (List ℕ)) where
 
   pub front-all : (holds : Option (List ℕ)) (text : List ℕ) → holds ≡ after_known held text → HasFront held holds text
   front-all holds text all = record { count = length text; taken = all ∙ ap (after_known held) (sym (take_all (length text) text (omega arith))) }
+
+  -- whether all was written or not
+  pub front-either : {A E : Type 0} (r : Result A E) (holds : Option (List ℕ)) (text : List ℕ) → OnOk r (holds ≡ after_known held text) → OnErr r (HasFront held holds text) → HasFront held holds text
+  front-either (Ok a) holds text all front = front-all holds text all
+  front-either (Err e) holds text all front = front
 
   pub front-none : (text : List ℕ) → HasFront held held text
   front-none text = record { count = 0; taken = sym (after_known-nil held) }
