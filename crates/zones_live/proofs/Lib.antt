@@ -1,4 +1,1 @@
-mod Written
-mod Declares
-mod Lives
-mod Told
+pub mod Sorting_laws
