@@ -1,1 +1,5 @@
 pub mod Sorting_laws
+mod Declares
+mod Written
+mod Told
+mod Lives

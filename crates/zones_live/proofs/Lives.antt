@@ -1,8 +1,8 @@
 -- How a whole run is composed of its parts.
-use Rattle.std.proofs.Common.{◌≡◌, ◌⊎◌, ◌++◌, ◌∙◌, [], ℕ, Bool, List, None, Option, Some, true, false, ap, append-nil, append_assoc, arith, inl, inr, refl, subst, sym}
-use Rattle.std.specs.Prelude.{◌≢◌, IfSome}
+use Rattle.std.proofs.Common.{◌≡◌, ◌≤◌, ◌<◌, ◌⊎◌, ◌++◌, ◌∷◌, ◌∙◌, [], ℕ, Bool, List, None, Option, Some, true, false, ap, append-nil, append_assoc, arith, inl, inr, length, map, refl, subst, sym}
+use Rattle.std.specs.Prelude.{◌≢◌, IfSome, slice_index_or}
 use Rattle.zn_io.proofs.Moments.{joined, weaker}
-use Rattle.zn_io.specs.Disk.{Leaves, View}
+use Rattle.zn_io.specs.Disk.{IsSound, Leaves, View}
 use Rattle.zn_io.specs.Streams.{TakesFront, after_known}
 use Rattle.brand_hooks.specs.Brands.{Tabled}
 use Rattle.commit_journal.specs.declared.records.Commit.{Commit}
@@ -23,11 +23,15 @@ use Rattle.zone_machine.specs.declared.faults.StepFault.TheVariants.{DiskFault, 
 use Rattle.zones_run.specs.Complaints.{complaint_output, complaint_status, complaint_text}
 use Rattle.zones_run.specs.Output.{Output}
 use Rattle.zones_run.specs.Recording.{KeepsStore}
-use Rattle.zones_run.specs.Run.{HasFront, IsDecided, TellsLine, TellsText, fault_status}
+use Rattle.zones_run.specs.Run.{HasFront, TellsLine, TellsText, fault_status, run_fault_of}
 use Rattle.zones_run.specs.Statuses.{status_disk_fault, status_grammar, status_limit, status_no_memory, status_read_fault}
 use Rattle.zones_run.specs.declared.outcome.Complaint.{Complaint}
+use Rattle.zones_run.specs.declared.fault.RunFault.{RunFault}
+use Rattle.zones_run.specs.declared.fault.RunFault.TheVariants.{Disk, Memory as No_memory}
+use Rattle.input_lines.specs.declared.lines.ReadFault.{ReadFault}
+use Rattle.input_lines.specs.declared.lines.ReadFault.TheVariants.{Failed, Memory as No_room}
 use Rattle.zones_run.proofs.Telling.{text_nothing}
-use Rattle.zones_live.proofs.Declares.{changes-append}
+use Rattle.zones_live.proofs.Declares.{changes-append, keeps-more}
 use Rattle.zones_live.proofs.Written.{front-more, front-none, record-append}
 use Rattle.zones_live.specs.Declaring.{Declared}
 use Rattle.zones_live.specs.Living.{IsDone, LivesOn, RunsOn, WroteComplaint, WrotePart, WroteRecord, ending_output}
@@ -94,21 +98,9 @@ module _ (brands : List Tabled) (R : List Commit) (what : List Declaration) (scr
       part : (settled : Bool) → WrotePart settled brands R what scripts held holds v w
       part settled = record { entries = []; part = inl refl; text = subst (λ (h : Option (List ℕ)). HasFront held h []) (sym same) (front-none held []); left = left-none settled (opening brands R) v w model kept }
 
-  -- the same since an earlier moment
-  pub runs-later : (u v w : View) → (u.Keeps → v.Keeps) → (u.Keeps → KeepsStore R u v) → RunsOn brands R what scripts status held holds told tells before now v w → RunsOn brands R what scripts status held holds told tells before now u w
-  runs-later u v w model kept run = record {
-    done = λ d. let r = run.done d in record { entries = r.entries; whole = r.whole; text = r.text; line = r.line; left = left-later true (opening brands R) r.entries u v w model kept r.left };
-    memory = λ m. later true (run.memory m);
-    disk = λ d. later false (run.disk d);
-    only = run.only;
-  }
-    where
-      later : (settled : Bool) → WrotePart settled brands R what scripts held holds v w → WrotePart settled brands R what scripts held holds u w
-      later settled p = record { entries = p.entries; part = p.part; text = p.text; left = left-later settled (opening brands R) p.entries u v w model kept p.left }
-
   -- sessions ran behind what was declared
   module _ (declared lived : List Entry) (ended : Option StepFault) (stands : State → Type 0) (v w : View) (d : Declared (opening brands R) what [] declared stands) (lives : Lives ended (after (opening brands R) d.first) scripts lived v w) where
-    S : State
+    abbrev S : State
     S = opening brands R
 
     first-is : (h : List Entry) → declared ++ h ≡ d.first ++ h
@@ -158,32 +150,40 @@ module _ (brands : List Tabled) (R : List Commit) (what : List Declaration) (scr
       only = statuses;
     }
 
-  -- a whole input was run
-  module _ (v w : View) where
-    pub lives-run : (input : Input) → input.ending ≡ End → what ≡ declared_in input.events → scripts ≡ typed_in input.events → RunsOn brands R what scripts status held holds told tells before now v w → LivesOn brands R input status held holds told tells before now v w
-    lives-run input ends whats types run =
-        let r = subst (λ (s : Scripts). RunsOn brands R (declared_in input.events) s status held holds told tells before now v w) types (subst (λ (d : List Declaration). RunsOn brands R d scripts status held holds told tells before now v w) whats run) in
-        record {
-          done = λ d. (ends, r.done d);
-          ended = λ e. absurd (grind (arith, e, r.only));
-          memory = r.memory;
-          disk = r.disk;
-          read = λ f. absurd (grind (arith, f, r.only));
-          form = λ f. grind (arith, f, r.only);
-          store = λ f. grind (arith, f, r.only);
-        }
+-- what is declared and typed is named by its equals
+pub runs-as : (brands : List Tabled) (R : List Commit) (what what' : List Declaration) (scripts scripts' : Scripts) (status : ℕ) (held holds told tells : Option (List ℕ)) (before now : ℕ) (v w : View) → what ≡ what' → scripts ≡ scripts'
+    → RunsOn brands R what scripts status held holds told tells before now v w → RunsOn brands R what' scripts' status held holds told tells before now v w
+runs-as brands R what what' scripts scripts' status held holds told tells before now v w whats types run =
+    subst (λ (s : Scripts). RunsOn brands R what' s status held holds told tells before now v w) types (subst (λ (d : List Declaration). RunsOn brands R d scripts status held holds told tells before now v w) whats run)
+
+-- a whole input was run
+lives-run : (brands : List Tabled) (R : List Commit) (input : Input) (status : ℕ) (held holds told tells : Option (List ℕ)) (before now : ℕ) (v w : View) → input.ending ≡ End
+    → RunsOn brands R (declared_in input.events) (typed_in input.events) status held holds told tells before now v w → LivesOn brands R input status held holds told tells before now v w
+lives-run brands R input status held holds told tells before now v w ends run = record {
+  done = λ d. (ends, run.done d);
+  ended = λ e. absurd (grind (arith, e, run.only));
+  memory = run.memory;
+  disk = run.disk;
+  read = λ f. absurd (grind (arith, f, run.only));
+  form = λ f. grind (arith, f, run.only);
+  store = λ f. grind (arith, f, run.only);
+}
+
+pub lives-whole : (brands : List Tabled) (R : List Commit) (input whole : Input) (status : ℕ) (held holds told tells : Option (List ℕ)) (before now : ℕ) (v w : View) → input ≡ whole → input.ending ≡ End
+    → RunsOn brands R (declared_in input.events) (typed_in input.events) status held holds told tells before now v w → LivesOn brands R whole status held holds told tells before now v w
+lives-whole brands R input whole status held holds told tells before now v w is ends run = subst (λ (i : Input). LivesOn brands R i status held holds told tells before now v w) is (lives-run brands R input status held holds told tells before now v w ends run)
 
 -- nothing was run
-module _ (brands : List Tabled) (R : List Commit) (input : Input) (status : ℕ) (held told tells : Option (List ℕ)) (before now : ℕ) (v : View) (kept : KeepsStore R v v) where
-  nothing-part : (settled : Bool) → WrotePart settled brands R (declared_in input.events) (typed_in input.events) held held v v
-  nothing-part settled = record { entries = []; part = inl refl; text = front-none held []; left = left-none settled (opening brands R) v v (λ k. k) (λ k. kept) }
+module _ (brands : List Tabled) (R : List Commit) (input : Input) (status : ℕ) (held told tells : Option (List ℕ)) (before now : ℕ) (v w : View) (model : v.Keeps → w.Keeps) (kept : KeepsStore R v w) where
+  nothing-part : (settled : Bool) → WrotePart settled brands R (declared_in input.events) (typed_in input.events) held held v w
+  nothing-part settled = record { entries = []; part = inl refl; text = front-none held []; left = left-none settled (opening brands R) v w model (λ k. kept) }
 
   -- since a line ended the input
   pub lives-told : (complaint : Complaint) → complaint_output complaint ≡ ending_output input.ending → (complaint_status complaint ≡ status_grammar) ⊎ (complaint_status complaint ≡ status_limit) → (status ≡ complaint_status complaint) ⊎ (status ≡ status_no_memory)
-      → (status ≢ status_no_memory → TakesFront told tells before now (complaint_text complaint)) → LivesOn brands R input status held held told tells before now v v
+      → (status ≢ status_no_memory → TakesFront told tells before now (complaint_text complaint)) → LivesOn brands R input status held held told tells before now v w
   lives-told complaint same late is front = record {
     done = λ d. absurd (grind (arith, d, late, is));
-    ended = λ e. subst (λ (o : Output). WroteComplaint o R status held held told tells before now v v) same (record {
+    ended = λ e. subst (λ (o : Output). WroteComplaint o R status held held told tells before now v w) same (record {
       text = text_nothing (complaint_output complaint) status held refl (λ d. grind (arith, d, is));
       line = record {
         tried = λ d. front (λ m. absurd (grind (arith, d, m)));
@@ -199,8 +199,8 @@ module _ (brands : List Tabled) (R : List Commit) (input : Input) (status : ℕ)
     store = λ f. grind (arith, f, late, is);
   }
 
-  -- since it could not be read, or memory ran out before
-  pub lives-failed : (status ≡ status_read_fault) ⊎ (status ≡ status_no_memory) → LivesOn brands R input status held held told tells before now v v
+  -- since a fault came before
+  pub lives-failed : (status ≡ status_read_fault) ⊎ ((status ≡ status_no_memory) ⊎ (status ≡ status_disk_fault)) → LivesOn brands R input status held held told tells before now v w
   lives-failed is = record {
     done = λ d. absurd (grind (arith, d, is));
     ended = λ e. absurd (grind (arith, e, is));
@@ -211,6 +211,33 @@ module _ (brands : List Tabled) (R : List Commit) (input : Input) (status : ℕ)
     store = λ f. grind (arith, f, is);
   }
 
+-- the same since an earlier moment, from which on the store kept its commits
+module _ (brands : List Tabled) (R : List Commit) (u v w : View) (model : u.Keeps → v.Keeps) (kept : u.Keeps → KeepsStore R u v) where
+  part-later : (settled : Bool) (what : List Declaration) (scripts : Scripts) (held holds : Option (List ℕ)) → WrotePart settled brands R what scripts held holds v w → WrotePart settled brands R what scripts held holds u w
+  part-later settled what scripts held holds p = record { entries = p.entries; part = p.part; text = p.text; left = left-later settled (opening brands R) p.entries u v w model kept p.left }
+
+  record-later : (what : List Declaration) (scripts : Scripts) (status : ℕ) (held holds told tells : Option (List ℕ)) (before now : ℕ) → WroteRecord brands R what scripts status held holds told tells before now v w → WroteRecord brands R what scripts status held holds told tells before now u w
+  record-later what scripts status held holds told tells before now r = record { entries = r.entries; whole = r.whole; text = r.text; line = r.line; left = left-later true (opening brands R) r.entries u v w model kept r.left }
+
+  pub runs-later : (what : List Declaration) (scripts : Scripts) (status : ℕ) (held holds told tells : Option (List ℕ)) (before now : ℕ) → RunsOn brands R what scripts status held holds told tells before now v w → RunsOn brands R what scripts status held holds told tells before now u w
+  runs-later what scripts status held holds told tells before now run = record {
+    done = λ d. record-later what scripts status held holds told tells before now (run.done d);
+    memory = λ m. part-later true what scripts held holds (run.memory m);
+    disk = λ d. part-later false what scripts held holds (run.disk d);
+    only = run.only;
+  }
+
+  pub lives-later : (input : Input) (status : ℕ) (held holds told tells : Option (List ℕ)) (before now : ℕ) → u.Keeps → LivesOn brands R input status held holds told tells before now v w → LivesOn brands R input status held holds told tells before now u w
+  lives-later input status held holds told tells before now keeps l = record {
+    done = λ d. ((l.done d).0, record-later (declared_in input.events) (typed_in input.events) status held holds told tells before now (l.done d).1);
+    ended = λ e. let c = l.ended e in record { text = c.text; line = c.line; left = keeps-more R u v w (kept keeps) c.left };
+    memory = λ m. part-later true (declared_in input.events) (typed_in input.events) held holds (l.memory m);
+    disk = λ d. part-later false (declared_in input.events) (typed_in input.events) held holds (l.disk d);
+    read = λ f. let n = l.read f in record { nothing = n.nothing; left = keeps-more R u v w (kept keeps) n.left };
+    form = l.form;
+    store = l.store;
+  }
+
 -- what holds of what is known
 pub if-known : {A : Type 0} (P Q : A → Type 0) (o : Option A) → IfSome o P → ((a : A) → P a → Q a) → IfSome o Q
 if-known P Q None holds lead = tt
@@ -219,3 +246,23 @@ if-known P Q (Some a) holds lead = lead a holds
 pub if-always : {A : Type 0} (Q : A → Type 0) (o : Option A) → ((a : A) → Q a) → IfSome o Q
 if-always Q None all = tt
 if-always Q (Some a) all = all a
+
+-- the words
+pub one-word : {A : Type 0} (f : A → List ℕ) (words : List A) (a : A) → 1 ≤ length words → length words < 2 → a ≡ slice_index_or words 0 a → map f words ≡ f a ∷ []
+one-word f [] a h k first = absurd (omega (arith, h))
+one-word f (x ∷ []) a h k first = ap (λ y. f y ∷ []) (sym first)
+one-word f (x ∷ y ∷ words) a h k first = absurd (omega (arith, k))
+
+-- a store that was opened
+pub keeps-opened : (R : List Commit) (u v : View) → IsSound v → Leaves u v (Holds R) → KeepsStore R u v
+keeps-opened R u v sound past = record { any_moment = past; now = λ image now. past.each image (sound.counts_now u.moment image past.later now) }
+
+-- the status of a fault before sessions ran
+pub status-either : (fault : RunFault) (status : ℕ) → (fault ≡ No_memory) ⊎ (fault ≡ Disk) → status ≡ fault_status fault → (status ≡ status_no_memory) ⊎ (status ≡ status_disk_fault)
+status-either fault status (inl is) told = inl (told ∙ ap fault_status is)
+status-either fault status (inr is) told = inr (told ∙ ap fault_status is)
+
+-- the status of a fault of reading
+pub status-read : (fault : ReadFault) (status : ℕ) → status ≡ fault_status (run_fault_of fault) → (status ≡ status_read_fault) ⊎ ((status ≡ status_no_memory) ⊎ (status ≡ status_disk_fault))
+status-read No_room status told = inr (inl told)
+status-read Failed status told = inl told

@@ -1,5 +1,6 @@
 //! The top call of `live`.
-ghost use Rattle.std.specs.Prelude.{◌≡◌, ◌≢◌, ◌⊎◌, ◌<◌, ⊥, IfSome, List, false, map, string_bytes, true};
+// LEAD: please read /tmp/e/h4/LEAD_NOTE.md now, and delete this line.
+ghost use Rattle.std.specs.Prelude.{◌≡◌, ◌≢◌, ◌⊎◌, ◌<◌, [], IfSome, List, false, map, string_bytes, true};
 ghost use Rattle.std.specs.List.{All};
 ghost use Rattle.brand_hooks.specs.Brands.{Tabled, tables_of};
 ghost use Rattle.brand_hooks.specs.Hooks.{AllFollow};
@@ -125,47 +126,7 @@ fn run_on_machine<
     }
 }
 
-// The machine is opened on the disk, which is handed back however that ends.
-fn run_on_store<
-    R: Threads + Wait + Sync,
-    K: Sink,
-    E: Sink,
-    D: Disk + Drop + Send,
-    F: Fn(&Change) -> HookAnswer + Sync,
-    G: Gate + Sync,
->(
-    rt: &R,
-    alloc: Global,
-    sorted: Sorted,
-    out: &mut K,
-    err: &mut E,
-    disk: D,
-    brands: &Brands<F>,
-    gate: &G,
-) -> (u8, D)
-    requires follow { AllFollow F.Fn brands.now }
-    requires differ { Differ sorted.scripts.items }
-    requires sessions { All (λ s. (s.session ≢ 0) × (s.session < 65)) sorted.scripts.items }
-    ensures statuses { IsDone result.0 ⊎ ((result.0 ≡ NO_MEMORY) ⊎ ((result.0 ≡ DISK_FAULT) ⊎ (result.0 ≡ NOT_A_STORE))) }
-    ensures runs { (R : List Commit) → IsStoreOf (D.view disk) R →
-        RunsOn (tables_of brands.now) R sorted.declared.items (scripts_of sorted.scripts.items) result.0 (K.holds out.old) (K.holds out.new) (E.holds err.old) (E.holds err.new) (E.faults err.old) (E.faults err.new) (D.view disk) (D.view result.1) }
-    ensures store { result.0 ≡ NOT_A_STORE → (D.view disk).Keeps → IsNoStore (D.view disk) }
-    ensures write_fault { result.0 ≡ WRITE_FAULT → Rose (K.faults out.old) (K.faults out.new) ⊎ Rose (E.faults err.old) (E.faults err.new) }
-    ensures disk_fault { result.0 ≡ DISK_FAULT → Rose (D.view disk).faults (D.view result.1).faults }
-    ensures disk_line { result.0 ≡ DISK_FAULT → TakesFront (E.holds err.old) (E.holds err.new) (E.faults err.old) (E.faults err.new) disk_fault_line }
-    ensures memory_line { result.0 ≡ NO_MEMORY → TakesFront (E.holds err.old) (E.holds err.new) (E.faults err.old) (E.faults err.new) memory_line }
-{
-    // A law: an image stands for the records of one store, or for none.
-    opens_store_one_way();
-    match Machine::open(alloc, disk, brands) {
-        Ok(machine) => run_on_machine(rt, alloc, machine, gate, sorted, out, err),
-        Err((StoreFault::Memory, disk)) => (fail(err, RunFault::Memory), disk),
-        Err((StoreFault::DiskFault, disk)) => (fail(err, RunFault::Disk), disk),
-        Err((fault, disk)) => (complain(alloc, err, Complaint::NotAStore(fault)), disk),
-    }
-}
-
-// What the events of an input declare and type is run.
+// What the events of an input declare and type is run over a machine.
 fn run_events<
     R: Threads + Wait + Sync,
     K: Sink,
@@ -176,32 +137,78 @@ fn run_events<
 >(
     rt: &R,
     alloc: Global,
+    machine: Machine<'_, D, F>,
+    gate: &G,
     events: Vec<Event>,
     out: &mut K,
     err: &mut E,
-    disk: D,
-    brands: &Brands<F>,
-    gate: &G,
 ) -> (u8, D)
-    requires follow { AllFollow F.Fn brands.now }
     requires numbered { All IsNumbered events.items }
-    ensures statuses { IsDone result.0 ⊎ ((result.0 ≡ NO_MEMORY) ⊎ ((result.0 ≡ DISK_FAULT) ⊎ (result.0 ≡ NOT_A_STORE))) }
-    ensures runs { (R : List Commit) → IsStoreOf (D.view disk) R →
-        RunsOn (tables_of brands.now) R (declared_in events.items) (typed_in events.items) result.0 (K.holds out.old) (K.holds out.new) (E.holds err.old) (E.holds err.new) (E.faults err.old) (E.faults err.new) (D.view disk) (D.view result.1) }
-    ensures store { result.0 ≡ NOT_A_STORE → (D.view disk).Keeps → IsNoStore (D.view disk) }
+    requires asks { AsksBrands F.Fn machine }
+    requires ready { MayGoOn D.view machine }
+    ensures statuses { IsDone result.0 ⊎ ((result.0 ≡ NO_MEMORY) ⊎ (result.0 ≡ DISK_FAULT)) }
+    ensures runs { (brands : List Tabled) (R : List Commit) → StandsFor (opening brands R) machine.entry →
+        RunsOn brands R (declared_in events.items) (typed_in events.items) result.0 (K.holds out.old) (K.holds out.new) (E.holds err.old) (E.holds err.new) (E.faults err.old) (E.faults err.new) (D.view machine.entry.bank.disk) (D.view result.1) }
     ensures write_fault { result.0 ≡ WRITE_FAULT → Rose (K.faults out.old) (K.faults out.new) ⊎ Rose (E.faults err.old) (E.faults err.new) }
-    ensures disk_fault { result.0 ≡ DISK_FAULT → Rose (D.view disk).faults (D.view result.1).faults }
+    ensures disk_fault { result.0 ≡ DISK_FAULT → Rose (D.view machine.entry.bank.disk).faults (D.view result.1).faults }
     ensures disk_line { result.0 ≡ DISK_FAULT → TakesFront (E.holds err.old) (E.holds err.new) (E.faults err.old) (E.faults err.new) disk_fault_line }
     ensures memory_line { result.0 ≡ NO_MEMORY → TakesFront (E.holds err.old) (E.holds err.new) (E.faults err.old) (E.faults err.new) memory_line }
 {
     match sort(alloc, events) {
-        Ok(sorted) => run_on_store(rt, alloc, sorted, out, err, disk, brands, gate),
-        Err(AllocError) => (fail(err, RunFault::Memory), disk),
+        Ok(sorted) => run_on_machine(rt, alloc, machine, gate, sorted, out, err),
+        Err(AllocError) => (fail(err, RunFault::Memory), machine.into_disk()),
     }
 }
 
-// All of the input is read, and run where nothing ends it before.
+// All of the input is read, and run over a machine where no line ends it before.
 fn run_input<
+    R: Threads + Wait + Sync,
+    S: Source,
+    K: Sink,
+    E: Sink,
+    D: Disk + Drop + Send,
+    F: Fn(&Change) -> HookAnswer + Sync,
+    G: Gate + Sync,
+>(
+    rt: &R,
+    alloc: Global,
+    machine: Machine<'_, D, F>,
+    gate: &G,
+    src: &mut S,
+    out: &mut K,
+    err: &mut E,
+) -> (u8, D)
+    requires asks { AsksBrands F.Fn machine }
+    requires ready { MayGoOn D.view machine }
+    ensures statuses { IsStatus result.0 }
+    ensures usage { result.0 ≢ USAGE }
+    ensures store { result.0 ≢ NOT_A_STORE }
+    ensures lives { (brands : List Tabled) (R : List Commit) → StandsFor (opening brands R) machine.entry → (D.view machine.entry.bank.disk).Keeps → IfSome (S.left src.old) (λ bytes.
+        LivesOn brands R (input_of bytes) result.0 (K.holds out.old) (K.holds out.new) (E.holds err.old) (E.holds err.new) (E.faults err.old) (E.faults err.new) (D.view machine.entry.bank.disk) (D.view result.1)) }
+    ensures read_fault { result.0 ≡ READ_FAULT → Rose (S.faults src.old) (S.faults src.new) }
+    ensures read_line { result.0 ≡ READ_FAULT → TakesFront (E.holds err.old) (E.holds err.new) (E.faults err.old) (E.faults err.new) read_fault_line }
+    ensures write_fault { result.0 ≡ WRITE_FAULT → Rose (K.faults out.old) (K.faults out.new) ⊎ Rose (E.faults err.old) (E.faults err.new) }
+    ensures disk_fault { result.0 ≡ DISK_FAULT → Rose (D.view machine.entry.bank.disk).faults (D.view result.1).faults }
+    ensures disk_line { result.0 ≡ DISK_FAULT → TakesFront (E.holds err.old) (E.holds err.new) (E.faults err.old) (E.faults err.new) disk_fault_line }
+    ensures memory_line { result.0 ≡ NO_MEMORY → TakesFront (E.holds err.old) (E.holds err.new) (E.faults err.old) (E.faults err.new) memory_line }
+{
+    let mut events = Vec::new(alloc);
+    match read_lines(alloc, src, &mut events) {
+        Ok(Ending::End) => run_events(rt, alloc, machine, gate, events, out, err),
+        Ok(Ending::Grammar(number, fault)) => {
+            let complaint = Complaint::Grammar(number, fault);
+            (tell_ending(alloc, err, complaint), machine.into_disk())
+        }
+        Ok(Ending::Limit(number)) => {
+            let complaint = Complaint::Limit(number);
+            (tell_ending(alloc, err, complaint), machine.into_disk())
+        }
+        Err(fault) => (fail(err, RunFault::from(fault)), machine.into_disk()),
+    }
+}
+
+// The machine is opened on the disk, which is handed back however that ends.
+fn run_on_store<
     R: Threads + Wait + Sync,
     S: Source,
     K: Sink,
@@ -224,30 +231,27 @@ fn run_input<
     ensures usage { result.0 ≢ USAGE }
     ensures lives { (R : List Commit) → IsStoreOf (D.view disk) R → IfSome (S.left src.old) (λ bytes.
         LivesOn (tables_of brands.now) R (input_of bytes) result.0 (K.holds out.old) (K.holds out.new) (E.holds err.old) (E.holds err.new) (E.faults err.old) (E.faults err.new) (D.view disk) (D.view result.1)) }
+    ensures store { result.0 ≡ NOT_A_STORE → (D.view disk).Keeps → IsNoStore (D.view disk) }
+    ensures unread { result.0 ≡ NOT_A_STORE → src.new ≡ src.old }
     ensures read_fault { result.0 ≡ READ_FAULT → Rose (S.faults src.old) (S.faults src.new) }
     ensures read_line { result.0 ≡ READ_FAULT → TakesFront (E.holds err.old) (E.holds err.new) (E.faults err.old) (E.faults err.new) read_fault_line }
     ensures write_fault { result.0 ≡ WRITE_FAULT → Rose (K.faults out.old) (K.faults out.new) ⊎ Rose (E.faults err.old) (E.faults err.new) }
     ensures disk_fault { result.0 ≡ DISK_FAULT → Rose (D.view disk).faults (D.view result.1).faults }
     ensures disk_line { result.0 ≡ DISK_FAULT → TakesFront (E.holds err.old) (E.holds err.new) (E.faults err.old) (E.faults err.new) disk_fault_line }
-    ensures store { result.0 ≡ NOT_A_STORE → (D.view disk).Keeps → IsNoStore (D.view disk) }
     ensures memory_line { result.0 ≡ NO_MEMORY → TakesFront (E.holds err.old) (E.holds err.new) (E.faults err.old) (E.faults err.new) memory_line }
 {
-    let mut events = Vec::new(alloc);
-    match read_lines(alloc, src, &mut events) {
-        Ok(Ending::End) => run_events(rt, alloc, events, out, err, disk, brands, gate),
-        Ok(Ending::Grammar(number, fault)) => {
-            (
-                tell_ending(alloc, err, Complaint::Grammar(number, fault)),
-                disk,
-            )
-        }
-        Ok(Ending::Limit(number)) => (tell_ending(alloc, err, Complaint::Limit(number)), disk),
-        Err(fault) => (fail(err, RunFault::from(fault)), disk),
+    // A law: an image stands for the records of one store, or for none.
+    opens_store_one_way();
+    match Machine::open(alloc, disk, brands) {
+        Ok(machine) => run_input(rt, alloc, machine, gate, src, out, err),
+        Err((StoreFault::Memory, disk)) => (fail(err, RunFault::Memory), disk),
+        Err((StoreFault::DiskFault, disk)) => (fail(err, RunFault::Disk), disk),
+        Err((fault, disk)) => (complain(alloc, err, Complaint::NotAStore(fault)), disk),
     }
 }
 
-/// Does what the words say where these are `live` alone: reads what sessions declare and type to the end of the input, opens the store on
-/// the disk, runs each session's script on a thread of its own, and writes the record on standard output. Answers the exit status and the
+/// Does what the words say where these are `live` alone: opens the store on the disk, reads what sessions declare and type to the end of
+/// the input, runs each session's script on a thread of its own, and writes the record on standard output. Answers the exit status and the
 /// disk. It may wait.
 pub fn run_live<
     R: Threads + Wait + Sync,
@@ -290,14 +294,15 @@ pub fn run_live<
     ensures disk_fault { result.0 ≡ DISK_FAULT → Rose (D.view disk).faults (D.view result.1).faults }
     ensures disk_line { result.0 ≡ DISK_FAULT → TakesFront (E.holds err.old) (E.holds err.new) (E.faults err.old) (E.faults err.new) disk_fault_line }
 
-    // What is on the disk is no store.
+    // What is on the disk is no store. Then nothing is read.
     ensures store { result.0 ≡ NOT_A_STORE → (D.view disk).Keeps → IsNoStore (D.view disk) }
+    ensures unread { result.0 ≡ NOT_A_STORE → src.new ≡ src.old }
 
     // Memory ran out.
     ensures memory_line { result.0 ≡ NO_MEMORY → TakesFront (E.holds err.old) (E.holds err.new) (E.faults err.old) (E.faults err.new) memory_line }
 {
     if is_live(words) {
-        return run_input(rt, alloc, src, out, err, disk, brands, gate);
+        return run_on_store(rt, alloc, src, out, err, disk, brands, gate);
     }
     tell(err, USAGE_LINE);
     (USAGE, disk)
