@@ -3,3 +3,4 @@ mod Declares
 mod Written
 mod Told
 mod Lives
+mod Opened

@@ -2,7 +2,7 @@
 use Rattle.std.proofs.Common.{◌≡◌, ◌≤◌, ◌<◌, ◌⊎◌, ◌++◌, ◌∷◌, ◌∙◌, [], ℕ, Bool, List, None, Option, Some, true, false, ap, append-nil, append_assoc, arith, inl, inr, length, map, refl, subst, sym}
 use Rattle.std.specs.Prelude.{◌≢◌, IfSome, slice_index_or}
 use Rattle.zn_io.proofs.Moments.{joined, weaker}
-use Rattle.zn_io.specs.Disk.{IsSound, Leaves, View}
+use Rattle.zn_io.specs.Disk.{Leaves, View}
 use Rattle.zn_io.specs.Streams.{TakesFront, after_known}
 use Rattle.brand_hooks.specs.Brands.{Tabled}
 use Rattle.commit_journal.specs.declared.records.Commit.{Commit}
@@ -252,10 +252,6 @@ pub one-word : {A : Type 0} (f : A → List ℕ) (words : List A) (a : A) → 1 
 one-word f [] a h k first = absurd (omega (arith, h))
 one-word f (x ∷ []) a h k first = ap (λ y. f y ∷ []) (sym first)
 one-word f (x ∷ y ∷ words) a h k first = absurd (omega (arith, k))
-
--- a store that was opened
-pub keeps-opened : (R : List Commit) (u v : View) → IsSound v → Leaves u v (Holds R) → KeepsStore R u v
-keeps-opened R u v sound past = record { any_moment = past; now = λ image now. past.each image (sound.counts_now u.moment image past.later now) }
 
 -- the status of a fault before sessions ran
 pub status-either : (fault : RunFault) (status : ℕ) → (fault ≡ No_memory) ⊎ (fault ≡ Disk) → status ≡ fault_status fault → (status ≡ status_no_memory) ⊎ (status ≡ status_disk_fault)

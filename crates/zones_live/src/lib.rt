@@ -3,6 +3,7 @@
 #![tactic(auto)]
 
 mod declaring;
+mod opening;
 mod run;
 mod sorting;
 mod telling;

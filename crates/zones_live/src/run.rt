@@ -20,10 +20,11 @@ ghost use Rattle.zones_run.specs.Program.{IsNoStore};
 ghost use Rattle.zones_run.specs.Run.{IsStatus, disk_fault_line, memory_line, read_fault_line};
 
 use crate::declaring::declare;
+use crate::opening::{hand_back, open};
 use crate::sorting::{Sorted, sort};
 use crate::telling::{tell_ending, tell_live};
 use brand_hooks::{Brands, Change, HookAnswer};
-use commit_journal::{StoreFault, opens_store_one_way};
+use commit_journal::StoreFault;
 use daemon_threads::{Live, run_sessions};
 use live_input::{Ending, read_lines};
 use session_runs::Script;
@@ -156,7 +157,7 @@ fn run_events<
 {
     match sort(alloc, events) {
         Ok(sorted) => run_on_machine(rt, alloc, machine, gate, sorted, out, err),
-        Err(AllocError) => (fail(err, RunFault::Memory), machine.into_disk()),
+        Err(AllocError) => (fail(err, RunFault::Memory), hand_back(machine)),
     }
 }
 
@@ -197,13 +198,13 @@ fn run_input<
         Ok(Ending::End) => run_events(rt, alloc, machine, gate, events, out, err),
         Ok(Ending::Grammar(number, fault)) => {
             let complaint = Complaint::Grammar(number, fault);
-            (tell_ending(alloc, err, complaint), machine.into_disk())
+            (tell_ending(alloc, err, complaint), hand_back(machine))
         }
         Ok(Ending::Limit(number)) => {
             let complaint = Complaint::Limit(number);
-            (tell_ending(alloc, err, complaint), machine.into_disk())
+            (tell_ending(alloc, err, complaint), hand_back(machine))
         }
-        Err(fault) => (fail(err, RunFault::from(fault)), machine.into_disk()),
+        Err(fault) => (fail(err, RunFault::from(fault)), hand_back(machine)),
     }
 }
 
@@ -240,9 +241,7 @@ fn run_on_store<
     ensures disk_line { result.0 ≡ DISK_FAULT → TakesFront (E.holds err.old) (E.holds err.new) (E.faults err.old) (E.faults err.new) disk_fault_line }
     ensures memory_line { result.0 ≡ NO_MEMORY → TakesFront (E.holds err.old) (E.holds err.new) (E.faults err.old) (E.faults err.new) memory_line }
 {
-    // A law: an image stands for the records of one store, or for none.
-    opens_store_one_way();
-    match Machine::open(alloc, disk, brands) {
+    match open(alloc, disk, brands) {
         Ok(machine) => run_input(rt, alloc, machine, gate, src, out, err),
         Err((StoreFault::Memory, disk)) => (fail(err, RunFault::Memory), disk),
         Err((StoreFault::DiskFault, disk)) => (fail(err, RunFault::Disk), disk),

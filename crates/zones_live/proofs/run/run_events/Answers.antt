@@ -2,7 +2,6 @@ use Rattle.std.proofs.Common.{inl, refl}
 use Rattle.session_runs.specs.Far.{scripts_of}
 use Rattle.zone_machine.specs.Machine.{opening}
 use Rattle.zones_live.specs.Sorting.{declared_in, typed_in}
-use Rattle.zones_live.proofs.Declares.{keeps-ready}
 use Rattle.zones_live.proofs.Lives.{runs-as, runs-nothing}
 use Rattle.zones_live.proofs.run.run_events.Goals as goal
 
@@ -16,7 +15,5 @@ returns-in-Ok-clause-runs g c = λ brands R stands.
 
 pub returns-in-Err-clause-runs : goal.returns-in-Err-clause-runs
 returns-in-Err-clause-runs g c = λ brands R stands.
-    let m = c.args.machine in
-    let v = g.D.Disk.view m.bank.disk in
-    rw c.into_disk.ensures (runs-nothing brands R (declared_in c.args.events.items) (typed_in c.args.events.items) c.fail.result _ _ _ _ _ _ v v refl (inl c.fail.ensures.status) (λ k. k)
-    (keeps-ready (opening brands R) m v (g.met.D.Disk.sound m.bank.disk) stands c.requires.ready))
+    let v = g.D.Disk.view c.args.machine.bank.disk in
+    rw c.hand_back.ensures.same (runs-nothing brands R (declared_in c.args.events.items) (typed_in c.args.events.items) c.fail.result _ _ _ _ _ _ v v refl (inl c.fail.ensures.status) (λ k. k) (c.hand_back.ensures.kept (opening brands R) stands))
