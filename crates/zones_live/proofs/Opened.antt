@@ -42,3 +42,13 @@ module _ {D F : Type 0} (view : D → View) (sound : (d : D) → IsSound (view d
       told (inl m) = inl m
       told (inr (inl d)) = inr (inl d)
       told (inr (inr opens)) = inr (inr (e.0, opens))
+
+-- a fault other than memory and the disk's
+pub neither : (fault : StoreFault) → (fault ≡ Memory → ⊥) → (fault ≡ DiskFault → ⊥) → (fault ≡ Memory) ⊎ (fault ≡ DiskFault) → ⊥
+neither fault no-memory no-disk (inl is) = no-memory is
+neither fault no-memory no-disk (inr is) = no-disk is
+
+pub no-store : (fault : StoreFault) (v : View) → (fault ≡ Memory → ⊥) → (fault ≡ DiskFault → ⊥) → (fault ≡ Memory) ⊎ ((fault ≡ DiskFault) ⊎ IsNoStore v) → IsNoStore v
+no-store fault v no-memory no-disk (inl is) = absurd (no-memory is)
+no-store fault v no-memory no-disk (inr (inl is)) = absurd (no-disk is)
+no-store fault v no-memory no-disk (inr (inr none)) = none
