@@ -1,5 +1,5 @@
 -- What is declared changes nothing of what is stored.
-use Rattle.std.proofs.Common.{◌≡◌, ◌⊎◌, ◌++◌, ◌∷◌, ◌∙◌, [], ℕ, List, None, ap, append-nil, append_assoc, arith, inl, inr, length, map, refl, subst, sym, true}
+use Rattle.std.proofs.Common.{◌≡◌, ◌++◌, ◌∷◌, ◌∙◌, [], ℕ, List, None, ap, append-nil, append_assoc, arith, inl, inr, length, map, refl, subst, sym, true}
 use Rattle.std.proofs.lemmas.List.{map-append}
 use Rattle.zn_io.proofs.Moments.{joined, weaker}
 use Rattle.zn_io.specs.Disk.{IsSound, View}
@@ -14,7 +14,7 @@ use Rattle.zone_machine.specs.Code.Records.{GoesUnder, IsReady}
 use Rattle.zone_machine.specs.Machine.{one, subject}
 use Rattle.zone_machine.specs.Machine.Changes.{change, change_of, changes}
 use Rattle.zone_machine.specs.Machine.Histories.{after, after_entry, is_legal}
-use Rattle.zone_machine.specs.Machine.Images.{Goes, Holds, HoldsEither, NowHolds}
+use Rattle.zone_machine.specs.Machine.Images.{Holds, HoldsEither, NowHolds}
 use Rattle.zone_machine.specs.declared.machine.Machine.{Machine}
 use Rattle.zone_pools.specs.declared.grant.Grant.{Grant}
 use Rattle.session_records.proofs.Runs.{after-append, legal-append}

@@ -3,14 +3,13 @@ use Rattle.std.proofs.Common.{◌≡◌, ◌≤◌, ◌<◌, ◌⊎◌, ◌++◌
 use Rattle.std.specs.Prelude.{◌≢◌, IfSome, slice_index_or}
 use Rattle.zn_io.proofs.Moments.{joined, weaker}
 use Rattle.zn_io.specs.Disk.{Leaves, View}
-use Rattle.zn_io.specs.Streams.{TakesFront, after_known}
+use Rattle.zn_io.specs.Streams.{TakesFront}
 use Rattle.brand_hooks.specs.Brands.{Tabled}
 use Rattle.commit_journal.specs.declared.records.Commit.{Commit}
 use Rattle.daemon_threads.specs.Sessions.{HoldsSome, LeavesChanges, Lives, is_settled}
 use Rattle.live_input.specs.Input.{Input}
-use Rattle.live_input.specs.declared.reading.Ending.TheVariants.{End, Grammar as Bad_line, Limit as Past_limit}
-use Rattle.live_input.specs.declared.reading.Ending.{Ending}
-use Rattle.session_records.specs.Records.{IsPartial, IsRecord, IsRunPartial, IsRunRecord, Scripts}
+use Rattle.live_input.specs.declared.reading.Ending.TheVariants.{End}
+use Rattle.session_records.specs.Records.{IsRunPartial, IsRunRecord, Scripts}
 use Rattle.zone_cases.specs.State.{State}
 use Rattle.zone_cases.specs.declared.events.Declaration.{Declaration}
 use Rattle.zone_cases.specs.declared.events.Entry.{Entry}

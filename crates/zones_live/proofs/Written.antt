@@ -1,5 +1,5 @@
 -- What was written of a text, and what waits.
-use Rattle.std.proofs.Common.{◌≡◌, ◌≤◌, ◌<◌, ◌+◌, ◌++◌, ◌∷◌, ◌∙◌, [], ℕ, Err, List, Ok, Option, Result, append-nil, append_assoc, ap, arith, drop, length, refl, subst, suc, sym, take, zero}
+use Rattle.std.proofs.Common.{◌≡◌, ◌≤◌, ◌<◌, ◌+◌, ◌++◌, ◌∷◌, ◌∙◌, [], ℕ, Err, List, Ok, Option, Result, append-nil, append_assoc, ap, arith, drop, length, refl, suc, sym, take, zero}
 use Rattle.std.specs.Prelude.{OnErr, OnOk, slice_index_or}
 use Rattle.std.proofs.Math.Seq.{take-append-add}
 use Rattle.std.proofs.lemmas.Grind.{flat_map-append}

@@ -1,4 +1,4 @@
-use Rattle.std.proofs.Common.{[], List, refl, subst}
+use Rattle.std.proofs.Common.{List, refl, subst}
 use Rattle.session_runs.specs.Far.{scripts_of}
 use Rattle.zone_cases.specs.declared.events.Entry.{Entry}
 use Rattle.zone_machine.specs.Code.Openings.{StandsFor}

@@ -1,7 +1,7 @@
 use Rattle.std.proofs.Common.{◌≡◌, Option, [], subst, ℕ}
 use Rattle.zones_live.specs.Records.{first_refused, record_text, told_record, told_refused}
 use Rattle.zones_run.proofs.Telling.{line_failed}
-use Rattle.zones_live.proofs.Told.{line-behind, text-whole}
+use Rattle.zones_live.proofs.Told.{text-whole}
 use Rattle.zones_live.proofs.Written.{front-all}
 use Rattle.zones_live.proofs.telling.tell_whole.Goals as goal
 

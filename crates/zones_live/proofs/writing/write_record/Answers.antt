@@ -1,4 +1,4 @@
-use Rattle.std.proofs.Common.{◌≤◌, ◌+◌, ◌++◌, ◌∙◌, List, ap, arith, drop, ℕ, subst, sym, take}
+use Rattle.std.proofs.Common.{◌+◌, ◌∙◌, List, ap, arith, drop, ℕ, subst, sym, take}
 use Rattle.zn_io.specs.Streams.{after_known}
 use Rattle.zones_run.specs.Run.{HasFront}
 use Rattle.zones_live.specs.Records.{record_text}
