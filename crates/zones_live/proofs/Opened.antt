@@ -11,7 +11,6 @@ use Rattle.zone_machine.specs.Code.Openings.{StandsFor}
 use Rattle.zone_machine.specs.Machine.{opening}
 use Rattle.zone_machine.specs.Machine.Images.{Holds, IsStoreOf}
 use Rattle.zone_machine.specs.declared.machine.Machine.{Machine}
-use Rattle.zones_run.specs.Program.{IsNoStore}
 use Rattle.zones_run.specs.Recording.{KeepsStore}
 use Rattle.zones_run.proofs.Opened.{holds_or_fault, opened_store}
 
@@ -34,21 +33,7 @@ module _ {D F : Type 0} (view : D → View) (sound : (d : D) → IsSound (view d
       either (inr (inl d)) = inr d
       either (inr (inr opens)) = absurd (holds_or_fault one R (view disk).reads e.0 (is.now (view disk).reads ((sound disk).reads_now is.keeps)) opens)
 
-  pub open-none : (r : Result (Machine D F) (StoreFault × D)) → ((view disk).Keeps → IfErr r (λ e. (e.0 ≡ Memory) ⊎ ((e.0 ≡ DiskFault) ⊎ OpensStore (view disk).reads (Err e.0)))) → (view disk).Keeps → IfErr r (λ e. (e.0 ≡ Memory) ⊎ ((e.0 ≡ DiskFault) ⊎ IsNoStore (view disk)))
-  open-none (Ok m) refuses keeps = tt
-  open-none (Err e) refuses keeps = told (refuses keeps)
-    where
-      told : (e.0 ≡ Memory) ⊎ ((e.0 ≡ DiskFault) ⊎ OpensStore (view disk).reads (Err e.0)) → (e.0 ≡ Memory) ⊎ ((e.0 ≡ DiskFault) ⊎ IsNoStore (view disk))
-      told (inl m) = inl m
-      told (inr (inl d)) = inr (inl d)
-      told (inr (inr opens)) = inr (inr (e.0, opens))
-
 -- a fault other than memory and the disk's
 pub neither : (fault : StoreFault) → (fault ≡ Memory → ⊥) → (fault ≡ DiskFault → ⊥) → (fault ≡ Memory) ⊎ (fault ≡ DiskFault) → ⊥
 neither fault no-memory no-disk (inl is) = no-memory is
 neither fault no-memory no-disk (inr is) = no-disk is
-
-pub no-store : (fault : StoreFault) (v : View) → (fault ≡ Memory → ⊥) → (fault ≡ DiskFault → ⊥) → (fault ≡ Memory) ⊎ ((fault ≡ DiskFault) ⊎ IsNoStore v) → IsNoStore v
-no-store fault v no-memory no-disk (inl is) = absurd (no-memory is)
-no-store fault v no-memory no-disk (inr (inl is)) = absurd (no-disk is)
-no-store fault v no-memory no-disk (inr (inr none)) = none

@@ -1,7 +1,10 @@
 -- What a run of live sessions comes to, over the store of some commits and a whole input.
-use Rattle.std.specs.Prelude.{◌≡◌, ◌≢◌, ◌⊎◌, ◌∷◌, [], ℕ, Bool, true, false, List, Option, codes}
+use Rattle.std.specs.Prelude.{◌≡◌, ◌≢◌, ◌⊎◌, ◌∷◌, [], ℕ, Bool, true, false, Err, List, Option, codes}
 use Rattle.zn_io.specs.Disk.{View}
+use Rattle.zn_io.specs.Streams.{TakesFront}
 use Rattle.brand_hooks.specs.Brands.{Tabled}
+use Rattle.commit_journal.specs.Store.{OpensStore}
+use Rattle.commit_journal.specs.declared.fault.StoreFault.{StoreFault}
 use Rattle.commit_journal.specs.declared.records.Commit.{Commit}
 use Rattle.daemon_threads.specs.Sessions.{LeavesChanges}
 use Rattle.live_input.specs.Input.{Input}
@@ -13,12 +16,12 @@ use Rattle.zone_cases.specs.declared.events.Entry.{Entry}
 use Rattle.zone_machine.specs.Machine.{opening}
 use Rattle.zones_live.specs.Records.{record_text, told_record}
 use Rattle.zones_live.specs.Sorting.{declared_in, typed_in}
-use Rattle.zones_run.specs.Complaints.{complaint_output}
+use Rattle.zones_run.specs.Complaints.{complaint_output, complaint_text}
 use Rattle.zones_run.specs.Output.{Output, written}
 use Rattle.zones_run.specs.Recording.{KeepsStore}
 use Rattle.zones_run.specs.Run.{HasFront, TellsLine, TellsText}
 use Rattle.zones_run.specs.Statuses.{status_disk_fault, status_done, status_grammar, status_limit, status_no_memory, status_not_a_store, status_read_fault, status_refused, status_usage, status_write_fault}
-use Rattle.zones_run.specs.declared.outcome.Complaint.TheVariants.{Grammar, Limit}
+use Rattle.zones_run.specs.declared.outcome.Complaint.TheVariants.{Grammar, Limit, NotAStore}
 
 -- the words of the command
 abbrev pub IsForm : List (List ℕ) → Type 0
@@ -27,6 +30,16 @@ IsForm words = words ≡ codes "live" ∷ []
 -- the statuses of a run whose sessions came to their end
 abbrev pub IsDone : ℕ → Type 0
 IsDone status = (status ≡ status_done) ⊎ ((status ≡ status_refused) ⊎ (status ≡ status_write_fault))
+
+-- the statuses of a run that wrote nothing on standard output, whatever the disk is
+abbrev pub RunsNothing : ℕ → Type 0
+RunsNothing status = (status ≡ status_usage) ⊎ ((status ≡ status_grammar) ⊎ ((status ≡ status_read_fault) ⊎ ((status ≡ status_not_a_store) ⊎ (status ≡ status_limit))))
+
+-- a run that found no store on the disk, and told so
+pub record FoundNone (v : View) (told tells : Option (List ℕ)) (before now : ℕ) : Type 0 where
+  pub fault : StoreFault
+  pub found : OpensStore v.reads (Err fault)
+  pub line : TakesFront told tells before now (complaint_text (NotAStore fault))
 
 -- a run that wrote a record of what is declared and typed, to the end or up to a fault of a sink; and on the disk is what it changed
 pub record WroteRecord (brands : List Tabled) (R : List Commit) (declared : List Declaration) (scripts : Scripts) (status : ℕ) (held holds told tells : Option (List ℕ)) (before now : ℕ) (v w : View) : Type 0 where

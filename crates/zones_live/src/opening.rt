@@ -1,7 +1,8 @@
 //! The store is opened, and the disk of a machine is handed back.
-ghost use Rattle.std.specs.Prelude.{◌≡◌, ◌⊎◌, IfErr, IfOk, List};
+ghost use Rattle.std.specs.Prelude.{◌≡◌, ◌⊎◌, Err, IfErr, IfOk, List};
 ghost use Rattle.brand_hooks.specs.Brands.{tables_of};
 ghost use Rattle.brand_hooks.specs.Hooks.{AllFollow};
+ghost use Rattle.commit_journal.specs.Store.{OpensStore};
 ghost use Rattle.commit_journal.specs.declared.records.Commit.{Commit};
 ghost use Rattle.zn_io.specs.Streams.{Rose};
 ghost use Rattle.zone_cases.specs.State.{State};
@@ -10,7 +11,6 @@ ghost use Rattle.zone_machine.specs.Code.Openings.{StandsFor};
 ghost use Rattle.zone_machine.specs.Code.Records.{Passes};
 ghost use Rattle.zone_machine.specs.Machine.{opening};
 ghost use Rattle.zone_machine.specs.Machine.Images.{IsStoreOf};
-ghost use Rattle.zones_run.specs.Program.{IsNoStore};
 ghost use Rattle.zones_run.specs.Recording.{KeepsStore};
 
 use brand_hooks::{Brands, Change, HookAnswer};
@@ -28,7 +28,7 @@ pub(crate) fn open<'b, D: Disk, F: Fn(&Change) -> HookAnswer>(
     requires { AllFollow F.Fn brands.now }
     ensures opened { (R : List Commit) → IsStoreOf (D.view disk) R → IfOk result (λ m. StandsFor (opening (tables_of brands.now) R) m × KeepsStore R (D.view disk) (D.view m.bank.disk)) }
     ensures refused { (R : List Commit) → IsStoreOf (D.view disk) R → IfErr result (λ e. ((e.0 ≡ StoreFault.Memory) ⊎ (e.0 ≡ StoreFault.DiskFault)) × KeepsStore R (D.view disk) (D.view e.1)) }
-    ensures store { (D.view disk).Keeps → IfErr result (λ e. (e.0 ≡ StoreFault.Memory) ⊎ ((e.0 ≡ StoreFault.DiskFault) ⊎ IsNoStore (D.view disk))) }
+    ensures refuses { (D.view disk).Keeps → IfErr result (λ e. (e.0 ≡ StoreFault.Memory) ⊎ ((e.0 ≡ StoreFault.DiskFault) ⊎ OpensStore (D.view disk).reads (Err e.0))) }
     ensures cause { IfErr result (λ e. e.0 ≡ StoreFault.DiskFault → Rose (D.view disk).faults (D.view e.1).faults) }
     ensures ready { IfOk result (MayGoOn D.view) }
     ensures asks { IfOk result (AsksBrands F.Fn) }

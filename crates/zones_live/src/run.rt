@@ -14,9 +14,9 @@ ghost use Rattle.zone_machine.specs.Code.Openings.{StandsFor};
 ghost use Rattle.zone_machine.specs.Machine.{opening};
 ghost use Rattle.zone_machine.specs.Machine.Images.{IsStoreOf};
 ghost use Rattle.zones_live.specs.Declaring.{Declared};
-ghost use Rattle.zones_live.specs.Living.{IsDone, IsForm, LivesOn, RunsOn};
+ghost use Rattle.zones_live.specs.Living.{FoundNone, IsDone, IsForm, LivesOn, RunsNothing, RunsOn};
 ghost use Rattle.zones_live.specs.Sorting.{declared_in, typed_in};
-ghost use Rattle.zones_run.specs.Program.{IsNoStore};
+ghost use Rattle.zones_run.specs.Fixed.{usage_text};
 ghost use Rattle.zones_run.specs.Run.{IsStatus, disk_fault_line, memory_line, read_fault_line};
 
 use crate::declaring::declare;
@@ -184,6 +184,7 @@ fn run_input<
     ensures statuses { IsStatus result.0 }
     ensures usage { result.0 ≢ USAGE }
     ensures store { result.0 ≢ NOT_A_STORE }
+    ensures nothing { RunsNothing result.0 → K.holds out.new ≡ K.holds out.old }
     ensures lives { (brands : List Tabled) (R : List Commit) → StandsFor (opening brands R) machine.entry → (D.view machine.entry.bank.disk).Keeps → IfSome (S.left src.old) (λ bytes.
         LivesOn brands R (input_of bytes) result.0 (K.holds out.old) (K.holds out.new) (E.holds err.old) (E.holds err.new) (E.faults err.old) (E.faults err.new) (D.view machine.entry.bank.disk) (D.view result.1)) }
     ensures read_fault { result.0 ≡ READ_FAULT → Rose (S.faults src.old) (S.faults src.new) }
@@ -232,8 +233,9 @@ fn run_on_store<
     ensures usage { result.0 ≢ USAGE }
     ensures lives { (R : List Commit) → IsStoreOf (D.view disk) R → IfSome (S.left src.old) (λ bytes.
         LivesOn (tables_of brands.now) R (input_of bytes) result.0 (K.holds out.old) (K.holds out.new) (E.holds err.old) (E.holds err.new) (E.faults err.old) (E.faults err.new) (D.view disk) (D.view result.1)) }
-    ensures store { result.0 ≡ NOT_A_STORE → (D.view disk).Keeps → IsNoStore (D.view disk) }
+    ensures store { result.0 ≡ NOT_A_STORE → (D.view disk).Keeps → FoundNone (D.view disk) (E.holds err.old) (E.holds err.new) (E.faults err.old) (E.faults err.new) }
     ensures unread { result.0 ≡ NOT_A_STORE → src.new ≡ src.old }
+    ensures nothing { RunsNothing result.0 → K.holds out.new ≡ K.holds out.old }
     ensures read_fault { result.0 ≡ READ_FAULT → Rose (S.faults src.old) (S.faults src.new) }
     ensures read_line { result.0 ≡ READ_FAULT → TakesFront (E.holds err.old) (E.holds err.new) (E.faults err.old) (E.faults err.new) read_fault_line }
     ensures write_fault { result.0 ≡ WRITE_FAULT → Rose (K.faults out.old) (K.faults out.new) ⊎ Rose (E.faults err.old) (E.faults err.new) }
@@ -278,9 +280,13 @@ pub fn run_live<
     ensures lives { (R : List Commit) → IsForm (map string_bytes words.now) → IsStoreOf (D.view disk) R → IfSome (S.left src.old) (λ bytes.
         LivesOn (tables_of brands.now) R (input_of bytes) result.0 (K.holds out.old) (K.holds out.new) (E.holds err.old) (E.holds err.new) (E.faults err.old) (E.faults err.new) (D.view disk) (D.view result.1)) }
 
+    // Where nothing is run, nothing is written on standard output, whatever the disk is.
+    ensures nothing { RunsNothing result.0 → K.holds out.new ≡ K.holds out.old }
+
     // Status 2 comes exactly where the words are not this one.
     ensures usage { result.0 ≡ USAGE → IsForm (map string_bytes words.now) → ⊥ }
     ensures form { (IsForm (map string_bytes words.now) → ⊥) → (result.0 ≡ USAGE) × (result.1 ≡ disk) × (src.new ≡ src.old) }
+    ensures usage_line { result.0 ≡ USAGE → TakesFront (E.holds err.old) (E.holds err.new) (E.faults err.old) (E.faults err.new) usage_text }
 
     // The source failed.
     ensures read_fault { result.0 ≡ READ_FAULT → Rose (S.faults src.old) (S.faults src.new) }
@@ -293,8 +299,8 @@ pub fn run_live<
     ensures disk_fault { result.0 ≡ DISK_FAULT → Rose (D.view disk).faults (D.view result.1).faults }
     ensures disk_line { result.0 ≡ DISK_FAULT → TakesFront (E.holds err.old) (E.holds err.new) (E.faults err.old) (E.faults err.new) disk_fault_line }
 
-    // What is on the disk is no store. Then nothing is read.
-    ensures store { result.0 ≡ NOT_A_STORE → (D.view disk).Keeps → IsNoStore (D.view disk) }
+    // What is on the disk is no store, which is told. Then nothing is read.
+    ensures store { result.0 ≡ NOT_A_STORE → (D.view disk).Keeps → FoundNone (D.view disk) (E.holds err.old) (E.holds err.new) (E.faults err.old) (E.faults err.new) }
     ensures unread { result.0 ≡ NOT_A_STORE → src.new ≡ src.old }
 
     // Memory ran out.

@@ -2,7 +2,8 @@ use Rattle.std.proofs.Common.{inl, inr, rules}
 use Rattle.brand_hooks.specs.Brands.{tables_of}
 use Rattle.live_input.specs.Input.{input_of}
 use Rattle.zones_live.proofs.Lives.{if-always, if-known, lives-failed, lives-later}
-use Rattle.zones_live.proofs.Opened.{neither, no-store}
+use Rattle.zones_live.proofs.Opened.{neither}
+use Rattle.zones_run.proofs.Opened.{opens_refused}
 use Rattle.zones_live.proofs.run.run_on_store.Goals as goal
 
 pub returns-in-Ok-clause-lives : goal.returns-in-Ok-clause-lives
@@ -31,4 +32,8 @@ pub returns-in-Err-clause-lives : goal.returns-in-Err-clause-lives
 returns-in-Err-clause-lives g c = λ R is. absurd (neither c.in-Err.fault (search rules) (search rules) (c.in-Err.ensures.refused R is).0)
 
 pub returns-in-Err-clause-store : goal.returns-in-Err-clause-store
-returns-in-Err-clause-store g c = λ is keeps. no-store c.in-Err.fault (g.D.Disk.view c.args.disk) (search rules) (search rules) (c.in-Err.ensures.store keeps)
+returns-in-Err-clause-store g c = λ is keeps. record {
+  fault = c.in-Err.fault;
+  found = opens_refused c.in-Err.fault (g.D.Disk.view c.args.disk) c.in-Err.ensures.refuses (search rules) (search rules) keeps;
+  line = c.complain.ensures.line (inr (inr (inr (inr (inr is)))));
+}
