@@ -1,1 +1,6 @@
 pub mod Sorting_laws
+mod Declares
+mod Written
+mod Told
+mod Lives
+mod Opened

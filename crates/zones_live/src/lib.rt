@@ -3,8 +3,10 @@
 #![tactic(auto)]
 
 mod declaring;
+mod opening;
 mod run;
 mod sorting;
+mod telling;
 mod writing;
 
 pub use run::run_live;

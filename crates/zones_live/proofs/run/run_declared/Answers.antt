@@ -1,0 +1,16 @@
+use Rattle.std.proofs.Common.{refl}
+use Rattle.session_runs.specs.Far.{scripts_of}
+use Rattle.zone_machine.specs.Code.Openings.{StandsFor}
+use Rattle.zone_machine.specs.Machine.{opening}
+use Rattle.zone_machine.specs.Machine.Histories.{after}
+use Rattle.zones_live.proofs.Lives.{runs-of}
+use Rattle.zones_live.proofs.run.run_declared.Goals as goal
+
+pub returns-clause-runs : goal.returns-clause-runs
+returns-clause-runs g c = λ brands R what d.
+    let view = g.D.Disk.view in
+    let ran = c.run_sessions-entries in
+    let e = c.tell_live.ensures in
+    let S = after (opening brands R) d.first in
+    runs-of brands R what (scripts_of c.args.scripts.items) c.tell_live.result _ _ _ _ _ _ c.args.declared.items ran.result.entries.items ran.result.ended (λ T. StandsFor T c.args.machine) (view c.args.machine.bank.disk) (view ran.result.disk) d
+    (ran.ensures.lives S (record { brands = brands; commits = R; past = d.first; there = refl }) d.stood) ran.ensures.only e.statuses e.whole e.text e.line e.front e.disk e.settled

@@ -1,0 +1,27 @@
+use Rattle.std.proofs.Common.{List, refl, subst}
+use Rattle.session_runs.specs.Far.{scripts_of}
+use Rattle.zone_cases.specs.declared.events.Entry.{Entry}
+use Rattle.zone_machine.specs.Code.Openings.{StandsFor}
+use Rattle.zone_machine.specs.Machine.{opening}
+use Rattle.zones_live.specs.Declaring.{Declared}
+use Rattle.zones_live.proofs.Lives.{runs-later, runs-nothing, status-either}
+use Rattle.zones_live.proofs.run.run_on_machine.Goals as goal
+
+pub returns-in-Ok-clause-runs : goal.returns-in-Ok-clause-runs
+returns-in-Ok-clause-runs g c = λ brands R stands.
+    let view = g.D.Disk.view in
+    let e = c.in-Ok.ensures in
+    let S = opening brands R in
+    let what = c.args.sorted.declared.items in
+    let m = c.declare.new.machine in
+    let declared = subst (λ (old : List Entry). Declared S what old c.declare.new.entries.items (λ T. StandsFor T m)) c.new-entries.ensures.items (e.declared S stands) in
+    runs-later brands R (view c.args.machine.bank.disk) (view m.bank.disk) (view c.run_declared.result.1) e.passes.model.0 (e.kept S stands) what (scripts_of c.args.sorted.scripts.items) c.run_declared.result.0 _ _ _ _ _ _
+    (c.run_declared.ensures.runs brands R what declared)
+
+pub returns-in-Err-clause-runs : goal.returns-in-Err-clause-runs
+returns-in-Err-clause-runs g c = λ brands R stands.
+    let view = g.D.Disk.view in
+    let e = c.in-Err.ensures in
+    let S = opening brands R in
+    rw c.into_disk.ensures (runs-nothing brands R c.args.sorted.declared.items (scripts_of c.args.sorted.scripts.items) c.fail.result _ _ _ _ _ _ (view c.args.machine.bank.disk) (view c.declare.new.machine.bank.disk) refl
+    (status-either c.in-Err.fault c.fail.result e.only c.fail.ensures.status) e.passes.model.0 (e.kept S stands))

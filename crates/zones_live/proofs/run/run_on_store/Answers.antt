@@ -1,0 +1,39 @@
+use Rattle.std.proofs.Common.{inl, inr, rules}
+use Rattle.brand_hooks.specs.Brands.{tables_of}
+use Rattle.live_input.specs.Input.{input_of}
+use Rattle.zones_live.proofs.Lives.{if-always, if-known, lives-failed, lives-later}
+use Rattle.zones_live.proofs.Opened.{neither}
+use Rattle.zones_run.proofs.Opened.{opens_refused}
+use Rattle.zones_live.proofs.run.run_on_store.Goals as goal
+
+pub returns-in-Ok-clause-lives : goal.returns-in-Ok-clause-lives
+returns-in-Ok-clause-lives g c = λ R is.
+    let view = g.D.Disk.view in
+    let e = c.in-Ok.ensures in
+    let o = e.opened R is in
+    let brands = tables_of c.args.brands.now in
+    if-known _ _ (g.S.Source.left c.args.src.now) (c.run_input.ensures.lives brands R o.0 (e.passes.model.0 is.keeps)) (λ bytes l. lives-later brands R (view c.args.disk) (view c.in-Ok.machine.bank.disk) (view c.run_input.result.1) e.passes.model.0 (λ k. o.1) (input_of bytes)
+    c.run_input.result.0 _ _ _ _ _ _ is.keeps l)
+
+pub returns-in-Err-Memory-default-clause-lives : goal.returns-in-Err-Memory-default-clause-lives
+returns-in-Err-Memory-default-clause-lives g c = λ R is.
+    let view = g.D.Disk.view in
+    let e = c.in-Err-Memory-default.ensures in
+    if-always _ (g.S.Source.left c.args.src.now) (λ bytes. lives-failed (tables_of c.args.brands.now) R (input_of bytes) c.fail.result _ _ _ _ _ (view c.args.disk) (view c.in-Err-Memory-default.disk) e.passes_err.model.0 (e.refused R is).1 (inr (inl c.fail.ensures.status)))
+
+pub returns-in-Err-DiskFault-default-clause-lives : goal.returns-in-Err-DiskFault-default-clause-lives
+returns-in-Err-DiskFault-default-clause-lives g c = λ R is.
+    let view = g.D.Disk.view in
+    let e = c.in-Err-DiskFault-default.ensures in
+    if-always _ (g.S.Source.left c.args.src.now) (λ bytes. lives-failed (tables_of c.args.brands.now) R (input_of bytes) c.fail-in-Err-DiskFault-default.result _ _ _ _ _ (view c.args.disk) (view c.in-Err-DiskFault-default.disk) e.passes_err.model.0 (e.refused R is).1
+    (inr (inr c.fail-in-Err-DiskFault-default.ensures.status)))
+
+pub returns-in-Err-clause-lives : goal.returns-in-Err-clause-lives
+returns-in-Err-clause-lives g c = λ R is. absurd (neither c.in-Err.fault (search rules) (search rules) (c.in-Err.ensures.refused R is).0)
+
+pub returns-in-Err-clause-store : goal.returns-in-Err-clause-store
+returns-in-Err-clause-store g c = λ is keeps. record {
+  fault = c.in-Err.fault;
+  found = opens_refused c.in-Err.fault (g.D.Disk.view c.args.disk) c.in-Err.ensures.refuses (search rules) (search rules) keeps;
+  line = c.complain.ensures.line (inr (inr (inr (inr (inr is)))));
+}
