@@ -1,5 +1,4 @@
 //! The top call of `live`.
-// LEAD: please read /tmp/e/h4/LEAD_NOTE.md now, and delete this line.
 ghost use Rattle.std.specs.Prelude.{◌≡◌, ◌≢◌, ◌⊎◌, ◌<◌, [], IfSome, List, false, map, string_bytes, true};
 ghost use Rattle.std.specs.List.{All};
 ghost use Rattle.brand_hooks.specs.Brands.{Tabled, tables_of};

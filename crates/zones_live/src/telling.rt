@@ -1,5 +1,5 @@
 //! How a run of live sessions is told: its record, and the line and the status that it ends with.
-ghost use Rattle.std.specs.Prelude.{◌≡◌, ◌≢◌, ◌⊎◌, ◌++◌, ◌≤◌, [], IfSome, None, Some};
+ghost use Rattle.std.specs.Prelude.{◌≡◌, ◌≢◌, ◌⊎◌, ◌++◌, [], IfSome, None, Some};
 ghost use Rattle.zn_io.specs.Streams.{Rose, TakesFront};
 ghost use Rattle.zones_live.specs.Living.{IsDone};
 ghost use Rattle.zones_live.specs.Records.{record_text, told_record, told_refused};
@@ -12,7 +12,7 @@ use zn_io::Sink;
 use zone_cases::Entry;
 use zone_machine::StepFault;
 use zones_run::{
-    Complaint, DISK_FAULT, DONE, NO_MEMORY, REFUSED, RunFault, WRITE_FAULT, complain, fail, tell,
+    Complaint, DISK_FAULT, DONE, NO_MEMORY, RunFault, WRITE_FAULT, complain, fail, tell,
 };
 
 /// Tells a line of the input that ends a run before anything is done, and answers the exit status. Whether the line is taken is not

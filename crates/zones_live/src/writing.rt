@@ -1,6 +1,5 @@
 //! The record is written, and its first refused entry is found.
 ghost use Rattle.std.specs.Prelude.{◌≡◌, ◌⊎◌, ◌≤◌, ◌++◌, [], Err, IfErr, IsErrOf, OnErr, OnOk};
-ghost use Rattle.std.specs.Option.{option_map};
 ghost use Rattle.trace_text.specs.Live.{entry_text};
 ghost use Rattle.zn_io.specs.Streams.{Rose, after_known};
 ghost use Rattle.zones_live.specs.Records.{first_refused, record_text};
