@@ -20,7 +20,7 @@ use std::sync::Wait;
 use zone_turn::{Batch, Pass, PassOf, Turn};
 
 /// The cell of the zone of a place. Where a fault left it between two entries it is marked, and nothing is said of the cell. None is
-/// marked while what zones share may be used.
+/// marked where what zones share may still be used.
 #[derive(Drop)]
 pub struct Back<C> {
     pub place: u32,
