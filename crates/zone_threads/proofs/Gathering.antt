@@ -2,7 +2,7 @@
 use Rattle.std.proofs.Common.{◌≡◌, ◌≢◌, ◌⊎◌, inl, inr, ℕ, ◌+◌, ◌-◌, ◌<◌, ◌≤◌, ◌==◌, Bool, true, false, List, [], ◌∷◌, ◌++◌, map, length, slice_index_or, sym, refl, ap, ◌∙◌, subst, arith, zero, suc, Err, IfOk, Ok, Result}
 use Rattle.std.specs.List.{All}
 use Rattle.std.proofs.lemmas.List.Elements.{All-nil, All-cons}
-use mathlib.Core.List.{map-append}
+use lib.ListN.{get_elem?}
 use mathlib.Core.Option.{Option, some, none}
 use Rattle.zone_turn.specs.Histories.{own}
 use Rattle.zone_turn.specs.Passes.{Apart, IsKept, after_join, is_first, kept_of, role_after_join, role_first}
@@ -10,25 +10,42 @@ use Rattle.zone_turn.specs.declared.views.View.{View}
 use Rattle.zone_turn.specs.declared.views.Role.{Role}
 use Rattle.zone_turn.specs.declared.views.Role.TheVariants.{First, Other, Spent}
 use Rattle.zone_threads.specs.Folds.{all_right}
-use Rattle.zone_threads.specs.Ends.{AreAll, Ended, Finished, HasAll, IsBack, IsScript, LeftBy, back, log_of, pair, pairs, roster}
+use Rattle.zone_threads.specs.Ends.{AreAll, AreFree, AreKept, Ended, Finished, Gathered, HasAll, IsBack, IsKeptOf, IsScript, LeftBy, back, log_of, pair, pairs, roster}
 use Rattle.zone_threads.specs.Machines.{Definitions, Laws}
-use Rattle.zone_threads.specs.Records.{Stands, StandsFrom}
+use Rattle.zone_threads.specs.Notes.{dones, has_mark, note_by}
+use Rattle.zone_threads.specs.Records.{Stands, Tells}
 use Rattle.zone_threads.specs.Zones.{left_by}
+use Rattle.zone_threads.specs.declared.notes.Note.{Note}
 use Rattle.zone_threads.specs.declared.tally.Progress.{Progress}
 use Rattle.zone_threads.specs.declared.run.Script.{Script}
 use Rattle.zone_threads.specs.declared.zone.Back.{Back}
 use Rattle.zone_threads.specs.declared.zone.Log.{Log}
 use Rattle.zone_threads.proofs.Bools.{are_apart, are_same, differ, is_same, apart}
 use Rattle.zone_threads.proofs.Histories.{own_world}
+use Rattle.zone_threads.proofs.Telling.{dones_own, own_free}
 
 module _ {Cell Entry : Type 0} where
+  kept_more : (ks : List (ℕ × List (Note Entry))) (ls : List (Log Cell Entry)) (k : ℕ × List (Note Entry)) (l : Log Cell Entry) → AreKept ks ls → IsKeptOf k l → AreKept (ks ++ k ∷ []) (ls ++ l ∷ [])
+  kept_more [] [] k l are is = (is, tt)
+  kept_more [] (x ∷ ls) k l are is = absurd are
+  kept_more (x ∷ ks) [] k l are is = absurd are
+  kept_more (x ∷ ks) (y ∷ ls) k l are is = (are.0, kept_more ks ls k l are.1 is)
+
+  -- no pass is back yet
+  pub gathered_none : (role : Role (Note Entry)) (made out : ℕ) (logs : List (Log Cell Entry)) → logs ≡ [] → role ≡ First (roster made out []) → Gathered role made out logs
+  gathered_none role made out logs empty is = record { kept = []; is = is; are = subst (AreKept []) (sym empty) tt }
+
   -- one pass more is back
-  pub gathered : (v v' w : View Entry) (made out : ℕ) (logs logs' : List (Log Cell Entry)) (log : Log Cell Entry) → v' ≡ after_join v w → w.number ≡ log.place → w.list ≡ log.entries.items → logs' ≡ logs ++ log ∷ []
-      → v.role ≡ First (roster made (out + 1) (pairs logs)) → v'.role ≡ First (roster made out (pairs logs'))
-  gathered v v' w made out logs logs' log is number list more was =
+  pub gathered : (v v' w : View (Note Entry)) (made out : ℕ) (logs logs' : List (Log Cell Entry)) (log : Log Cell Entry) → v' ≡ after_join v w → w.number ≡ log.place → dones w.list ≡ log.entries.items → (log.marked ≡ true → has_mark w.list ≡ true) → logs' ≡ logs ++ log ∷ []
+      → Gathered v.role made (out + 1) logs → Gathered v'.role made out logs'
+  gathered v v' w made out logs logs' log is number done marks more was =
       let count : (out + 1) - 1 ≡ out = omega arith in
-      let same : pairs logs ++ (w.number, w.list) ∷ [] ≡ pairs logs' = (λ i. pairs logs ++ (number i, list i) ∷ []) ∙ (sym (map-append pair logs (log ∷ [])) ∙ ap pairs (sym more)) in
-      ap (λ (x : View Entry). x.role) is ∙ (ap (role_after_join w.number w.list) was ∙ (λ i. First (roster made (count i) (same i))))
+      let kept : List (ℕ × List (Note Entry)) = was.kept ++ (w.number, w.list) ∷ [] in
+      record {
+        kept = kept;
+        is = ap (λ (x : View (Note Entry)). x.role) is ∙ (ap (role_after_join w.number w.list) was.is ∙ ap (λ n. First (roster made n kept)) count);
+        are = subst (AreKept kept) (sym more) (kept_more was.kept logs (w.number, w.list) log was.are (record { place = number; done = done; marks = marks }));
+      }
 
 module _ {Entry : Type 0} where
   -- the first pass stays the first
@@ -97,24 +114,102 @@ module _ {Cell Entry : Type 0} where
             apart_all.1 i j e less (subst (λ k. j < k) (sym n.1) there) (sym (place_at ls i d e (omega arith)) ∙ (same ∙ place_at ls j d e there));
       }
 
+-- what passes told, as what was done
+module _ {Entry : Type 0} where
+  abbrev told_one : ℕ × List (Note Entry) → ℕ × List Entry
+  told_one k = (k.0, dones k.1)
+
+  abbrev told : List (ℕ × List (Note Entry)) → List (ℕ × List Entry)
+  told ks = map told_one ks
+
+  told_length : (ks : List (ℕ × List (Note Entry))) → length (told ks) ≡ length ks
+  told_length [] = refl
+  told_length (k ∷ ks) = ap suc (told_length ks)
+
+  told_at : (ks : List (ℕ × List (Note Entry))) (i : ℕ) (d : ℕ × List Entry) (e : ℕ × List (Note Entry)) → i < length ks → (slice_index_or (told ks) i d).0 ≡ (slice_index_or ks i e).0
+  told_at [] i d e near = absurd (omega arith)
+  told_at (k ∷ ks) zero d e near = refl
+  told_at (k ∷ ks) (suc i) d e near = told_at ks i d e (omega arith)
+
+  told_above : (ks : List (ℕ × List (Note Entry))) → All (λ (k : ℕ × List (Note Entry)). 0 < k.0) ks → All (λ (k : ℕ × List Entry). 0 < k.0) (told ks)
+  told_above [] above = All-nil (λ (k : ℕ × List Entry). 0 < k.0)
+  told_above (k ∷ ks) above = All-cons (λ (k : ℕ × List Entry). 0 < k.0) (told_one k) (told ks) (above 0 k (omega arith)) (told_above ks (λ i d n. above (suc i) d (omega arith)))
+
+  told_apart : (ks : List (ℕ × List (Note Entry))) → Apart ks → Apart (told ks)
+  told_apart ks apart_all = (
+    told_above ks apart_all.0,
+    λ i j d less inside same.
+        let e : ℕ × List (Note Entry) = (0, []) in
+        let there : j < length ks = subst (λ k. j < k) (told_length ks) inside in
+        apart_all.1 i j e less there (sym (told_at ks i d e (omega arith)) ∙ (same ∙ told_at ks j d e there)),
+  )
+
+  told_kept : (ks : List (ℕ × List (Note Entry))) (n k : ℕ) (ms : List (Note Entry)) → get_elem? ks k ≡ some (n, ms) → get_elem? (told ks) k ≡ some (n, dones ms)
+  told_kept [] n k ms is = absurd (apart (sym (ap is_there is)))
+  told_kept (x ∷ ks) n zero ms is = ap (λ (o : Option (ℕ × List (Note Entry))). some (told_one (from_some (n, ms) o))) is
+  told_kept (x ∷ ks) n (suc k) ms is = told_kept ks n k ms is
+
+  module _ (by : Entry → ℕ) (ns : List (Note Entry)) where
+    told_own : (ks : List (ℕ × List (Note Entry))) → All (λ (k : ℕ × List (Note Entry)). own (note_by by) k.0 ns ≡ k.1) ks → All (λ (k : ℕ × List Entry). own by k.0 (dones ns) ≡ k.1) (told ks)
+    told_own [] all = All-nil (λ (k : ℕ × List Entry). own by k.0 (dones ns) ≡ k.1)
+    told_own (k ∷ ks) all = All-cons (λ (k : ℕ × List Entry). own by k.0 (dones ns) ≡ k.1) (told_one k) (told ks) (sym (dones_own by k.0 ns) ∙ ap dones (all 0 k (omega arith))) (told_own ks (λ i d n. all (suc i) d (omega arith)))
+
+    told_where : (ks : List (ℕ × List (Note Entry))) (n : ℕ) → IsKept ks n ⊎ (own (note_by by) n ns ≡ []) → IsKept (told ks) n ⊎ (own by n (dones ns) ≡ [])
+    told_where ks n (inl k) = inl (k.0, dones k.1, told_kept ks n k.0 k.1 k.2)
+    told_where ks n (inr empty) = inr (sym (dones_own by n ns) ∙ ap dones empty)
+
+module _ {Cell Entry : Type 0} where
+  told_pairs : (ks : List (ℕ × List (Note Entry))) (ls : List (Log Cell Entry)) → AreKept ks ls → told ks ≡ pairs ls
+  told_pairs [] [] are = refl
+  told_pairs [] (l ∷ ls) are = absurd are
+  told_pairs (k ∷ ks) [] are = absurd are
+  told_pairs (k ∷ ks) (l ∷ ls) are = λ i. (are.0.place i, are.0.done i) ∷ told_pairs ks ls are.1 i
+
+  module _ (by : Entry → ℕ) (ns : List (Note Entry)) where
+    -- where none told of a mark, no log is marked
+    all_free : (ks : List (ℕ × List (Note Entry))) (ls : List (Log Cell Entry)) → has_mark ns ≡ false → All (λ (k : ℕ × List (Note Entry)). own (note_by by) k.0 ns ≡ k.1) ks → AreKept ks ls → AreFree (map back ls)
+    all_free [] [] free all are = All-nil (λ (b : Back Cell). b.marked ≡ false)
+    all_free [] (l ∷ ls) free all are = absurd are
+    all_free (k ∷ ks) [] free all are = absurd are
+    all_free (k ∷ ks) (l ∷ ls) free all are =
+        All-cons (λ (b : Back Cell). b.marked ≡ false) (back l) (map back ls) (here l.marked are.0.marks) (all_free ks ls free (λ i d n. all (suc i) d (omega arith)) are.1)
+      where
+        unmarked : has_mark k.1 ≡ false
+        unmarked = ap has_mark (sym (all 0 k (omega arith))) ∙ own_free by k.0 ns free
+
+        here : (b : Bool) → (b ≡ true → has_mark k.1 ≡ true) → b ≡ false
+        here true marks = sym (marks refl) ∙ unmarked
+        here false marks = refl
+
 module _ {State Cell Shared Line Entry Heard : Type 0} (D : Definitions State Cell Shared Line Entry Heard) (L : Laws D) where
-  pub ended : (starts : State → Type 0) (scripts : ℕ → List Line) (zones : ℕ) (m : Shared) (ts : List Progress) (rs : List (ℕ × ℕ)) (logs : List (Log Cell Entry)) (v : View Entry) (made : ℕ) (h : List Entry)
-      → StandsFrom D starts scripts m ts rs h → own D.by 0 h ≡ v.list → All (λ (k : ℕ × List Entry). own D.by k.0 h ≡ k.1) (kept_of v.role) → Apart (kept_of v.role) → ((n : ℕ) → n ≢ 0 → IsKept (kept_of v.role) n ⊎ (own D.by n h ≡ []))
-      → v.list ≡ [] → v.role ≡ First (roster made 0 (pairs logs)) → All (LeftBy D starts) logs → All (λ (l : Log Cell Entry). l.place ≤ zones) logs → length logs ≡ zones → Ended D starts scripts zones m ts rs logs
-  ended starts scripts zones m ts rs logs v made h stands first all differ_all others empty role left near count =
-      let kept : kept_of v.role ≡ pairs logs = ap kept_of role in
-      let mine : All (λ (k : ℕ × List Entry). own D.by k.0 h ≡ k.1) (pairs logs) = subst (All (λ (k : ℕ × List Entry). own D.by k.0 h ≡ k.1)) kept all in
+  pub ended : (starts : State → Type 0) (scripts : ℕ → List Line) (zones : ℕ) (m : Shared) (ts : List Progress) (rs : List (ℕ × ℕ)) (logs : List (Log Cell Entry)) (v : View (Note Entry)) (made : ℕ) (ns : List (Note Entry))
+      → Tells D starts scripts m ts rs ns → own (note_by D.by) 0 ns ≡ v.list → All (λ (k : ℕ × List (Note Entry)). own (note_by D.by) k.0 ns ≡ k.1) (kept_of v.role) → Apart (kept_of v.role) → ((n : ℕ) → n ≢ 0 → IsKept (kept_of v.role) n ⊎ (own (note_by D.by) n ns ≡ []))
+      → v.list ≡ [] → Gathered v.role made 0 logs → All (LeftBy D starts) logs → All (λ (l : Log Cell Entry). l.place ≤ zones) logs → length logs ≡ zones → Ended D starts scripts zones m ts rs logs
+  ended starts scripts zones m ts rs logs v made ns tells first all differ_all others empty role left near count =
+      let mine : All (λ (k : ℕ × List Entry). own D.by k.0 (dones ns) ≡ k.1) (pairs logs) = subst (All (λ (k : ℕ × List Entry). own D.by k.0 (dones ns) ≡ k.1)) same (told_own D.by ns role.kept known) in
       record {
-        h = h;
-        stands = stands.each;
-        each = λ p. kept_log D.by h p logs mine (at p);
-        backs = λ start from. backs_of D L starts start from h logs (stands.each start from).middle.legal mine left;
-        all_back = all_there zones logs (subst Apart kept differ_all) near count;
+        h = dones ns;
+        stands = tells.stands.each;
+        each = λ p. kept_log D.by (dones ns) p logs mine (at p);
+        backs = λ start from. backs_of D L starts start from (dones ns) logs (tells.stands.each start from).middle.legal mine left;
+        all_back = all_there zones logs (subst Apart same (told_apart role.kept (subst Apart kept differ_all))) near count;
+        free = λ sound. all_free D.by ns role.kept logs (tells.free sound) known role.are;
       }
     where
-      at : (p : ℕ) → IsKept (pairs logs) p ⊎ (own D.by p h ≡ [])
-      at zero = inr (first ∙ empty)
-      at (suc p) = subst (λ ks. IsKept ks (suc p) ⊎ (own D.by (suc p) h ≡ [])) (ap kept_of role) (others (suc p) (λ q. differ 0 (suc p) (omega arith) (sym q)))
+      kept : kept_of v.role ≡ role.kept
+      kept = ap kept_of role.is
+
+      same : told role.kept ≡ pairs logs
+      same = told_pairs role.kept logs role.are
+
+      known : All (λ (k : ℕ × List (Note Entry)). own (note_by D.by) k.0 ns ≡ k.1) role.kept
+      known = subst (All (λ (k : ℕ × List (Note Entry)). own (note_by D.by) k.0 ns ≡ k.1)) kept all
+
+      at : (p : ℕ) → IsKept (pairs logs) p ⊎ (own D.by p (dones ns) ≡ [])
+      at zero = inr (sym (dones_own D.by 0 ns) ∙ ap dones (first ∙ empty))
+      at (suc p) =
+          subst (λ ks. IsKept ks (suc p) ⊎ (own D.by (suc p) (dones ns) ≡ [])) same (told_where D.by ns role.kept (suc p)
+          (subst (λ ks. IsKept ks (suc p) ⊎ (own (note_by D.by) (suc p) ns ≡ [])) kept (others (suc p) (λ q. differ 0 (suc p) (omega arith) (sym q)))))
 
 -- what a finished part says of the history
 module _ {State Cell Shared Line Entry Heard : Type 0} (D : Definitions State Cell Shared Line Entry Heard) where

@@ -6,18 +6,22 @@ use Rattle.std.proofs.lemmas.List.{drop-append-le, take-append-drop, take-append
 use Rattle.std.proofs.Math.Seq.{drop-length, take-length}
 use Rattle.atomic_table.specs.Seated.{TableId}
 use Rattle.zone_turn.specs.declared.views.View.{View}
+use Rattle.zone_turn.specs.Histories.{own}
 use Rattle.zone_turn.specs.Passes.{Holder, idle_with, with_part}
 use Rattle.zone_threads.specs.Folds.{all_right, folded}
 use Rattle.zone_threads.specs.Machines.{Definitions, IsTurnOf, Turned}
+use Rattle.zone_threads.specs.Notes.{dones, has_mark, note_by, notes_of}
 use Rattle.zone_threads.specs.Zones.{IsZone, left_by}
+use Rattle.zone_threads.specs.declared.notes.Note.{Note}
 use Rattle.zone_threads.proofs.Bools.{both}
 use Rattle.zone_threads.proofs.Histories.{folded_append, right_append}
+use Rattle.zone_threads.proofs.Telling.{dones_append, dones_notes, dones_own, mark_behind, mark_notes, own_free}
 
 module _ {State Cell Shared Line Entry Heard : Type 0} (D : Definitions State Cell Shared Line Entry Heard) where
   left_whole : (start : State) (p given : ℕ) (log : List Entry) → folded D.world_one (left_by D start p (take given log)) (drop given log) ≡ left_by D start p log
   left_whole start p given log = sym (folded_append D.world_one (D.world p start) (take given log) (drop given log)) ∙ ap (left_by D start p) (take-append-drop given log)
 
-module _ {State Cell Shared Line Entry Heard : Type 0} (D : Definitions State Cell Shared Line Entry Heard) (starts : State → Type 0) (turn : TableId) (p given : ℕ) (cell : Cell) (log : List Entry) (marked : Bool) (holder : Holder Entry) (z : IsZone D starts turn p cell log given marked holder) where
+module _ {State Cell Shared Line Entry Heard : Type 0} (D : Definitions State Cell Shared Line Entry Heard) (starts : State → Type 0) (turn : TableId) (p given : ℕ) (cell : Cell) (log : List Entry) (marked : Bool) (holder : Holder (Note Entry)) (z : IsZone D starts turn p cell log given marked holder) where
   -- a local turn goes on the log
   pub turned : (cell' : Cell) (log' : List Entry) (e : Entry) → marked ≡ false → log' ≡ log ++ e ∷ [] → IsTurnOf D p e → ((w : D.World) → D.cell_of cell w → Turned D p cell' e w) → IsZone D starts turn p cell' log' given marked holder
   turned cell' log' e free more is turns =
@@ -39,7 +43,7 @@ module _ {State Cell Shared Line Entry Heard : Type 0} (D : Definitions State Ce
                   (both _ _ (ap (λ (w : D.World). D.is_local p w e) (left_whole D start p given log) ∙ here.is_next) refl)));
               stands = λ m. subst (D.cell_of cell') (sym (ap (left_by D start p) more ∙ folded_append D.world_one (D.world p start) log (e ∷ []))) here.cell;
             };
-        seated = record { of_turn = z.seated.of_turn; idle = z.seated.idle; numbered = z.seated.numbered; list = z.seated.list ∙ sym front };
+        seated = record { of_turn = z.seated.of_turn; idle = z.seated.idle; numbered = z.seated.numbered; done = z.seated.done ∙ sym front; marks = z.seated.marks };
       }
 
   -- the cell stands for what it stood for
@@ -51,14 +55,31 @@ module _ {State Cell Shared Line Entry Heard : Type 0} (D : Definitions State Ce
     seated = z.seated;
   }
 
-  -- after a give the pass's list is the log
-  pub gave : (cell' : Cell) (log' new batch : List Entry) (given' gives : ℕ) (h : List Entry) (marked' : Bool) (v : View Entry) (holder' : Holder Entry) → log' ≡ log ++ new → given' ≡ length log' → holder'.turn ≡ turn
-      → v ≡ with_part gives h holder.knows → holder'.knows ≡ idle_with (v.list ++ batch) v → batch ≡ drop given log' → ((start : State) → starts start → marked' ≡ false → D.cell_of cell' (left_by D start p log')) → IsZone D starts turn p cell' log' given' marked' holder'
-  gave cell' log' new batch given' gives h marked' v holder' more all turn' was now' rest stands =
+  -- what the zone did is what of the notes is its own, and where none of these is a mark, it isn't marked
+  pub own_done : (ns : List (Note Entry)) → own (note_by D.by) holder.knows.number ns ≡ holder.knows.list → own D.by p (dones ns) ≡ take given log
+  own_done ns mine = sym (dones_own D.by p ns) ∙ (ap (λ k. dones (own (note_by D.by) k ns)) (sym z.seated.numbered) ∙ (ap dones mine ∙ z.seated.done))
+
+  pub own_unmarked : (ns : List (Note Entry)) → own (note_by D.by) holder.knows.number ns ≡ holder.knows.list → has_mark ns ≡ false → marked ≡ false
+  own_unmarked ns mine free = here marked z.seated.marks
+    where
+      none : has_mark holder.knows.list ≡ false
+      none = ap has_mark (sym mine) ∙ own_free D.by holder.knows.number ns free
+
+      here : (b : Bool) → (b ≡ true → has_mark holder.knows.list ≡ true) → b ≡ false
+      here true marks = sym (marks refl) ∙ none
+      here false marks = refl
+
+  -- after a give the pass has told all that the log has
+  pub gave : (cell' : Cell) (log' new done : List Entry) (given' gives : ℕ) (ns : List (Note Entry)) (marked' : Bool) (v : View (Note Entry)) (holder' : Holder (Note Entry)) → log' ≡ log ++ new → given' ≡ length log' → holder'.turn ≡ turn
+      → v ≡ with_part gives ns holder.knows → holder'.knows ≡ idle_with (v.list ++ notes_of p done marked') v → done ≡ drop given log' → ((start : State) → starts start → marked' ≡ false → D.cell_of cell' (left_by D start p log')) → IsZone D starts turn p cell' log' given' marked' holder'
+  gave cell' log' new done given' gives ns marked' v holder' more all turn' was now' rest stands =
       let near = z.near in
+      let notes : List (Note Entry) = notes_of p done marked' in
+      let whole : List (Note Entry) = holder.knows.list ++ notes in
       let front : take given log' ≡ take given log = ap (take given) more ∙ take-append-le given log new near in
-      let list : v.list ++ batch ≡ log' = (λ i. (ap (λ (x : View Entry). x.list) was ∙ (z.seated.list ∙ sym front)) i ++ rest i) ∙ take-append-drop given log' in
-      let is : holder'.knows ≡ idle_with log' holder.knows = now' ∙ (ap (λ l. idle_with l v) list ∙ ap (λ (x : View Entry). idle_with log' x) was) in
+      let list : v.list ++ notes ≡ whole = ap (λ (x : View (Note Entry)). x.list ++ notes) was in
+      let told : dones whole ≡ log' = dones_append holder.knows.list notes ∙ ((λ i. (z.seated.done ∙ sym front) i ++ (dones_notes p done marked' ∙ rest) i) ∙ take-append-drop given log') in
+      let is : holder'.knows ≡ idle_with whole holder.knows = now' ∙ (ap (λ l. idle_with l v) list ∙ ap (λ (x : View (Note Entry)). idle_with whole x) was) in
       let none : drop given' log' ≡ [] = ap (λ k. drop k log') all ∙ drop-length log' in
       record {
         near = omega arith;
@@ -68,5 +89,11 @@ module _ {State Cell Shared Line Entry Heard : Type 0} (D : Definitions State Ce
           locals = ap (λ (l : List Entry). all_right (D.is_local p) D.world_one (left_by D start p (take given' log')) l) none;
           stands = stands start from;
         };
-        seated = record { of_turn = turn'; idle = rw is refl; numbered = ap (λ (x : View Entry). x.number) is ∙ z.seated.numbered; list = ap (λ (x : View Entry). x.list) is ∙ (sym (take-length log') ∙ ap (λ k. take k log') (sym all)) };
+        seated = record {
+          of_turn = turn';
+          idle = rw is refl;
+          numbered = ap (λ (x : View (Note Entry)). x.number) is ∙ z.seated.numbered;
+          done = ap (λ (x : View (Note Entry)). dones x.list) is ∙ (told ∙ (sym (take-length log') ∙ ap (λ k. take k log') (sym all)));
+          marks = λ m. ap (λ (x : View (Note Entry)). has_mark x.list) is ∙ mark_behind holder.knows.list notes (mark_notes p done marked' ∙ m);
+        };
       }

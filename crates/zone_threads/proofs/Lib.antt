@@ -3,5 +3,6 @@ pub mod Gathering
 pub mod Gives
 pub mod Histories
 pub mod Merging
+pub mod Telling
 pub mod Steps
 pub mod Words

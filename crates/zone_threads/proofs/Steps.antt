@@ -7,9 +7,10 @@ use mathlib.Core.List.{map-append}
 use Rattle.zone_turn.specs.Histories.{own}
 use Rattle.zone_threads.specs.Folds.{all_right, folded}
 use Rattle.zone_threads.specs.Machines.{Definitions, IsLineOf, IsTurnOf, Laws, Stepped, Unfinished}
-use Rattle.zone_threads.specs.Records.{Middle, Stands, StandsFrom, spread}
+use Rattle.zone_threads.specs.Records.{Middle, Stands, Tells, spread}
 use Rattle.zone_threads.specs.Scripts.{TallyOf, beginning, fresh, is_line_at, may, noted, progress_one, session}
 use Rattle.zone_threads.specs.Zones.{Did, Logged, left_by}
+use Rattle.zone_threads.specs.declared.notes.Note.{Note}
 use Rattle.zone_threads.specs.declared.tally.Progress.{Progress}
 use Rattle.zone_threads.proofs.Bools.{both, no_same}
 use Rattle.zone_threads.proofs.Histories.{folded_append, locals_behind, right_append, turn_may}
@@ -74,8 +75,8 @@ module _ {State Cell Shared Line Entry Heard : Type 0} (D : Definitions State Ce
   noted_rest p given log read ts ts1 is noting = subst (λ (l : List Entry). (t : ℕ → Progress) → All (λ (e : Entry). D.by e ≡ p) l → TallyOf ts t → TallyOf ts1 (folded (noted D) t l)) (rest_is given read ∙ ap (drop given) is) noting
 
   -- what is as it was stands for what it stood for
-  pub from_same : (starts : State → Type 0) (scripts : ℕ → List Line) (m m' : Shared) (ts ts' : List Progress) (rs rs' : List (ℕ × ℕ)) (h : List Entry) → m' ≡ m → ts' ≡ ts → rs' ≡ rs → StandsFrom D starts scripts m ts rs h → StandsFrom D starts scripts m' ts' rs' h
-  from_same starts scripts m m' ts ts' rs rs' h a b c = subst (λ (T : Type 0). T) (sym (λ i. StandsFrom D starts scripts (a i) (b i) (c i) h))
+  pub tells_same : (starts : State → Type 0) (scripts : ℕ → List Line) (m m' : Shared) (ts ts' : List Progress) (rs rs' : List (ℕ × ℕ)) (ns : List (Note Entry)) → m' ≡ m → ts' ≡ ts → rs' ≡ rs → Tells D starts scripts m ts rs ns → Tells D starts scripts m' ts' rs' ns
+  tells_same starts scripts m m' ts ts' rs rs' ns a b c = subst (λ (T : Type 0). T) (sym (λ i. Tells D starts scripts (a i) (b i) (c i) ns))
 
   -- a session's next line was done
   pub line_done : (scripts : ℕ → List Line) (p s number : ℕ) (line : Line) (k : Cell) (m : Shared) (ts ts' : List Progress) (e : Entry) (S : State) (t : ℕ → Progress) → Stepped D p k m e S → IsLineOf D p s line e → s ≢ 0 → slice_get (scripts s) number ≡ Some line

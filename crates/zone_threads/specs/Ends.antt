@@ -1,13 +1,17 @@
 -- What is left at the end.
-use Rattle.std.specs.Prelude.{◌≡◌, ◌≢◌, ℕ, ◌+◌, ◌<◌, ◌≤◌, ◌==◌, false, List, [], ◌∷◌, ◌++◌, length, map, slice_index_or, None, if◌then◌else◌}
+use Rattle.std.specs.Prelude.{◌≡◌, ◌≢◌, ℕ, ◌+◌, ◌<◌, ◌≤◌, ◌==◌, true, false, List, [], ◌∷◌, ◌++◌, length, map, slice_index_or, None, if◌then◌else◌}
 use Rattle.std.specs.List.{All}
 use Rattle.zone_turn.specs.Histories.{own}
+use Rattle.zone_turn.specs.declared.views.Role.{Role}
+use Rattle.zone_turn.specs.declared.views.Role.TheVariants.{First}
 use Rattle.zone_turn.specs.declared.views.Roster.{Roster}
 use Rattle.zone_threads.specs.Folds.{folded}
 use Rattle.zone_threads.specs.Machines.{Definitions}
+use Rattle.zone_threads.specs.Notes.{dones, has_mark}
 use Rattle.zone_threads.specs.Records.{Middle, Stands}
 use Rattle.zone_threads.specs.Scripts.{beginning, fresh, noted}
 use Rattle.zone_threads.specs.Zones.{left_by}
+use Rattle.zone_threads.specs.declared.notes.Note.{Note}
 use Rattle.zone_threads.specs.declared.tally.Progress.{Progress}
 use Rattle.zone_threads.specs.declared.run.Script.{Script}
 use Rattle.zone_threads.specs.declared.zone.Back.{Back}
@@ -31,6 +35,10 @@ pub record AreAll {Cell : Type 0} (zones : ℕ) (backs : List (Back Cell)) : Typ
   pub within : All (λ (b : Back Cell). (0 < b.place) × (b.place ≤ zones)) backs
   pub differ : (i j : ℕ) (d : Back Cell) → i < j → j < length backs → (slice_index_or backs i d).place ≢ (slice_index_or backs j d).place
 
+-- none is marked
+abbrev pub AreFree : {Cell : Type 0} → List (Back Cell) → Type 0
+AreFree backs = All (λ b. b.marked ≡ false) backs
+
 module _ {Cell Entry : Type 0} where
   abbrev pub pair : Log Cell Entry → ℕ × List Entry
   pair l = (l.place, l.entries.items)
@@ -40,6 +48,25 @@ module _ {Cell Entry : Type 0} where
 
   abbrev pub back : Log Cell Entry → Back Cell
   back l = record { place = l.place; cell = l.cell; marked = l.marked }
+
+  -- what a zone's pass told is what its log has, and that it is marked, if it is
+  pub record IsKeptOf (k : ℕ × List (Note Entry)) (l : Log Cell Entry) : Type 0 where
+    pub place : k.0 ≡ l.place
+    pub done : dones k.1 ≡ l.entries.items
+    pub marks : l.marked ≡ true → has_mark k.1 ≡ true
+
+  -- so with each of them
+  abbrev pub AreKept : List (ℕ × List (Note Entry)) → List (Log Cell Entry) → Type 0
+  AreKept [] [] = Unit {0}
+  AreKept [] (l ∷ ls) = ⊥
+  AreKept (k ∷ ks) [] = ⊥
+  AreKept (k ∷ ks) (l ∷ ls) = IsKeptOf k l × AreKept ks ls
+
+  -- the first pass knows how many passes were made and are out, and what those of the logs told
+  pub record Gathered (role : Role (Note Entry)) (made out : ℕ) (logs : List (Log Cell Entry)) : Type 0 where
+    pub kept : List (ℕ × List (Note Entry))
+    pub is : role ≡ First (roster made out kept)
+    pub are : AreKept kept logs
 
   -- the entries of a place
   abbrev pub log_of : List (Log Cell Entry) → ℕ → List Entry
@@ -73,12 +100,14 @@ module _ {State Cell Shared Line Entry Heard : Type 0} (D : Definitions State Ce
     pub each : (p : ℕ) → own D.by p h ≡ log_of logs p
     pub backs : (start : State) → starts start → All (IsBack start h) (map back logs)
     pub all_back : AreAll zones (map back logs)
+    pub free : D.is_sound m ≡ true → AreFree (map back logs)
 
   -- a history that keeps to the scripts from each of some states on, and the cells after it
   pub record Over (starts : State → Type 0) (scripts : ℕ → List Line) (zones : ℕ) (m : Shared) (h : List Entry) (cells : List (Back Cell)) : Type 0 where
     pub middle : (start : State) → starts start → Middle D start scripts m h
     pub backs : (start : State) → starts start → All (IsBack start h) cells
     pub there : AreAll zones cells
+    pub free : D.is_sound m ≡ true → AreFree cells
 
   abbrev pub HasAll : List Entry → ℕ → ℕ → Type 0
   HasAll h s lines = folded (noted D) beginning h s ≡ record { done = lines; awaits = None }

@@ -27,7 +27,7 @@ pub record Definitions (State Cell Shared Line Entry Heard : Type 0) : Type 1 wh
   pub is_busy : World → Bool
   -- whether a shared part may still be used
   pub is_sound : Shared → Bool
-  -- what a cell and a shared part stand for, a part that may be used no more for less
+  -- what a cell and a shared part stand for. A part that may be used no more may stand for less
   pub cell_of : Cell → World → Type 0
   pub shared_of : Shared → Common → Type 0
   -- whether this is what the hooks of a cell's zone answer
@@ -46,8 +46,8 @@ module _ {State Cell Shared Line Entry Heard : Type 0} (D : Definitions State Ce
     pub is_next : D.is_local p w e ≡ true
     pub cell : D.cell_of c (D.world_one w e)
 
-  -- an event that wasn't done left the zone of a place as it was, unless the shared part may not be used any more, and of what zones
-  -- share what a part that is used no more stands for too
+  -- an event that wasn't done: the cell stands for what it stood for, unless the shared part may be used no more; and in each state that
+  -- both stood for the part stands for what is common
   pub record Unfinished (p : ℕ) (c : Cell) (m : Shared) (d : Cell) (n : Shared) : Type 0 where
     pub cell : D.is_sound n ≡ true → (w : D.World) → D.cell_of c w → D.cell_of d w
     pub shared : (s : State) → D.cell_of c (D.world p s) → D.shared_of m (D.common s) → D.shared_of n (D.common s)

@@ -1,8 +1,10 @@
 -- What the part that goes round stands for.
-use Rattle.std.specs.Prelude.{◌≡◌, ℕ, true, List, [], ◌∷◌, ◌++◌, length, map, replicate}
+use Rattle.std.specs.Prelude.{◌≡◌, ℕ, true, false, List, [], ◌∷◌, ◌++◌, length, map, replicate}
 use Rattle.zone_threads.specs.Folds.{folded, all_right}
 use Rattle.zone_threads.specs.Machines.{Definitions}
+use Rattle.zone_threads.specs.Notes.{dones, has_mark}
 use Rattle.zone_threads.specs.Scripts.{TallyOf, beginning, may, noted}
+use Rattle.zone_threads.specs.declared.notes.Note.{Note}
 use Rattle.zone_threads.specs.declared.tally.Progress.{Progress}
 
 -- the places, one for each entry, of runs of entries
@@ -27,3 +29,8 @@ module _ {State Cell Shared Line Entry Heard : Type 0} (D : Definitions State Ce
   pub record StandsFrom (starts : State → Type 0) (scripts : ℕ → List Line) (m : Shared) (ts : List Progress) (rs : List (ℕ × ℕ)) (h : List Entry) : Type 0 where
     pub wide : length ts ≡ 65
     pub each : (start : State) → starts start → Stands start scripts m ts rs h
+
+  -- what passes told: from each of some states on the part stands for what was done, and while it may be used no zone is marked
+  pub record Tells (starts : State → Type 0) (scripts : ℕ → List Line) (m : Shared) (ts : List Progress) (rs : List (ℕ × ℕ)) (ns : List (Note Entry)) : Type 0 where
+    pub stands : StandsFrom starts scripts m ts rs (dones ns)
+    pub free : D.is_sound m ≡ true → has_mark ns ≡ false

@@ -5,7 +5,9 @@ use Rattle.std.specs.List.{All}
 use Rattle.zone_turn.specs.Passes.{Holder, is_idle}
 use Rattle.zone_threads.specs.Folds.{folded, all_right}
 use Rattle.zone_threads.specs.Machines.{Definitions}
+use Rattle.zone_threads.specs.Notes.{dones, has_mark}
 use Rattle.zone_threads.specs.Scripts.{TallyOf, may, noted}
+use Rattle.zone_threads.specs.declared.notes.Note.{Note}
 use Rattle.zone_threads.specs.declared.tally.Progress.{Progress}
 use Rattle.zone_threads.specs.declared.step.Job.{Job}
 use Rattle.zone_threads.specs.declared.step.Job.TheVariants as jobs
@@ -15,11 +17,13 @@ use Rattle.zone_threads.specs.declared.step.Outcome.TheVariants as outcomes
 use Rattle.zone_threads.specs.declared.step.Ask.{Ask}
 use Rattle.zone_threads.specs.declared.step.Ask.TheVariants as asks
 
-pub record Seated {Entry : Type 0} (turn : TableId) (place : ℕ) (es : List Entry) (holder : Holder Entry) : Type 0 where
+-- a zone's pass, by which it told that it did this, and that it is marked, if it is
+pub record Seated {Entry : Type 0} (turn : TableId) (place : ℕ) (es : List Entry) (marked : Bool) (holder : Holder (Note Entry)) : Type 0 where
   pub of_turn : holder.turn ≡ turn
   pub idle : is_idle holder.knows ≡ true
   pub numbered : holder.knows.number ≡ place
-  pub list : holder.knows.list ≡ es
+  pub done : dones holder.knows.list ≡ es
+  pub marks : marked ≡ true → has_mark holder.knows.list ≡ true
 
 module _ {State Cell Shared Line Entry Heard : Type 0} (D : Definitions State Cell Shared Line Entry Heard) where
   -- the world of a place after these of its entries
@@ -33,11 +37,11 @@ module _ {State Cell Shared Line Entry Heard : Type 0} (D : Definitions State Ce
     pub stands : marked ≡ false → D.cell_of cell (left_by start p log)
 
   -- so it is from each of some states on, and the entries since the last give are of its place
-  pub record IsZone (starts : State → Type 0) (turn : TableId) (p : ℕ) (cell : Cell) (log : List Entry) (given : ℕ) (marked : Bool) (holder : Holder Entry) : Type 0 where
+  pub record IsZone (starts : State → Type 0) (turn : TableId) (p : ℕ) (cell : Cell) (log : List Entry) (given : ℕ) (marked : Bool) (holder : Holder (Note Entry)) : Type 0 where
     pub near : given ≤ length log
     pub mine : All (λ (e : Entry). D.by e ≡ p) (drop given log)
     pub logged : (start : State) → starts start → Logged start p cell log given marked
-    pub seated : Seated turn p (take given log) holder
+    pub seated : Seated turn p (take given log) marked holder
 
   -- what a step of a zone left, from whatever state and progress
   pub record Did (scripts : ℕ → List Line) (p : ℕ) (k : Cell) (m : Shared) (ts : List Progress) (e : Entry) (s : State) (t : ℕ → Progress) : Type 0 where

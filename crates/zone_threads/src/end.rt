@@ -4,7 +4,8 @@ ghost use Rattle.std.specs.List.{All};
 ghost use Rattle.zone_turn.specs.Passes.{first_view, is_first, is_idle};
 ghost use Rattle.zone_turn.specs.declared.limits.TheConstants.{PASSES_OUT_MAX};
 ghost use Rattle.zone_turn.specs.declared.views.Role.TheVariants.{First};
-ghost use Rattle.zone_threads.specs.Ends.{Ended, IsOpening, IsScript, LeftBy, pairs, roster};
+ghost use Rattle.zone_threads.specs.Ends.{Ended, Gathered, IsOpening, IsScript, LeftBy, roster};
+ghost use Rattle.zone_threads.specs.Notes.{dones, has_mark};
 
 use crate::gate::Gate;
 use crate::machine::Machine;
@@ -51,7 +52,7 @@ fn keep<M: Machine, J: Start<M>>(
     requires turn { (first.old.turn ≡ turn.now) × (pass.turn ≡ turn.now) }
     requires idle { (is_idle first.old.knows ≡ true) × (is_idle pass.knows ≡ true) }
     requires first { is_first first.old.knows ≡ true }
-    requires list { (pass.knows.number ≡ log.place) × (pass.knows.list ≡ log.entries.items) }
+    requires list { (pass.knows.number ≡ log.place) × (dones pass.knows.list ≡ log.entries.items) × (log.marked ≡ true → has_mark pass.knows.list ≡ true) }
     requires room { vec_len logs.old < vec_capacity logs.old }
     ensures turn { first.new.turn ≡ first.old.turn }
     ensures idle { is_idle first.new.knows ≡ true }
@@ -59,7 +60,7 @@ fn keep<M: Machine, J: Start<M>>(
     ensures list { first.new.knows.list ≡ first.old.knows.list }
     ensures logs { logs.new.items ≡ logs.old.items ++ log ∷ [] }
     ensures capacity { vec_capacity logs.new ≡ vec_capacity logs.old }
-    ensures roster { (made out : ℕ) → first.old.knows.role ≡ First (roster made (out + 1) (pairs logs.old.items)) → first.new.knows.role ≡ First (roster made out (pairs logs.new.items)) }
+    ensures roster { (made out : ℕ) → Gathered first.old.knows.role made (out + 1) logs.old.items → Gathered first.new.knows.role made out logs.new.items }
 {
     turn.join(first, pass);
     logs.push_reserved(log);
@@ -85,7 +86,7 @@ fn end_zone<M: Machine, J: Start<M>, K: Place, W: Wait>(
     ensures list { first.new.knows.list ≡ first.old.knows.list }
     ensures logs { vec_len logs.new ≡ vec_len logs.old + 1 }
     ensures capacity { vec_capacity logs.new ≡ vec_capacity logs.old }
-    ensures roster { (made out : ℕ) → first.old.knows.role ≡ First (roster made (out + 1) (pairs logs.old.items)) → first.new.knows.role ≡ First (roster made out (pairs logs.new.items)) }
+    ensures roster { (made out : ℕ) → Gathered first.old.knows.role made (out + 1) logs.old.items → Gathered first.new.knows.role made out logs.new.items }
     ensures cells { All (LeftBy M.machine J.starts) logs.old.items → All (LeftBy M.machine J.starts) logs.new.items }
     ensures near { All (λ l. l.place ≤ K.zones) logs.old.items → All (λ l. l.place ≤ K.zones) logs.new.items }
 {
@@ -112,7 +113,7 @@ fn gather<M: Machine, J: Start<M>, K: Place, W: Wait>(
     ensures first { is_first first.new.knows ≡ true }
     ensures list { first.new.knows.list ≡ first.old.knows.list }
     ensures count { vec_len logs.new ≡ vec_len zones }
-    ensures roster { (made : ℕ) → first.old.knows.role ≡ First (roster made (vec_len zones) []) → first.new.knows.role ≡ First (roster made 0 (pairs logs.new.items)) }
+    ensures roster { (made : ℕ) → first.old.knows.role ≡ First (roster made (vec_len zones) []) → Gathered first.new.knows.role made 0 logs.new.items }
     ensures cells { All (LeftBy M.machine J.starts) logs.new.items }
     ensures near { All (λ l. l.place ≤ K.zones) logs.new.items }
 {

@@ -3,7 +3,7 @@ ghost use Rattle.std.specs.Prelude.{◌≡◌, ◌≢◌, ◌<◌, ◌≤◌, �
 ghost use Rattle.std.specs.List.{All};
 ghost use Rattle.zone_turn.specs.Passes.{first_view};
 ghost use Rattle.zone_turn.specs.declared.limits.TheConstants.{PASSES_OUT_MAX};
-ghost use Rattle.zone_threads.specs.Ends.{AreAll, Ended, Finished, HasAll, IsBack, IsOpening, IsScript, Over, back};
+ghost use Rattle.zone_threads.specs.Ends.{AreAll, AreFree, Ended, Finished, HasAll, IsBack, IsOpening, IsScript, Over, back};
 ghost use Rattle.zone_threads.specs.Folds.{folded};
 ghost use Rattle.zone_threads.specs.Records.{Middle};
 ghost use Rattle.zone_threads.specs.Scripts.{TallyOf, beginning};
@@ -248,6 +248,7 @@ pub fn run_scripts<
     ensures shared { IfOk result (λ r. (start : M.State) → J.starts start → M.machine.shared_of r.shared (M.machine.common (folded M.machine.one start r.entries.items))) }
     ensures cells { IfOk result (λ r. (start : M.State) → J.starts start → All (IsBack M.machine start r.entries.items) r.cells.items) }
     ensures there { IfOk result (λ r. AreAll (length cells.items) r.cells.items) }
+    ensures sound { IfOk result (λ r. M.machine.is_sound r.shared ≡ true → AreFree r.cells.items) }
     ensures memory { IfErr result (λ m. (h : List M.Entry) × ((start : M.State) → J.starts start → IsPartial M.machine start J.scripts h × M.machine.shared_of m (M.machine.common (folded M.machine.one start h)))) }
 {
     started::<M, J, R, G>(rt, alloc, machine, gate, cells, shared, scripts)

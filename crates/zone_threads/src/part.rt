@@ -2,6 +2,7 @@
 ghost use Rattle.std.specs.Prelude.{◌≡◌, ◌<◌, OnOk, vec_len, vec_capacity};
 
 use crate::machine::Zoned;
+use crate::notes::Note;
 use crate::tally::Progress;
 use std::alloc::AllocError;
 use std::marker::{Brand, PhantomData};
@@ -54,13 +55,14 @@ pub struct Part<M: Zoned, J: Start<M>> {
 }
 
 impl<M: Zoned, J: Start<M>> Storied for Part<M, J> {
-    ghost use Rattle.zone_threads.specs.Records.{StandsFrom};
+    ghost use Rattle.zone_threads.specs.Notes.{note_by};
+    ghost use Rattle.zone_threads.specs.Records.{Tells};
 
-    type Entry = M::Entry;
+    type Entry = Note<M::Entry>;
 
-    ghost stands_for = { λ p h. StandsFrom M.machine J.starts J.scripts p.shared p.tally.items p.order.items h };
+    ghost stands_for = { λ p ns. Tells M.machine J.starts J.scripts p.shared p.tally.items p.order.items ns };
 
-    ghost belongs_to = { λ e. M.machine.by e };
+    ghost belongs_to = { λ n. note_by M.machine.by n };
 }
 
 impl<M: Zoned, J: Start<M>> Part<M, J> {

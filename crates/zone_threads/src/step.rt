@@ -224,6 +224,7 @@ pub(crate) fn act<M: Machine, J: Start<M>>(
     ensures stands { (start : M.State) (h : List M.Entry) → Stands M.machine start J.scripts part.old.shared part.old.tally.items part.old.order.items h → own M.machine.by place h ≡ take given log.old.items → Logged M.machine start place cell.old log.old.items given marked.old
         → Stands M.machine start J.scripts part.new.shared part.new.tally.items part.new.order.items (h ++ drop given log.new.items) × All (λ e. M.machine.by e ≡ place) (drop given log.new.items) × (marked.new ≡ false → M.machine.cell_of cell.new (left_by M.machine start place log.new.items)) }
     ensures wide { length part.new.tally.items ≡ length part.old.tally.items }
+    ensures marks { M.machine.is_sound part.new.shared ≡ true → (M.machine.is_sound part.old.shared ≡ true) × (marked.new ≡ marked.old) }
 {
     note_all(machine, &mut part.tally, place, &log[given..]);
     if *marked || part.ended.is_some() || !machine.is_sound(&part.shared) {

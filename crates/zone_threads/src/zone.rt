@@ -1,19 +1,26 @@
 //! A zone under its lock, with its log and its pass.
-ghost use Rattle.std.specs.Prelude.{◌≡◌, ◌≤◌, [], true, IfOk};
-ghost use Rattle.zone_turn.specs.Passes.{is_idle};
+ghost use Rattle.std.specs.Prelude.{◌≡◌, ◌≤◌, ◌++◌, ℕ, List, [], true, IfOk};
+ghost use Rattle.std.specs.List.{All};
+ghost use Rattle.zone_turn.specs.Passes.{idle_with, is_idle};
+ghost use Rattle.zone_turn.specs.declared.views.Stage.TheVariants.{Out};
 ghost use Rattle.zone_threads.specs.Ends.{LeftBy};
+ghost use Rattle.zone_threads.specs.Notes.{dones, has_mark, notes_of};
+ghost use Rattle.zone_threads.specs.Records.{Tells};
 ghost use Rattle.zone_threads.specs.Zones.{IsAsk};
+ghost use Rattle.zone_threads.specs.declared.notes.Note.{Note};
 
 use crate::machine::{Machine, Told, Zoned};
+use crate::notes::Note;
 use crate::part::{LOCALS_MAX, Part, Place, Start};
 use crate::step::{Ask, Outcome, act, job_of};
 use std::alloc::{AllocError, Global};
 use std::collections::VecDeque;
-use std::marker::{Model, PhantomData};
+use std::marker::{Brand, Model, PhantomData};
 use std::sync::Wait;
-use zone_turn::{Pass, PassOf, Turn};
+use zone_turn::{Batch, Pass, PassOf, Turn};
 
-/// The cell of the zone of a place. Where a fault left it between two entries it is marked, and nothing is said of the cell.
+/// The cell of the zone of a place. Where a fault left it between two entries it is marked, and nothing is said of the cell. None is
+/// marked where what zones share may still be used.
 #[derive(Drop)]
 pub struct Back<C> {
     pub place: u32,
@@ -38,7 +45,7 @@ pub(crate) struct Zone<M: Zoned, J: Start<M>, K: Place> {
     log: Vec<M::Entry>,
     given: usize,
     marked: bool,
-    pass: PassOf<Part<M, J>, M::Entry>,
+    pass: PassOf<Part<M, J>, Note<M::Entry>>,
     of: PhantomData<K>,
 }
 
@@ -93,6 +100,25 @@ impl<M: Machine, J: Start<M>, K: Place> Zone<M, J, K> {
     }
 }
 
+// Gives the part back, and tells what the zone of a place did, and whether it is marked.
+fn give_notes<M: Machine, J: Start<M>, B: Batch<Note<M::Entry>>>(
+    turn: &Turn<Part<M, J>>,
+    pass: &mut Pass<Part<M, J>>,
+    part: Part<M, J>,
+    _place: u32,
+    _done: &[M::Entry],
+    _marked: bool,
+)
+    requires turn { pass.old.turn ≡ turn.now }
+    requires picked { B.entries ≡ notes_of _place _done.now _marked }
+    requires out { (gives : ℕ) × (ns : List (Note M.Entry)) × (pass.old.knows.stage ≡ Out gives ns) × Tells M.machine J.starts J.scripts part.shared part.tally.items part.order.items (ns ++ notes_of _place _done.now _marked) }
+    requires own { (pass.old.knows.number ≡ _place) × All (λ e. M.machine.by e ≡ _place) _done.now }
+    ensures turn { pass.new.turn ≡ pass.old.turn }
+    ensures idle { pass.new.knows ≡ idle_with (pass.old.knows.list ++ notes_of _place _done.now _marked) pass.old.knows }
+{
+    turn.give_picked::<B>(pass, part);
+}
+
 impl<M: Machine, J: Start<M>, K: Place> Zone<M, J, K> {
     /// One job with the part out. An entry that comes is given, behind the local ones.
     pub(crate) fn event<W: Wait>(
@@ -118,7 +144,8 @@ impl<M: Machine, J: Start<M>, K: Place> Zone<M, J, K> {
             .make_room(self.log.len() - self.given, ask == Ask::Give)
             .is_err()
         {
-            turn.give(&mut self.pass, part, &[]);
+            // Nothing is given.
+            turn.give_picked::<Brand>(&mut self.pass, part);
             return Err(Outcome::Ended);
         }
         let done = act(
@@ -133,7 +160,14 @@ impl<M: Machine, J: Start<M>, K: Place> Zone<M, J, K> {
             lines,
             job,
         );
-        turn.give(&mut self.pass, part, &self.log[self.given..]);
+        give_notes::<M, J, Brand>(
+            turn,
+            &mut self.pass,
+            part,
+            self.place,
+            &self.log[self.given..],
+            self.marked,
+        );
         self.given = self.log.len();
         done
     }
@@ -142,7 +176,7 @@ impl<M: Machine, J: Start<M>, K: Place> Zone<M, J, K> {
     fn taken_apart(self) -> Result<(Pass<Part<M, J>>, Log<M::Cell, M::Entry>), Self>
         ensures cell { IfOk result (λ r. LeftBy M.machine J.starts r.1) }
         ensures near { IfOk result (λ r. r.1.place ≤ K.zones) }
-        ensures pass { IfOk result (λ r. (r.0.turn ≡ K.turn) × (is_idle r.0.knows ≡ true) × (r.0.knows.number ≡ r.1.place) × (r.0.knows.list ≡ r.1.entries.items)) }
+        ensures pass { IfOk result (λ r. (r.0.turn ≡ K.turn) × (is_idle r.0.knows ≡ true) × (r.0.knows.number ≡ r.1.place) × (dones r.0.knows.list ≡ r.1.entries.items) × (r.1.marked ≡ true → has_mark r.0.knows.list ≡ true)) }
     {
         if self.given != self.log.len() {
             return Err(self);
@@ -178,7 +212,7 @@ impl<M: Machine, J: Start<M>, K: Place> Zone<M, J, K> {
         requires turn { turn.now ≡ K.turn }
         ensures cell { LeftBy M.machine J.starts result.1 }
         ensures near { result.1.place ≤ K.zones }
-        ensures pass { (result.0.turn ≡ K.turn) × (is_idle result.0.knows ≡ true) × (result.0.knows.number ≡ result.1.place) × (result.0.knows.list ≡ result.1.entries.items) }
+        ensures pass { (result.0.turn ≡ K.turn) × (is_idle result.0.knows ≡ true) × (result.0.knows.number ≡ result.1.place) × (dones result.0.knows.list ≡ result.1.entries.items) × (result.1.marked ≡ true → has_mark result.0.knows.list ≡ true) }
     {
         let mut zone = self;
         for _ in rt.forever() {

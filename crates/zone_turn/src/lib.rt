@@ -14,6 +14,7 @@ mod views;
 pub use faults::TurnFault;
 pub use laws::one_holder;
 pub use limits::PASSES_OUT_MAX;
+pub use plays::Batch;
 pub use story::Storied;
 pub use turn::{Pass, PassOf, Turn};
 pub use views::{Role, Roster, Stage, View};

@@ -36,8 +36,8 @@ impl<T: Storied> Play<Option<T>, View<T::Entry>> for Look {
     ghost then = { Looks T.stands_for T.belongs_to };
 }
 
-// The entries that a give counts.
-pub(crate) trait Batch<E> {
+/// The entries that a give counts. Who gives picks them.
+pub trait Batch<E> {
     ghost entries: { List E };
 }
 

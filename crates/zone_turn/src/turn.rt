@@ -108,15 +108,14 @@ impl<T: Storied> Turn<T> {
         self.take_seat(rt, &mut pass.seat)
     }
 
-    fn give_seat<B: Batch<T::Entry>>(&self, seat: &mut Place<T>, shared: T, _batch: &[T::Entry])
+    fn give_seat<B: Batch<T::Entry>>(&self, seat: &mut Place<T>, shared: T)
         requires turn { seat.old.table_id ≡ self.now }
-        requires named { _batch.now ≡ B.entries }
-        requires out { Extends T.stands_for shared _batch.now seat.old.me.0 }
-        requires own { All (λ e. T.belongs_to e ≡ seat.old.me.0.number) _batch.now }
+        requires out { Extends T.stands_for shared B.entries seat.old.me.0 }
+        requires own { All (λ e. T.belongs_to e ≡ seat.old.me.0.number) B.entries }
         requires lives { alive seat.old.me.0 ≡ 1 }
         requires hand { seat.old.me.1 ≡ (0, None) ∷ [] }
         ensures turn { seat.new.table_id ≡ seat.old.table_id }
-        ensures idle { seat.new.me ≡ (idle_with (seat.old.me.0.list ++ _batch.now) seat.old.me.0, []) }
+        ensures idle { seat.new.me ≡ (idle_with (seat.old.me.0.list ++ B.entries) seat.old.me.0, []) }
     {
         let empty = self.table.shared.exchange(seat, 0, Some(shared));
         let None = empty else { unreachable!() };
@@ -133,7 +132,29 @@ impl<T: Storied> Turn<T> {
         ensures turn { pass.new.turn ≡ pass.old.turn }
         ensures idle { pass.new.knows ≡ idle_with (pass.old.knows.list ++ batch.now) pass.old.knows }
     {
-        self.give_seat::<Brand>(&mut pass.seat, shared, batch);
+        self.give_list::<Brand>(pass, shared, batch);
+    }
+
+    fn give_list<B: Batch<T::Entry>>(&self, pass: &mut Pass<T>, shared: T, _batch: &[T::Entry])
+        requires turn { pass.old.turn ≡ self.now }
+        requires named { _batch.now ≡ B.entries }
+        requires out { Extends T.stands_for shared _batch.now pass.old.knows }
+        requires own { All (λ e. T.belongs_to e ≡ pass.old.knows.number) _batch.now }
+        ensures turn { pass.new.turn ≡ pass.old.turn }
+        ensures idle { pass.new.knows ≡ idle_with (pass.old.knows.list ++ _batch.now) pass.old.knows }
+    {
+        self.give_picked::<B>(pass, shared);
+    }
+
+    /// The same where the entries of the batch lie in no one list: who gives picks them.
+    pub fn give_picked<B: Batch<T::Entry>>(&self, pass: &mut Pass<T>, shared: T)
+        requires turn { pass.old.turn ≡ self.now }
+        requires out { Extends T.stands_for shared B.entries pass.old.knows }
+        requires own { All (λ e. T.belongs_to e ≡ pass.old.knows.number) B.entries }
+        ensures turn { pass.new.turn ≡ pass.old.turn }
+        ensures idle { pass.new.knows ≡ idle_with (pass.old.knows.list ++ B.entries) pass.old.knows }
+    {
+        self.give_seat::<B>(&mut pass.seat, shared);
     }
 
     /// A new pass, whose number is the count of passes made before.

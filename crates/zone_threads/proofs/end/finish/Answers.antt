@@ -1,6 +1,10 @@
-use Rattle.std.proofs.Common.{rules, ◌≡◌, ◌+◌, [], length, vec_len}
+use Rattle.std.proofs.Common.{rules, ◌≡◌, ◌+◌, [], ap, length, vec_len}
+use Rattle.zone_turn.specs.Passes.{out_of}
 use Rattle.zone_threads.proofs.Gathering.{ended}
 use Rattle.zone_threads.proofs.end.finish.Goals as goal
+
+pub close-requires-clause-all_back : goal.close-requires-clause-all_back
+close-requires-clause-all_back g c = ap out_of (c.gather.ensures.roster (vec_len c.args.zones + 1) c.requires.first).is
 
 pub returns : goal.returns
 returns g c =

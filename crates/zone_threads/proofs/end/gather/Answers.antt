@@ -1,6 +1,5 @@
 use Rattle.std.proofs.Common.{rules, ◌≡◌, ◌+◌, subst, vec_len}
-use Rattle.zone_turn.specs.declared.views.Role.TheVariants.{First}
-use Rattle.zone_threads.specs.Ends.{pairs, roster}
+use Rattle.zone_threads.specs.Ends.{Gathered}
 use Rattle.zone_threads.proofs.end.gather.Goals as goal
 
 pub loop-zone-preserved : goal.loop-zone-preserved
@@ -12,7 +11,7 @@ loop-zone-preserved g c =
       e.idle,
       e.first,
       search rules,
-      λ made was. e.roster made (vec_len c.pop.new.self) (subst (λ n. c.loop-zone.first.knows.role ≡ First (roster made n (pairs c.loop-zone.logs.items))) less (i.4 made was)),
+      λ made was. e.roster made (vec_len c.pop.new.self) (subst (λ n. Gathered c.loop-zone.first.knows.role made n c.loop-zone.logs.items) less (i.4 made was)),
       search rules,
       search rules,
       e.cells i.7,
@@ -22,4 +21,4 @@ loop-zone-preserved g c =
 pub returns-clause-roster : goal.returns-clause-roster
 returns-clause-roster g c made was =
     let none : vec_len c.loop-zone.zones ≡ 0 = search rules in
-    subst (λ n. c.loop-zone.first.knows.role ≡ First (roster made n (pairs c.loop-zone.logs.items))) none (c.loop-zone.invariant.4 made was)
+    subst (λ n. Gathered c.loop-zone.first.knows.role made n c.loop-zone.logs.items) none (c.loop-zone.invariant.4 made was)

@@ -22,5 +22,8 @@ returns-clause-cells g c = IfOk-weaker c.started.result _ _ (λ r over s from. o
 pub returns-clause-there : goal.returns-clause-there
 returns-clause-there g c = IfOk-weaker c.started.result _ _ (λ r over. over.there) c.started.ensures.over
 
+pub returns-clause-sound : goal.returns-clause-sound
+returns-clause-sound g c = IfOk-weaker c.started.result _ _ (λ r over. over.free) c.started.ensures.over
+
 pub returns-clause-memory : goal.returns-clause-memory
 returns-clause-memory g c = IfErr-weaker c.started.result _ _ (λ m left. (left.0, λ s from. (partial g.M.Zoned.machine s g.J.Start.scripts m left.0 (left.1 s from) c.requires.few.1, (left.1 s from).shared))) c.started.ensures.memory
