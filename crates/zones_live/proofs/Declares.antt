@@ -41,12 +41,12 @@ pub declared-none : (S : State) (old : List Entry) (stands : State → Type 0) �
 declared-none S old stands is = record { first = []; whole = sym (append-nil old); declares = refl; legal = refl; none = refl; same = refl; stood = is }
 
 -- one thing is
-pub declared-one : (S : State) (what : Declaration) (e : Entry) (old : List Entry) (stands : State → Type 0) (v w : View) → Takes S (System what) e stands v w → Declared S (what ∷ []) old (old ++ e ∷ []) stands
-declared-one S what e old stands v w takes =
+pub declared-one : (S : State) (what : Declaration) (e : Entry) (old mid new : List Entry) (stands : State → Type 0) (v w : View) → new ≡ mid ++ e ∷ [] → mid ≡ old → Takes S (System what) e stands v w → Declared S (what ∷ []) old new stands
+declared-one S what e old mid new stands v w put same takes =
     let event : e.event ≡ System what = ap (λ (d : Entry). d.event) takes.told in
     record {
       first = e ∷ [];
-      whole = refl;
+      whole = put ∙ ap (λ (l : List Entry). l ++ e ∷ []) same;
       declares = ap (λ (x : Event). x ∷ []) event;
       legal = subst (λ (d : Entry). is_legal S (d ∷ []) ≡ true) (sym takes.told) (legal-entry S (System what));
       none = ap (λ l. l ++ []) (declare-changes S e what event);
