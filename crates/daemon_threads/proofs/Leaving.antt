@@ -15,7 +15,7 @@ use Rattle.zone_cases.specs.declared.events.Event.TheVariants.{Process as Call_o
 use Rattle.zone_cases.specs.declared.events.Subject.{Subject}
 use Rattle.zone_cases.specs.declared.events.Subject.TheVariants.{Global, Whole, Zone}
 use Rattle.zone_machine.specs.Code.Openings.{StandsFor}
-use Rattle.zone_machine.specs.Code.Records.{IsReady}
+use Rattle.zone_machine.specs.Code.Records.{IsReady, Passes}
 use Rattle.zone_machine.specs.Machine.{subject}
 use Rattle.zone_machine.specs.Machine.Changes.{HoldsFront, change, change_of, changes, committed}
 use Rattle.zone_machine.specs.Machine.Histories.{after}
@@ -28,7 +28,7 @@ use Rattle.session_records.specs.Records.{Awaited, IsPartial, IsRecord, Scripts,
 use Rattle.session_records.specs.Scripts.{begun, noted}
 use Rattle.session_runs.proofs.Adding.{leaves-none}
 use Rattle.session_runs.proofs.Histories.{changes-append, commits-after}
-use Rattle.session_runs.proofs.Machine_steps.{ready-holds}
+use Rattle.session_runs.proofs.Machine_steps.{passes-none, ready-holds}
 use Rattle.session_runs.specs.Far.{AreFar, Differ, progress_of, scripts_of}
 use Rattle.session_runs.specs.Runs.{IsCut, IsOver, IsReached, IsUnderWay, LeavesFront}
 use Rattle.session_runs.specs.declared.far.Far.{Far}
@@ -98,7 +98,7 @@ late-too (e ∷ h) is =
 pub part-of : (S : State) (scripts : Scripts) (h : List Entry) → IsRecord S scripts h → IsPartial S scripts h
 part-of S scripts h r = record { legal = r.legal; lines = λ n. ([], append-nil (lines_of n h) ∙ r.lines n); others = r.others; tickets = late-too h r.tickets }
 
-is-some : {A : Type 0} (a : A) → Some a ≡ None → ⊥
+pub is-some : {A : Type 0} (a : A) → Some a ≡ None → ⊥
 is-some a is = absurd (cc)
 
 -- all was run
@@ -177,3 +177,13 @@ fresh-under-way S scripts far h stands reached differ none same each stood = rec
       same = same;
       each = λ i s f near. ap (λ ls. record { left = ls; waits = None }) (script-lines scripts differ i s near) ∙ sym (ap (progress_of (slice_index_or scripts i s)) (each i f (omega (arith, near, same))));
     }
+
+-- nor was anything done where memory ran out before sessions began
+pub lives-unbegun : {D F : Type 0} (view : D → View) (S : State) (scripts : Scripts) (o : Option StepFault) (new : List Entry) (m : Machine D F) (disk : D) → o ≡ Some Memory → new ≡ [] → disk ≡ m.bank.disk → StandsFor S m
+    → IsSound (view m.bank.disk) → IsReady (view m.bank.disk) m.bank m.parts.shared → Lives o S scripts new (view m.bank.disk) (view disk)
+lives-unbegun {D} view S scripts o new m disk is none same stands sound ready =
+    subst (λ (o : Option StepFault). Lives o S scripts new (view m.bank.disk) (view disk)) (sym is)
+    (subst (λ (x : D). Lives (Some Memory) S scripts new (view m.bank.disk) (view x)) (sym same) (lives-none S scripts new m (view m.bank.disk) none stands sound ready))
+
+pub passes-same : {D : Type 0} (view : D → View) (a b : D) → b ≡ a → Passes (view a) (view b)
+passes-same {D} view a b same = subst (λ (x : D). Passes (view a) (view x)) (sym same) (passes-none (view a))
