@@ -1,14 +1,13 @@
 -- What sessions begin with, and how what threads leave is what sessions leave.
-use Rattle.std.proofs.Common.{◌≡◌, ◌≢◌, ◌⊎◌, ◌<◌, ◌≤◌, ◌+◌, ◌^◌, ◌++◌, ◌∷◌, [], ℕ, zero, suc, List, Bool, Option, Some, None, true, false, ap, append_assoc, arith, inl, inr, length, map, nat_eq, refl, subst, sym, ◌∙◌}
-use Rattle.std.specs.Prelude.{bytes_eq, drop, is_some, slice_get, slice_index_or, unwrap_or, if◌then◌else◌}
+use Rattle.std.proofs.Common.{◌≡◌, ◌≢◌, ◌⊎◌, ◌<◌, ◌+◌, ◌^◌, ◌++◌, ◌∷◌, [], ℕ, zero, suc, List, Bool, Option, Some, None, true, false, ap, append_assoc, arith, inl, inr, length, map, nat_eq, refl, subst, sym, ◌∙◌}
+use Rattle.std.specs.Prelude.{IfSome, bytes_eq, drop, is_some, slice_get, slice_index_or, if◌then◌else◌}
 use Rattle.std.specs.List.{All}
 use Rattle.std.specs.Map.{lookup}
-use Rattle.std.proofs.lemmas.Bool.{eq-eqb, eqb-true, false≢true, ne_eqb}
+use Rattle.std.proofs.lemmas.Bool.{false≢true, ne_eqb}
 use Rattle.std.proofs.lemmas.List.{append-nil}
-use Rattle.std.proofs.lemmas.List.Elements.{All-cons, All-nil}
 use Rattle.brand_hooks.specs.Brands.{Tabled}
 use Rattle.commit_journal.specs.declared.records.Commit.{Commit}
-use Rattle.session_records.specs.Places.{zone_at, zone_from, world_of_zone}
+use Rattle.session_records.specs.Places.{zone_at, world_of_zone}
 use Rattle.session_records.specs.Records as records
 use Rattle.session_runs.specs.Far.{Differ, scripts_of}
 use Rattle.session_runs.specs.Runs.{IsReached}
@@ -18,12 +17,11 @@ use Rattle.zn_base.specs.Names.{Name}
 use Rattle.zn_io.specs.Disk.{IsSound, Leaves, View}
 use Rattle.zone_cases.specs.Code.Cells.{CellOf}
 use Rattle.zone_cases.specs.State.{State}
-use Rattle.zone_cases.specs.State.Worlds.{World, world}
 use Rattle.zone_cases.specs.declared.cell.Cell.{Cell}
 use Rattle.zone_cases.specs.declared.events.Entry.{Entry}
 use Rattle.zone_disk.specs.Bank.{Account}
-use Rattle.zone_machine.specs.Code.Partings.{HasNothing, StandApart}
-use Rattle.zone_machine.specs.Code.Records.{IsReady, Passes}
+use Rattle.zone_machine.specs.Code.Partings.{StandApart}
+use Rattle.zone_machine.specs.Code.Records.{IsReady}
 use Rattle.zone_machine.specs.Machine.{opening}
 use Rattle.zone_machine.specs.Machine.Changes.{changes}
 use Rattle.zone_machine.specs.Machine.Histories.{after, after_entry}
@@ -34,22 +32,21 @@ use Rattle.zone_machine.specs.declared.faults.StepFault.{StepFault}
 use Rattle.zone_machine.specs.declared.faults.StepFault.TheVariants.{DiskFault, Memory}
 use Rattle.zone_machine.specs.declared.machine.parting.Parted.{Parted}
 use Rattle.zone_machine.specs.declared.machine.shared.Shared.{Shared}
-use Rattle.zone_machine.specs.declared.machine.shown.Shown.{Shown}
-use Rattle.zone_threads.specs.Ends.{IsOpening, IsScript}
+use Rattle.zone_threads.specs.Ends.{IsScript}
 use Rattle.zone_threads.specs.Folds.{folded}
 use Rattle.zone_threads.specs.Words as words
 use Rattle.zone_threads.specs.declared.run.Script.{Script}
-use Rattle.daemon_threads.proofs.Dealt_cells.{its-cell, shown-by, shown-or}
+use Rattle.daemon_threads.proofs.Dealt_cells.{if-differ, its-cell, shown-by, shown-or}
 use Rattle.daemon_threads.proofs.Disks.{disk-begins, ready-holds}
 use Rattle.daemon_threads.proofs.Leaving.{is-some, script-lines}
 use Rattle.daemon_threads.proofs.Places.{zone-got}
 use Rattle.daemon_threads.proofs.Same_records.{partial, whole}
 use Rattle.daemon_threads.specs.Begun.{IsBegun, ended_by, moved_script, script_lines}
-use Rattle.daemon_threads.specs.Dealing.{IsDealt, all_differ, names_of, place_cell, shown_of}
+use Rattle.daemon_threads.specs.Dealing.{IsDealt, all_differ, if_all_differ, names_of, place_cell}
 use Rattle.daemon_threads.specs.Definitions.{CellIn, daemons, no_session, place_world, state_in, state_of}
 use Rattle.daemon_threads.specs.Disks.{DiskOf}
 use Rattle.daemon_threads.specs.Goods.{Goods}
-use Rattle.daemon_threads.specs.Meets.{brands-in, zone-behind}
+use Rattle.daemon_threads.specs.Meets.{zone-behind}
 use Rattle.daemon_threads.specs.Parts.{PartOf, Stands, commons}
 use Rattle.daemon_threads.specs.Sessions.{HoldsSome, LeavesChanges, Lives, is_settled}
 use Rattle.daemon_threads.specs.Worlds.{brands-one}
@@ -185,13 +182,13 @@ not-some : {A : Type 0} (o : Option A) → is_some o ≡ false → o ≡ None
 not-some None is = refl
 not-some (Some a) is = absurd (false≢true (sym is))
 
-pub ended-only : (sound is_ended : Bool) (o : Option StepFault) → o ≡ ended_by sound is_ended → (f : StepFault) → o ≡ Some f → (f ≡ Memory) ⊎ (f ≡ DiskFault)
-ended-only sound is_ended o is f some = at_both sound is_ended (sym some ∙ is)
+pub ended-if : (sound is_ended : Bool) (o : Option StepFault) → o ≡ ended_by sound is_ended → IfSome o (λ f. (f ≡ Memory) ⊎ (f ≡ DiskFault))
+ended-if sound is_ended o is = subst (λ (o : Option StepFault). IfSome o (λ f. (f ≡ Memory) ⊎ (f ≡ DiskFault))) (sym is) (at_both sound is_ended)
   where
-    at_both : (a b : Bool) → Some f ≡ ended_by a b → (f ≡ Memory) ⊎ (f ≡ DiskFault)
-    at_both false b q = inr (cc)
-    at_both true true q = inl (cc)
-    at_both true false q = absurd (is-some f q)
+    at_both : (a b : Bool) → IfSome (ended_by a b) (λ f. (f ≡ Memory) ⊎ (f ≡ DiskFault))
+    at_both false b = inr refl
+    at_both true true = inl refl
+    at_both true false = tt
 
 pub disk-unsound : (sound is_ended : Bool) → ended_by sound is_ended ≡ Some DiskFault → sound ≡ false
 disk-unsound false is_ended is = refl
@@ -258,19 +255,13 @@ pub none-other : (xs : List (Script (List ℕ))) (n : ℕ) → All (λ (x : Scri
 none-other [] n away = refl
 none-other (x ∷ xs) n away = rw (ne_eqb n x.session (λ same. away 0 x (omega arith) (sym same))) (none-other xs n (λ k d near. away (suc k) d (omega (arith, near))))
 
+either-short : (b : Bool) (us vs : List (List ℕ)) → length us < 2 ^ 64 → length vs < 2 ^ 64 → length (if b then us else vs) < 2 ^ 64
+either-short true us vs p q = p
+either-short false us vs p q = q
+
 pub are-short : (xs : List (Script (List ℕ))) (n : ℕ) → length (script_lines xs n) < 2 ^ 64
 are-short [] n = omega arith
-are-short (x ∷ xs) n = either (nat_eq n x.session)
-  where
-    own : length x.lines.items < 2 ^ 64
-    own = let ok = x.lines.ok in let small = x.lines.small in omega arith
-
-    rest : length (script_lines xs n) < 2 ^ 64
-    rest = are-short xs n
-
-    either : (b : Bool) → length (if b then x.lines.items else script_lines xs n) < 2 ^ 64
-    either true = own
-    either false = rest
+are-short (x ∷ xs) n = either-short (nat_eq n x.session) x.lines.items (script_lines xs n) (let ok = x.lines.ok in let small = x.lines.small in omega arith) (are-short xs n)
 
 -- where the sessions of the scripts differ and are from 1 to 64
 map-at : {A B : Type 0} (f : A → B) (xs : List A) (k : ℕ) (d : A) → slice_index_or (map f xs) k (f d) ≡ f (slice_index_or xs k d)
@@ -299,3 +290,20 @@ no-lines xs are = (none-other xs 0 (λ k d near. (are k d near).0), none-other x
   where
     too-many : (n : ℕ) → n < 65 → n ≡ no_session → ⊥
     too-many n small is = absurd (omega (arith, small, is))
+
+-- the same by other names
+pub lives-as : {D : Type 0} (view : D → View) (S : State) (lines : records.Scripts) (v : View) (o o' : Option StepFault) (h h' : List Entry) (d d' : D) → o ≡ o' → h ≡ h' → d ≡ d' → Lives o' S lines h' v (view d') → Lives o S lines h v (view d)
+lives-as view S lines v o o' h h' d d' a b c = subst (λ (T : Type 0). T) (λ i. Lives (sym a i) S lines (sym b i) v (view (sym c i)))
+
+pub lives-moved : {D : Type 0} (view : D → View) (S : State) (scripts : List Script_of) (moved : List (Script (List ℕ))) (o : Option StepFault) (h : List Entry) (old old' new : D) → moved ≡ map moved_script scripts → old' ≡ old
+    → Lives o S (script_lines moved) h (view old') (view new) → Lives o S (scripts_of scripts) h (view old) (view new)
+lives-moved view S scripts moved o h old old' new is same =
+    let lines : script_lines moved ≡ scripts_of scripts = λ i n. (ap (λ l. script_lines l n) is ∙ sym (moved-lines scripts n)) i in
+    subst (λ (T : Type 0). T) (λ i. Lives o S (lines i) h (view (same i)) (view new))
+
+-- what sessions begin with that a machine has which was taken apart
+pub begun-from : {D F : Type 0} (S : State) (p : Parted D F) (d : Dealt) (brands : List Tabled) (r : IsReached S) → IsDealt p.cells.entries d → all_differ (names_of p.cells.entries) ≡ true → StandApart S p → S.brands ≡ brands
+    → IsBegun (if_all_differ d.zones.items) brands d p.shared p.bank (past-of S r)
+begun-from S p d brands r dealt differ stands same =
+    let zones : names_of p.cells.entries ≡ if_all_differ d.zones.items = sym (ap if_all_differ dealt.zones ∙ if-differ (names_of p.cells.entries) differ) in
+    subst (λ (zs : List Name). IsBegun zs brands d p.shared p.bank (past-of S r)) zones (begun-apart S p d dealt differ stands brands same (past-of S r) (past-is S r brands same) refl)

@@ -1,8 +1,8 @@
 -- Places are apart where no zone stands twice, and what lies in them is what the map had.
-use Rattle.std.proofs.Common.{◌≡◌, ◌≢◌, ◌<◌, ◌≤◌, ◌+◌, ◌++◌, ◌∷◌, [], ℕ, zero, suc, List, Bool, Option, Some, None, true, false, ap, arith, length, map, nat_eq, not, refl, subst, sym, ◌∙◌}
-use Rattle.std.specs.Prelude.{◌&&◌, bytes_eq, slice_index_or, if◌then◌else◌, unwrap_or}
+use Rattle.std.proofs.Common.{◌≡◌, ◌<◌, ◌+◌, ◌++◌, ◌∷◌, [], ℕ, zero, suc, List, Bool, Option, Some, None, true, false, ap, arith, length, map, nat_eq, not, refl, subst, sym, ◌∙◌}
+use Rattle.std.specs.Prelude.{bytes_eq, slice_index_or, if◌then◌else◌}
 use Rattle.std.specs.List.{AllByRecursion, IsDistinct, list_any}
-use Rattle.std.proofs.lemmas.Bool.{and_from, and_parts, eq-eqb, eqb-true, false≢true, ne_eqb, or_parts}
+use Rattle.std.proofs.lemmas.Bool.{and_from, and_parts, eqb-true, false≢true, or_parts}
 use Rattle.std.specs.Map.{lookup}
 use Rattle.zn_base.specs.Names.{Name}
 use Rattle.zone_cases.specs.declared.cell.Cell.{Cell}
@@ -11,12 +11,11 @@ use Rattle.zone_machine.specs.declared.machine.Machine.{Machine}
 use Rattle.zone_machine.specs.declared.machine.shown.Shown.{Shown}
 use Rattle.zone_pools.proofs.Owned_laws.{same_self, same_true}
 use Rattle.zone_threads.specs.Folds.{folded}
-use Rattle.session_records.specs.Places.{AreApart, place_from, place_of, zone_at, zone_from}
+use Rattle.session_records.specs.Places.{AreApart, place_from, zone_from}
 use Rattle.daemon_threads.specs.Dealing.{IsAsBefore, IsDealt, all_differ, if_all_differ, names_of, place_cell, shown_all, shown_of, shown_one}
 use Rattle.daemon_threads.specs.Names.{none_apart}
 use Rattle.daemon_threads.specs.declared.dealing.Dealt.{Dealt}
 use Rattle.zone_machine.specs.Code.Shown_zones.{shown_in}
-use Rattle.daemon_threads.specs.declared.cell.PlaceCell.{PlaceCell}
 use Rattle.daemon_threads.specs.declared.cell.PlaceCell.TheVariants as cells
 
 -- more of a list that is folded

@@ -38,12 +38,7 @@ fn global_alone(alloc: Global) -> Result<Dealt, AllocError>
 }
 
 // A zone gets the next place.
-fn put_zone(
-    alloc: Global,
-    dealt: &mut Dealt,
-    zone: ZoneName,
-    cell: Cell,
-) -> Result<(), AllocError>
+fn put_zone(alloc: Global, dealt: &mut Dealt, zone: ZoneName, cell: Cell) -> Result<(), AllocError>
     ensures zones { OnOk result (dealt.new.zones.items ≡ dealt.old.zones.items ++ zone ∷ []) }
     ensures cells { OnOk result (dealt.new.cells.items ≡ dealt.old.cells.items ++ cells.Zone zone cell ∷ []) }
     ensures shown { OnOk result ((y : Name) → shown_in dealt.new.shown y ≡ (if bytes_eq zone y then shown_by (as_desk cell.desk) (ids_of cell.kernel.id) else shown_in dealt.old.shown y)) }

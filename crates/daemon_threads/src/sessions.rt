@@ -1,6 +1,7 @@
 //! Sessions on threads.
 ghost use Rattle.std.specs.Prelude.{◌≡◌, ◌≢◌, ◌<◌, ◌⊎◌, ◌^◌, ℕ, [], None, Some, IfOk, IfSome, false, is_some, length, map, true};
 ghost use Rattle.std.specs.List.{All};
+ghost use Rattle.zn_io.specs.Disk.{IsSound};
 ghost use Rattle.zn_io.specs.Streams.{Rose};
 ghost use Rattle.session_runs.specs.Far.{Differ, scripts_of};
 ghost use Rattle.session_runs.specs.Runs.{IsReached};
@@ -55,6 +56,7 @@ fn unbegun<D: Disk>(alloc: Global, disk: D) -> Live<D>
     ensures entries { result.entries.items ≡ [] }
     ensures disk { result.disk ≡ disk }
     ensures ended { result.ended ≡ Some StepFault.Memory }
+    ensures sound { IsSound (D.view disk) }
 {
     Live {
         entries: Vec::new(alloc),
@@ -62,6 +64,11 @@ fn unbegun<D: Disk>(alloc: Global, disk: D) -> Live<D>
         ended: Some(StepFault::Memory),
     }
 }
+
+// A law of disks.
+fn disk_is_sound<D: Disk>(_bank: &Bank<D>)
+    ensures { IsSound (D.view _bank.now.disk) }
+{}
 
 // What ended them: the disk, where it may be used no more, or else memory.
 fn ended_by(is_sound: bool, is_ended: bool) -> Option<StepFault>
@@ -194,6 +201,7 @@ fn run_apart<
         bank,
         brands,
     } = parted;
+    disk_is_sound(&bank);
     let Ok(dealt) = deal(alloc, cells) else {
         return unbegun(alloc, bank.into_disk());
     };
@@ -204,10 +212,7 @@ fn run_apart<
 }
 
 // The scripts as threads take them.
-fn moved(
-    alloc: Global,
-    scripts: Vec<Script>,
-) -> Result<Vec<zone_threads::Script<Text>>, AllocError>
+fn moved(alloc: Global, scripts: Vec<Script>) -> Result<Vec<zone_threads::Script<Text>>, AllocError>
     ensures { IfOk result (λ moved. moved.items ≡ map moved_script scripts.items) }
 {
     let mut moved = Vec::new(alloc);
@@ -227,13 +232,7 @@ pub fn run_sessions<
     D: Disk + Drop + Send,
     F: Fn(&Change) -> HookAnswer + Sync,
     G: Gate + Sync,
->(
-    rt: &R,
-    alloc: Global,
-    machine: Machine<'_, D, F>,
-    gate: &G,
-    scripts: Vec<Script>,
-) -> Live<D>
+>(rt: &R, alloc: Global, machine: Machine<'_, D, F>, gate: &G, scripts: Vec<Script>) -> Live<D>
     requires differ { Differ scripts.items }
     requires sessions { All (λ s. (s.session ≢ 0) × (s.session < 65)) scripts.items }
     requires asks { AsksBrands F.Fn machine }
