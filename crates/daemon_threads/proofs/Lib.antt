@@ -4,3 +4,5 @@ pub mod Results
 pub mod Places
 pub mod Same_records
 pub mod Leaving
+pub mod Dealt_cells
+pub mod Beginning

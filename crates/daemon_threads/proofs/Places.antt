@@ -5,7 +5,7 @@ use Rattle.std.proofs.lemmas.Bool.{eq-eqb, eqb-true, false_from_ne_true}
 use Rattle.zn_base.specs.Names.{Name}
 use Rattle.session_records.specs.Places.{place_from, zone_at, zone_from}
 
-zone-got : (n : ℕ) (zones : List Name) (i : ℕ) (z : Name) → slice_get zones i ≡ Some z → zone_from n zones (n + i) ≡ Some z
+pub zone-got : (n : ℕ) (zones : List Name) (i : ℕ) (z : Name) → slice_get zones i ≡ Some z → zone_from n zones (n + i) ≡ Some z
 zone-got n [] i z is = absurd (cc)
 zone-got n (y ∷ ys) zero z is =
     let here : nat_eq n (n + 0) ≡ true = eq-eqb n (n + 0) (omega arith) in

@@ -8,11 +8,15 @@ pub mod Disks
 pub mod Parts
 -- the machine of all zones as threads see it
 pub mod Definitions
+-- its cells, each in a place of its own
+pub mod Dealing
 -- what the machine has from its caller
 pub mod Running
 -- what an event leaves of the brands, and what a local turn leaves of what zones share
 pub mod Worlds
 -- the machine meets the laws that threads rest on
 pub mod Meets
+-- what sessions begin with
+pub mod Begun
 -- what sessions leave: their record, and what the disk has of it
 pub mod Sessions

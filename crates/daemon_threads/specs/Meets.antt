@@ -48,7 +48,7 @@ brands-in brands commits [] = refl
 brands-in brands commits (e ∷ h) = brands-one (state_in brands commits h) e.event e.grant ∙ brands-in brands commits h
 
 -- the place of a zone isn't 0
-zone-behind : (n : ℕ) (zones : List Name) (p : ℕ) (z : Name) → zone_from n zones p ≡ Some z → n ≤ p
+pub zone-behind : (n : ℕ) (zones : List Name) (p : ℕ) (z : Name) → zone_from n zones p ≡ Some z → n ≤ p
 zone-behind n [] p z is = absurd (cc)
 zone-behind n (y ∷ ys) p z is = at_test (zone-behind (n + 1) ys p z) (nat_eq n p) refl
   where

@@ -2,8 +2,11 @@
 //! itself, in which each zone's cell lies apart from what zones share.
 #![tactic(auto)]
 
+mod begun;
 mod cell;
+mod dealing;
 mod machine;
+mod named;
 mod names;
 mod part;
 mod past;

@@ -24,6 +24,7 @@ use crate::told::told;
 use brand_hooks::{Brands, Change, HookAnswer};
 use std::alloc::{AllocError, Global};
 use std::marker::PhantomData;
+use std::sync::Mutex;
 use zn_base::{Text, ZoneName};
 use zn_io::Disk;
 use zone_cases::{Cell, Entry, Event, Subject};
@@ -31,11 +32,13 @@ use zone_machine::{StepFault, hear, local_turn};
 use zone_threads::{Machine, Stop, Told, Zoned};
 
 /// The machine of all zones under threads: the zones that have places, from 2 on, and the brands whose hooks it asks.
+#[derive(Drop)]
 pub struct Daemons<'b, D: Disk, F, N: Names> {
     pub alloc: Global,
     pub zones: Vec<ZoneName>,
     pub brands: &'b Brands<F>,
-    pub of: PhantomData<(D, N)>,
+    /// The disk lies in what zones share. It is never looked at from two threads at once.
+    pub of: PhantomData<(Mutex<D>, N)>,
 }
 
 impl<'b, D: Disk, F: Fn(&Change) -> HookAnswer, N: Names> Daemons<'b, D, F, N> {

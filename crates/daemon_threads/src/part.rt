@@ -1,5 +1,5 @@
 //! What the zones share.
-ghost use Rattle.std.specs.Prelude.{◌≡◌, List, true, IfOk, OnErr, OnOk};
+ghost use Rattle.std.specs.Prelude.{◌≡◌, List, true, false, IfOk, OnErr, OnOk};
 ghost use Rattle.brand_hooks.specs.declared.table.HookAnswer.{HookAnswer};
 ghost use Rattle.commit_journal.specs.declared.records.Commit.{Commit};
 ghost use Rattle.zone_cases.specs.Code.Cells.{CellOf, IsHeardIn};
@@ -7,8 +7,11 @@ ghost use Rattle.zone_cases.specs.State.{State};
 ghost use Rattle.zone_cases.specs.State.Worlds.{world};
 ghost use Rattle.zone_cases.specs.declared.events.Subject.TheVariants as subjects;
 ghost use Rattle.zone_machine.specs.Code.Reads.{is_turn};
+ghost use Rattle.zone_machine.specs.Code.Records.{Passes};
+ghost use Rattle.zn_io.specs.Streams.{Rose};
 ghost use Rattle.zone_machine.specs.Machine.Local.{is_busy};
 ghost use Rattle.zone_machine.specs.Machine.{subject};
+ghost use Rattle.daemon_threads.specs.Goods.{IsUsable};
 ghost use Rattle.daemon_threads.specs.Parts.{Answers, CellAnswers, IsUndone, PartOf, Stands, commons};
 
 use crate::names::Names;
@@ -43,10 +46,32 @@ impl<D: Disk, N: Names> Model for SharedPart<D, N> {
 
     ghost view = { λ p. record { shared = p.shared; shown = p.shown; bank = p.bank } };
 
-    ghost invariant = { λ p. IsUsable (D.view p.bank.disk) N.brands p.shared p.bank };
+    ghost invariant = { λ p. IsUsable N.view (D.view p.bank.disk) N.brands p.shared p.bank };
 }
 
 impl<D: Disk, N: Names> SharedPart<D, N> {
+    /// What the zones share when sessions begin.
+    pub(crate) fn new(shared: Shared, shown: ShownZones, bank: Bank<D>) -> Self
+        requires usable { IsUsable N.view (D.view bank.disk) N.brands shared bank }
+        ensures { result ≡ record { shared = shared; shown = shown; bank = bank } }
+    {
+        Self {
+            shared,
+            shown,
+            bank,
+            of: PhantomData,
+        }
+    }
+
+    /// Hands the disk back.
+    pub(crate) fn into_disk(self) -> D
+        ensures disk { result ≡ self.bank.disk }
+        ensures passes { Passes N.view (D.view result) }
+        ensures rose { self.bank.sound ≡ false → Rose N.view.faults (D.view result).faults }
+    {
+        self.bank.into_disk()
+    }
+
     /// Whether events may be taken.
     pub(crate) fn is_sound(&self) -> bool
         ensures { result ≡ self.now.bank.sound }
