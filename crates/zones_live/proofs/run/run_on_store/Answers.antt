@@ -13,19 +13,19 @@ returns-in-Ok-clause-lives g c = λ R is.
     let o = e.opened R is in
     let brands = tables_of c.args.brands.now in
     if-known _ _ (g.S.Source.left c.args.src.now) (c.run_input.ensures.lives brands R o.0 (e.passes.model.0 is.keeps)) (λ bytes l. lives-later brands R (view c.args.disk) (view c.in-Ok.machine.bank.disk) (view c.run_input.result.1) e.passes.model.0 (λ k. o.1) (input_of bytes)
-    c.run_input.result.0 _ _ _ _ _ _ is.keeps l)
+    c.run_input.result.0 (g.K.Sink.holds c.args.out.now) (g.K.Sink.holds c.run_input.new.out) (g.E.Sink.holds c.args.err.now) (g.E.Sink.holds c.run_input.new.err) (g.E.Sink.faults c.args.err.now) (g.E.Sink.faults c.run_input.new.err) is.keeps l)
 
 pub returns-in-Err-Memory-default-clause-lives : goal.returns-in-Err-Memory-default-clause-lives
 returns-in-Err-Memory-default-clause-lives g c = λ R is.
     let view = g.D.Disk.view in
     let e = c.in-Err-Memory-default.ensures in
-    if-always _ (g.S.Source.left c.args.src.now) (λ bytes. lives-failed (tables_of c.args.brands.now) R (input_of bytes) c.fail.result _ _ _ _ _ (view c.args.disk) (view c.in-Err-Memory-default.disk) e.passes_err.model.0 (e.refused R is).1 (inr (inl c.fail.ensures.status)))
+    if-always _ (g.S.Source.left c.args.src.now) (λ bytes. lives-failed (tables_of c.args.brands.now) R (input_of bytes) c.fail.result (g.K.Sink.holds c.args.out.now) (g.E.Sink.holds c.args.err.now) (g.E.Sink.holds c.fail.new.err) (g.E.Sink.faults c.args.err.now) (g.E.Sink.faults c.fail.new.err) (view c.args.disk) (view c.in-Err-Memory-default.disk) e.passes_err.model.0 (e.refused R is).1 (inr (inl c.fail.ensures.status)))
 
 pub returns-in-Err-DiskFault-default-clause-lives : goal.returns-in-Err-DiskFault-default-clause-lives
 returns-in-Err-DiskFault-default-clause-lives g c = λ R is.
     let view = g.D.Disk.view in
     let e = c.in-Err-DiskFault-default.ensures in
-    if-always _ (g.S.Source.left c.args.src.now) (λ bytes. lives-failed (tables_of c.args.brands.now) R (input_of bytes) c.fail-in-Err-DiskFault-default.result _ _ _ _ _ (view c.args.disk) (view c.in-Err-DiskFault-default.disk) e.passes_err.model.0 (e.refused R is).1
+    if-always _ (g.S.Source.left c.args.src.now) (λ bytes. lives-failed (tables_of c.args.brands.now) R (input_of bytes) c.fail-in-Err-DiskFault-default.result (g.K.Sink.holds c.args.out.now) (g.E.Sink.holds c.args.err.now) (g.E.Sink.holds c.fail-in-Err-DiskFault-default.new.err) (g.E.Sink.faults c.args.err.now) (g.E.Sink.faults c.fail-in-Err-DiskFault-default.new.err) (view c.args.disk) (view c.in-Err-DiskFault-default.disk) e.passes_err.model.0 (e.refused R is).1
     (inr (inr c.fail-in-Err-DiskFault-default.ensures.status)))
 
 pub returns-in-Err-clause-lives : goal.returns-in-Err-clause-lives
