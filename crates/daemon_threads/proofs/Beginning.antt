@@ -38,7 +38,7 @@ use Rattle.zone_threads.specs.Words as words
 use Rattle.zone_threads.specs.declared.run.Script.{Script}
 use Rattle.daemon_threads.proofs.Dealt_cells.{if-differ, its-cell, shown-by, shown-or}
 use Rattle.daemon_threads.proofs.Disks.{disk-begins, ready-holds}
-use Rattle.daemon_threads.proofs.Leaving.{is-some, script-lines}
+use Rattle.daemon_threads.proofs.Leaving.{is-some, nothing-is, script-lines}
 use Rattle.daemon_threads.proofs.Places.{zone-got}
 use Rattle.daemon_threads.proofs.Same_records.{partial, whole}
 use Rattle.daemon_threads.specs.Begun.{IsBegun, ended_by, moved_script, script_lines}
@@ -168,6 +168,20 @@ disk-leaves settled sound S h v w before was so d =
       any_moment = λ k. subst (λ (l : List Commit). Leaves v w (HoldsSome l (changes S h ++ d.perhaps))) was (subst (λ (l : List Commit). Leaves v w (HoldsSome before (l ++ d.perhaps))) more (d.any_moment k));
       now = λ k image is. subst (λ (R : List Commit). HoldsEither R (S.commits ++ (changes S h ++ d.perhaps)) image) now_is (subst (λ (R : List Commit). HoldsEither (after S h).commits R image) next_is (d.now k image is));
     }
+
+-- nothing was done where memory ran out before sessions began
+pub lives-unbegun : {D : Type 0} (view : D → View) (S : State) (scripts : records.Scripts) (o : Option StepFault) (new : List Entry) (old disk : D) → o ≡ Some Memory → new ≡ [] → disk ≡ old → IsSound (view old) → ((view old).Keeps → NowHolds (view old) S.commits)
+    → Lives o S scripts new (view old) (view disk)
+lives-unbegun {D} view S scripts o new old disk is none same sound holds =
+    subst (λ (o : Option StepFault). Lives o S scripts new (view old) (view disk)) (sym is)
+    (subst (λ (x : D). Lives (Some Memory) S scripts new (view old) (view x)) (sym same) (record {
+      record_is = [];
+      rest = [];
+      begins = ap (λ (l : List Entry). l ++ []) (sym none);
+      part = nothing-is S scripts;
+      whole = λ is. absurd (is-some Memory is);
+      left = disk-leaves true true S [] (view old) (view old) S.commits refl (λ is. is) (disk-begins (view old) S.commits sound holds);
+    }))
 
 settled-sound : (sound is_ended : Bool) → is_settled (ended_by sound is_ended) ≡ true → sound ≡ true
 settled-sound true is_ended is = refl

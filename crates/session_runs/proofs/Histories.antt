@@ -30,7 +30,7 @@ told-entry S x = and_from _ _ ((subject-Decides (subject S x) (subject S x)).1 r
 pub legal-entry : (S : State) (x : Event) → is_legal S (entry_at S x (allowed S x) ∷ []) ≡ true
 legal-entry S x = and_from _ _ (and_from _ _ (told-entry S x) ((grant-Decides (allowed S x) (allowed S x)).1 refl)) refl
 
-pub changes-append : (S : State) (g h : List Entry) → changes S (g ++ h) ≡ changes S g ++ changes (after S g) h
+changes-append : (S : State) (g h : List Entry) → changes S (g ++ h) ≡ changes S g ++ changes (after S g) h
 changes-append S [] h = refl
 changes-append S (e ∷ g) h = ap (λ l. change S e ++ l) (changes-append (after_entry S e) g h) ∙ sym (append_assoc (change S e) (changes (after_entry S e) g) (changes (after (after_entry S e) g) h))
 

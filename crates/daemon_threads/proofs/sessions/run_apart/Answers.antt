@@ -1,10 +1,10 @@
 use Rattle.std.proofs.Common.{◌≡◌, ap, refl, rules, subst, sym, true, ◌∙◌}
 use Rattle.brand_hooks.specs.Brands.{tables_of}
 use Rattle.zone_cases.specs.State.{State}
-use Rattle.daemon_threads.proofs.Beginning.{are-short, begun-from, disk-begun, no-lines, none-other, past-is, past-of}
+use Rattle.daemon_threads.proofs.Beginning.{are-short, begun-from, disk-begun, lives-unbegun, no-lines, none-other, past-is, past-of}
 use Rattle.daemon_threads.proofs.Dealt_cells.{differ-all, if-differ}
 use Rattle.daemon_threads.proofs.Disks.{ready-holds}
-use Rattle.daemon_threads.proofs.Leaving.{lives-unbegun, passes-same}
+use Rattle.daemon_threads.proofs.Leaving.{passes-same}
 use Rattle.daemon_threads.specs.Begun.{script_lines}
 use Rattle.daemon_threads.specs.Dealing.{all_differ, if_all_differ, names_of}
 use Rattle.daemon_threads.specs.Sessions.{Lives}

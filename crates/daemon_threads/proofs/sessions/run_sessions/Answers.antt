@@ -3,9 +3,9 @@ use Rattle.brand_hooks.specs.Brands.{tables_of}
 use Rattle.brand_hooks.specs.Hooks.{AllFollow}
 use Rattle.session_runs.specs.Far.{scripts_of}
 use Rattle.zn_io.specs.Disk.{IsSound}
-use Rattle.daemon_threads.proofs.Beginning.{are-moved, lives-moved}
+use Rattle.daemon_threads.proofs.Beginning.{are-moved, lives-moved, lives-unbegun}
 use Rattle.daemon_threads.proofs.Disks.{ready-holds}
-use Rattle.daemon_threads.proofs.Leaving.{lives-unbegun, passes-same}
+use Rattle.daemon_threads.proofs.Leaving.{passes-same}
 use Rattle.daemon_threads.proofs.sessions.run_sessions.Goals as goal
 
 pub returns-then-is_err-clause-lives : goal.returns-then-is_err-clause-lives
