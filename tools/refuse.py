@@ -8,7 +8,8 @@ A small library stands before the C library and lets the call with a given numbe
 folder. A run must end as docs/COMMANDS.md states: status 9, 4, 5 or 6 with its line, `export` with nothing written,
 `bulk` too, `trace` with whole replies, and where nothing was refused with its text. The records that `trace` leaves must be
 those of the replies that it has written; but for a read that was refused, there may be one more. Those of `bulk` must be the
-first ones of its whole run. The calls of the disk are those
+first ones of its whole run. Of `live` one session runs, so its record is one alone: what is written must be a front of that, and what
+is stored the first records of it, those of the entries that are written among them. The calls of the disk are those
 that open, measure, read, write and sync the store, the one that syncs its folder too. The same is done to each allocation
 of the test programs that `rt test` left in crates/*/out: a test must end with success, an error or a failed assertion. It
 is no part of the gate.
@@ -21,6 +22,7 @@ import sys
 import tempfile
 
 from arguments import arguments
+from fuzz_live import answers_of
 from own_folder import image, own_folder
 from store_reader import bodies
 from told_records import Told
@@ -127,6 +129,17 @@ FAULTS = {
 }
 
 
+# One session makes a zone, and brings it up and down.
+LIVE = b"""Y link net0
+S 1 zonecfg -z web create -b; set zonepath=/zones/web; set brand=ipkg
+S 1 zoneadm -z web install
+S 1 zoneadm -z web boot
+S 1 zlogin web ps
+S 1 zoneadm -z web halt
+S 1 zoneadm list -cp
+"""
+
+
 class Run:
     """What a run of the program ended with, and what it left in its folder."""
 
@@ -142,11 +155,23 @@ def counted(counts):
     return [int(count) for count in pathlib.Path(counts).read_text().split()]
 
 
+def fault_of_live(whole, run):
+    """What is wrong with what `live` wrote and stored where a call was refused, or None."""
+    text, kept, all_kept = run.end[1], bodies(run.store), bodies(whole.store)
+    if not whole.end[1].startswith(text) or kept != all_kept[:len(kept)]:
+        return "it wrote %r, and %r on the disk" % (text, kept)
+    entries = text[:text.rfind(b"\n> ") + 1]
+    stored = answers_of(LIVE, entries)[1]
+    return None if stored == kept[:len(stored)] else "records are missing of %r" % entries
+
+
 def fault_of(kind, command, told, whole, run):
     """What is wrong with a run in which a call was refused, or None."""
     status, line = FAULTS[kind]
     if (run.end[0], run.end[2]) != (status, line):
         return "it ended with %r" % (run.end,)
+    if command == "live":
+        return fault_of_live(whole, run)
     if command == "trace":
         return told.differs(run.end[1], bodies(run.store), 0 if kind == "READ" else 1)
     if command.startswith("bulk") and run.end[1] == b"":
@@ -192,8 +217,10 @@ def main():
         source, shim, counts = folder + "/refuse.c", folder + "/refuse.so", folder + "/counts"
         pathlib.Path(source).write_text(SHIM)
         subprocess.run(["gcc", "-shared", "-fPIC", "-O1", "-o", shim, source, "-ldl"], check=True)
-        for command, name in (("export", "full.zonecfg"), ("trace", "web.trace"), ("trace", "mounts.trace"), ("bulk 2", "web.trace")):
-            made = refuse_each(pathlib.Path(args.program).resolve(), shim, command, (EXAMPLES / name).read_bytes(), counts)
+        for command, name in (("export", "full.zonecfg"), ("trace", "web.trace"), ("trace", "mounts.trace"), ("bulk 2", "web.trace"),
+                              ("live", "a session")):
+            data = LIVE if command == "live" else (EXAMPLES / name).read_bytes()
+            made = refuse_each(pathlib.Path(args.program).resolve(), shim, command, data, counts)
             print("%s of %s: refused %d allocations, %d reads, %d writes and %d calls of the disk, each in a run of its own; "
                   "all ended as stated" % (command, name, *made))
         for program in sorted(ROOT.glob("crates/*/out/*_tests")):
