@@ -51,6 +51,14 @@ __attribute__((destructor)) static void tell(void) {
     if (file) { fprintf(file, "%ld %ld %ld %ld", allocations, reads, writes, calls); fclose(file); }
 }
 
+/* A program with threads ends so. */
+__attribute__((noreturn)) void _exit(int status) {
+    static void (*real)(int);
+    if (!real) real = REAL(void, "_exit", int);
+    tell();
+    real(status);
+    __builtin_unreachable();
+}
 void *malloc(size_t size) {
     static void *(*real)(size_t);
     if (!real) real = REAL(void *, "malloc", size_t);
