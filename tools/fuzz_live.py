@@ -5,7 +5,8 @@ such a record and the plain model in trace_model.py.
     tools/fuzz_live.py [--count N] [--seed S] [--program FILE] [--busy]
 
 Of each input the sessions run on threads over an empty store. The record has to be a legal one; the status and the message
-have to be those of its entries, and the records in the store those that the entries made. With `--busy` as many processes as
+have to be those of its entries, and the records in the store those that the entries made; and `zones given` over the entries' lines and
+an empty store has to write their replies, and to store the same. With `--busy` as many processes as
 there are processors do nothing but count meanwhile; `taskset -c 0 tools/fuzz_live.py` runs all on one. At the end it says in
 how many records the entries of some session stand between those of another. It is no part of the gate.
 """
@@ -23,6 +24,7 @@ from own_folder import image, own_folder, ran
 from store_reader import bodies
 from told_records import LoggedStore
 from trace_lines import ALL_LINES
+from trace_model import MOST_BYTES
 
 
 def count_on():
@@ -54,6 +56,16 @@ def fault_of(data, status, text, message, stored):
     return None
 
 
+def is_replayed(program, text, store):
+    """Whether `given` answers a record's lines as it says, or one of them is past the limit behind its grant."""
+    entries = checker.entries_of(text)
+    if any(len(line) > MOST_BYTES for line, _ in entries):
+        return True
+    with own_folder() as folder:
+        _, replies, _ = ran(program, "given", b"".join(line + b"\n" for line, _ in entries), folder)
+        return replies == b"".join(reply for _, reply in entries) and image(folder) == store
+
+
 def is_mixed(text):
     """Whether some session's entries stand between those of another."""
     numbers = [line.split(b" ")[2] for line, _ in checker.entries_of(text) if line.split(b" ")[1] == b"S"]
@@ -71,7 +83,10 @@ def main():
         data = live_laws.input_of(rng)
         with own_folder() as folder:
             status, text, message = ran(args.program, "live", data, folder)
-            wrong = fault_of(data, status, text, message, bodies(image(folder)))
+            store = image(folder)
+        wrong = fault_of(data, status, text, message, bodies(store))
+        if wrong is None and not is_replayed(args.program, text, store):
+            wrong = "`given` answers it otherwise"
         if wrong is not None:
             print("input %d: %s\n%s\nrecord:\n%s" % (number, wrong, data.decode("latin-1"), text.decode("latin-1")))
             return 1
