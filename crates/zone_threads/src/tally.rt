@@ -1,8 +1,8 @@
 //! How far each session is.
-ghost use Rattle.std.specs.Prelude.{◌≡◌, ◌<◌, ◌≤◌, ℕ, length, slice_index_or};
+ghost use Rattle.std.specs.Prelude.{◌≡◌, ◌≢◌, ◌<◌, ◌≤◌, ℕ, false, length, slice_index_or};
 ghost use Rattle.std.specs.List.{All};
 ghost use Rattle.zone_threads.specs.Folds.{folded};
-ghost use Rattle.zone_threads.specs.Scripts.{TallyOf, after_turn, answers, fresh, noted, progress_one, ticket_of};
+ghost use Rattle.zone_threads.specs.Scripts.{TallyOf, after_turn, answers, ends_ticket, fresh, noted, progress_one, ticket_of};
 
 use crate::machine::{Machine, Said, Told};
 
@@ -89,14 +89,51 @@ fn progressed(session: u8, progress: Progress, place: u32, told: Told) -> Progre
     }
 }
 
-/// Notes an entry for each session.
-pub(crate) fn note(tally: &mut Vec<Progress>, place: u32, told: Told)
-    requires { length tally.old.items ≤ 65 }
+// Whether what a turn says may answer a ticket.
+fn may_answer(said: Said) -> bool
+    ensures { result ≡ false → (n : ℕ) → ends_ticket n said ≡ false }
+{
+    match said {
+        Said::Finished(_) | Said::Stuck => true,
+        Said::Idle | Said::Ticket(_) | Said::Other => false,
+    }
+}
+
+// Notes a line of a session.
+#[tactic(auto, unfolding(crate::specs::Scripts::progress_one))]
+fn note_line(tally: &mut Vec<Progress>, place: u32, told: Told)
+    requires line { told.session ≢ 0 }
+    ensures len { length tally.new.items ≡ length tally.old.items }
+    ensures each { (s : ℕ) → s < length tally.old.items → slice_index_or tally.new.items s fresh ≡ progress_one s (slice_index_or tally.old.items s fresh) place told }
+{
+    let session = told.session as usize;
+    if session < tally.len() {
+        tally[session] = progressed(told.session, tally[session], place, told);
+    }
+}
+
+// Notes a turn that may answer tickets.
+fn note_turn(tally: &mut Vec<Progress>, place: u32, told: Told)
+    requires few { length tally.old.items ≤ 65 }
     ensures len { length tally.new.items ≡ length tally.old.items }
     ensures each { (s : ℕ) → s < length tally.old.items → slice_index_or tally.new.items s fresh ≡ progress_one s (slice_index_or tally.old.items s fresh) place told }
 {
     for i in 0..tally.len() {
         tally[i] = progressed(i as u8, tally[i], place, told);
+    }
+}
+
+/// Notes an entry for each session. Only a turn that ends a request, or is stuck, looks at all of them.
+#[tactic(auto, unfolding(crate::specs::Scripts::progress_one))]
+pub(crate) fn note(tally: &mut Vec<Progress>, place: u32, told: Told)
+    requires { length tally.old.items ≤ 65 }
+    ensures len { length tally.new.items ≡ length tally.old.items }
+    ensures each { (s : ℕ) → s < length tally.old.items → slice_index_or tally.new.items s fresh ≡ progress_one s (slice_index_or tally.old.items s fresh) place told }
+{
+    if told.session != 0 {
+        note_line(tally, place, told);
+    } else if may_answer(told.said) {
+        note_turn(tally, place, told);
     }
 }
 

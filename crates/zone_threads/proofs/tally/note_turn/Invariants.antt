@@ -1,6 +1,6 @@
 use Rattle.std.proofs.Common.{◌≡◌, ◌<◌, ◌≤◌, ℕ, vec_len, slice_index_or}
 use Rattle.zone_threads.specs.Scripts.{fresh, progress_one}
-use Rattle.zone_threads.proofs.tally.note.Given as goal
+use Rattle.zone_threads.proofs.tally.note_turn.Given as goal
 
 abbrev pub invariant-loop-i : goal.invariant-loop-i
 invariant-loop-i l = (vec_len l.tally ≡ vec_len l.fn.tally)
