@@ -13,13 +13,24 @@ use crate::story::Storied;
 use crate::views::View;
 use atomic_table::{Refused, Seat, Table};
 use std::alloc::{AllocError, Global};
+use std::hint::spin_loop;
 use std::marker::{Brand, Model};
 use std::sync::Wait;
+use std::sync::atomic::{AtomicU64, Ordering};
+use std::thread::yield_now;
+
+// How often a pass looks whether the ticket that is served changes, before it sleeps: first without a break, and then between breaks in
+// which others may run. What a holder does takes less than all of this mostly, and to sleep and be woken takes more.
+const LOOKS: u32 = 300;
+
+const LOOKS_WITH_BREAKS: u32 = 200;
 
 /// Lends a part to one holder at a time, in the order in which they ask. Contracts see which turn it is. It isn't dropped:
 /// `close` ends it.
 pub struct Turn<T: Storied> {
     table: Table<Option<T>, View<T::Entry>, (), TurnRule, Global>,
+    // How many passes sleep, or are about to.
+    sleepers: AtomicU64,
 }
 
 impl<T: Storied> Model for Turn<T> {
@@ -68,12 +79,44 @@ impl<T: Storied> Turn<T> {
             return Err((TurnFault::Memory, failed.value.unwrap()));
         }
         match Table::new(alloc, &[0, 0], slots, &()) {
-            Ok((table, seat)) => Ok((Turn { table }, PassOf { seat })),
+            Ok((table, seat)) => {
+                let sleepers = AtomicU64::new(0);
+                Ok((Turn { table, sleepers }, PassOf { seat }))
+            }
             Err(Refused { mut slots }) => {
                 let shared = slots.pop().unwrap().unwrap();
                 slots.destroy_empty();
                 Err((TurnFault::Memory, shared))
             }
+        }
+    }
+
+    // Whether another ticket than this is served while the pass looks.
+    fn moves_on(&self, served: u64) -> bool {
+        for look in 0..LOOKS + LOOKS_WITH_BREAKS {
+            if self.table.shared.peek(1) != served {
+                return true;
+            }
+            if look < LOOKS {
+                spin_loop();
+            } else {
+                yield_now();
+            }
+        }
+        false
+    }
+
+    // Sleeps while this ticket is served. It may also return for no reason.
+    fn sleep<W: Wait>(&self, rt: &W, served: u64) {
+        self.sleepers.fetch_add(1, Ordering::SeqCst);
+        self.table.shared.park(rt, 1, (served % (1 << 32)) as u32);
+        self.sleepers.fetch_sub(1, Ordering::SeqCst);
+    }
+
+    // Wakes all who sleep. Who counts itself later finds that the ticket has changed.
+    fn wake(&self) {
+        if self.sleepers.load(Ordering::SeqCst) != 0 {
+            self.table.shared.wake_all(1);
         }
     }
 
@@ -93,7 +136,9 @@ impl<T: Storied> Turn<T> {
             if served == ticket {
                 return shared.exchange(seat, 0, None).unwrap();
             }
-            shared.park(rt, 1, (served % (1 << 32)) as u32);
+            if !self.moves_on(served) {
+                self.sleep(rt, served);
+            }
         }
         unreachable!()
     }
@@ -120,7 +165,7 @@ impl<T: Storied> Turn<T> {
         let empty = self.table.shared.exchange(seat, 0, Some(shared));
         let None = empty else { unreachable!() };
         self.table.shared.fetch_add::<Count<B>>(seat, 1, 1);
-        self.table.shared.wake_all(1);
+        self.wake();
     }
 
     /// Gives back the part, which stands for what it stood for when it was taken and then the batch. The batch, which may be
@@ -194,7 +239,7 @@ impl<T: Storied> Turn<T> {
         requires all_back { out_of first.knows.role ≡ 0 }
         ensures { (h : List T.Entry) × Closes T.stands_for T.belongs_to h result first.knows }
     {
-        let Turn { table } = self;
+        let Turn { table, sleepers: _ } = self;
         let PassOf { seat } = first;
         let mut closed = table.close_with(seat);
         let part = closed.take(0).unwrap();
