@@ -102,50 +102,26 @@ module _ (brands : List Tabled) (R : List Commit) (what : List Declaration) (scr
     abbrev S : State
     S = opening brands R
 
-    first-is : (h : List Entry) → declared ++ h ≡ d.first ++ h
-    first-is h = ap (λ l. l ++ h) d.whole
+    first-is : declared ++ lived ≡ d.first ++ lived
+    first-is = ap (λ l. l ++ lived) d.whole
 
     record-of : ended ≡ None → IsRunRecord brands R what scripts (declared ++ lived)
-    record-of none = record { first = d.first; rest = lived; whole = first-is lived; declares = d.declares; legal = d.legal; follows = (lives.whole none).0 }
+    record-of none = record { first = d.first; rest = lived; whole = first-is; declares = d.declares; legal = d.legal; follows = lives.whole none }
 
-    part-of : IsRunPartial brands R what scripts (declared ++ lives.record_is)
-    part-of = record { first = d.first; rest = lives.record_is; whole = first-is lives.record_is; declares = d.declares; legal = d.legal; follows = lives.part }
+    part-of : IsRunPartial brands R what scripts (declared ++ lived)
+    part-of = record { first = d.first; rest = lived; whole = first-is; declares = d.declares; legal = d.legal; follows = lives.part }
 
-    left-all : LeavesChanges (is_settled ended) S (declared ++ lives.record_is) v w
-    left-all = subst (λ (h : List Entry). LeavesChanges (is_settled ended) S h v w) (sym (first-is lives.record_is)) (left-behind (is_settled ended) S d.first lives.record_is v w d.none d.same lives.left)
-
-    all-lived : ended ≡ None → lives.record_is ≡ lived
-    all-lived none = lives.begins ∙ ap (λ l. lived ++ l) (lives.whole none).1 ∙ append-nil lived
-
-    text-of : HasFront held holds (record_text (declared ++ lived)) → HasFront held holds (record_text (declared ++ lives.record_is))
-    text-of front =
-        subst (λ (text : List ℕ). HasFront held holds text) (sym (ap record_text (ap (λ l. declared ++ l) lives.begins ∙ sym (append_assoc declared lived lives.rest)) ∙ record-append (declared ++ lived) lives.rest))
-        (front-more held holds (record_text (declared ++ lived)) (record_text lives.rest) front)
+    left-all : (settled : Bool) → is_settled ended ≡ settled → LeavesChanges settled S (declared ++ lived) v w
+    left-all settled is =
+        subst (λ (s : Bool). LeavesChanges s S (declared ++ lived) v w) is (subst (λ (h : List Entry). LeavesChanges (is_settled ended) S h v w) (sym first-is) (left-behind (is_settled ended) S d.first lived v w d.none d.same lives.left))
 
     pub runs-of : IfSome ended (λ fault. (fault ≡ Memory) ⊎ (fault ≡ DiskFault)) → IsDone status ⊎ ((status ≡ status_no_memory) ⊎ (status ≡ status_disk_fault)) → (IsDone status → ended ≡ None) → (ended ≡ None → TellsText (told_record (declared ++ lived)) status held holds)
         → (ended ≡ None → TellsLine (told_record (declared ++ lived)).err status told tells before now) → HasFront held holds (record_text (declared ++ lived)) → (status ≡ status_disk_fault → ended ≡ Some DiskFault) → (status ≡ status_no_memory → ended ≢ Some DiskFault)
         → RunsOn brands R what scripts status held holds told tells before now v w
     runs-of only statuses whole text line front disk settled = record {
-      done = λ is.
-          let none = whole is in record {
-            entries = declared ++ lived;
-            whole = record-of none;
-            text = text none;
-            line = line none;
-            left = subst (λ (h : List Entry). LeavesChanges true S (declared ++ h) v w) (all-lived none) (subst (λ (s : Bool). LeavesChanges s S (declared ++ lives.record_is) v w) (ap is_settled none) left-all);
-          };
-      memory = λ is. record {
-        entries = declared ++ lives.record_is;
-        part = inr part-of;
-        text = text-of front;
-        left = subst (λ (s : Bool). LeavesChanges s S (declared ++ lives.record_is) v w) (settled-memory ended only (settled is)) left-all;
-      };
-      disk = λ is. record {
-        entries = declared ++ lives.record_is;
-        part = inr part-of;
-        text = text-of front;
-        left = subst (λ (s : Bool). LeavesChanges s S (declared ++ lives.record_is) v w) (ap is_settled (disk is)) left-all;
-      };
+      done = λ is. let none = whole is in record { entries = declared ++ lived; whole = record-of none; text = text none; line = line none; left = left-all true (ap is_settled none) };
+      memory = λ is. record { entries = declared ++ lived; part = inr part-of; text = front; left = left-all true (settled-memory ended only (settled is)) };
+      disk = λ is. record { entries = declared ++ lived; part = inr part-of; text = front; left = left-all false (ap is_settled (disk is)) };
       only = statuses;
     }
 

@@ -82,10 +82,11 @@ fn run_declared<
 {
     let Live {
         entries,
-        disk,
+        machine,
         ended,
     } = run_sessions(rt, alloc, machine, gate, scripts);
-    (tell_live(alloc, out, err, declared, entries, ended), disk)
+    let status = tell_live(alloc, out, err, declared, entries, ended);
+    (status, machine.into_disk())
 }
 
 // What is to be declared comes to a machine, and then sessions run over it.
