@@ -1,5 +1,5 @@
 -- How a whole run is composed of its parts.
-use Rattle.std.proofs.Common.{◌≡◌, ◌≤◌, ◌<◌, ◌⊎◌, ◌++◌, ◌∷◌, ◌∙◌, [], ℕ, Bool, List, None, Option, Some, true, false, ap, append-nil, append_assoc, arith, inl, inr, length, map, refl, subst, sym}
+use Rattle.std.proofs.Common.{◌≡◌, ◌≤◌, ◌<◌, ◌⊎◌, ◌++◌, ◌∷◌, ◌∙◌, [], ℕ, Bool, List, None, Option, Some, true, false, ap, append-nil, arith, inl, inr, length, map, refl, subst, sym}
 use Rattle.std.specs.Prelude.{◌≢◌, IfSome, slice_index_or}
 use Rattle.zn_io.proofs.Moments.{joined, weaker}
 use Rattle.zn_io.specs.Disk.{Leaves, View}
@@ -7,7 +7,7 @@ use Rattle.zn_io.specs.Streams.{TakesFront}
 use Rattle.brand_hooks.specs.Brands.{Tabled}
 use Rattle.commit_journal.specs.declared.records.Commit.{Commit}
 use Rattle.daemon_threads.specs.Sessions.{HoldsSome, LeavesChanges, Lives, is_settled}
-use Rattle.live_input.specs.Input.{Input}
+use Rattle.live_input.specs.Input.{Input, input_of}
 use Rattle.live_input.specs.declared.reading.Ending.TheVariants.{End}
 use Rattle.session_records.specs.Records.{IsRunPartial, IsRunRecord, Scripts}
 use Rattle.zone_cases.specs.State.{State}
@@ -16,7 +16,7 @@ use Rattle.zone_cases.specs.declared.events.Entry.{Entry}
 use Rattle.zone_machine.specs.Machine.{opening}
 use Rattle.zone_machine.specs.Machine.Changes.{changes}
 use Rattle.zone_machine.specs.Machine.Histories.{after}
-use Rattle.zone_machine.specs.Machine.Images.{Holds, HoldsEither}
+use Rattle.zone_machine.specs.Machine.Images.{Holds, HoldsEither, IsStoreOf}
 use Rattle.zone_machine.specs.declared.faults.StepFault.{StepFault}
 use Rattle.zone_machine.specs.declared.faults.StepFault.TheVariants.{DiskFault, Memory}
 use Rattle.zones_run.specs.Complaints.{complaint_output, complaint_status, complaint_text}
@@ -31,9 +31,9 @@ use Rattle.input_lines.specs.declared.lines.ReadFault.{ReadFault}
 use Rattle.input_lines.specs.declared.lines.ReadFault.TheVariants.{Failed, Memory as No_room}
 use Rattle.zones_run.proofs.Telling.{text_nothing}
 use Rattle.zones_live.proofs.Declares.{changes-append, keeps-more}
-use Rattle.zones_live.proofs.Written.{front-more, front-none, record-append}
+use Rattle.zones_live.proofs.Written.{front-none}
 use Rattle.zones_live.specs.Declaring.{Declared}
-use Rattle.zones_live.specs.Living.{IsDone, LivesOn, RunsOn, WroteComplaint, WrotePart, WroteRecord, ending_output}
+use Rattle.zones_live.specs.Living.{IsDone, LivesOn, LivesOnSome, RunsOn, WroteComplaint, WrotePart, WroteRecord, ending_output}
 use Rattle.zones_live.specs.Records.{record_text, told_record}
 use Rattle.zones_live.specs.Sorting.{declared_in, typed_in}
 
@@ -86,7 +86,7 @@ settled-memory (Some fault) (inr is) not = absurd (not (ap Some is))
 
 module _ (brands : List Tabled) (R : List Commit) (what : List Declaration) (scripts : Scripts) (status : ℕ) (held holds told tells : Option (List ℕ)) (before now : ℕ) where
   -- a fault came before any session ran
-  pub runs-nothing : (v w : View) → holds ≡ held → (status ≡ status_no_memory) ⊎ (status ≡ status_disk_fault) → (v.Keeps → w.Keeps) → (v.Keeps → KeepsStore R v w) → RunsOn brands R what scripts status held holds told tells before now v w
+  pub runs-nothing : (v w : View) → holds ≡ held → (status ≡ status_no_memory) ⊎ (status ≡ status_disk_fault) → (v.Keeps → w.Keeps) → (IsStoreOf v R → KeepsStore R v w) → RunsOn brands R what scripts status held holds told tells before now v w
   runs-nothing v w same is model kept = record {
     done = λ d. absurd (grind (arith, d, is));
     memory = λ m. part true;
@@ -95,57 +95,33 @@ module _ (brands : List Tabled) (R : List Commit) (what : List Declaration) (scr
   }
     where
       part : (settled : Bool) → WrotePart settled brands R what scripts held holds v w
-      part settled = record { entries = []; part = inl refl; text = subst (λ (h : Option (List ℕ)). HasFront held h []) (sym same) (front-none held []); left = left-none settled (opening brands R) v w model kept }
+      part settled = record { entries = []; part = inl refl; text = subst (λ (h : Option (List ℕ)). HasFront held h []) (sym same) (front-none held []); left = λ store. left-none settled (opening brands R) v w model (λ k. kept store) }
 
   -- sessions ran behind what was declared
   module _ (declared lived : List Entry) (ended : Option StepFault) (stands : State → Type 0) (v w : View) (d : Declared (opening brands R) what [] declared stands) (lives : Lives ended (after (opening brands R) d.first) scripts lived v w) where
     abbrev S : State
     S = opening brands R
 
-    first-is : (h : List Entry) → declared ++ h ≡ d.first ++ h
-    first-is h = ap (λ l. l ++ h) d.whole
+    first-is : declared ++ lived ≡ d.first ++ lived
+    first-is = ap (λ l. l ++ lived) d.whole
 
     record-of : ended ≡ None → IsRunRecord brands R what scripts (declared ++ lived)
-    record-of none = record { first = d.first; rest = lived; whole = first-is lived; declares = d.declares; legal = d.legal; follows = (lives.whole none).0 }
+    record-of none = record { first = d.first; rest = lived; whole = first-is; declares = d.declares; legal = d.legal; follows = lives.whole none }
 
-    part-of : IsRunPartial brands R what scripts (declared ++ lives.record_is)
-    part-of = record { first = d.first; rest = lives.record_is; whole = first-is lives.record_is; declares = d.declares; legal = d.legal; follows = lives.part }
+    part-of : IsRunPartial brands R what scripts (declared ++ lived)
+    part-of = record { first = d.first; rest = lived; whole = first-is; declares = d.declares; legal = d.legal; follows = lives.part }
 
-    left-all : LeavesChanges (is_settled ended) S (declared ++ lives.record_is) v w
-    left-all = subst (λ (h : List Entry). LeavesChanges (is_settled ended) S h v w) (sym (first-is lives.record_is)) (left-behind (is_settled ended) S d.first lives.record_is v w d.none d.same lives.left)
-
-    all-lived : ended ≡ None → lives.record_is ≡ lived
-    all-lived none = lives.begins ∙ ap (λ l. lived ++ l) (lives.whole none).1 ∙ append-nil lived
-
-    text-of : HasFront held holds (record_text (declared ++ lived)) → HasFront held holds (record_text (declared ++ lives.record_is))
-    text-of front =
-        subst (λ (text : List ℕ). HasFront held holds text) (sym (ap record_text (ap (λ l. declared ++ l) lives.begins ∙ sym (append_assoc declared lived lives.rest)) ∙ record-append (declared ++ lived) lives.rest))
-        (front-more held holds (record_text (declared ++ lived)) (record_text lives.rest) front)
+    left-all : (settled : Bool) → is_settled ended ≡ settled → LeavesChanges settled S (declared ++ lived) v w
+    left-all settled is =
+        subst (λ (s : Bool). LeavesChanges s S (declared ++ lived) v w) is (subst (λ (h : List Entry). LeavesChanges (is_settled ended) S h v w) (sym first-is) (left-behind (is_settled ended) S d.first lived v w d.none d.same lives.left))
 
     pub runs-of : IfSome ended (λ fault. (fault ≡ Memory) ⊎ (fault ≡ DiskFault)) → IsDone status ⊎ ((status ≡ status_no_memory) ⊎ (status ≡ status_disk_fault)) → (IsDone status → ended ≡ None) → (ended ≡ None → TellsText (told_record (declared ++ lived)) status held holds)
         → (ended ≡ None → TellsLine (told_record (declared ++ lived)).err status told tells before now) → HasFront held holds (record_text (declared ++ lived)) → (status ≡ status_disk_fault → ended ≡ Some DiskFault) → (status ≡ status_no_memory → ended ≢ Some DiskFault)
         → RunsOn brands R what scripts status held holds told tells before now v w
     runs-of only statuses whole text line front disk settled = record {
-      done = λ is.
-          let none = whole is in record {
-            entries = declared ++ lived;
-            whole = record-of none;
-            text = text none;
-            line = line none;
-            left = subst (λ (h : List Entry). LeavesChanges true S (declared ++ h) v w) (all-lived none) (subst (λ (s : Bool). LeavesChanges s S (declared ++ lives.record_is) v w) (ap is_settled none) left-all);
-          };
-      memory = λ is. record {
-        entries = declared ++ lives.record_is;
-        part = inr part-of;
-        text = text-of front;
-        left = subst (λ (s : Bool). LeavesChanges s S (declared ++ lives.record_is) v w) (settled-memory ended only (settled is)) left-all;
-      };
-      disk = λ is. record {
-        entries = declared ++ lives.record_is;
-        part = inr part-of;
-        text = text-of front;
-        left = subst (λ (s : Bool). LeavesChanges s S (declared ++ lives.record_is) v w) (ap is_settled (disk is)) left-all;
-      };
+      done = λ is. let none = whole is in record { entries = declared ++ lived; whole = record-of none; text = text none; line = line none; left = λ store. left-all true (ap is_settled none) };
+      memory = λ is. record { entries = declared ++ lived; part = inr part-of; text = front; left = λ store. left-all true (settled-memory ended only (settled is)) };
+      disk = λ is. record { entries = declared ++ lived; part = inr part-of; text = front; left = λ store. left-all false (ap is_settled (disk is)) };
       only = statuses;
     }
 
@@ -156,7 +132,7 @@ runs-as brands R what what' scripts scripts' status held holds told tells before
     subst (λ (s : Scripts). RunsOn brands R what' s status held holds told tells before now v w) types (subst (λ (d : List Declaration). RunsOn brands R d scripts status held holds told tells before now v w) whats run)
 
 -- a whole input was run
-lives-run : (brands : List Tabled) (R : List Commit) (input : Input) (status : ℕ) (held holds told tells : Option (List ℕ)) (before now : ℕ) (v w : View) → input.ending ≡ End
+pub lives-run : (brands : List Tabled) (R : List Commit) (input : Input) (status : ℕ) (held holds told tells : Option (List ℕ)) (before now : ℕ) (v w : View) → input.ending ≡ End
     → RunsOn brands R (declared_in input.events) (typed_in input.events) status held holds told tells before now v w → LivesOn brands R input status held holds told tells before now v w
 lives-run brands R input status held holds told tells before now v w ends run = record {
   done = λ d. (ends, run.done d);
@@ -168,14 +144,19 @@ lives-run brands R input status held holds told tells before now v w ends run = 
   store = λ f. grind (arith, f, run.only);
 }
 
-pub lives-whole : (brands : List Tabled) (R : List Commit) (input whole : Input) (status : ℕ) (held holds told tells : Option (List ℕ)) (before now : ℕ) (v w : View) → input ≡ whole → input.ending ≡ End
-    → RunsOn brands R (declared_in input.events) (typed_in input.events) status held holds told tells before now v w → LivesOn brands R whole status held holds told tells before now v w
-lives-whole brands R input whole status held holds told tells before now v w is ends run = subst (λ (i : Input). LivesOn brands R i status held holds told tells before now v w) is (lives-run brands R input status held holds told tells before now v w ends run)
+-- what is known of an input is kept by some input
+abbrev pub some-input : Option (List ℕ) → Input
+some-input None = record { events = []; ending = End }
+some-input (Some bytes) = input_of bytes
+
+pub some-said : (bytes : Option (List ℕ)) → IfSome bytes (λ all. some-input bytes ≡ input_of all)
+some-said None = tt
+some-said (Some bytes) = refl
 
 -- nothing was run
-module _ (brands : List Tabled) (R : List Commit) (input : Input) (status : ℕ) (held told tells : Option (List ℕ)) (before now : ℕ) (v w : View) (model : v.Keeps → w.Keeps) (kept : KeepsStore R v w) where
+module _ (brands : List Tabled) (R : List Commit) (input : Input) (status : ℕ) (held told tells : Option (List ℕ)) (before now : ℕ) (v w : View) (model : v.Keeps → w.Keeps) (kept : IsStoreOf v R → KeepsStore R v w) where
   nothing-part : (settled : Bool) → WrotePart settled brands R (declared_in input.events) (typed_in input.events) held held v w
-  nothing-part settled = record { entries = []; part = inl refl; text = front-none held []; left = left-none settled (opening brands R) v w model (λ k. kept) }
+  nothing-part settled = record { entries = []; part = inl refl; text = front-none held []; left = λ store. left-none settled (opening brands R) v w model (λ k. kept store) }
 
   -- since a line ended the input
   pub lives-told : (complaint : Complaint) → complaint_output complaint ≡ ending_output input.ending → (complaint_status complaint ≡ status_grammar) ⊎ (complaint_status complaint ≡ status_limit) → (status ≡ complaint_status complaint) ⊎ (status ≡ status_no_memory)
@@ -211,40 +192,59 @@ module _ (brands : List Tabled) (R : List Commit) (input : Input) (status : ℕ)
   }
 
 -- the same since an earlier moment, from which on the store kept its commits
-module _ (brands : List Tabled) (R : List Commit) (u v w : View) (model : u.Keeps → v.Keeps) (kept : u.Keeps → KeepsStore R u v) where
+module _ (brands : List Tabled) (R : List Commit) (u v w : View) (model : u.Keeps → v.Keeps) (kept : IsStoreOf u R → KeepsStore R u v) where
+  store-later : IsStoreOf u R → IsStoreOf v R
+  store-later is = record { keeps = model is.keeps; now = (kept is).now }
+
+  changes-later : (settled : Bool) (h : List Entry) → (IsStoreOf v R → LeavesChanges settled (opening brands R) h v w) → IsStoreOf u R → LeavesChanges settled (opening brands R) h u w
+  changes-later settled h left is = left-later settled (opening brands R) h u v w model (λ k. kept is) (left (store-later is))
+
+  keeps-later : (IsStoreOf v R → KeepsStore R v w) → IsStoreOf u R → KeepsStore R u w
+  keeps-later left is = keeps-more R u v w (kept is) (left (store-later is))
+
   part-later : (settled : Bool) (what : List Declaration) (scripts : Scripts) (held holds : Option (List ℕ)) → WrotePart settled brands R what scripts held holds v w → WrotePart settled brands R what scripts held holds u w
-  part-later settled what scripts held holds p = record { entries = p.entries; part = p.part; text = p.text; left = left-later settled (opening brands R) p.entries u v w model kept p.left }
+  part-later settled what scripts held holds p = record { entries = p.entries; part = p.part; text = p.text; left = changes-later settled p.entries p.left }
 
-  record-later : (what : List Declaration) (scripts : Scripts) (status : ℕ) (held holds told tells : Option (List ℕ)) (before now : ℕ) → WroteRecord brands R what scripts status held holds told tells before now v w → WroteRecord brands R what scripts status held holds told tells before now u w
-  record-later what scripts status held holds told tells before now r = record { entries = r.entries; whole = r.whole; text = r.text; line = r.line; left = left-later true (opening brands R) r.entries u v w model kept r.left }
+  module _ (status : ℕ) (held holds told tells : Option (List ℕ)) (before now : ℕ) where
+    record-later : (what : List Declaration) (scripts : Scripts) → WroteRecord brands R what scripts status held holds told tells before now v w → WroteRecord brands R what scripts status held holds told tells before now u w
+    record-later what scripts r = record { entries = r.entries; whole = r.whole; text = r.text; line = r.line; left = changes-later true r.entries r.left }
 
-  pub runs-later : (what : List Declaration) (scripts : Scripts) (status : ℕ) (held holds told tells : Option (List ℕ)) (before now : ℕ) → RunsOn brands R what scripts status held holds told tells before now v w → RunsOn brands R what scripts status held holds told tells before now u w
-  runs-later what scripts status held holds told tells before now run = record {
-    done = λ d. record-later what scripts status held holds told tells before now (run.done d);
-    memory = λ m. part-later true what scripts held holds (run.memory m);
-    disk = λ d. part-later false what scripts held holds (run.disk d);
-    only = run.only;
-  }
+    pub runs-later : (what : List Declaration) (scripts : Scripts) → RunsOn brands R what scripts status held holds told tells before now v w → RunsOn brands R what scripts status held holds told tells before now u w
+    runs-later what scripts run = record {
+      done = λ d. record-later what scripts (run.done d);
+      memory = λ m. part-later true what scripts held holds (run.memory m);
+      disk = λ d. part-later false what scripts held holds (run.disk d);
+      only = run.only;
+    }
 
-  pub lives-later : (input : Input) (status : ℕ) (held holds told tells : Option (List ℕ)) (before now : ℕ) → u.Keeps → LivesOn brands R input status held holds told tells before now v w → LivesOn brands R input status held holds told tells before now u w
-  lives-later input status held holds told tells before now keeps l = record {
-    done = λ d. ((l.done d).0, record-later (declared_in input.events) (typed_in input.events) status held holds told tells before now (l.done d).1);
-    ended = λ e. let c = l.ended e in record { text = c.text; line = c.line; left = keeps-more R u v w (kept keeps) c.left };
-    memory = λ m. part-later true (declared_in input.events) (typed_in input.events) held holds (l.memory m);
-    disk = λ d. part-later false (declared_in input.events) (typed_in input.events) held holds (l.disk d);
-    read = λ f. let n = l.read f in record { nothing = n.nothing; left = keeps-more R u v w (kept keeps) n.left };
-    form = l.form;
-    store = l.store;
-  }
+    lives-later : (input : Input) → LivesOn brands R input status held holds told tells before now v w → LivesOn brands R input status held holds told tells before now u w
+    lives-later input l = record {
+      done = λ d. ((l.done d).0, record-later (declared_in input.events) (typed_in input.events) (l.done d).1);
+      ended = λ e. let c = l.ended e in record { text = c.text; line = c.line; left = keeps-later c.left };
+      memory = λ m. part-later true (declared_in input.events) (typed_in input.events) held holds (l.memory m);
+      disk = λ d. part-later false (declared_in input.events) (typed_in input.events) held holds (l.disk d);
+      read = λ f. let n = l.read f in record { nothing = n.nothing; left = keeps-later n.left };
+      form = l.form;
+      store = l.store;
+    }
+
+    pub some-later : (bytes : Option (List ℕ)) → LivesOnSome brands R bytes status held holds told tells before now v w → LivesOnSome brands R bytes status held holds told tells before now u w
+    some-later bytes l = record { input = l.input; said = l.said; runs = lives-later l.input l.runs }
 
 -- what holds of what is known
-pub if-known : {A : Type 0} (P Q : A → Type 0) (o : Option A) → IfSome o P → ((a : A) → P a → Q a) → IfSome o Q
+if-known : {A : Type 0} (P Q : A → Type 0) (o : Option A) → IfSome o P → ((a : A) → P a → Q a) → IfSome o Q
 if-known P Q None holds lead = tt
 if-known P Q (Some a) holds lead = lead a holds
 
 pub if-always : {A : Type 0} (Q : A → Type 0) (o : Option A) → ((a : A) → Q a) → IfSome o Q
 if-always Q None all = tt
 if-always Q (Some a) all = all a
+
+-- the run of a known input
+pub lives-known : (brands : List Tabled) (R : List Commit) (bytes : Option (List ℕ)) (status : ℕ) (held holds told tells : Option (List ℕ)) (before now : ℕ) (v w : View)
+    → LivesOnSome brands R bytes status held holds told tells before now v w → IfSome bytes (λ all. LivesOn brands R (input_of all) status held holds told tells before now v w)
+lives-known brands R bytes status held holds told tells before now v w l =
+    if-known _ _ bytes l.said (λ all is. subst (λ (i : Input). LivesOn brands R i status held holds told tells before now v w) is l.runs)
 
 -- the words
 pub one-word : {A : Type 0} (f : A → List ℕ) (words : List A) (a : A) → 1 ≤ length words → length words < 2 → a ≡ slice_index_or words 0 a → map f words ≡ f a ∷ []

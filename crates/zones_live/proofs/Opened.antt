@@ -1,13 +1,18 @@
 -- A store that was opened, or was not.
-use Rattle.std.proofs.Common.{◌≡◌, ◌⊎◌, Err, IfOk, List, Ok, Result, inl, inr}
+use Rattle.std.proofs.Common.{◌≡◌, ◌⊎◌, ℕ, Err, IfOk, List, Ok, Result, inl, inr, subst}
 use Rattle.std.specs.Prelude.{IfErr}
 use Rattle.zn_io.specs.Disk.{IsSound, Leaves, View}
 use Rattle.brand_hooks.specs.Brands.{Tabled}
 use Rattle.commit_journal.specs.Store.{OpensStore, OpensStoreOneWay}
+use Rattle.commit_journal.specs.Stored.{Rows, stored}
 use Rattle.commit_journal.specs.declared.fault.StoreFault.{StoreFault}
 use Rattle.commit_journal.specs.declared.fault.StoreFault.TheVariants.{DiskFault, Memory}
 use Rattle.commit_journal.specs.declared.records.Commit.{Commit}
-use Rattle.zone_machine.specs.Code.Openings.{StandsFor}
+use Rattle.session_runs.proofs.Machine_steps.{ready-holds}
+use Rattle.zone_cases.specs.State.{bodies_of}
+use Rattle.zone_machine.specs.Code.Decided.{MayGoOn}
+use Rattle.zone_machine.specs.Code.Openings.{Begins, StandsFor}
+use Rattle.zone_machine.specs.Code.Records.{Passes}
 use Rattle.zone_machine.specs.Machine.{opening}
 use Rattle.zone_machine.specs.Machine.Images.{Holds, IsStoreOf}
 use Rattle.zone_machine.specs.declared.machine.Machine.{Machine}
@@ -32,6 +37,22 @@ module _ {D F : Type 0} (view : D → View) (sound : (d : D) → IsSound (view d
       either (inl m) = inl m
       either (inr (inl d)) = inr d
       either (inr (inr opens)) = absurd (holds_or_fault one R (view disk).reads e.0 (is.now (view disk).reads ((sound disk).reads_now is.keeps)) opens)
+
+  -- it stands for some commits, which are those that the disk reads as where it keeps to its model
+  pub open-found : OpensStoreOneWay → (r : Result (Machine D F) (StoreFault × D)) → IfOk r (Begins brands) → ((view disk).Keeps → IfOk r (λ m. (R : List Commit) → Holds R (view disk).reads → StandsFor (opening brands R) m)) → ((view disk).Keeps → IfOk r (λ m. (R : List Commit) × Holds R (view disk).reads))
+      → IfOk r (MayGoOn view) → IfOk r (λ m. Passes (view disk) (view m.bank.disk)) → IfOk r (λ m. (R : List Commit) × StandsFor (opening brands R) m × ((view disk).Keeps → Holds R (view disk).reads))
+  open-found one (Err e) begins stands opens ready passes = tt
+  open-found one (Ok m) begins stands opens ready passes = (begins.0, begins.1, found)
+    where
+      found : (view disk).Keeps → Holds begins.0 (view disk).reads
+      found keeps =
+          let o = opens keeps in
+          let kept = passes.model.0 keeps in
+          let w = view m.bank.disk in
+          let now = (sound m.bank.disk).reads_now kept in
+          let as-begun : Holds begins.0 w.reads = ready-holds (opening brands begins.0) m w begins.1 ready kept w.reads now in
+          let as-read : Holds o.0 w.reads = ready-holds (opening brands o.0) m w (stands keeps o.0 o.1) ready kept w.reads now in
+          subst (λ (r : Result (List (List ℕ) × Rows) StoreFault). OpensStore (view disk).reads r) (one w.reads (Ok (bodies_of o.0, stored o.0)) (Ok (bodies_of begins.0, stored begins.0)) as-read as-begun) o.1
 
 -- a fault other than memory and the disk's
 pub neither : (fault : StoreFault) → (fault ≡ Memory → ⊥) → (fault ≡ DiskFault → ⊥) → (fault ≡ Memory) ⊎ (fault ≡ DiskFault) → ⊥

@@ -18,7 +18,7 @@ take-more zero xs ys = (0, refl)
 take-more (suc n) [] ys = (0, refl)
 take-more (suc n) (x ∷ xs) ys = let more = take-more n xs ys in (suc more.0, ap (λ l. x ∷ l) more.1)
 
-pub record-append : (g h : List Entry) → record_text (g ++ h) ≡ record_text g ++ record_text h
+record-append : (g h : List Entry) → record_text (g ++ h) ≡ record_text g ++ record_text h
 record-append g h = flat_map-append entry_text g h
 
 -- the text of one entry more

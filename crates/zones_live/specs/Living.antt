@@ -1,5 +1,5 @@
 -- What a run of live sessions comes to, over the store of some commits and a whole input.
-use Rattle.std.specs.Prelude.{◌≡◌, ◌≢◌, ◌⊎◌, ◌∷◌, [], ℕ, Bool, true, false, Err, List, Option, codes}
+use Rattle.std.specs.Prelude.{◌≡◌, ◌≢◌, ◌⊎◌, ◌∷◌, [], ℕ, Bool, true, false, Err, IfSome, List, Option, codes}
 use Rattle.zn_io.specs.Disk.{View}
 use Rattle.zn_io.specs.Streams.{TakesFront}
 use Rattle.brand_hooks.specs.Brands.{Tabled}
@@ -7,13 +7,14 @@ use Rattle.commit_journal.specs.Store.{OpensStore}
 use Rattle.commit_journal.specs.declared.fault.StoreFault.{StoreFault}
 use Rattle.commit_journal.specs.declared.records.Commit.{Commit}
 use Rattle.daemon_threads.specs.Sessions.{LeavesChanges}
-use Rattle.live_input.specs.Input.{Input}
+use Rattle.live_input.specs.Input.{Input, input_of}
 use Rattle.live_input.specs.declared.reading.Ending.{Ending}
 use Rattle.live_input.specs.declared.reading.Ending.TheVariants.{End, Grammar as Bad_line, Limit as Past_limit}
 use Rattle.session_records.specs.Records.{IsRunPartial, IsRunRecord, Scripts}
 use Rattle.zone_cases.specs.declared.events.Declaration.{Declaration}
 use Rattle.zone_cases.specs.declared.events.Entry.{Entry}
 use Rattle.zone_machine.specs.Machine.{opening}
+use Rattle.zone_machine.specs.Machine.Images.{Holds, IsStoreOf}
 use Rattle.zones_live.specs.Records.{record_text, told_record}
 use Rattle.zones_live.specs.Sorting.{declared_in, typed_in}
 use Rattle.zones_run.specs.Complaints.{complaint_output, complaint_text}
@@ -41,13 +42,14 @@ pub record FoundNone (v : View) (told tells : Option (List ℕ)) (before now : �
   pub found : OpensStore v.reads (Err fault)
   pub line : TakesFront told tells before now (complaint_text (NotAStore fault))
 
--- a run that wrote a record of what is declared and typed, to the end or up to a fault of a sink; and on the disk is what it changed
+-- a run that wrote a record of what is declared and typed, to the end or up to a fault of a sink; and where the disk was the store of
+-- the commits, on it is what the record changed
 pub record WroteRecord (brands : List Tabled) (R : List Commit) (declared : List Declaration) (scripts : Scripts) (status : ℕ) (held holds told tells : Option (List ℕ)) (before now : ℕ) (v w : View) : Type 0 where
   pub entries : List Entry
   pub whole : IsRunRecord brands R declared scripts entries
   pub text : TellsText (told_record entries) status held holds
   pub line : TellsLine (told_record entries).err status told tells before now
-  pub left : LeavesChanges true (opening brands R) entries v w
+  pub left : IsStoreOf v R → LeavesChanges true (opening brands R) entries v w
 
 -- a run that a fault ended: what was answered is a part of such a record, or nothing was; and a front of its text was written.
 -- Where the disk failed, one more commit may have been under way
@@ -55,7 +57,7 @@ pub record WrotePart (settled : Bool) (brands : List Tabled) (R : List Commit) (
   pub entries : List Entry
   pub part : (entries ≡ []) ⊎ IsRunPartial brands R declared scripts entries
   pub text : HasFront held holds (record_text entries)
-  pub left : LeavesChanges settled (opening brands R) entries v w
+  pub left : IsStoreOf v R → LeavesChanges settled (opening brands R) entries v w
 
 -- what is declared and typed was run, by the status
 pub record RunsOn (brands : List Tabled) (R : List Commit) (declared : List Declaration) (scripts : Scripts) (status : ℕ) (held holds told tells : Option (List ℕ)) (before now : ℕ) (v w : View) : Type 0 where
@@ -67,13 +69,13 @@ pub record RunsOn (brands : List Tabled) (R : List Commit) (declared : List Decl
 -- nothing was run
 pub record WroteNothing (R : List Commit) (held holds : Option (List ℕ)) (v w : View) : Type 0 where
   pub nothing : holds ≡ held
-  pub left : KeepsStore R v w
+  pub left : IsStoreOf v R → KeepsStore R v w
 
 -- a run that a line of the input ended before anything was run
 pub record WroteComplaint (o : Output) (R : List Commit) (status : ℕ) (held holds told tells : Option (List ℕ)) (before now : ℕ) (v w : View) : Type 0 where
   pub text : TellsText o status held holds
   pub line : TellsLine o.err status told tells before now
-  pub left : KeepsStore R v w
+  pub left : IsStoreOf v R → KeepsStore R v w
 
 -- what a line that ends an input is told as
 abbrev pub ending_output : Ending → Output
@@ -91,3 +93,20 @@ pub record LivesOn (brands : List Tabled) (R : List Commit) (input : Input) (sta
   pub read : status ≡ status_read_fault → WroteNothing R held holds v w
   pub form : status ≢ status_usage
   pub store : status ≢ status_not_a_store
+
+-- the run of an input of which perhaps nothing is known: of some input, and of just the known one where one is
+pub record LivesOnSome (brands : List Tabled) (R : List Commit) (bytes : Option (List ℕ)) (status : ℕ) (held holds told tells : Option (List ℕ)) (before now : ℕ) (v w : View) : Type 0 where
+  pub input : Input
+  pub said : IfSome bytes (λ all. input ≡ input_of all)
+  pub runs : LivesOn brands R input status held holds told tells before now v w
+
+-- a run that opened no store, and wrote nothing on standard output
+pub record OpenedNone (status : ℕ) (held holds : Option (List ℕ)) : Type 0 where
+  pub nothing : holds ≡ held
+  pub only : (status ≡ status_disk_fault) ⊎ ((status ≡ status_not_a_store) ⊎ (status ≡ status_no_memory))
+
+-- the run of an input over the store of some commits or other, which are those that the disk reads as where it keeps to its model; or a
+-- run that opened none
+abbrev pub LivesOverSome : List Tabled → (bytes : Option (List ℕ)) → (status : ℕ) → (held holds told tells : Option (List ℕ)) → (before now : ℕ) → (v w : View) → Type 0
+LivesOverSome brands bytes status held holds told tells before now v w =
+    ((R : List Commit) × (v.Keeps → Holds R v.reads) × LivesOnSome brands R bytes status held holds told tells before now v w) ⊎ OpenedNone status held holds

@@ -10,7 +10,7 @@ ghost use Rattle.zone_machine.specs.Code.Decided.{AsksBrands, MayGoOn};
 ghost use Rattle.zone_machine.specs.Code.Openings.{StandsFor};
 ghost use Rattle.zone_machine.specs.Code.Records.{Passes};
 ghost use Rattle.zone_machine.specs.Machine.{opening};
-ghost use Rattle.zone_machine.specs.Machine.Images.{IsStoreOf};
+ghost use Rattle.zone_machine.specs.Machine.Images.{Holds, IsStoreOf};
 ghost use Rattle.zones_run.specs.Recording.{KeepsStore};
 
 use brand_hooks::{Brands, Change, HookAnswer};
@@ -19,13 +19,15 @@ use std::alloc::Global;
 use zn_io::Disk;
 use zone_machine::Machine;
 
-/// Opens the store on a disk, which keeps its commits however that ends. Where it is one, only memory or the disk can fail.
+/// Opens the store on a disk, which keeps its commits however that ends. Where it is one, only memory or the disk can fail. Whatever the
+/// disk is, the machine stands for the store of some commits.
 pub(crate) fn open<'b, D: Disk, F: Fn(&Change) -> HookAnswer>(
     alloc: Global,
     disk: D,
     brands: &'b Brands<F>,
 ) -> Result<Machine<'b, D, F>, (StoreFault, D)>
     requires { AllFollow F.Fn brands.now }
+    ensures found { IfOk result (λ m. (R : List Commit) × StandsFor (opening (tables_of brands.now) R) m × ((D.view disk).Keeps → Holds R (D.view disk).reads)) }
     ensures opened { (R : List Commit) → IsStoreOf (D.view disk) R → IfOk result (λ m. StandsFor (opening (tables_of brands.now) R) m × KeepsStore R (D.view disk) (D.view m.bank.disk)) }
     ensures refused { (R : List Commit) → IsStoreOf (D.view disk) R → IfErr result (λ e. ((e.0 ≡ StoreFault.Memory) ⊎ (e.0 ≡ StoreFault.DiskFault)) × KeepsStore R (D.view disk) (D.view e.1)) }
     ensures refuses { (D.view disk).Keeps → IfErr result (λ e. (e.0 ≡ StoreFault.Memory) ⊎ ((e.0 ≡ StoreFault.DiskFault) ⊎ OpensStore (D.view disk).reads (Err e.0))) }

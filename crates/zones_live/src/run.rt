@@ -13,7 +13,7 @@ ghost use Rattle.zone_machine.specs.Code.Openings.{StandsFor};
 ghost use Rattle.zone_machine.specs.Machine.{opening};
 ghost use Rattle.zone_machine.specs.Machine.Images.{IsStoreOf};
 ghost use Rattle.zones_live.specs.Declaring.{Declared};
-ghost use Rattle.zones_live.specs.Living.{FoundNone, IsDone, IsForm, LivesOn, RunsNothing, RunsOn};
+ghost use Rattle.zones_live.specs.Living.{FoundNone, IsDone, IsForm, LivesOn, LivesOnSome, LivesOverSome, RunsNothing, RunsOn};
 ghost use Rattle.zones_live.specs.Sorting.{declared_in, typed_in};
 ghost use Rattle.zones_run.specs.Fixed.{usage_text};
 ghost use Rattle.zones_run.specs.Run.{IsStatus, disk_fault_line, memory_line, read_fault_line};
@@ -36,7 +36,7 @@ use zone_machine::Machine;
 use zone_threads::Gate;
 use zones_run::{
     Complaint, DISK_FAULT, NO_MEMORY, NOT_A_STORE, READ_FAULT, RunFault, USAGE, USAGE_LINE,
-    WRITE_FAULT, complain, fail, tell,
+    WRITE_FAULT, fail, tell,
 };
 
 // Whether the words are `live` alone.
@@ -82,10 +82,11 @@ fn run_declared<
 {
     let Live {
         entries,
-        disk,
+        machine,
         ended,
     } = run_sessions(rt, alloc, machine, gate, scripts);
-    (tell_live(alloc, out, err, declared, entries, ended), disk)
+    let status = tell_live(alloc, out, err, declared, entries, ended);
+    (status, machine.into_disk())
 }
 
 // What is to be declared comes to a machine, and then sessions run over it.
@@ -184,8 +185,8 @@ fn run_input<
     ensures usage { result.0 ≢ USAGE }
     ensures store { result.0 ≢ NOT_A_STORE }
     ensures nothing { RunsNothing result.0 → K.holds out.new ≡ K.holds out.old }
-    ensures lives { (brands : List Tabled) (R : List Commit) → StandsFor (opening brands R) machine.entry → (D.view machine.entry.bank.disk).Keeps → IfSome (S.left src.old) (λ bytes.
-        LivesOn brands R (input_of bytes) result.0 (K.holds out.old) (K.holds out.new) (E.holds err.old) (E.holds err.new) (E.faults err.old) (E.faults err.new) (D.view machine.entry.bank.disk) (D.view result.1)) }
+    ensures lives { (brands : List Tabled) (R : List Commit) → StandsFor (opening brands R) machine.entry →
+        LivesOnSome brands R (S.left src.old) result.0 (K.holds out.old) (K.holds out.new) (E.holds err.old) (E.holds err.new) (E.faults err.old) (E.faults err.new) (D.view machine.entry.bank.disk) (D.view result.1) }
     ensures read_fault { result.0 ≡ READ_FAULT → Rose (S.faults src.old) (S.faults src.new) }
     ensures read_line { result.0 ≡ READ_FAULT → TakesFront (E.holds err.old) (E.holds err.new) (E.faults err.old) (E.faults err.new) read_fault_line }
     ensures write_fault { result.0 ≡ WRITE_FAULT → Rose (K.faults out.old) (K.faults out.new) ⊎ Rose (E.faults err.old) (E.faults err.new) }
@@ -232,6 +233,7 @@ fn run_on_store<
     ensures usage { result.0 ≢ USAGE }
     ensures lives { (R : List Commit) → IsStoreOf (D.view disk) R → IfSome (S.left src.old) (λ bytes.
         LivesOn (tables_of brands.now) R (input_of bytes) result.0 (K.holds out.old) (K.holds out.new) (E.holds err.old) (E.holds err.new) (E.faults err.old) (E.faults err.new) (D.view disk) (D.view result.1)) }
+    ensures any_disk { LivesOverSome (tables_of brands.now) (S.left src.old) result.0 (K.holds out.old) (K.holds out.new) (E.holds err.old) (E.holds err.new) (E.faults err.old) (E.faults err.new) (D.view disk) (D.view result.1) }
     ensures store { result.0 ≡ NOT_A_STORE → (D.view disk).Keeps → FoundNone (D.view disk) (E.holds err.old) (E.holds err.new) (E.faults err.old) (E.faults err.new) }
     ensures unread { result.0 ≡ NOT_A_STORE → src.new ≡ src.old }
     ensures nothing { RunsNothing result.0 → K.holds out.new ≡ K.holds out.old }
@@ -246,7 +248,7 @@ fn run_on_store<
         Ok(machine) => run_input(rt, alloc, machine, gate, src, out, err),
         Err((StoreFault::Memory, disk)) => (fail(err, RunFault::Memory), disk),
         Err((StoreFault::DiskFault, disk)) => (fail(err, RunFault::Disk), disk),
-        Err((fault, disk)) => (complain(alloc, err, Complaint::NotAStore(fault)), disk),
+        Err((fault, disk)) => (tell_ending(alloc, err, Complaint::NotAStore(fault)), disk),
     }
 }
 
@@ -278,6 +280,11 @@ pub fn run_live<
     // Over a store and a whole input: the record that was written, and what is on the disk of it.
     ensures lives { (R : List Commit) → IsForm (map string_bytes words.now) → IsStoreOf (D.view disk) R → IfSome (S.left src.old) (λ bytes.
         LivesOn (tables_of brands.now) R (input_of bytes) result.0 (K.holds out.old) (K.holds out.new) (E.holds err.old) (E.holds err.new) (E.faults err.old) (E.faults err.new) (D.view disk) (D.view result.1)) }
+
+    // Whatever the disk and the input are, that is so over the store of some commits and of some input, which is this one where it is
+    // known; or no store was opened, and nothing was written: then the status is 6, 7 or 9.
+    ensures any_disk { IsForm (map string_bytes words.now) →
+        LivesOverSome (tables_of brands.now) (S.left src.old) result.0 (K.holds out.old) (K.holds out.new) (E.holds err.old) (E.holds err.new) (E.faults err.old) (E.faults err.new) (D.view disk) (D.view result.1) }
 
     // Where nothing is run, nothing is written on standard output, whatever the disk is.
     ensures nothing { RunsNothing result.0 → K.holds out.new ≡ K.holds out.old }

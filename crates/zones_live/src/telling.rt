@@ -15,8 +15,7 @@ use zones_run::{
     Complaint, DISK_FAULT, DONE, NO_MEMORY, RunFault, WRITE_FAULT, complain, fail, tell,
 };
 
-/// Tells a line of the input that ends a run before anything is done, and answers the exit status. Whether the line is taken is not
-/// asked.
+/// Tells what ends a run before anything is done, and answers the exit status. Whether the line is taken is not asked.
 pub(crate) fn tell_ending<E: Sink>(alloc: Global, err: &mut E, complaint: Complaint) -> u8
     ensures statuses { (result ≡ complaint_status complaint) ⊎ (result ≡ NO_MEMORY) }
     ensures line { result ≢ NO_MEMORY → TakesFront (E.holds err.old) (E.holds err.new) (E.faults err.old) (E.faults err.new) (complaint_text complaint) }

@@ -10,7 +10,8 @@ pub returns-clause-runs : goal.returns-clause-runs
 returns-clause-runs g c = λ brands R what d.
     let view = g.D.Disk.view in
     let ran = c.run_sessions-entries in
-    let e = c.tell_live.ensures in
+    let told = c.tell_live-status in
+    let e = told.ensures in
     let S = after (opening brands R) d.first in
-    runs-of brands R what (scripts_of c.args.scripts.items) c.tell_live.result (g.K.Sink.holds c.args.out.now) (g.K.Sink.holds c.tell_live.new.out) (g.E.Sink.holds c.args.err.now) (g.E.Sink.holds c.tell_live.new.err) (g.E.Sink.faults c.args.err.now) (g.E.Sink.faults c.tell_live.new.err) c.args.declared.items ran.result.entries.items ran.result.ended (λ T. StandsFor T c.args.machine) (view c.args.machine.bank.disk) (view ran.result.disk) d
-    (ran.ensures.lives S (record { brands = brands; commits = R; past = d.first; there = refl }) d.stood) ran.ensures.only e.statuses e.whole e.text e.line e.front e.disk e.settled
+    rw c.into_disk.ensures (runs-of brands R what (scripts_of c.args.scripts.items) told.result (g.K.Sink.holds c.args.out.now) (g.K.Sink.holds told.new.out) (g.E.Sink.holds c.args.err.now) (g.E.Sink.holds told.new.err) (g.E.Sink.faults c.args.err.now) (g.E.Sink.faults told.new.err) c.args.declared.items ran.result.entries.items ran.result.ended (λ T. StandsFor T c.args.machine) (view c.args.machine.bank.disk) (view ran.result.machine.bank.disk) d
+    (ran.ensures.lives S (record { brands = brands; commits = R; past = d.first; there = refl }) d.stood) ran.ensures.only e.statuses e.whole e.text e.line e.front e.disk e.settled)

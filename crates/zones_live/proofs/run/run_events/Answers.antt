@@ -16,4 +16,4 @@ returns-in-Ok-clause-runs g c = λ brands R stands.
 pub returns-in-Err-clause-runs : goal.returns-in-Err-clause-runs
 returns-in-Err-clause-runs g c = λ brands R stands.
     let v = g.D.Disk.view c.args.machine.bank.disk in
-    rw c.hand_back.ensures.same (runs-nothing brands R (declared_in c.args.events.items) (typed_in c.args.events.items) c.fail.result (g.K.Sink.holds c.args.out.now) (g.K.Sink.holds c.args.out.now) (g.E.Sink.holds c.args.err.now) (g.E.Sink.holds c.fail.new.err) (g.E.Sink.faults c.args.err.now) (g.E.Sink.faults c.fail.new.err) v v refl (inl c.fail.ensures.status) (λ k. k) (c.hand_back.ensures.kept (opening brands R) stands))
+    rw c.hand_back.ensures.same (runs-nothing brands R (declared_in c.args.events.items) (typed_in c.args.events.items) c.fail.result (g.K.Sink.holds c.args.out.now) (g.K.Sink.holds c.args.out.now) (g.E.Sink.holds c.args.err.now) (g.E.Sink.holds c.fail.new.err) (g.E.Sink.faults c.args.err.now) (g.E.Sink.faults c.fail.new.err) v v refl (inl c.fail.ensures.status) (λ k. k) (λ is. c.hand_back.ensures.kept (opening brands R) stands is.keeps))

@@ -15,7 +15,7 @@ returns-in-Ok-clause-runs g c = λ brands R stands.
     let what = c.args.sorted.declared.items in
     let m = c.declare.new.machine in
     let declared = subst (λ (old : List Entry). Declared S what old c.declare.new.entries.items (λ T. StandsFor T m)) c.new-entries.ensures.items (e.declared S stands) in
-    runs-later brands R (view c.args.machine.bank.disk) (view m.bank.disk) (view c.run_declared.result.1) e.passes.model.0 (e.kept S stands) what (scripts_of c.args.sorted.scripts.items) c.run_declared.result.0 (g.K.Sink.holds c.args.out.now) (g.K.Sink.holds c.run_declared.new.out) (g.E.Sink.holds c.args.err.now) (g.E.Sink.holds c.run_declared.new.err) (g.E.Sink.faults c.args.err.now) (g.E.Sink.faults c.run_declared.new.err)
+    runs-later brands R (view c.args.machine.bank.disk) (view m.bank.disk) (view c.run_declared.result.1) e.passes.model.0 (λ is. e.kept S stands is.keeps) c.run_declared.result.0 (g.K.Sink.holds c.args.out.now) (g.K.Sink.holds c.run_declared.new.out) (g.E.Sink.holds c.args.err.now) (g.E.Sink.holds c.run_declared.new.err) (g.E.Sink.faults c.args.err.now) (g.E.Sink.faults c.run_declared.new.err) what (scripts_of c.args.sorted.scripts.items)
     (c.run_declared.ensures.runs brands R what declared)
 
 pub returns-in-Err-clause-runs : goal.returns-in-Err-clause-runs
@@ -24,4 +24,4 @@ returns-in-Err-clause-runs g c = λ brands R stands.
     let e = c.in-Err.ensures in
     let S = opening brands R in
     rw c.into_disk.ensures (runs-nothing brands R c.args.sorted.declared.items (scripts_of c.args.sorted.scripts.items) c.fail.result (g.K.Sink.holds c.args.out.now) (g.K.Sink.holds c.args.out.now) (g.E.Sink.holds c.args.err.now) (g.E.Sink.holds c.fail.new.err) (g.E.Sink.faults c.args.err.now) (g.E.Sink.faults c.fail.new.err) (view c.args.machine.bank.disk) (view c.declare.new.machine.bank.disk) refl
-    (status-either c.in-Err.fault c.fail.result e.only c.fail.ensures.status) e.passes.model.0 (e.kept S stands))
+    (status-either c.in-Err.fault c.fail.result e.only c.fail.ensures.status) e.passes.model.0 (λ is. e.kept S stands is.keeps))
