@@ -1,5 +1,5 @@
 //! How a run of live sessions is told: its record, and the line and the status that it ends with.
-ghost use Rattle.std.specs.Prelude.{◌≡◌, ◌≢◌, ◌⊎◌, ◌++◌, [], IfSome, None, Some};
+ghost use Rattle.std.specs.Prelude.{◌≡◌, ◌≢◌, ◌⊎◌, ◌++◌, [], IfOk, IfSome, None, Some};
 ghost use Rattle.zn_io.specs.Streams.{Rose, TakesFront};
 ghost use Rattle.zones_live.specs.Living.{IsDone};
 ghost use Rattle.zones_live.specs.Records.{record_text, told_record, told_refused};
@@ -89,6 +89,19 @@ fn run_fault(fault: StepFault) -> RunFault
     }
 }
 
+// What was declared, and behind it what sessions left. Where nothing was declared no entry is moved.
+fn joined(declared: Vec<Entry>, lived: Vec<Entry>) -> Result<Vec<Entry>, AllocError>
+    ensures { IfOk result (λ all. all.items ≡ declared.items ++ lived.items) }
+{
+    if declared.is_empty() {
+        return Ok(lived);
+    }
+    let mut entries = declared;
+    let mut lived = lived;
+    entries.append(&mut lived)?;
+    Ok(entries)
+}
+
 /// Writes the record of what was declared and of what sessions left, and tells how the run ended. Where memory runs out for the list
 /// of both, nothing is written, and a fault of the disk is told before that.
 pub(crate) fn tell_live<K: Sink, E: Sink>(
@@ -111,10 +124,8 @@ pub(crate) fn tell_live<K: Sink, E: Sink>(
     ensures settled { result ≡ NO_MEMORY → ended ≢ Some StepFault.DiskFault }
     ensures memory { result ≡ NO_MEMORY → TakesFront (E.holds err.old) (E.holds err.new) (E.faults err.old) (E.faults err.new) memory_line }
 {
-    let mut entries = declared;
-    let mut lived = lived;
-    match entries.append(&mut lived) {
-        Ok(()) => match ended {
+    match joined(declared, lived) {
+        Ok(entries) => match ended {
             None => tell_whole(alloc, out, err, &entries),
             Some(fault) => tell_part(alloc, out, err, &entries, run_fault(fault)),
         },
