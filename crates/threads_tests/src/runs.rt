@@ -59,6 +59,48 @@ impl Gate for Meeting {
     }
 }
 
+// The sessions 1 and 3 are held in the zones 3 and 4 until session 2 has a ticket in the zone 2, and is there for its first turn. Then the
+// zone 1 comes to its first line, once both were sent to it, so that the other comes there, too. Session 2 waits in the zone 2 until it did: by
+// then the first line of the zone 1 is over. It is counted whether session 2 saw so.
+#[derive(Drop)]
+struct Holding<'a> {
+    sent: &'a AtomicU64,
+    at_1: AtomicU64,
+    at_2: AtomicU64,
+    saw: AtomicU64,
+}
+
+// Waits until a count is so high, and tells whether it is.
+fn waits_for(count: &AtomicU64, many: u64) -> bool {
+    for _ in 0..TURNS_MAX {
+        if count.load(Ordering::SeqCst) >= many {
+            return true;
+        }
+        thread::yield_now();
+    }
+    false
+}
+
+impl<'a> Gate for Holding<'a> {
+    fn pass<W: Wait>(&self, _rt: &W, place: u32) {
+        match place {
+            1 => {
+                if self.at_1.fetch_add(1, Ordering::SeqCst) == 3 {
+                    waits_for(self.sent, 5);
+                }
+            }
+            2 => {
+                if self.at_2.fetch_add(1, Ordering::SeqCst) == 1 && waits_for(&self.at_1, 5) {
+                    self.saw.fetch_add(1, Ordering::SeqCst);
+                }
+            }
+            _ => {
+                waits_for(&self.at_2, 2);
+            }
+        }
+    }
+}
+
 // So many zones, none of which is busy.
 fn cells(alloc: Global, many: u32) -> Result<Vec<Cell>, AllocError>
     ensures { IfOk result (λ v. (length v.items ≡ many) × IsOpening toy (λ s. s ≡ []) v.items) }
@@ -130,6 +172,7 @@ fn scripts(
 fn run<L: Lines + Send + Sync, R: Threads + Wait + Sync, G: Gate + Sync>(
     rt: &R,
     alloc: Global,
+    toy: &Toy,
     gate: &G,
     zones: u32,
     all: u64,
@@ -148,7 +191,7 @@ fn run<L: Lines + Send + Sync, R: Threads + Wait + Sync, G: Gate + Sync>(
     match run_scripts::<Toy, Fresh<L>, R, G>(
         rt,
         alloc,
-        &Toy,
+        toy,
         gate,
         cells(alloc, zones)?,
         pool,
@@ -160,6 +203,22 @@ fn run<L: Lines + Send + Sync, R: Threads + Wait + Sync, G: Gate + Sync>(
 }
 
 // Runs scripts whose sessions are numbered.
+fn run_toy<R: Threads + Wait + Sync, G: Gate + Sync>(
+    rt: &R,
+    alloc: Global,
+    toy: &Toy,
+    gate: &G,
+    zones: u32,
+    all: u64,
+    scripts: &[Script<Line>],
+) -> Result<Lived<Toy>, AllocError>
+    requires zones { zones < PASSES_OUT_MAX }
+    requires scripts { Numbered 1 scripts.now × (length scripts.now < 65) }
+{
+    run::<Brand, R, G>(rt, alloc, toy, gate, zones, all, scripts)
+}
+
+// The same on a machine of its own.
 fn run_all<R: Threads + Wait + Sync, G: Gate + Sync>(
     rt: &R,
     alloc: Global,
@@ -171,7 +230,10 @@ fn run_all<R: Threads + Wait + Sync, G: Gate + Sync>(
     requires zones { zones < PASSES_OUT_MAX }
     requires scripts { Numbered 1 scripts.now × (length scripts.now < 65) }
 {
-    run::<Brand, R, G>(rt, alloc, gate, zones, all, scripts)
+    let toy = Toy {
+        sent: AtomicU64::new(0),
+    };
+    run_toy(rt, alloc, &toy, gate, zones, all, scripts)
 }
 
 // How many lines were done.
@@ -254,5 +316,45 @@ fn two_zones_at_once(rt: HostRuntime) -> Result<(), Fail> {
         assert!(rt; lived.ended.is_none(), "at {at}");
         assert_eq!(rt; gate.met.load(Ordering::SeqCst), 2, "at {at}");
     }
+    Ok(())
+}
+
+// Three scripts: two begin in the zones 3 and 4, and go on in the zone 1, and the one between them has a ticket in the zone 2.
+fn held_scripts(alloc: Global) -> Result<Vec<Script<Line>>, AllocError>
+    ensures { IfOk result (λ v. Numbered 1 v.items × (length v.items ≡ 3)) }
+{
+    let mut scripts = Vec::new(alloc);
+    scripts.push(script(alloc, 1, 3, 2, 3, true)?)?;
+    scripts.push(script(alloc, 2, 2, 1, 4, false)?)?;
+    scripts.push(script(alloc, 3, 4, 2, 4, true)?)?;
+    Ok(scripts)
+}
+
+// After a fault no zone makes a local turn.
+#[test]
+fn no_turn_after_a_fault(rt: HostRuntime) -> Result<(), Fail> {
+    let alloc = rt.alloc();
+    let scripts = held_scripts(alloc)?;
+    let toy = Toy {
+        sent: AtomicU64::new(0),
+    };
+    let gate = Holding {
+        sent: &toy.sent,
+        at_1: AtomicU64::new(0),
+        at_2: AtomicU64::new(0),
+        saw: AtomicU64::new(0),
+    };
+    // The first line of each is all that the pool has.
+    let lived = run_toy(&rt, alloc, &toy, &gate, 4, 3, &scripts)?;
+    assert!(rt; matches!(lived.ended, Some(Ending::Fault(_))));
+    assert_eq!(rt; gate.saw.load(Ordering::SeqCst), 1);
+    assert_eq!(rt; lines_done(&lived), 3);
+    let mut turns: u64 = 0;
+    for entry in lived.entries.iter() {
+        if entry.place == 2 && entry.told.session == 0 {
+            turns = turns.saturating_add(1);
+        }
+    }
+    assert_eq!(rt; turns, 0);
     Ok(())
 }

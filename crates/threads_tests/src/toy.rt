@@ -5,6 +5,7 @@ ghost use Rattle.threads_tests.specs.Laws.{laws};
 
 use std::alloc::AllocError;
 use std::collections::LinkedList;
+use std::sync::atomic::{AtomicU64, Ordering};
 use zone_threads::{Machine, Said, Stop, Told, Zoned};
 
 /// A zone: what is left of the request of its ticket, and how many requests came.
@@ -49,8 +50,11 @@ pub struct Entry {
 #[derive(Drop)]
 pub struct Empty;
 
-/// The machine.
-pub struct Toy;
+/// The machine. It counts how many lines it sent to another zone.
+#[derive(Drop)]
+pub struct Toy {
+    pub sent: AtomicU64,
+}
 
 impl Zoned for Toy {
     type State = LinkedList<Entry>;
@@ -128,6 +132,7 @@ impl Machine for Toy {
         line: &Line,
     ) -> Result<Entry, Stop<Empty>> {
         if line.place != place {
+            self.sent.fetch_add(1, Ordering::SeqCst);
             return Err(Stop::Elsewhere(line.place));
         }
         if shared.drawn >= shared.all {

@@ -1,27 +1,24 @@
 -- The passes are taken back, and what the closed turn tells.
-use Rattle.std.proofs.Common.{◌≡◌, ◌≢◌, ◌⊎◌, inl, inr, ℕ, ◌+◌, ◌-◌, ◌<◌, ◌≤◌, ◌==◌, Bool, true, false, List, [], ◌∷◌, ◌++◌, map, length, slice_index_or, sym, refl, ap, ◌∙◌, subst, arith, zero, suc, Err, IfOk, Ok, Result}
+use Rattle.std.proofs.Common.{◌≡◌, ◌≢◌, ◌⊎◌, inl, inr, ℕ, ◌+◌, ◌-◌, ◌<◌, ◌≤◌, ◌==◌, Bool, true, false, List, [], ◌∷◌, ◌++◌, map, length, take, slice_index_or, sym, refl, ap, ◌∙◌, subst, arith, zero, suc, Err, IfOk, Ok, Result}
 use Rattle.std.specs.List.{All}
 use Rattle.std.proofs.lemmas.List.Elements.{All-nil, All-cons}
 use lib.ListN.{get_elem?}
 use mathlib.Core.Option.{Option, some, none}
 use Rattle.zone_turn.specs.Histories.{own}
-use Rattle.zone_turn.specs.Passes.{Apart, IsKept, after_join, is_first, kept_of, role_after_join, role_first}
+use Rattle.zone_turn.specs.Passes.{Apart, IsKept, after_join, first_view, is_first, kept_of, role_after_join, role_first}
 use Rattle.zone_turn.specs.declared.views.View.{View}
 use Rattle.zone_turn.specs.declared.views.Role.{Role}
 use Rattle.zone_turn.specs.declared.views.Role.TheVariants.{First, Other, Spent}
-use Rattle.zone_threads.specs.Folds.{all_right}
-use Rattle.zone_threads.specs.Ends.{AreAll, AreFree, AreKept, Ended, Finished, Gathered, HasAll, IsBack, IsKeptOf, IsScript, LeftBy, back, log_of, pair, pairs, roster}
-use Rattle.zone_threads.specs.Machines.{Definitions, Laws}
+use Rattle.zone_threads.specs.Ends.{AreAll, AreFree, AreKept, Closed, Differ, Finished, Gathered, HasAll, IsKeptOf, IsLeft, IsScript, back, gave, pair, pairs, roster}
+use Rattle.zone_threads.specs.Machines.{Definitions}
 use Rattle.zone_threads.specs.Notes.{dones, has_mark, note_by}
 use Rattle.zone_threads.specs.Records.{Stands, Tells}
-use Rattle.zone_threads.specs.Zones.{left_by}
 use Rattle.zone_threads.specs.declared.notes.Note.{Note}
 use Rattle.zone_threads.specs.declared.tally.Progress.{Progress}
 use Rattle.zone_threads.specs.declared.run.Script.{Script}
 use Rattle.zone_threads.specs.declared.zone.Back.{Back}
 use Rattle.zone_threads.specs.declared.zone.Log.{Log}
 use Rattle.zone_threads.proofs.Bools.{are_apart, are_same, differ, is_same, apart}
-use Rattle.zone_threads.proofs.Histories.{own_world}
 use Rattle.zone_threads.proofs.Telling.{dones_own, own_free}
 
 module _ {Cell Entry : Type 0} where
@@ -36,7 +33,7 @@ module _ {Cell Entry : Type 0} where
   gathered_none role made out logs empty is = record { kept = []; is = is; are = subst (AreKept []) (sym empty) tt }
 
   -- one pass more is back
-  pub gathered : (v v' w : View (Note Entry)) (made out : ℕ) (logs logs' : List (Log Cell Entry)) (log : Log Cell Entry) → v' ≡ after_join v w → w.number ≡ log.place → dones w.list ≡ log.entries.items → (log.marked ≡ true → has_mark w.list ≡ true) → logs' ≡ logs ++ log ∷ []
+  pub gathered : (v v' w : View (Note Entry)) (made out : ℕ) (logs logs' : List (Log Cell Entry)) (log : Log Cell Entry) → v' ≡ after_join v w → w.number ≡ log.place → dones w.list ≡ take log.given log.entries.items → (log.marked ≡ true → has_mark w.list ≡ true) → logs' ≡ logs ++ log ∷ []
       → Gathered v.role made (out + 1) logs → Gathered v'.role made out logs'
   gathered v v' w made out logs logs' log is number done marks more was =
       let count : (out + 1) - 1 ≡ out = omega arith in
@@ -66,24 +63,20 @@ module _ {Entry : Type 0} where
   is_there (some x) = true
 
 module _ {Cell Entry : Type 0} (by : Entry → ℕ) where
-  kept_log : (h : List Entry) (p : ℕ) (logs : List (Log Cell Entry)) → All (λ (k : ℕ × List Entry). own by k.0 h ≡ k.1) (pairs logs) → IsKept (pairs logs) p ⊎ (own by p h ≡ []) → own by p h ≡ log_of logs p
-  kept_log h p [] all (inl k) = absurd (apart (sym (ap is_there k.2)))
-  kept_log h p [] all (inr empty) = empty
-  kept_log h p (l ∷ ls) all where_is = here (kept_log h p ls (λ k d n. all (suc k) d (omega arith))) where_is (l.place == p) refl
-    where
-      here : (IsKept (pairs ls) p ⊎ (own by p h ≡ []) → own by p h ≡ log_of ls p) → IsKept (pairs (l ∷ ls)) p ⊎ (own by p h ≡ []) → (b : Bool) → (l.place == p) ≡ b → own by p h ≡ log_of (l ∷ ls) p
-      here rest where_is true q = rw q (ap (λ k. own by k h) (sym (are_same l.place p q)) ∙ all 0 (pair l) (omega arith))
-      here rest (inr empty) false q = rw q (rest (inr empty))
-      here rest (inl (zero, es, is)) false q = absurd (apart (sym (is_same l.place p (ap (λ (o : Option (ℕ × List Entry)). (from_some (p, es) o).0) is)) ∙ q))
-      here rest (inl (suc k, es, is)) false q = rw q (rest (inl (k, es, is)))
+  of_pairs : (h : List Entry) (ls : List (Log Cell Entry)) → All (λ (k : ℕ × List Entry). own by k.0 h ≡ k.1) (pairs ls) → All (λ (l : Log Cell Entry). own by l.place h ≡ gave l) ls
+  of_pairs h [] all = All-nil (λ (l : Log Cell Entry). own by l.place h ≡ gave l)
+  of_pairs h (l ∷ ls) all = All-cons (λ (l : Log Cell Entry). own by l.place h ≡ gave l) l ls (all 0 (pair l) (omega arith)) (of_pairs h ls (λ k d n. all (suc k) d (omega arith)))
 
-module _ {State Cell Shared Line Entry Heard : Type 0} (D : Definitions State Cell Shared Line Entry Heard) (L : Laws D) where
-  backs_of : (starts : State → Type 0) (start : State) (from : starts start) (h : List Entry) (logs : List (Log Cell Entry)) → all_right D.right D.one start h ≡ true → All (λ (k : ℕ × List Entry). own D.by k.0 h ≡ k.1) (pairs logs) → All (LeftBy D starts) logs → All (IsBack D start h) (map back logs)
-  backs_of starts start from h [] legal all left = All-nil (IsBack D start h)
-  backs_of starts start from h (l ∷ ls) legal all left =
-      All-cons (IsBack D start h) (back l) (map back ls)
-      (λ m. subst (D.cell_of l.cell) (sym (own_world D L l.place start h legal ∙ ap (left_by D start l.place) (all 0 (pair l) (omega arith)))) (left 0 l (omega arith) start from m))
-      (backs_of starts start from h ls legal (λ k d n. all (suc k) d (omega arith)) (λ k d n. left (suc k) d (omega arith)))
+module _ {Cell Entry : Type 0} where
+  not_kept : (p : ℕ) (ls : List (Log Cell Entry)) → All (λ (l : Log Cell Entry). l.place ≢ p) ls → IsKept (pairs ls) p → ⊥
+  not_kept p [] away k = apart (sym (ap is_there k.2))
+  not_kept p (l ∷ ls) away (zero, es, is) = away 0 l (omega arith) (ap (λ (o : Option (ℕ × List Entry)). (from_some (p, es) o).0) is)
+  not_kept p (l ∷ ls) away (suc k, es, is) = not_kept p ls (λ j d n. away (suc j) d (omega arith)) (k, es, is)
+
+  pair_at : (ls : List (Log Cell Entry)) (i : ℕ) (d : Log Cell Entry) → i < length ls → (slice_index_or (pairs ls) i (pair d)).0 ≡ (slice_index_or ls i d).place
+  pair_at [] i d near = absurd (omega arith)
+  pair_at (l ∷ ls) zero d near = refl
+  pair_at (l ∷ ls) (suc i) d near = pair_at ls i d (omega arith)
 
 -- the cells are all there
 module _ {Cell Entry : Type 0} where
@@ -101,6 +94,11 @@ module _ {Cell Entry : Type 0} where
   within zones (l ∷ ls) above near =
       All-cons (λ (b : Back Cell). (0 < b.place) × (b.place ≤ zones)) (back l) (map back ls) (above 0 (pair l) (omega arith), near 0 l (omega arith))
       (within zones ls (λ k d n. above (suc k) d (omega arith)) (λ k d n. near (suc k) d (omega arith)))
+
+  all_differ : (ls : List (Log Cell Entry)) → Apart (pairs ls) → Differ ls
+  all_differ ls apart_all i j d less near same =
+      let there : j < length (pairs ls) = (let n = (map_length ls).1 in omega arith) in
+      apart_all.1 i j (pair d) less there (pair_at ls i d (omega arith) ∙ (same ∙ sym (pair_at ls j d near)))
 
   pub all_there : (zones : ℕ) (ls : List (Log Cell Entry)) → Apart (pairs ls) → All (λ (l : Log Cell Entry). l.place ≤ zones) ls → length ls ≡ zones → AreAll zones (map back ls)
   all_there zones ls apart_all near count =
@@ -181,20 +179,21 @@ module _ {Cell Entry : Type 0} where
         here true marks = sym (marks refl) ∙ unmarked
         here false marks = refl
 
-module _ {State Cell Shared Line Entry Heard : Type 0} (D : Definitions State Cell Shared Line Entry Heard) (L : Laws D) where
-  pub ended : (starts : State → Type 0) (scripts : ℕ → List Line) (zones : ℕ) (m : Shared) (ts : List Progress) (rs : List (ℕ × ℕ)) (logs : List (Log Cell Entry)) (v : View (Note Entry)) (made : ℕ) (ns : List (Note Entry))
+module _ {State Cell Shared Line Entry Heard : Type 0} (D : Definitions State Cell Shared Line Entry Heard) where
+  pub closed : (starts : State → Type 0) (scripts : ℕ → List Line) (zones : ℕ) (m : Shared) (ts : List Progress) (rs : List (ℕ × ℕ)) (logs : List (Log Cell Entry)) (v : View (Note Entry)) (made : ℕ) (ns : List (Note Entry))
       → Tells D starts scripts m ts rs ns → own (note_by D.by) 0 ns ≡ v.list → All (λ (k : ℕ × List (Note Entry)). own (note_by D.by) k.0 ns ≡ k.1) (kept_of v.role) → Apart (kept_of v.role) → ((n : ℕ) → n ≢ 0 → IsKept (kept_of v.role) n ⊎ (own (note_by D.by) n ns ≡ []))
-      → v.list ≡ [] → Gathered v.role made 0 logs → All (LeftBy D starts) logs → All (λ (l : Log Cell Entry). l.place ≤ zones) logs → length logs ≡ zones → Ended D starts scripts zones m ts rs logs
-  ended starts scripts zones m ts rs logs v made ns tells first all differ_all others empty role left near count =
-      let mine : All (λ (k : ℕ × List Entry). own D.by k.0 (dones ns) ≡ k.1) (pairs logs) = subst (All (λ (k : ℕ × List Entry). own D.by k.0 (dones ns) ≡ k.1)) same (told_own D.by ns role.kept known) in
-      record {
-        h = dones ns;
-        stands = tells.stands.each;
-        each = λ p. kept_log D.by (dones ns) p logs mine (at p);
-        backs = λ start from. backs_of D L starts start from (dones ns) logs (tells.stands.each start from).middle.legal mine left;
-        all_back = all_there zones logs (subst Apart same (told_apart role.kept (subst Apart kept differ_all))) near count;
-        free = λ sound. all_free D.by ns role.kept logs (tells.free sound) known role.are;
-      }
+      → v.list ≡ [] → Gathered v.role made 0 logs → All (IsLeft D starts) logs → All (λ (l : Log Cell Entry). l.place ≤ zones) logs → length logs ≡ zones → Closed D starts scripts zones m ts rs logs
+  closed starts scripts zones m ts rs logs v made ns tells first all differ_all others empty role left near count = record {
+    h = dones ns;
+    stands = tells.stands;
+    mine = of_pairs D.by (dones ns) logs (subst (All (λ (k : ℕ × List Entry). own D.by k.0 (dones ns) ≡ k.1)) same (told_own D.by ns role.kept known));
+    others = at;
+    left = left;
+    differ = all_differ logs pairs_apart;
+    count = count;
+    all_back = all_there zones logs pairs_apart near count;
+    free = λ sound. all_free D.by ns role.kept logs (tells.free sound) known role.are;
+  }
     where
       kept : kept_of v.role ≡ role.kept
       kept = ap kept_of role.is
@@ -205,11 +204,44 @@ module _ {State Cell Shared Line Entry Heard : Type 0} (D : Definitions State Ce
       known : All (λ (k : ℕ × List (Note Entry)). own (note_by D.by) k.0 ns ≡ k.1) role.kept
       known = subst (All (λ (k : ℕ × List (Note Entry)). own (note_by D.by) k.0 ns ≡ k.1)) kept all
 
-      at : (p : ℕ) → IsKept (pairs logs) p ⊎ (own D.by p (dones ns) ≡ [])
-      at zero = inr (sym (dones_own D.by 0 ns) ∙ ap dones (first ∙ empty))
-      at (suc p) =
-          subst (λ ks. IsKept ks (suc p) ⊎ (own D.by (suc p) (dones ns) ≡ [])) same (told_where D.by ns role.kept (suc p)
-          (subst (λ ks. IsKept ks (suc p) ⊎ (own (note_by D.by) (suc p) ns ≡ [])) kept (others (suc p) (λ q. differ 0 (suc p) (omega arith) (sym q)))))
+      pairs_apart : Apart (pairs logs)
+      pairs_apart = subst Apart same (told_apart role.kept (subst Apart kept differ_all))
+
+      none_of : (p : ℕ) → All (λ (l : Log Cell Entry). l.place ≢ p) logs → IsKept (pairs logs) p ⊎ (own D.by p (dones ns) ≡ []) → own D.by p (dones ns) ≡ []
+      none_of p away (inl k) = absurd (not_kept p logs away k)
+      none_of p away (inr empty_of) = empty_of
+
+      at : (p : ℕ) → All (λ (l : Log Cell Entry). l.place ≢ p) logs → own D.by p (dones ns) ≡ []
+      at zero away = sym (dones_own D.by 0 ns) ∙ ap dones (first ∙ empty)
+      at (suc p) away =
+          none_of (suc p) away (subst (λ ks. IsKept ks (suc p) ⊎ (own D.by (suc p) (dones ns) ≡ [])) same (told_where D.by ns role.kept (suc p)
+          (subst (λ ks. IsKept ks (suc p) ⊎ (own (note_by D.by) (suc p) ns ≡ [])) kept (others (suc p) (λ q. differ 0 (suc p) (omega arith) (sym q))))))
+
+-- where no pass was taken back, nothing was told
+module _ {Entry : Type 0} (belongs : Entry → ℕ) where
+  no_owner : (ns : List Entry) → ((n : ℕ) → own belongs n ns ≡ []) → ns ≡ []
+  no_owner [] empty = refl
+  no_owner (n ∷ ns) empty = absurd (some_own (sym (own_first (is_same (belongs n) (belongs n) refl)) ∙ empty (belongs n)))
+    where
+      own_first : (belongs n == belongs n) ≡ true → own belongs (belongs n) (n ∷ ns) ≡ n ∷ own belongs (belongs n) ns
+      own_first is = rw is refl
+
+      some_own : n ∷ own belongs (belongs n) ns ≡ [] → ⊥
+      some_own is = cc
+
+  none_kept : (n : ℕ) → IsKept {E = Entry} [] n → ⊥
+  none_kept n k = apart (sym (ap is_there k.2))
+
+  pub none_told : (ns : List Entry) (v : View Entry) → v ≡ first_view → own belongs 0 ns ≡ v.list → ((n : ℕ) → n ≢ 0 → IsKept (kept_of v.role) n ⊎ (own belongs n ns ≡ [])) → ns ≡ []
+  none_told ns v is first whole = no_owner ns at
+    where
+      none_of : (n : ℕ) → IsKept (kept_of v.role) n ⊎ (own belongs n ns ≡ []) → own belongs n ns ≡ []
+      none_of n (inl k) = absurd (none_kept n (subst (λ (x : View Entry). IsKept (kept_of x.role) n) is k))
+      none_of n (inr empty) = empty
+
+      at : (n : ℕ) → own belongs n ns ≡ []
+      at zero = first ∙ ap (λ (x : View Entry). x.list) is
+      at (suc n) = none_of (suc n) (whole (suc n) (λ q. differ 0 (suc n) (omega arith) (sym q)))
 
 -- what a finished part says of the history
 module _ {State Cell Shared Line Entry Heard : Type 0} (D : Definitions State Cell Shared Line Entry Heard) where

@@ -1,8 +1,10 @@
 pub mod Bools
+pub mod Endings
 pub mod Gathering
 pub mod Gives
 pub mod Histories
 pub mod Merging
+pub mod Rooms
 pub mod Telling
 pub mod Steps
 pub mod Words

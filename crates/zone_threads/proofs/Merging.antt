@@ -1,9 +1,10 @@
 -- Logs and their order make one history.
-use Rattle.std.proofs.Common.{◌≡◌, ◌≢◌, ℕ, ◌<◌, ◌≤◌, ◌==◌, Bool, true, false, List, [], ◌∷◌, ◌++◌, map, length, drop, set, sym, refl, ap, ◌∙◌, arith, zero, suc, if◌then◌else◌, slice_index_or, Option, Some, None, IfNone}
-use Rattle.std.proofs.lemmas.List.{append_assoc}
+use Rattle.std.proofs.Common.{◌≡◌, ◌≢◌, ℕ, ◌<◌, ◌≤◌, ◌==◌, Bool, true, false, List, [], ◌∷◌, ◌++◌, ◌+◌, map, length, drop, drop-cons, get_or, length-append, replicate, set, sym, refl, ap, ◌∙◌, arith, zero, suc, if◌then◌else◌, slice_index_or, Option, Some, None, IfNone}
+use Rattle.std.proofs.lemmas.List.{append_assoc, length-replicate}
 use Rattle.zone_turn.specs.Histories.{own}
 use Rattle.zone_threads.specs.declared.zone.Log.{Log}
 use Rattle.zone_threads.specs.Ends.{Merges, back, log_of}
+use Rattle.zone_threads.specs.Records.{spread}
 use Rattle.zone_threads.proofs.Bools.{are_apart, are_same, differ, is_same, no_same}
 
 abbrev head_or : {A : Type 0} → A → List A → A
@@ -119,3 +120,10 @@ drop_end [] zero far = refl
 drop_end [] (suc n) far = refl
 drop_end (x ∷ xs) zero far = absurd (omega arith)
 drop_end (x ∷ xs) (suc n) far = drop_end xs n (omega arith)
+
+-- the entries of the next run and of the later ones
+pub spread_drop : (rs : List (ℕ × ℕ)) (i : ℕ) → i < length rs → length (spread (drop i rs)) ≡ (get_or rs i (0, 0)).1 + length (spread (drop (i + 1) rs))
+spread_drop rs i near =
+    let run : ℕ × ℕ = get_or rs i (0, 0) in
+    let next : suc i ≡ i + 1 = omega arith in
+    ap (λ l. length (spread l)) (drop-cons rs i (0, 0) near) ∙ (length-append (replicate run.1 run.0) (spread (drop (suc i) rs)) ∙ (λ j. length-replicate run.1 run.0 j + length (spread (drop (next j) rs))))

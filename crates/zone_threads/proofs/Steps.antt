@@ -1,8 +1,9 @@
 -- What one event keeps.
-use Rattle.std.proofs.Common.{◌≡◌, ◌≢◌, ℕ, ◌-◌, ◌<◌, ◌≤◌, ◌&&◌, not, Bool, true, false, List, [], ◌∷◌, ◌++◌, map, length, take, drop, replicate, sym, refl, ap, ◌∙◌, subst, arith, zero, suc, slice_get, slice_index_or, Some, None, is_some}
+use Rattle.std.proofs.Common.{◌≡◌, ◌≢◌, ℕ, ◌+◌, ◌-◌, ◌<◌, ◌≤◌, ◌&&◌, not, Bool, true, false, List, [], ◌∷◌, ◌++◌, map, length, take, drop, replicate, sym, refl, ap, ◌∙◌, subst, arith, zero, suc, slice_get, slice_index_or, Some, None, is_some}
 use Rattle.std.specs.List.{All}
 use Rattle.std.proofs.lemmas.List.Elements.{All-append, All-cons, All-nil}
-use Rattle.std.proofs.lemmas.List.{append_assoc, drop-append-le, length-drop, take-append-drop, take_all}
+use Rattle.std.proofs.Math.Seq.{take-suc}
+use Rattle.std.proofs.lemmas.List.{append_assoc, drop-append-le, get_or-drop, length-drop, take-append-drop, take_all}
 use mathlib.Core.List.{map-append}
 use Rattle.zone_turn.specs.Histories.{own}
 use Rattle.zone_threads.specs.Folds.{all_right, folded}
@@ -21,7 +22,7 @@ any_default (x ∷ xs) zero d e near = refl
 any_default (x ∷ xs) (suc k) d e near = any_default xs k d e (omega arith)
 
 -- places
-spread_append : (rs qs : List (ℕ × ℕ)) → spread (rs ++ qs) ≡ spread rs ++ spread qs
+pub spread_append : (rs qs : List (ℕ × ℕ)) → spread (rs ++ qs) ≡ spread rs ++ spread qs
 spread_append [] qs = refl
 spread_append (r ∷ rs) qs = ap (λ l. replicate r.1 r.0 ++ l) (spread_append rs qs) ∙ sym (append_assoc (replicate r.1 r.0) (spread rs) (spread qs))
 
@@ -31,6 +32,15 @@ append_none (x ∷ xs) = ap (λ l. x ∷ l) (append_none xs)
 
 pub rest_is : {A : Type 0} (given : ℕ) (items : List A) → take (length items - given) (drop given items) ≡ drop given items
 rest_is given items = take_all (length items - given) (drop given items) (let e = length-drop given items in omega arith)
+
+rest_at : {A : Type 0} (from i : ℕ) (xs : List A) (e : A) → from ≤ i → e ≡ slice_index_or xs i e → e ≡ slice_index_or (drop from xs) (i - from) e
+rest_at from i xs e begun is = is ∙ (let k : i ≡ from + (i - from) = omega arith in ap (λ n. slice_index_or xs n e) k ∙ sym (get_or-drop from xs (i - from) e))
+
+rest_more : {A : Type 0} (from i : ℕ) (xs : List A) (e : A) → from ≤ i → i < length xs → e ≡ slice_index_or xs i e → take (i + 1 - from) (drop from xs) ≡ take (i - from) (drop from xs) ++ e ∷ []
+rest_more from i xs e begun near is =
+    let there : i - from < length (drop from xs) = (let l = length-drop from xs in omega arith) in
+    let next : i + 1 - from ≡ suc (i - from) = omega arith in
+    ap (λ n. take n (drop from xs)) next ∙ (take-suc (drop from xs) (i - from) e there ∙ ap (λ x. take (i - from) (drop from xs) ++ x ∷ []) (sym (rest_at from i xs e begun is)))
 
 module _ {State Cell Shared Line Entry Heard : Type 0} (D : Definitions State Cell Shared Line Entry Heard) where
   line_at : (scripts : ℕ → List Line) (t : ℕ → Progress) (e : Entry) (s number : ℕ) (line : Line) → slice_get (scripts s) number ≡ Some line → D.is_line line e ≡ true → t s ≡ record { done = number; awaits = None }
@@ -62,6 +72,17 @@ module _ {State Cell Shared Line Entry Heard : Type 0} (D : Definitions State Ce
   tally_after p ts ts' e t mine tally wide each n near =
       let inside : n < length ts = subst (λ k. n < k) wide near in
       each n inside ∙ (ap (λ x. progress_one n x p (D.told e)) (tally n inside) ∙ ap (λ q. progress_one n (t n) q (D.told e)) (sym mine))
+
+  -- a log's entries from a number on are noted one by one
+  pub tally_rest : (p from i : ℕ) (xs : List Entry) (ts ts' : List Progress) (e : Entry) (t : ℕ → Progress) → from ≤ i → i < length xs → e ≡ slice_index_or xs i e → All (λ (x : Entry). D.by x ≡ p) (drop from xs)
+      → TallyOf ts (folded (noted D) t (take (i - from) (drop from xs))) → length ts' ≡ length ts → ((n : ℕ) → n < length ts → slice_index_or ts' n fresh ≡ progress_one n (slice_index_or ts n fresh) p (D.told e))
+      → TallyOf ts' (folded (noted D) t (take (i + 1 - from) (drop from xs)))
+  tally_rest p from i xs ts ts' e t begun near is mine tally wide each =
+      let there : i - from < length (drop from xs) = (let l = length-drop from xs in omega arith) in
+      let place : D.by e ≡ p = subst (λ x. D.by x ≡ p) (sym (rest_at from i xs e begun is)) (mine (i - from) e there) in
+      let more : folded (noted D) t (take (i + 1 - from) (drop from xs)) ≡ noted D (folded (noted D) t (take (i - from) (drop from xs))) e =
+      ap (folded (noted D) t) (rest_more from i xs e begun near is) ∙ folded_append (noted D) t (take (i - from) (drop from xs)) (e ∷ []) in
+      subst (TallyOf ts') (sym more) (tally_after p ts ts' e (folded (noted D) t (take (i - from) (drop from xs))) place tally wide each)
 
   -- an entry more of a place
   pub mine_more : (p given : ℕ) (log log' : List Entry) (e : Entry) → given ≤ length log → log' ≡ log ++ e ∷ [] → D.by e ≡ p → All (λ (x : Entry). D.by x ≡ p) (drop given log) → All (λ (x : Entry). D.by x ≡ p) (drop given log')

@@ -1,5 +1,5 @@
 -- What is left at the end.
-use Rattle.std.specs.Prelude.{◌≡◌, ◌≢◌, ℕ, ◌+◌, ◌<◌, ◌≤◌, ◌==◌, true, false, List, [], ◌∷◌, ◌++◌, length, map, slice_index_or, None, if◌then◌else◌}
+use Rattle.std.specs.Prelude.{◌≡◌, ◌≢◌, ℕ, ◌+◌, ◌<◌, ◌≤◌, ◌==◌, true, false, List, [], ◌∷◌, ◌++◌, length, map, take, drop, slice_index_or, None, if◌then◌else◌}
 use Rattle.std.specs.List.{All}
 use Rattle.zone_turn.specs.Histories.{own}
 use Rattle.zone_turn.specs.declared.views.Role.{Role}
@@ -8,10 +8,11 @@ use Rattle.zone_turn.specs.declared.views.Roster.{Roster}
 use Rattle.zone_threads.specs.Folds.{folded}
 use Rattle.zone_threads.specs.Machines.{Definitions}
 use Rattle.zone_threads.specs.Notes.{dones, has_mark}
-use Rattle.zone_threads.specs.Records.{Middle, Stands}
+use Rattle.zone_threads.specs.Records.{Middle, Stands, StandsFrom}
 use Rattle.zone_threads.specs.Scripts.{beginning, fresh, noted}
-use Rattle.zone_threads.specs.Zones.{left_by}
+use Rattle.zone_threads.specs.Zones.{Logged}
 use Rattle.zone_threads.specs.declared.notes.Note.{Note}
+use Rattle.zone_threads.specs.declared.part.TheConstants.{LOCALS_MAX}
 use Rattle.zone_threads.specs.declared.tally.Progress.{Progress}
 use Rattle.zone_threads.specs.declared.run.Script.{Script}
 use Rattle.zone_threads.specs.declared.zone.Back.{Back}
@@ -40,8 +41,23 @@ abbrev pub AreFree : {Cell : Type 0} → List (Back Cell) → Type 0
 AreFree backs = All (λ b. b.marked ≡ false) backs
 
 module _ {Cell Entry : Type 0} where
+  -- what a log gave, and what it didn't
+  abbrev pub gave : Log Cell Entry → List Entry
+  gave l = take l.given l.entries.items
+
+  abbrev pub rest : Log Cell Entry → List Entry
+  rest l = drop l.given l.entries.items
+
+  abbrev pub rests : List (Log Cell Entry) → List Entry
+  rests [] = []
+  rests (l ∷ ls) = rest l ++ rests ls
+
+  -- no two are of one place
+  abbrev pub Differ : List (Log Cell Entry) → Type 0
+  Differ ls = (i j : ℕ) (d : Log Cell Entry) → i < j → j < length ls → (slice_index_or ls i d).place ≢ (slice_index_or ls j d).place
+
   abbrev pub pair : Log Cell Entry → ℕ × List Entry
-  pair l = (l.place, l.entries.items)
+  pair l = (l.place, gave l)
 
   abbrev pub pairs : List (Log Cell Entry) → List (ℕ × List Entry)
   pairs ls = map pair ls
@@ -49,10 +65,10 @@ module _ {Cell Entry : Type 0} where
   abbrev pub back : Log Cell Entry → Back Cell
   back l = record { place = l.place; cell = l.cell; marked = l.marked }
 
-  -- what a zone's pass told is what its log has, and that it is marked, if it is
+  -- what a zone's pass told is what its log gave, and that it is marked, if it is
   pub record IsKeptOf (k : ℕ × List (Note Entry)) (l : Log Cell Entry) : Type 0 where
     pub place : k.0 ≡ l.place
-    pub done : dones k.1 ≡ l.entries.items
+    pub done : dones k.1 ≡ gave l
     pub marks : l.marked ≡ true → has_mark k.1 ≡ true
 
   -- so with each of them
@@ -81,9 +97,13 @@ module _ {Cell Entry : Type 0} where
     pub each : (p : ℕ) → own by p rest ≡ log_of logs p
 
 module _ {State Cell Shared Line Entry Heard : Type 0} (D : Definitions State Cell Shared Line Entry Heard) where
-  -- from each of some states on: unless it is marked, the cell stands for the world that the log leaves
-  abbrev pub LeftBy : (State → Type 0) → Log Cell Entry → Type 0
-  LeftBy starts l = (start : State) → starts start → l.marked ≡ false → D.cell_of l.cell (left_by D start l.place l.entries.items)
+  -- what a zone left: the entries that it didn't give are few, of its place, and local ones, and unless it is marked the cell stands for
+  -- the world that the log leaves
+  pub record IsLeft (starts : State → Type 0) (l : Log Cell Entry) : Type 0 where
+    pub near : l.given ≤ length l.entries.items
+    pub few : length l.entries.items ≤ l.given + LOCALS_MAX
+    pub mine : All (λ (e : Entry). D.by e ≡ l.place) (rest l)
+    pub logged : (start : State) → starts start → Logged D start l.place l.cell l.entries.items l.given l.marked
 
   -- unless it is marked, it stands for its world after the history
   abbrev pub IsBack : State → List Entry → Back Cell → Type 0
@@ -92,6 +112,18 @@ module _ {State Cell Shared Line Entry Heard : Type 0} (D : Definitions State Ce
   -- the cells stand for what the zones of the places 1, 2 and so on begin with in each of some states
   abbrev pub IsOpening : (State → Type 0) → List Cell → Type 0
   IsOpening starts cells = (start : State) → starts start → (i : ℕ) (d : Cell) → i < length cells → D.cell_of (slice_index_or cells i d) (D.world (i + 1) start)
+
+  -- there is one history for which the part stands, what the logs gave are the entries of each place in it, and the cells are all there
+  pub record Closed (starts : State → Type 0) (scripts : ℕ → List Line) (zones : ℕ) (m : Shared) (ts : List Progress) (rs : List (ℕ × ℕ)) (logs : List (Log Cell Entry)) : Type 0 where
+    pub h : List Entry
+    pub stands : StandsFrom D starts scripts m ts rs h
+    pub mine : All (λ (l : Log Cell Entry). own D.by l.place h ≡ gave l) logs
+    pub others : (p : ℕ) → All (λ (l : Log Cell Entry). l.place ≢ p) logs → own D.by p h ≡ []
+    pub left : All (IsLeft starts) logs
+    pub differ : Differ logs
+    pub count : length logs ≡ zones
+    pub all_back : AreAll zones (map back logs)
+    pub free : D.is_sound m ≡ true → AreFree (map back logs)
 
   -- there is one history for which the part stands, the logs are the entries of each place in it, and the cells are all there
   pub record Ended (starts : State → Type 0) (scripts : ℕ → List Line) (zones : ℕ) (m : Shared) (ts : List Progress) (rs : List (ℕ × ℕ)) (logs : List (Log Cell Entry)) : Type 0 where

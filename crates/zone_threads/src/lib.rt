@@ -18,7 +18,7 @@ pub use gate::Gate;
 pub use live::{Ending, Lived, run_scripts};
 pub use machine::{Machine, Said, Stop, Told, Zoned};
 pub use notes::Note;
-pub use part::{Part, Place, Start};
+pub use part::{Outset, Part, Place, Start};
 pub use run::Script;
 pub use tally::{Progress, Ticket};
 pub use zone::Back;

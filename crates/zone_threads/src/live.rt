@@ -5,7 +5,7 @@ ghost use Rattle.zone_turn.specs.Passes.{first_view};
 ghost use Rattle.zone_turn.specs.declared.limits.TheConstants.{PASSES_OUT_MAX};
 ghost use Rattle.zone_threads.specs.Ends.{AreAll, AreFree, Ended, Finished, HasAll, IsBack, IsOpening, IsScript, Over, back};
 ghost use Rattle.zone_threads.specs.Folds.{folded};
-ghost use Rattle.zone_threads.specs.Records.{Middle};
+ghost use Rattle.zone_threads.specs.Records.{HasRoom};
 ghost use Rattle.zone_threads.specs.Scripts.{TallyOf, beginning};
 ghost use Rattle.zone_threads.specs.Words.{IsPartial, IsRecord};
 ghost use Rattle.zone_threads.specs.declared.live.Ending.TheVariants.{Fault};
@@ -14,7 +14,7 @@ use crate::end::worked;
 use crate::gate::Gate;
 use crate::machine::{Machine, Zoned};
 use crate::merge::merged;
-use crate::part::{Part, Place, Start};
+use crate::part::{LOCALS_MAX, Outset, Part, Place, Start};
 use crate::run::Script;
 use crate::step::progress_of;
 use crate::tally::{Progress, SESSIONS};
@@ -101,31 +101,27 @@ fn put_cells<C: Drop, E: Drop>(logs: Vec<Log<C, E>>, cells: &mut Vec<Back<C>>)
     }
 }
 
-// Joins the logs into one list.
-fn joined<M: Machine, J: Start<M>, K: Place>(
-    part: Part<M, J>,
+// Joins the logs into one list. It takes no memory.
+fn joined<M: Machine, J: Start<M>, N: Outset<M::Shared>>(
+    part: Part<M, J, N>,
     mut logs: Vec<Log<M::Cell, M::Entry>>,
     mut cells: Vec<Back<M::Cell>>,
     scripts: &[Script<M::Line>],
-) -> Result<Lived<M>, M::Shared>
-    requires ended { Ended M.machine J.starts J.scripts K.zones part.shared part.tally.items part.order.items logs.items }
+) -> Lived<M>
+    requires ended { Ended M.machine J.starts J.scripts N.zones part.shared part.tally.items part.order.items logs.items }
+    requires entries { HasRoom 0 0 part.entries (vec_capacity part.room) part.order.items (vec_capacity part.order) }
     requires room { (cells.items ≡ []) × (vec_len logs ≤ vec_capacity cells) }
-    ensures over { IfOk result (λ r. Over M.machine J.starts J.scripts K.zones r.shared r.entries.items r.cells.items) }
-    ensures finished { IfOk result (λ r. (start : M.State) → J.starts start → r.ended ≡ None → All (λ x. HasAll M.machine r.entries.items x.session (length x.lines.items)) scripts.now) }
-    ensures memory { IfErr result (λ m. (h : List M.Entry) × ((start : M.State) → J.starts start → Middle M.machine start J.scripts m h)) }
+    ensures over { Over M.machine J.starts J.scripts N.zones result.shared result.entries.items result.cells.items }
+    ensures finished { (start : M.State) → J.starts start → result.ended ≡ None → All (λ x. HasAll M.machine result.entries.items x.session (length x.lines.items)) scripts.now }
 {
     let is_finished = all_done(&part.tally, scripts);
-    match merged(part.room, &part.order, &mut logs) {
-        Ok(entries) => {
-            put_cells(logs, &mut cells);
-            Ok(Lived {
-                entries,
-                shared: part.shared,
-                cells,
-                ended: ending_of(part.ended, is_finished),
-            })
-        }
-        Err(_) => Err(part.shared),
+    let entries = merged(part.room, &part.order, &mut logs);
+    put_cells(logs, &mut cells);
+    Lived {
+        entries,
+        shared: part.shared,
+        cells,
+        ended: ending_of(part.ended, is_finished),
     }
 }
 
@@ -133,6 +129,7 @@ fn joined<M: Machine, J: Start<M>, K: Place>(
 fn placed<
     M: Machine + Send + Sync,
     J: Start<M> + Send + Sync,
+    N: Outset<M::Shared> + Send + Sync,
     K: Place + Send + Sync,
     R: Threads + Wait + Sync,
     G: Gate + Sync,
@@ -141,37 +138,39 @@ fn placed<
     alloc: Global,
     machine: &M,
     gate: &G,
-    turn: Turn<Part<M, J>>,
-    first: Pass<Part<M, J>>,
+    turn: Turn<Part<M, J, N>>,
+    first: Pass<Part<M, J, N>>,
     cells: Vec<M::Cell>,
     scripts: &[Script<M::Line>],
     mut logs: Vec<Log<M::Cell, M::Entry>>,
     backs: Vec<Back<M::Cell>>,
-) -> Result<Lived<M>, M::Shared>
+) -> Result<Lived<M>, (M::Shared, Vec<M::Cell>)>
     requires ready { M.ready machine.now }
     requires turn { (turn ≡ K.turn) × (first.turn ≡ K.turn) × (first.knows ≡ first_view) }
     requires cells { IsOpening M.machine J.starts cells.items }
     requires scripts { All (IsScript J.scripts) scripts.now }
-    requires zones { length cells.items ≡ K.zones }
+    requires zones { length cells.items ≡ N.zones }
     requires few { length cells.items < PASSES_OUT_MAX }
     requires room { (logs.items ≡ []) × (length cells.items ≤ vec_capacity logs) × (backs.items ≡ []) × (length cells.items ≤ vec_capacity backs) }
-    ensures over { IfOk result (λ r. Over M.machine J.starts J.scripts K.zones r.shared r.entries.items r.cells.items) }
+    ensures over { IfOk result (λ r. Over M.machine J.starts J.scripts N.zones r.shared r.entries.items r.cells.items) }
     ensures finished { IfOk result (λ r. (start : M.State) → J.starts start → r.ended ≡ None → All (λ x. HasAll M.machine r.entries.items x.session (length x.lines.items)) scripts.now) }
-    ensures memory { IfErr result (λ m. (h : List M.Entry) × ((start : M.State) → J.starts start → Middle M.machine start J.scripts m h)) }
+    ensures memory { IfErr result (λ m. N.shared m.0 × (m.1.items ≡ cells.items)) }
 {
     let Ok(zones) = Vec::with_capacity(alloc, cells.len()) else {
-        return Err(turn.close(first).shared);
+        return Err((turn.close(first).shared, cells));
     };
-    let part = worked::<M, J, K, R, G>(
+    let part = worked::<M, J, N, K, R, G>(
         rt, alloc, machine, gate, turn, first, cells, scripts, zones, &mut logs,
     );
-    joined::<M, J, K>(part, logs, backs, scripts)
+    Ok(joined(part, logs, backs, scripts))
 }
 
-// Makes the turn. The lists that are wanted at the end are taken before.
+// Makes the turn. The lists that are wanted at the end are taken before, and so is the room for what zones may have then that they
+// didn't give.
 fn started<
     M: Machine + Send + Sync,
     J: Start<M> + Send + Sync,
+    N: Outset<M::Shared> + Send + Sync,
     R: Threads + Wait + Sync,
     G: Gate + Sync,
 >(
@@ -182,47 +181,55 @@ fn started<
     cells: Vec<M::Cell>,
     shared: M::Shared,
     scripts: &[Script<M::Line>],
-) -> Result<Lived<M>, M::Shared>
+) -> Result<Lived<M>, (M::Shared, Vec<M::Cell>)>
     requires ready { M.ready machine.now }
     requires cells { IsOpening M.machine J.starts cells.items }
     requires shared { (start : M.State) → J.starts start → M.machine.shared_of shared (M.machine.common start) }
     requires scripts { All (IsScript J.scripts) scripts.now }
     requires few { length cells.items < PASSES_OUT_MAX }
-    ensures over { IfOk result (λ r. Over M.machine J.starts J.scripts (length cells.items) r.shared r.entries.items r.cells.items) }
+    requires outset { (length cells.items ≡ N.zones) × ((m : M.Shared) → m ≡ shared → N.shared m) }
+    ensures over { IfOk result (λ r. Over M.machine J.starts J.scripts N.zones r.shared r.entries.items r.cells.items) }
     ensures finished { IfOk result (λ r. (start : M.State) → J.starts start → r.ended ≡ None → All (λ x. HasAll M.machine r.entries.items x.session (length x.lines.items)) scripts.now) }
-    ensures memory { IfErr result (λ m. (h : List M.Entry) × ((start : M.State) → J.starts start → Middle M.machine start J.scripts m h)) }
+    ensures memory { IfErr result (λ m. N.shared m.0 × (m.1.items ≡ cells.items)) }
 {
     let zones = cells.len();
     let Ok(tally) = fresh_tally(alloc) else {
-        return Err(shared);
+        return Err((shared, cells));
     };
     let Ok(logs) = Vec::with_capacity(alloc, zones) else {
-        return Err(shared);
+        return Err((shared, cells));
     };
     let Ok(backs) = Vec::with_capacity(alloc, zones) else {
-        return Err(shared);
+        return Err((shared, cells));
     };
-    let part: Part<M, J> = Part {
+    let Ok(order) = Vec::with_capacity(alloc, zones) else {
+        return Err((shared, cells));
+    };
+    let Ok(room) = Vec::with_capacity(alloc, zones * LOCALS_MAX) else {
+        return Err((shared, cells));
+    };
+    let part: Part<M, J, N> = Part {
         shared,
         tally,
-        order: Vec::new(alloc),
+        order,
         ended: None,
-        room: Vec::new(alloc),
+        room,
         entries: 0,
         zones,
         of: PhantomData,
     };
     match Turn::new(alloc, part) {
-        Ok((turn, first)) => placed::<M, J, Brand, R, G>(
+        Ok((turn, first)) => placed::<M, J, N, Brand, R, G>(
             rt, alloc, machine, gate, turn, first, cells, scripts, logs, backs,
         ),
-        Err((_, part)) => Err(part.shared),
+        Err((_, part)) => Err((part.shared, cells)),
     }
 }
 
 /// Runs each script on a thread of its own, over cells that have the places 1, 2 and so on. After a line that is answered by a ticket
 /// its session takes turns of that zone's daemon until the ticket is answered or a turn is stuck. What the scripts did is one history.
-/// Where memory was refused before a thread was started, or for the list of the entries, what zones share comes back alone.
+/// Where memory is refused before a thread is started, what zones share and the cells come back as they came. What is done after the
+/// last line takes no memory: the room for it is taken ahead.
 pub fn run_scripts<
     M: Machine + Send + Sync,
     J: Start<M> + Send + Sync,
@@ -236,7 +243,7 @@ pub fn run_scripts<
     cells: Vec<M::Cell>,
     shared: M::Shared,
     scripts: &[Script<M::Line>],
-) -> Result<Lived<M>, M::Shared>
+) -> Result<Lived<M>, (M::Shared, Vec<M::Cell>)>
     requires ready { M.ready machine.now }
     requires cells { IsOpening M.machine J.starts cells.items }
     requires shared { (start : M.State) → J.starts start → M.machine.shared_of shared (M.machine.common start) }
@@ -249,7 +256,7 @@ pub fn run_scripts<
     ensures cells { IfOk result (λ r. (start : M.State) → J.starts start → All (IsBack M.machine start r.entries.items) r.cells.items) }
     ensures there { IfOk result (λ r. AreAll (length cells.items) r.cells.items) }
     ensures sound { IfOk result (λ r. M.machine.is_sound r.shared ≡ true → AreFree r.cells.items) }
-    ensures memory { IfErr result (λ m. (h : List M.Entry) × ((start : M.State) → J.starts start → IsPartial M.machine start J.scripts h × M.machine.shared_of m (M.machine.common (folded M.machine.one start h)))) }
+    ensures memory { IfErr result (λ m. (m.0 ≡ shared) × (m.1.items ≡ cells.items)) }
 {
-    started::<M, J, R, G>(rt, alloc, machine, gate, cells, shared, scripts)
+    started::<M, J, Brand, R, G>(rt, alloc, machine, gate, cells, shared, scripts)
 }

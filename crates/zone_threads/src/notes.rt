@@ -6,4 +6,6 @@ pub enum Note<E> {
     Done(E),
     /// The zone of this place is marked.
     Marked(u32),
+    /// The zone of this place isn't marked.
+    Free(u32),
 }

@@ -4,9 +4,10 @@ ghost use Rattle.zone_threads.specs.Ends.{IsScript};
 
 use crate::gate::Gate;
 use crate::machine::{Machine, Said, Told};
-use crate::part::{Part, Place, Start};
+use crate::part::{Outset, Part, Place, Start};
 use crate::step::{Ask, Outcome};
 use crate::zone::Zone;
+use std::sync::atomic::{AtomicBool, Ordering};
 use std::sync::{Mutex, Wait};
 use zone_turn::Turn;
 
@@ -18,13 +19,14 @@ pub struct Script<L> {
 }
 
 // One event under the zone's lock: a local turn where turns are asked for and one is next, else what is asked. After a local turn that
-// is stuck its entries are given at once, since its session goes on by it.
-fn visit<M: Machine, J: Start<M>, K: Place, W: Wait, G: Gate>(
+// is stuck its entries are given at once, since its session goes on by it. Once the run is marked as over no event is begun.
+fn visit<M: Machine, J: Start<M>, N: Outset<M::Shared>, K: Place, W: Wait, G: Gate>(
     rt: &W,
     machine: &M,
     gate: &G,
-    turn: &Turn<Part<M, J>>,
-    zone: &Mutex<Zone<M, J, K>>,
+    turn: &Turn<Part<M, J, N>>,
+    is_over: &AtomicBool,
+    zone: &Mutex<Zone<M, J, N, K>>,
     at: u32,
     script: &Script<M::Line>,
     ask: Ask,
@@ -35,19 +37,41 @@ fn visit<M: Machine, J: Start<M>, K: Place, W: Wait, G: Gate>(
 {
     let mut zone = zone.lock(rt);
     gate.pass(rt, at);
+    if is_over.load(Ordering::SeqCst) {
+        return Err(Outcome::Ended);
+    }
     if ask == Ask::Turn {
         match zone.local(machine) {
-            Err(_) => return Err(Outcome::Ended),
+            Err(_) => {
+                is_over.store(true, Ordering::SeqCst);
+                return Err(Outcome::Ended);
+            }
             Ok(Some(told)) => {
                 if told.said == Said::Stuck {
-                    let _ = zone.event(rt, machine, turn, script.session, &script.lines, Ask::Give);
+                    let _ = zone.event(
+                        rt,
+                        machine,
+                        turn,
+                        is_over,
+                        script.session,
+                        &script.lines,
+                        Ask::Give,
+                    );
                 }
                 return Ok(told);
             }
             Ok(None) => {}
         }
     }
-    zone.event(rt, machine, turn, script.session, &script.lines, ask)
+    zone.event(
+        rt,
+        machine,
+        turn,
+        is_over,
+        script.session,
+        &script.lines,
+        ask,
+    )
 }
 
 // What a worker asks next, that is at this line of its script or takes turns.
@@ -71,12 +95,13 @@ fn goes_on(took_turn: bool, told: Told) -> bool {
 }
 
 /// One worker, which runs the lines of a session from wherever it is: the part tells it how far that is.
-pub(crate) fn work<M: Machine, J: Start<M>, K: Place, W: Wait, G: Gate>(
+pub(crate) fn work<M: Machine, J: Start<M>, N: Outset<M::Shared>, K: Place, W: Wait, G: Gate>(
     rt: &W,
     machine: &M,
     gate: &G,
-    turn: &Turn<Part<M, J>>,
-    zones: &[Mutex<Zone<M, J, K>>],
+    turn: &Turn<Part<M, J, N>>,
+    is_over: &AtomicBool,
+    zones: &[Mutex<Zone<M, J, N, K>>],
     script: &Script<M::Line>,
 )
     requires ready { M.ready machine.now }
@@ -96,6 +121,7 @@ pub(crate) fn work<M: Machine, J: Start<M>, K: Place, W: Wait, G: Gate>(
             machine,
             gate,
             turn,
+            is_over,
             &zones[at as usize - 1],
             at,
             script,

@@ -1,15 +1,16 @@
 //! One event of a zone, on its cell and the part.
-ghost use Rattle.std.specs.Prelude.{◌≡◌, ◌≢◌, ◌<◌, ◌≤◌, ◌++◌, ℕ, List, Some, true, false, ◌∷◌, [], None, length, take, drop, slice_get, slice_index_or, vec_len, vec_capacity, IfOk, OnErr};
+ghost use Rattle.std.specs.Prelude.{◌≡◌, ◌≢◌, ◌+◌, ◌-◌, ◌*◌, ◌<◌, ◌≤◌, ◌++◌, ℕ, List, Some, true, false, ◌∷◌, [], None, length, take, drop, slice_get, slice_index_or, vec_len, vec_capacity, IfOk, OnErr};
 ghost use Rattle.std.specs.List.{All};
 ghost use Rattle.zone_turn.specs.Histories.{own};
 ghost use Rattle.zone_threads.specs.Machines.{Unfinished};
-ghost use Rattle.zone_threads.specs.Records.{Stands};
+ghost use Rattle.zone_threads.specs.Records.{HasRoom, Stands};
 ghost use Rattle.zone_threads.specs.Scripts.{fresh};
 ghost use Rattle.zone_threads.specs.Zones.{Does, IsAsk, IsJob, Logged, left_by, where_at};
 
 use crate::machine::{Machine, Stop, Told};
-use crate::part::{Part, Start};
-use crate::tally::{Progress, note, note_all};
+use crate::part::{LOCALS_MAX, Outset, Part, Start};
+use crate::tally::{Progress, note, note_all, note_rest};
+use crate::zone::Log;
 
 /// What is asked of a zone, for a session.
 #[derive(Clone, Copy, Debug, PartialEq, Eq)]
@@ -64,7 +65,10 @@ pub(crate) fn job_of<M: Machine>(machine: &M, cell: &M::Cell, ask: Ask) -> Job<M
 }
 
 // Why an event was not done. A fault ends all.
-fn stopped<M: Machine, J: Start<M>>(part: &mut Part<M, J>, stop: Stop<M::Fault>) -> Outcome
+fn stopped<M: Machine, J: Start<M>, N: Outset<M::Shared>>(
+    part: &mut Part<M, J, N>,
+    stop: Stop<M::Fault>,
+) -> Outcome
     ensures { part.new ≡ record part.old { ended = part.new.ended } }
 {
     match stop {
@@ -77,10 +81,10 @@ fn stopped<M: Machine, J: Start<M>>(part: &mut Part<M, J>, stop: Stop<M::Fault>)
 }
 
 // A turn of the zone's daemon, where it has something to do.
-fn try_turn<M: Machine, J: Start<M>>(
+fn try_turn<M: Machine, J: Start<M>, N: Outset<M::Shared>>(
     machine: &M,
     cell: &mut M::Cell,
-    part: &mut Part<M, J>,
+    part: &mut Part<M, J, N>,
     place: u32,
     heard: M::Heard,
 ) -> Result<M::Entry, Outcome>
@@ -93,6 +97,7 @@ fn try_turn<M: Machine, J: Start<M>>(
     ensures tally { OnErr result (part.new.tally ≡ part.old.tally) }
     ensures same { OnErr result (Unfinished M.machine place cell.old part.old.shared cell.new part.new.shared) }
     ensures order { part.new.order ≡ part.old.order }
+    ensures room { (part.new.room ≡ part.old.room) × (part.new.entries ≡ part.old.entries) × (part.new.zones ≡ part.old.zones) }
     ensures wide { length part.new.tally.items ≡ length part.old.tally.items }
 {
     if !machine.is_busy(cell, &part.shared) {
@@ -122,10 +127,10 @@ pub(crate) fn progress_of(tally: &[Progress], session: u8) -> Result<u64, Outcom
 }
 
 // A session's line of a number, where the session is there.
-fn try_line<M: Machine, J: Start<M>>(
+fn try_line<M: Machine, J: Start<M>, N: Outset<M::Shared>>(
     machine: &M,
     cell: &mut M::Cell,
-    part: &mut Part<M, J>,
+    part: &mut Part<M, J, N>,
     place: u32,
     session: u8,
     lines: &[M::Line],
@@ -140,6 +145,7 @@ fn try_line<M: Machine, J: Start<M>>(
     ensures tally { OnErr result (part.new.tally ≡ part.old.tally) }
     ensures same { OnErr result (Unfinished M.machine place cell.old part.old.shared cell.new part.new.shared) }
     ensures order { part.new.order ≡ part.old.order }
+    ensures room { (part.new.room ≡ part.old.room) × (part.new.entries ≡ part.old.entries) × (part.new.zones ≡ part.old.zones) }
     ensures wide { length part.new.tally.items ≡ length part.old.tally.items }
 {
     let done = progress_of(&part.tally, session)?;
@@ -161,10 +167,10 @@ fn try_line<M: Machine, J: Start<M>>(
     }
 }
 
-fn attempt<M: Machine, J: Start<M>>(
+fn attempt<M: Machine, J: Start<M>, N: Outset<M::Shared>>(
     machine: &M,
     cell: &mut M::Cell,
-    part: &mut Part<M, J>,
+    part: &mut Part<M, J, N>,
     place: u32,
     session: u8,
     lines: &[M::Line],
@@ -179,6 +185,7 @@ fn attempt<M: Machine, J: Start<M>>(
     ensures tally { OnErr result (part.new.tally ≡ part.old.tally) }
     ensures same { OnErr result (Unfinished M.machine place cell.old part.old.shared cell.new part.new.shared) }
     ensures order { part.new.order ≡ part.old.order }
+    ensures room { (part.new.room ≡ part.old.room) × (part.new.entries ≡ part.old.entries) × (part.new.zones ≡ part.old.zones) }
     ensures wide { length part.new.tally.items ≡ length part.old.tally.items }
 {
     match job {
@@ -193,24 +200,29 @@ fn attempt<M: Machine, J: Start<M>>(
 }
 
 // Puts on the order of entries that so many more are of the zone of a place.
-fn put_run<M: Machine, J: Start<M>>(part: &mut Part<M, J>, place: u32, many: usize)
-    requires room { vec_len part.old.order < vec_capacity part.old.order }
+fn put_run<M: Machine, J: Start<M>, N: Outset<M::Shared>>(
+    part: &mut Part<M, J, N>,
+    place: u32,
+    many: usize,
+)
+    requires room { HasRoom many 1 part.old.entries (vec_capacity part.old.room) part.old.order.items (vec_capacity part.old.order) }
     ensures order { part.new.order.items ≡ part.old.order.items ++ (place, many) ∷ [] }
+    ensures room { (m r : ℕ) → HasRoom (many + m) (1 + r) part.old.entries (vec_capacity part.old.room) part.old.order.items (vec_capacity part.old.order) → HasRoom m r part.new.entries (vec_capacity part.new.room) part.new.order.items (vec_capacity part.new.order) }
     ensures same { part.new ≡ record part.old { order = part.new.order; entries = part.new.entries } }
 {
-    part.entries = part.entries.saturating_add(many);
+    part.entries += many;
     part.order.push_reserved((place, many as u64));
 }
 
 /// Notes the local entries, tries the job, and puts an entry that comes on the log.
-pub(crate) fn act<M: Machine, J: Start<M>>(
+pub(crate) fn act<M: Machine, J: Start<M>, N: Outset<M::Shared>>(
     machine: &M,
     place: u32,
     cell: &mut M::Cell,
     log: &mut Vec<M::Entry>,
     given: usize,
     marked: &mut bool,
-    part: &mut Part<M, J>,
+    part: &mut Part<M, J, N>,
     session: u8,
     lines: &[M::Line],
     job: Job<M::Heard>,
@@ -218,12 +230,14 @@ pub(crate) fn act<M: Machine, J: Start<M>>(
     requires ready { M.ready machine.now }
     requires few { length part.old.tally.items ≤ 65 }
     requires job { IsJob M.machine J.scripts session lines.now cell.old job }
-    requires room { (given ≤ vec_len log.old) × (vec_len log.old < vec_capacity log.old) × (vec_len part.old.order < vec_capacity part.old.order) }
+    requires given { given ≤ vec_len log.old }
+    requires room { (vec_len log.old < vec_capacity log.old) × HasRoom (vec_len log.old - given + 1 + N.zones * LOCALS_MAX) (1 + N.zones) part.old.entries (vec_capacity part.old.room) part.old.order.items (vec_capacity part.old.order) }
     ensures grown { (new : List M.Entry) × (log.new.items ≡ log.old.items ++ new) }
     ensures mine { All (λ e. M.machine.by e ≡ place) (drop given log.old.items) → All (λ e. M.machine.by e ≡ place) (drop given log.new.items) }
     ensures stands { (start : M.State) (h : List M.Entry) → Stands M.machine start J.scripts part.old.shared part.old.tally.items part.old.order.items h → own M.machine.by place h ≡ take given log.old.items → Logged M.machine start place cell.old log.old.items given marked.old
         → Stands M.machine start J.scripts part.new.shared part.new.tally.items part.new.order.items (h ++ drop given log.new.items) × All (λ e. M.machine.by e ≡ place) (drop given log.new.items) × (marked.new ≡ false → M.machine.cell_of cell.new (left_by M.machine start place log.new.items)) }
     ensures wide { length part.new.tally.items ≡ length part.old.tally.items }
+    ensures room { (part.new.zones ≡ part.old.zones) × HasRoom (N.zones * LOCALS_MAX) N.zones part.new.entries (vec_capacity part.new.room) part.new.order.items (vec_capacity part.new.order) }
     ensures marks { M.machine.is_sound part.new.shared ≡ true → (M.machine.is_sound part.old.shared ≡ true) × (marked.new ≡ marked.old) }
 {
     note_all(machine, &mut part.tally, place, &log[given..]);
@@ -246,4 +260,23 @@ pub(crate) fn act<M: Machine, J: Start<M>>(
             Err(outcome)
         }
     }
+}
+
+/// Notes what a zone left that it didn't give. Room for it was taken before.
+pub(crate) fn note_log<M: Machine, J: Start<M>, N: Outset<M::Shared>>(
+    machine: &M,
+    part: &mut Part<M, J, N>,
+    log: &Log<M::Cell, M::Entry>,
+)
+    requires few { length part.old.tally.items ≤ 65 }
+    requires given { log.now.given ≤ length log.now.entries.items }
+    requires room { HasRoom (length log.now.entries.items - log.now.given) 1 part.old.entries (vec_capacity part.old.room) part.old.order.items (vec_capacity part.old.order) }
+    ensures stands { (start : M.State) (h : List M.Entry) → Stands M.machine start J.scripts part.old.shared part.old.tally.items part.old.order.items h → own M.machine.by log.now.place h ≡ take log.now.given log.now.entries.items → Logged M.machine start log.now.place log.now.cell log.now.entries.items log.now.given log.now.marked
+        → Stands M.machine start J.scripts part.new.shared part.new.tally.items part.new.order.items (h ++ drop log.now.given log.now.entries.items) }
+    ensures room { (m r : ℕ) → HasRoom (length log.now.entries.items - log.now.given + m) (1 + r) part.old.entries (vec_capacity part.old.room) part.old.order.items (vec_capacity part.old.order) → HasRoom m r part.new.entries (vec_capacity part.new.room) part.new.order.items (vec_capacity part.new.order) }
+    ensures wide { length part.new.tally.items ≡ length part.old.tally.items }
+    ensures shared { part.new.shared ≡ part.old.shared }
+{
+    note_rest(machine, &mut part.tally, log.place, &log.entries, log.given);
+    put_run(part, log.place, log.entries.len() - log.given);
 }

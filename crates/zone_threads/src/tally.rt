@@ -1,10 +1,11 @@
 //! How far each session is.
-ghost use Rattle.std.specs.Prelude.{◌≡◌, ◌≢◌, ◌<◌, ◌≤◌, ℕ, false, length, slice_index_or};
+ghost use Rattle.std.specs.Prelude.{◌≡◌, ◌≢◌, ◌<◌, ◌≤◌, ℕ, drop, false, length, slice_index_or};
 ghost use Rattle.std.specs.List.{All};
 ghost use Rattle.zone_threads.specs.Folds.{folded};
 ghost use Rattle.zone_threads.specs.Scripts.{TallyOf, after_turn, answers, ends_ticket, fresh, noted, progress_one, ticket_of};
 
 use crate::machine::{Machine, Said, Told};
+use std::collections::VecDeque;
 
 /// The numbers of sessions are below this.
 pub(crate) const SESSIONS: usize = 65;
@@ -150,5 +151,23 @@ pub(crate) fn note_all<M: Machine>(
 {
     for entry in entries {
         note(tally, place, machine.told(entry));
+    }
+}
+
+/// Notes entries of the zone of a place from this number on.
+pub(crate) fn note_rest<M: Machine>(
+    machine: &M,
+    tally: &mut Vec<Progress>,
+    place: u32,
+    entries: &VecDeque<M::Entry>,
+    from: usize,
+)
+    requires few { length tally.old.items ≤ 65 }
+    requires near { from ≤ length entries.now.items }
+    ensures len { length tally.new.items ≡ length tally.old.items }
+    ensures each { (t : ℕ → Progress) → All (λ e. M.machine.by e ≡ place) (drop from entries.now.items) → TallyOf tally.old.items t → TallyOf tally.new.items (folded (noted M.machine) t (drop from entries.now.items)) }
+{
+    for i in from..entries.len() {
+        note(tally, place, machine.told(&entries[i]));
     }
 }

@@ -1,4 +1,4 @@
-use Rattle.std.proofs.lemmas.Result.{IfErr-weaker, IfOk-weaker}
+use Rattle.std.proofs.lemmas.Result.{IfOk-weaker}
 use Rattle.zone_threads.proofs.Gathering.{both_ok, each_done, or_none}
 use Rattle.zone_threads.proofs.Words.{partial, whole}
 use Rattle.zone_threads.proofs.live.run_scripts.Goals as goal
@@ -26,4 +26,4 @@ pub returns-clause-sound : goal.returns-clause-sound
 returns-clause-sound g c = IfOk-weaker c.started.result _ _ (λ r over. over.free) c.started.ensures.over
 
 pub returns-clause-memory : goal.returns-clause-memory
-returns-clause-memory g c = IfErr-weaker c.started.result _ _ (λ m left. (left.0, λ s from. (partial g.M.Zoned.machine s g.J.Start.scripts m left.0 (left.1 s from) c.requires.few.1, (left.1 s from).shared))) c.started.ensures.memory
+returns-clause-memory g c = c.started.ensures.memory

@@ -1,10 +1,10 @@
 use Rattle.std.proofs.Common.{rules, ◌≡◌, ◌++◌, ◌-◌, ◌<◌, ap, drop, false, get_or, length, subst, sym, take, ◌∙◌, ℕ}
 use Rattle.zone_turn.specs.Histories.{own}
 use Rattle.zone_threads.specs.Notes.{dones, has_mark, notes_of}
-use Rattle.zone_threads.specs.Records.{StandsFrom, Tells}
+use Rattle.zone_threads.specs.Records.{IsPart, StandsFrom, Tells}
 use Rattle.zone_threads.specs.Zones.{IsZone}
 use Rattle.zone_threads.proofs.Gives.{gave, own_done, own_unmarked}
-use Rattle.zone_threads.proofs.Telling.{dones_append, dones_notes, free_append, mark_notes}
+use Rattle.zone_threads.proofs.Telling.{dones_append, dones_notes, free_append, mark_notes, notes_some}
 use Rattle.zone_threads.proofs.Steps.{append_none, rest_is, tells_same}
 use Rattle.zone_threads.proofs.zone.Zone.event.Goals as goal
 
@@ -17,8 +17,12 @@ give_picked-requires-clause-out g c =
       out.1,
       out.0,
       ap (λ v. v.stage) out.2.out,
-      subst (λ l. Tells D g.J.Start.starts g.J.Start.scripts room.shared room.tally.items room.order.items l) (sym (append_none out.0))
-          (tells_same D g.J.Start.starts g.J.Start.scripts part.shared room.shared part.tally.items room.tally.items part.order.items room.order.items out.0 (ap (λ p. p.shared) c.make_room.ensures.same) (ap (λ p. p.tally.items) c.make_room.ensures.same) c.make_room.ensures.order out.2.history),
+      subst (λ l. IsPart D g.J.Start.starts g.J.Start.scripts g.N.Outset.shared g.N.Outset.zones room.shared room.tally.items room.zones room.entries room.room.cap room.order.items room.order.cap l) (sym (append_none out.0)) (record {
+        tells = tells_same D g.J.Start.starts g.J.Start.scripts part.shared room.shared part.tally.items room.tally.items part.order.items room.order.items out.0 (ap (λ p. p.shared) c.make_room.ensures.same) (ap (λ p. p.tally.items) c.make_room.ensures.same) c.make_room.ensures.order out.2.history.tells;
+        counts = ap (λ p. p.zones) c.make_room.ensures.same ∙ out.2.history.counts;
+        has_room = c.make_room.ensures.kept;
+        untouched = λ none. subst g.N.Outset.shared (sym (ap (λ p. p.shared) c.make_room.ensures.same)) (out.2.history.untouched none);
+      }),
     )
 
 pub give_notes-requires-clause-out : goal.give_notes-requires-clause-out
@@ -32,7 +36,7 @@ give_notes-requires-clause-out g c κs within =
     let zone : IsZone D g.J.Start.starts g.K.Place.turn place c.self.inside.cell log given c.self.inside.marked c.self.inside.pass = subst (λ l. IsZone D g.J.Start.starts g.K.Place.turn place c.self.inside.cell l given c.self.inside.marked c.self.inside.pass) (sym c.reserve.ensures.items) c.self.invariant.0 in
     let room = c.make_room.new.self in
     let tells : Tells D g.J.Start.starts g.J.Start.scripts room.shared room.tally.items room.order.items out.0 =
-    tells_same D g.J.Start.starts g.J.Start.scripts part.shared room.shared part.tally.items room.tally.items part.order.items room.order.items out.0 (ap (λ p. p.shared) c.make_room.ensures.same) (ap (λ p. p.tally.items) c.make_room.ensures.same) c.make_room.ensures.order out.2.history in
+    tells_same D g.J.Start.starts g.J.Start.scripts part.shared room.shared part.tally.items room.tally.items part.order.items room.order.items out.0 (ap (λ p. p.shared) c.make_room.ensures.same) (ap (λ p. p.tally.items) c.make_room.ensures.same) c.make_room.ensures.order out.2.history.tells in
     let mine : own D.by place (dones out.0) ≡ take given log = own_done D g.J.Start.starts g.K.Place.turn place given c.self.inside.cell log c.self.inside.marked c.self.inside.pass zone out.0 out.2.mine in
     let new = c.act-done.new.part in
     let marked = c.act-done.new.marked in
@@ -43,12 +47,17 @@ give_notes-requires-clause-out g c κs within =
       out.0,
       ap (λ v. v.stage) out.2.out,
       record {
-        stands = subst (λ l. StandsFrom D g.J.Start.starts g.J.Start.scripts new.shared new.tally.items new.order.items l) (sym told)
-            (record { wide = c.act-done.ensures.wide ∙ tells.stands.wide; each = λ start from. (c.act-done.ensures.stands start (dones out.0) (tells.stands.each start from) mine (zone.logged start from)).0 });
-        free = λ sound.
-            let same = c.act-done.ensures.marks sound in
-            let none : has_mark out.0 ≡ false = tells.free same.0 in
-            free_append out.0 notes none (mark_notes place done marked ∙ (same.1 ∙ own_unmarked D g.J.Start.starts g.K.Place.turn place given c.self.inside.cell log c.self.inside.marked c.self.inside.pass zone out.0 out.2.mine none));
+        tells = record {
+          stands = subst (λ l. StandsFrom D g.J.Start.starts g.J.Start.scripts new.shared new.tally.items new.order.items l) (sym told)
+              (record { wide = c.act-done.ensures.wide ∙ tells.stands.wide; each = λ start from. (c.act-done.ensures.stands start (dones out.0) (tells.stands.each start from) mine (zone.logged start from)).0 });
+          free = λ sound.
+              let same = c.act-done.ensures.marks sound in
+              let none : has_mark out.0 ≡ false = tells.free same.0 in
+              free_append out.0 notes none (mark_notes place done marked ∙ (same.1 ∙ own_unmarked D g.J.Start.starts g.K.Place.turn place given c.self.inside.cell log c.self.inside.marked c.self.inside.pass zone out.0 out.2.mine none));
+        };
+        counts = c.act-done.ensures.room.0 ∙ (ap (λ p. p.zones) c.make_room.ensures.same ∙ out.2.history.counts);
+        has_room = c.act-done.ensures.room.1;
+        untouched = λ none. absurd (notes_some place out.0 done marked none);
       },
     )
 
@@ -79,7 +88,7 @@ invariant_of-self-2 g c =
     let zone : IsZone D g.J.Start.starts g.K.Place.turn place c.self.inside.cell log given c.self.inside.marked c.self.inside.pass = subst (λ l. IsZone D g.J.Start.starts g.K.Place.turn place c.self.inside.cell l given c.self.inside.marked c.self.inside.pass) (sym c.reserve.ensures.items) c.self.invariant.0 in
     let room = c.make_room.new.self in
     let tells : Tells D g.J.Start.starts g.J.Start.scripts room.shared room.tally.items room.order.items out.0 =
-    tells_same D g.J.Start.starts g.J.Start.scripts part.shared room.shared part.tally.items room.tally.items part.order.items room.order.items out.0 (ap (λ p. p.shared) c.make_room.ensures.same) (ap (λ p. p.tally.items) c.make_room.ensures.same) c.make_room.ensures.order out.2.history in
+    tells_same D g.J.Start.starts g.J.Start.scripts part.shared room.shared part.tally.items room.tally.items part.order.items room.order.items out.0 (ap (λ p. p.shared) c.make_room.ensures.same) (ap (λ p. p.tally.items) c.make_room.ensures.same) c.make_room.ensures.order out.2.history.tells in
     let mine : own D.by place (dones out.0) ≡ take given log = own_done D g.J.Start.starts g.K.Place.turn place given c.self.inside.cell log c.self.inside.marked c.self.inside.pass zone out.0 out.2.mine in
     let rest = rest_is given c.deref.result.now ∙ ap (drop given) c.deref.ensures.value in (
       gave D g.J.Start.starts g.K.Place.turn place given c.self.inside.cell log c.self.inside.marked c.self.inside.pass zone

@@ -1,5 +1,5 @@
 use Rattle.threads_tests.proofs.Scripts.{are_scripts, are_short, none_other}
-use Rattle.threads_tests.proofs.runs.run_all.Goals as goal
+use Rattle.threads_tests.proofs.runs.run_toy.Goals as goal
 
 pub run-requires-clause-scripts : goal.run-requires-clause-scripts
 run-requires-clause-scripts g c κs near = are_scripts c.args.scripts.now c.requires.scripts.0 c.requires.scripts.1
