@@ -1,4 +1,4 @@
-use Rattle.std.proofs.Common.{◌≡◌, ◌+◌, ap, length, rules, subst, sym, ◌∙◌}
+use Rattle.std.proofs.Common.{◌≡◌, ◌+◌, ap, length, subst, sym, ◌∙◌}
 use Rattle.std.specs.Prelude.{is_some, true}
 use Rattle.zone_machine.specs.Code.Openings.{StandsFor}
 use Rattle.zone_machine.specs.Code.Records.{Passes}
@@ -9,7 +9,6 @@ use Rattle.daemon_threads.proofs.Beginning.{after-entries, before-entries, disk-
 use Rattle.daemon_threads.specs.Begun.{ended_by}
 use Rattle.daemon_threads.specs.Definitions.{state_of}
 use Rattle.daemon_threads.specs.Gathering.{StandTogether, put_all}
-use Rattle.daemon_threads.specs.Goods.{Goods}
 use Rattle.daemon_threads.specs.Parts.{Stands, commons}
 use Rattle.daemon_threads.proofs.sessions.run_picked.Goals as goal
 
