@@ -4,10 +4,9 @@ use Rattle.std.specs.Prelude.{IfSome, bytes_eq, drop, is_some, slice_get, slice_
 use Rattle.std.specs.List.{All}
 use Rattle.std.specs.Map.{lookup}
 use Rattle.std.proofs.lemmas.Bool.{false≢true, ne_eqb}
-use Rattle.std.proofs.lemmas.List.{append-nil}
 use Rattle.brand_hooks.specs.Brands.{Tabled}
 use Rattle.commit_journal.specs.declared.records.Commit.{Commit}
-use Rattle.session_records.specs.Places.{zone_at, world_of_zone}
+use Rattle.session_records.specs.Places.{place_from, zone_at, world_of_zone}
 use Rattle.session_records.specs.Records as records
 use Rattle.session_runs.specs.Far.{Differ, scripts_of}
 use Rattle.session_runs.specs.Runs.{IsReached}
@@ -17,10 +16,12 @@ use Rattle.zn_base.specs.Names.{Name}
 use Rattle.zn_io.specs.Disk.{IsSound, Leaves, View}
 use Rattle.zone_cases.specs.Code.Cells.{CellOf}
 use Rattle.zone_cases.specs.State.{State}
+use Rattle.zone_cases.specs.State.Worlds.{world}
 use Rattle.zone_cases.specs.declared.cell.Cell.{Cell}
 use Rattle.zone_cases.specs.declared.events.Entry.{Entry}
 use Rattle.zone_disk.specs.Bank.{Account}
-use Rattle.zone_machine.specs.Code.Partings.{StandApart}
+use Rattle.zone_machine.specs.Code.Openings.{StandsFor}
+use Rattle.zone_machine.specs.Code.Partings.{HasNothing, StandApart}
 use Rattle.zone_machine.specs.Code.Records.{IsReady}
 use Rattle.zone_machine.specs.Machine.{opening}
 use Rattle.zone_machine.specs.Machine.Changes.{changes}
@@ -30,14 +31,18 @@ use Rattle.zone_machine.specs.Shown.{nothing_shown, shown, world_shown}
 use Rattle.zone_machine.specs.Code.Shown_zones.{shown_in}
 use Rattle.zone_machine.specs.declared.faults.StepFault.{StepFault}
 use Rattle.zone_machine.specs.declared.faults.StepFault.TheVariants.{DiskFault, Memory}
+use Rattle.zone_machine.specs.declared.machine.Machine.{Machine}
 use Rattle.zone_machine.specs.declared.machine.parting.Parted.{Parted}
 use Rattle.zone_machine.specs.declared.machine.shared.Shared.{Shared}
-use Rattle.zone_threads.specs.Ends.{IsScript}
-use Rattle.zone_threads.specs.Folds.{folded}
+use Rattle.zone_pools.proofs.Owned_laws.{same_self, same_true}
+use Rattle.zone_threads.specs.Ends.{AreAll, AreFree, IsBack, IsScript}
+use Rattle.zone_threads.specs.Folds.{all_right, folded}
 use Rattle.zone_threads.specs.Words as words
 use Rattle.zone_threads.specs.declared.run.Script.{Script}
+use Rattle.zone_threads.specs.declared.zone.Back.{Back}
 use Rattle.daemon_threads.proofs.Dealt_cells.{if-differ, its-cell, shown-by, shown-or}
 use Rattle.daemon_threads.proofs.Disks.{disk-begins, ready-holds}
+use Rattle.daemon_threads.proofs.Gathered.{ArePlaced, backs-placed, cells-fit, cells-placed, others-nothing, unplaced-stays}
 use Rattle.daemon_threads.proofs.Leaving.{is-some, nothing-is, script-lines}
 use Rattle.daemon_threads.proofs.Places.{zone-got}
 use Rattle.daemon_threads.proofs.Same_records.{partial, whole}
@@ -45,6 +50,7 @@ use Rattle.daemon_threads.specs.Begun.{IsBegun, ended_by, moved_script, script_l
 use Rattle.daemon_threads.specs.Dealing.{IsDealt, all_differ, if_all_differ, names_of, place_cell}
 use Rattle.daemon_threads.specs.Definitions.{CellIn, daemons, no_session, place_world, state_in, state_of}
 use Rattle.daemon_threads.specs.Disks.{DiskOf}
+use Rattle.daemon_threads.specs.Gathering.{StandTogether, back_cell, put_all}
 use Rattle.daemon_threads.specs.Goods.{Goods}
 use Rattle.daemon_threads.specs.Meets.{zone-behind}
 use Rattle.daemon_threads.specs.Parts.{PartOf, Stands, commons}
@@ -105,6 +111,19 @@ none-at-1 zones = at_zone (zone_at zones 1) refl
     at_zone None is = refl
     at_zone (Some z) is = let behind = zone-behind 2 zones 1 z is in absurd (omega (arith, behind))
 
+-- a zone that has no place has no cell
+none-placed : (n : ℕ) (es : List (Name × Cell)) (z : Name) → 0 < n → place_from n (names_of es) z ≡ 0 → lookup (bytes_eq z) es ≡ None
+none-placed n [] z some is = refl
+none-placed n (e ∷ es) z some is = at_test (none-placed (n + 1) es z (omega (arith, some))) (bytes_eq e.0 z) refl is
+  where
+    flip : (b : Bool) → bytes_eq z e.0 ≡ b → bytes_eq e.0 z ≡ false → b ≡ false
+    flip true t other = absurd (false≢true (sym other ∙ subst (λ (k : Name). bytes_eq e.0 k ≡ true) (sym (same_true z e.0 t)) (same_self e.0)))
+    flip false t other = refl
+
+    at_test : (place_from (n + 1) (names_of es) z ≡ 0 → lookup (bytes_eq z) es ≡ None) → (b : Bool) → bytes_eq e.0 z ≡ b → (if b then n else place_from (n + 1) (names_of es) z) ≡ 0 → lookup (bytes_eq z) (e ∷ es) ≡ None
+    at_test go true t is = absurd (omega (arith, some, is))
+    at_test go false t is = let away : bytes_eq z e.0 ≡ false = flip (bytes_eq z e.0) refl t in rw away (go is)
+
 module _ {D F : Type 0} (S : State) (p : Parted D F) (d : Dealt) (dealt : IsDealt p.cells.entries d) (differ : all_differ (names_of p.cells.entries) ≡ true) (stands : StandApart S p) (brands : List Tabled) (same : S.brands ≡ brands) where
   abbrev es : List (Name × Cell)
   es = p.cells.entries
@@ -136,6 +155,7 @@ module _ {D F : Type 0} (S : State) (p : Parted D F) (d : Dealt) (dealt : IsDeal
     cells = λ i x near.
         subst (λ (T : State). CellIn brands (slice_index_or d.cells.items i x) (place_world (names_of es) (i + 1) T)) (sym is)
         (subst (λ (l : List PlaceCell). CellIn brands (slice_index_or l i x) (place_world (names_of es) (i + 1) S)) (sym dealt.cells) (all-in i x (subst (λ (l : List PlaceCell). i < length l) dealt.cells near)));
+    others = λ z none. subst (λ (T : State). HasNothing (world z T)) (sym is) (stands.others z (none-placed 2 es z (omega arith) none));
     part = subst (λ (T : State). PartOf (record { shared = p.shared; shown = d.shown; bank = p.bank }) (commons T)) (sym is) (record { state = S; is = refl; shared = stands.shared; shown = shows; bodies = stands.bodies });
   }
 
@@ -169,19 +189,37 @@ disk-leaves settled sound S h v w before was so d =
       now = λ k image is. subst (λ (R : List Commit). HoldsEither R (S.commits ++ (changes S h ++ d.perhaps)) image) now_is (subst (λ (R : List Commit). HoldsEither (after S h).commits R image) next_is (d.now k image is));
     }
 
--- nothing was done where memory ran out before sessions began
+-- the same by other names
+pub lives-as : {D : Type 0} (view : D → View) (S : State) (lines : records.Scripts) (v : View) (o o' : Option StepFault) (h h' : List Entry) (d d' : D) → o ≡ o' → h ≡ h' → d ≡ d' → Lives o' S lines h' v (view d') → Lives o S lines h v (view d)
+lives-as view S lines v o o' h h' d d' a b c = subst (λ (T : Type 0). T) (λ i. Lives (sym a i) S lines (sym b i) v (view (sym c i)))
+
+-- nothing was done where memory ran out before a thread was started
+pub lives-none : {D : Type 0} (view : D → View) (S : State) (scripts : records.Scripts) (v : View) (before : List Commit) (o : Option StepFault) (new : List Entry) (old disk : D) → o ≡ Some Memory → new ≡ [] → disk ≡ old → before ≡ S.commits → DiskOf v before true (view old) S.commits
+    → Lives o S scripts new v (view disk)
+lives-none view S scripts v before o new old disk is none same was has =
+    lives-as view S scripts v o (Some Memory) new [] disk old is none same
+    (record { part = nothing-is S scripts; whole = λ is. absurd (is-some Memory is); left = disk-leaves true true S [] v (view old) before was (λ is. is) has })
+
 pub lives-unbegun : {D : Type 0} (view : D → View) (S : State) (scripts : records.Scripts) (o : Option StepFault) (new : List Entry) (old disk : D) → o ≡ Some Memory → new ≡ [] → disk ≡ old → IsSound (view old) → ((view old).Keeps → NowHolds (view old) S.commits)
     → Lives o S scripts new (view old) (view disk)
-lives-unbegun {D} view S scripts o new old disk is none same sound holds =
-    subst (λ (o : Option StepFault). Lives o S scripts new (view old) (view disk)) (sym is)
-    (subst (λ (x : D). Lives (Some Memory) S scripts new (view old) (view x)) (sym same) (record {
-      record_is = [];
-      rest = [];
-      begins = ap (λ (l : List Entry). l ++ []) (sym none);
-      part = nothing-is S scripts;
-      whole = λ is. absurd (is-some Memory is);
-      left = disk-leaves true true S [] (view old) (view old) S.commits refl (λ is. is) (disk-begins (view old) S.commits sound holds);
-    }))
+lives-unbegun view S scripts o new old disk is none same sound holds = lives-none view S scripts (view old) S.commits o new old disk is none same refl (disk-begins (view old) S.commits sound holds)
+
+-- the machine stands for the state that it stood for
+pub stands-none : {D F : Type 0} (S : State) (m n : Machine D F) (new : List Entry) → new ≡ [] → n ≡ m → StandsFor S m → StandsFor (after S new) n
+stands-none S m n new none same stands = subst (λ (T : Type 0). T) (λ i. StandsFor (after S (sym none i)) (sym same i)) stands
+
+-- the disk didn't fail
+abbrev pub TellsFailure : Bool → Option StepFault → Type 0
+TellsFailure sound o = (sound ≡ false → o ≡ Some DiskFault) × (o ≡ Some DiskFault → sound ≡ false)
+
+pub memory-other : Some Memory ≡ Some DiskFault → ⊥
+memory-other is = absurd (cc)
+
+pub only-memory : (o : Option StepFault) → o ≡ Some Memory → IfSome o (λ f. (f ≡ Memory) ⊎ (f ≡ DiskFault))
+only-memory o is = subst (λ (o : Option StepFault). IfSome o (λ f. (f ≡ Memory) ⊎ (f ≡ DiskFault))) (sym is) (inl refl)
+
+pub none-failed : (sound : Bool) (o : Option StepFault) → o ≡ Some Memory → sound ≡ true → TellsFailure sound o
+none-failed sound o is ok = ((λ failed. absurd (false≢true (sym failed ∙ ok))), (λ other. absurd (memory-other (sym is ∙ other))))
 
 settled-sound : (sound is_ended : Bool) → is_settled (ended_by sound is_ended) ≡ true → sound ≡ true
 settled-sound true is_ended is = refl
@@ -209,6 +247,9 @@ disk-unsound false is_ended is = refl
 disk-unsound true true is = absurd (cc)
 disk-unsound true false is = absurd (cc)
 
+pub fails-by : (b sound is_ended : Bool) (o : Option StepFault) → o ≡ ended_by sound is_ended → b ≡ sound → TellsFailure b o
+fails-by b sound is_ended o is same = ((λ failed. is ∙ ap (λ (k : Bool). ended_by k is_ended) (sym same ∙ failed)), (λ other. same ∙ disk-unsound sound is_ended (sym is ∙ other)))
+
 -- what the disk has when sessions begin
 pub disk-begun : {D : Type 0} (view : D → View) (zones : List Name) (brands : List Tabled) (d : Dealt) (shared : Shared) (bank : Account D) (s : Past) → IsBegun zones brands d shared bank s → IsSound (view bank.disk) → IsReady (view bank.disk) bank shared
     → DiskOf (view bank.disk) s.stored true (view bank.disk) (state_of brands s).commits
@@ -232,33 +273,38 @@ module _ {D : Type 0} (view : D → View) (v : View) (zones : List Name) (brands
       let left : state_of brands (folded (daemons view v zones brands).one s h) ≡ after S h = after-folded view v zones brands s h in
       let disk : DiskOf v s.stored m.bank.sound (view m.bank.disk) (after S h).commits = subst (λ (T : State). DiskOf v s.stored m.bank.sound (view m.bank.disk) T.commits) left (subst (λ (R : List Commit). DiskOf v R m.bank.sound (view m.bank.disk) (state_of brands (folded (daemons view v zones brands).one s h)).commits) there stands.disk) in
       record {
-        record_is = h;
-        rest = [];
-        begins = sym (append-nil h);
         part = partial zones view v brands s lines none no_other h part;
-        whole = λ is. (whole zones view v brands s lines none no_other h (all (not-some o (none-ended m.bank.sound (is_some o) is))), refl);
+        whole = λ is. whole zones view v brands s lines none no_other h (all (not-some o (none-ended m.bank.sound (is_some o) is)));
         left = disk-leaves (is_settled (ended_by m.bank.sound (is_some o))) m.bank.sound S h v (view m.bank.disk) s.stored stored (settled-sound m.bank.sound (is_some o)) disk;
       }
 
-  -- or whose entries could not be listed
-  pub lives-unlisted : (lines : records.Scripts) → lines 0 ≡ [] → lines no_session ≡ [] → (s : Past) → s.stored ≡ (state_of brands s).commits → (h : List Entry) (m : Goods D) (entries : List Entry) → entries ≡ []
-      → (let M = daemons view v zones brands in words.IsPartial M s lines h → M.shared_of m (M.common (folded M.one s h)) → Lives (ended_by m.bank.sound true) (state_of brands s) lines entries v (view m.bank.disk))
-  lives-unlisted lines none no_other s stored h m entries empty part stands =
-      let S = state_of brands s in
-      let there : (folded (daemons view v zones brands).one s h).stored ≡ s.stored = stored-stays view v zones brands s h in
-      let left : state_of brands (folded (daemons view v zones brands).one s h) ≡ after S h = after-folded view v zones brands s h in
-      let disk : DiskOf v s.stored m.bank.sound (view m.bank.disk) (after S h).commits = subst (λ (T : State). DiskOf v s.stored m.bank.sound (view m.bank.disk) T.commits) left (subst (λ (R : List Commit). DiskOf v R m.bank.sound (view m.bank.disk) (state_of brands (folded (daemons view v zones brands).one s h)).commits) there stands.disk) in
+  -- and the cells that came back stand for the state after the entries, with what zones share
+  pub after-entries : (d : Dealt) (shared : Shared) (bank : Account D) (s : Past) → IsBegun zones brands d shared bank s → (h : List Entry) (m : Goods D) (bs : List (Back PlaceCell)) → AreAll (length zones + 1) bs → AreFree bs → m.bank.sound ≡ true
+      → (let M = daemons view v zones brands in all_right M.right M.one s h ≡ true → All (IsBack M s h) bs → M.shared_of m (M.common (folded M.one s h)) → StandTogether (after (state_of brands s) h) (put_all (map back_cell bs)) m.shared m.bank.records)
+  after-entries d shared bank s begun h m bs are free sound legal backs stands =
+      let M = daemons view v zones brands in
+      let T = after (state_of brands s) h in
+      let left : state_of brands (folded M.one s h) ≡ T = after-folded view v zones brands s h in
+      let placed : ArePlaced zones brands T (map back_cell bs) = subst (λ (U : State). ArePlaced zones brands U (map back_cell bs)) left (backs-placed zones brands (state_of brands (folded M.one s h)) bs backs free are) in
+      let part : PartOf m (commons T) = subst (λ (U : State). PartOf m (commons U)) left (stands.part sound) in
       record {
-        record_is = h;
-        rest = h;
-        begins = ap (λ (l : List Entry). l ++ h) (sym empty);
-        part = partial zones view v brands s lines none no_other h part;
-        whole = λ is. absurd (true-false (none-ended m.bank.sound true is));
-        left = disk-leaves (is_settled (ended_by m.bank.sound true)) m.bank.sound S h v (view m.bank.disk) s.stored stored (settled-sound m.bank.sound true) disk;
+        cells_are = cells-fit zones brands T (map back_cell bs) placed;
+        others = others-nothing zones brands T (map back_cell bs) placed (λ z none. subst HasNothing (sym (unplaced-stays view v zones brands s h z none legal)) (begun.others z none));
+        shared_is = part.shared;
+        bodies_are = part.bodies;
       }
-    where
-      true-false : true ≡ false → ⊥
-      true-false is = false≢true (sym is)
+
+  -- and so do cells that were not used, for the state before
+  pub before-entries : (d : Dealt) (shared : Shared) (bank : Account D) (s : Past) → IsBegun zones brands d shared bank s → length d.cells.items ≡ length zones + 1 → StandTogether (state_of brands s) (put_all d.cells.items) shared bank.records
+  before-entries d shared bank s begun count =
+      let S = state_of brands s in
+      let placed = cells-placed zones brands S d.cells.items begun.cells count in
+      record {
+        cells_are = cells-fit zones brands S d.cells.items placed;
+        others = others-nothing zones brands S d.cells.items placed begun.others;
+        shared_is = begun.part.shared;
+        bodies_are = begun.part.bodies;
+      }
 
 -- the scripts that were moved are the same
 pub moved-lines : (scripts : List Script_of) (n : ℕ) → scripts_of scripts n ≡ script_lines (map moved_script scripts) n
@@ -283,7 +329,7 @@ map-at f [] k d = refl
 map-at f (x ∷ xs) zero d = refl
 map-at f (x ∷ xs) (suc k) d = map-at f xs k d
 
-map-length : {A B : Type 0} (f : A → B) (xs : List A) → length (map f xs) ≡ length xs
+pub map-length : {A B : Type 0} (f : A → B) (xs : List A) → length (map f xs) ≡ length xs
 map-length f [] = refl
 map-length f (x ∷ xs) = ap suc (map-length f xs)
 
@@ -305,10 +351,6 @@ no-lines xs are = (none-other xs 0 (λ k d near. (are k d near).0), none-other x
     too-many : (n : ℕ) → n < 65 → n ≡ no_session → ⊥
     too-many n small is = absurd (omega (arith, small, is))
 
--- the same by other names
-pub lives-as : {D : Type 0} (view : D → View) (S : State) (lines : records.Scripts) (v : View) (o o' : Option StepFault) (h h' : List Entry) (d d' : D) → o ≡ o' → h ≡ h' → d ≡ d' → Lives o' S lines h' v (view d') → Lives o S lines h v (view d)
-lives-as view S lines v o o' h h' d d' a b c = subst (λ (T : Type 0). T) (λ i. Lives (sym a i) S lines (sym b i) v (view (sym c i)))
-
 pub lives-moved : {D : Type 0} (view : D → View) (S : State) (scripts : List Script_of) (moved : List (Script (List ℕ))) (o : Option StepFault) (h : List Entry) (old old' new : D) → moved ≡ map moved_script scripts → old' ≡ old
     → Lives o S (script_lines moved) h (view old') (view new) → Lives o S (scripts_of scripts) h (view old) (view new)
 lives-moved view S scripts moved o h old old' new is same =
@@ -321,3 +363,13 @@ pub begun-from : {D F : Type 0} (S : State) (p : Parted D F) (d : Dealt) (brands
 begun-from S p d brands r dealt differ stands same =
     let zones : names_of p.cells.entries ≡ if_all_differ d.zones.items = sym (ap if_all_differ dealt.zones ∙ if-differ (names_of p.cells.entries) differ) in
     subst (λ (zs : List Name). IsBegun zs brands d p.shared p.bank (past-of S r)) zones (begun-apart S p d dealt differ stands brands same (past-of S r) (past-is S r brands same) refl)
+
+-- a place for the global zone and one for each zone
+pub dealt-places : (es : List (Name × Cell)) (d : Dealt) → IsDealt es d → all_differ d.zones.items ≡ true → length d.cells.items ≡ length (if_all_differ d.zones.items) + 1
+dealt-places es d dealt differ =
+    let count : length d.cells.items ≡ suc (length (map place_cell es)) = ap length dealt.cells in
+    let each = map-length place_cell es in
+    let all : length (if_all_differ d.zones.items) ≡ length d.zones.items = ap length (if-differ d.zones.items differ) in
+    let named : length d.zones.items ≡ length (names_of es) = ap length dealt.zones in
+    let names = map-length (λ (e : Name × Cell). e.0) es in
+    omega (arith, count, each, all, named, names)

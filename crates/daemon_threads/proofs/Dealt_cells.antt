@@ -1,9 +1,10 @@
 -- Places are apart where no zone stands twice, and what lies in them is what the map had.
 use Rattle.std.proofs.Common.{◌≡◌, ◌<◌, ◌+◌, ◌++◌, ◌∷◌, [], ℕ, zero, suc, List, Bool, Option, Some, None, true, false, ap, arith, length, map, nat_eq, not, refl, subst, sym, ◌∙◌}
-use Rattle.std.specs.Prelude.{bytes_eq, slice_index_or, if◌then◌else◌}
+use Rattle.std.specs.Prelude.{◌≤◌, bytes_eq, slice_index_or, vec_capacity, if◌then◌else◌}
 use Rattle.std.specs.List.{AllByRecursion, IsDistinct, list_any}
 use Rattle.std.proofs.lemmas.Bool.{and_from, and_parts, eqb-true, false≢true, or_parts}
 use Rattle.std.specs.Map.{lookup}
+use Rattle.indexmap.specs.IndexMap.{spare}
 use Rattle.zn_base.specs.Names.{Name}
 use Rattle.zone_cases.specs.declared.cell.Cell.{Cell}
 use Rattle.zone_machine.specs.Shown.{nothing_shown}
@@ -12,11 +13,10 @@ use Rattle.zone_machine.specs.declared.machine.shown.Shown.{Shown}
 use Rattle.zone_pools.proofs.Owned_laws.{same_self, same_true}
 use Rattle.zone_threads.specs.Folds.{folded}
 use Rattle.session_records.specs.Places.{AreApart, place_from, zone_from}
-use Rattle.daemon_threads.specs.Dealing.{IsAsBefore, IsDealt, all_differ, if_all_differ, names_of, place_cell, shown_all, shown_of, shown_one}
+use Rattle.daemon_threads.specs.Dealing.{IsAsBefore, IsRoomFor, all_differ, if_all_differ, names_of, shown_all, shown_of, shown_one}
 use Rattle.daemon_threads.specs.Names.{none_apart}
 use Rattle.daemon_threads.specs.declared.dealing.Dealt.{Dealt}
 use Rattle.zone_machine.specs.Code.Shown_zones.{shown_in}
-use Rattle.daemon_threads.specs.declared.cell.PlaceCell.TheVariants as cells
 
 -- more of a list that is folded
 pub folded-more : {A E : Type 0} (step : A → E → A) (a : A) (xs : List E) (y : E) → folded step a (xs ++ y ∷ []) ≡ step (folded step a xs) y
@@ -145,15 +145,18 @@ as-before-none m = record { parts = λ S. (λ s. s, λ s. s); shared = refl; ban
 pub as-before-on : {D F : Type 0} (m n k : Machine D F) → IsAsBefore m n → IsAsBefore n k → IsAsBefore m k
 as-before-on m n k a b = record { parts = λ S. ((λ s. (b.parts S).0 ((a.parts S).0 s)), (λ s. (a.parts S).1 ((b.parts S).1 s))); shared = b.shared ∙ a.shared; bank = b.bank ∙ a.bank; brands = b.brands ∙ a.brands }
 
-map-more : {A B : Type 0} (f : A → B) (xs : List A) (y : A) → map f (xs ++ y ∷ []) ≡ map f xs ++ f y ∷ []
+pub map-more : {A B : Type 0} (f : A → B) (xs : List A) (y : A) → map f (xs ++ y ∷ []) ≡ map f xs ++ f y ∷ []
 map-more f [] y = refl
 map-more f (x ∷ xs) y = ap (λ l. f x ∷ l) (map-more f xs y)
 
--- one zone more
-pub dealt-one : (done : List (Name × Cell)) (z : Name) (c : Cell) (d e : Dealt) → IsDealt done d → e.zones.items ≡ d.zones.items ++ z ∷ [] → e.cells.items ≡ d.cells.items ++ cells.Zone z c ∷ []
-    → ((y : Name) → shown_in e.shown y ≡ (if bytes_eq z y then shown_of c else shown_in d.shown y)) → IsDealt (done ++ (z, c) ∷ []) e
-dealt-one done z c d e dealt zones put shows = record {
-  zones = zones ∙ (ap (λ l. l ++ z ∷ []) dealt.zones ∙ sym (map-more (λ (x : Name × Cell). x.0) done (z, c)));
-  cells = put ∙ (ap (λ l. l ++ cells.Zone z c ∷ []) dealt.cells ∙ ap (λ l. cells.Global ∷ l) (sym (map-more place_cell done (z, c))));
-  shown = λ y. shows y ∙ (ap (λ s. if bytes_eq z y then shown_of c else s) (dealt.shown y) ∙ sym (ap (λ (f : Name → Shown). f y) (folded-more shown_one (λ y. nothing_shown) done (z, c))));
+-- one zone more is named
+pub room-one : (done : List (Name × Cell)) (z : Name) (c : Cell) (places : ℕ) (d e : Dealt) → IsRoomFor done places d → e.zones.items ≡ d.zones.items ++ z ∷ []
+    → ((y : Name) → shown_in e.shown y ≡ (if bytes_eq z y then shown_of c else shown_in d.shown y)) → e.cells ≡ d.cells → e.room ≡ d.room → IsRoomFor (done ++ (z, c) ∷ []) places e
+room-one done z c places d e are zones shows cells room = record {
+  zones = zones ∙ (ap (λ l. l ++ z ∷ []) are.zones ∙ sym (map-more (λ (x : Name × Cell). x.0) done (z, c)));
+  shown = λ y. shows y ∙ (ap (λ s. if bytes_eq z y then shown_of c else s) (are.shown y) ∙ sym (ap (λ (f : Name → Shown). f y) (folded-more shown_one (λ y. nothing_shown) done (z, c))));
+  cells = ap (λ v. v.items) cells ∙ are.cells;
+  none = ap (λ m. m.entries) room ∙ are.none;
+  capacity = subst (λ v. places ≤ vec_capacity v) (sym cells) are.capacity;
+  fits = subst (λ m. places ≤ spare m) (sym room) are.fits;
 }

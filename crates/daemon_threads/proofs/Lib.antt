@@ -5,4 +5,5 @@ pub mod Places
 pub mod Same_records
 pub mod Leaving
 pub mod Dealt_cells
+pub mod Gathered
 pub mod Beginning

@@ -1,6 +1,7 @@
 -- The cells of a machine, each in a place of its own.
-use Rattle.std.specs.Prelude.{◌≡◌, ◌∷◌, [], ◌&&◌, List, Bool, true, bytes_eq, map, not, if◌then◌else◌}
+use Rattle.std.specs.Prelude.{◌≡◌, ◌∷◌, [], ◌&&◌, ◌≤◌, ℕ, List, Bool, true, bytes_eq, map, not, vec_capacity, vec_len, if◌then◌else◌}
 use Rattle.std.specs.List.{list_any}
+use Rattle.indexmap.specs.IndexMap.{spare}
 use Rattle.zn_base.specs.Names.{Name}
 use Rattle.zone_cases.specs.declared.cell.Cell.{Cell}
 use Rattle.zone_machine.specs.Code.Shown_zones.{shown_in}
@@ -32,11 +33,22 @@ shown_one f e y = if bytes_eq e.0 y then shown_of e.1 else f y
 abbrev pub shown_all : List (Name × Cell) → Name → Shown
 shown_all es = folded shown_one (λ y. nothing_shown) es
 
--- these zones have places, in order, behind that of the global zone
+-- these zones are named and what they show is noted, and there is room for as many places, in which nothing lies
+pub record IsRoomFor (es : List (Name × Cell)) (places : ℕ) (d : Dealt) : Type 0 where
+  pub zones : d.zones.items ≡ names_of es
+  pub shown : (y : Name) → shown_in d.shown y ≡ shown_all es y
+  pub cells : d.cells.items ≡ []
+  pub none : d.room.entries ≡ []
+  pub capacity : places ≤ vec_capacity d.cells
+  pub fits : places ≤ spare d.room
+
+-- these zones have places, in order, behind that of the global zone, and there is room for as many cells as there are places
 pub record IsDealt (es : List (Name × Cell)) (d : Dealt) : Type 0 where
   pub zones : d.zones.items ≡ names_of es
   pub cells : d.cells.items ≡ cells.Global ∷ map place_cell es
   pub shown : (y : Name) → shown_in d.shown y ≡ shown_all es y
+  pub none : d.room.entries ≡ []
+  pub fits : vec_len d.cells ≤ spare d.room
 
 -- no zone stands twice
 abbrev pub all_differ : List Name → Bool

@@ -10,6 +10,8 @@ pub mod Parts
 pub mod Definitions
 -- its cells, each in a place of its own
 pub mod Dealing
+-- the cells of places, back together
+pub mod Gathering
 -- what the machine has from its caller
 pub mod Running
 -- what an event leaves of the brands, and what a local turn leaves of what zones share

@@ -33,12 +33,8 @@ is_settled None = true
 is_settled (Some Memory) = true
 is_settled (Some fault) = false
 
--- from a state on sessions left these entries: a part of a record, and the whole where nothing ended them. Where memory ran out even for
--- the list of the entries, there may be more of them than were handed back
+-- from a state on sessions left these entries: a part of a record, and the whole where nothing ended them
 pub record Lives (ended : Option StepFault) (S : State) (scripts : Scripts) (entries : List Entry) (v w : View) : Type 0 where
-  pub record_is : List Entry
-  pub rest : List Entry
-  pub begins : record_is ≡ entries ++ rest
-  pub part : IsPartial S scripts record_is
-  pub whole : ended ≡ None → IsRecord S scripts entries × (rest ≡ [])
-  pub left : LeavesChanges (is_settled ended) S record_is v w
+  pub part : IsPartial S scripts entries
+  pub whole : ended ≡ None → IsRecord S scripts entries
+  pub left : LeavesChanges (is_settled ended) S entries v w

@@ -63,13 +63,14 @@ impl<D: Disk, N: Names> SharedPart<D, N> {
         }
     }
 
-    /// Hands the disk back.
-    pub(crate) fn into_disk(self) -> D
-        ensures disk { result ≡ self.bank.disk }
-        ensures passes { Passes N.view (D.view result) }
-        ensures rose { self.bank.sound ≡ false → Rose N.view.faults (D.view result).faults }
+    /// Takes it apart. What zones show is left out.
+    pub(crate) fn into_parts(self) -> (Shared, Bank<D>)
+        ensures shared { result.0 ≡ self.shared }
+        ensures bank { result.1 ≡ self.bank }
+        ensures passes { Passes N.view (D.view self.bank.disk) }
+        ensures rose { self.bank.sound ≡ false → Rose N.view.faults (D.view self.bank.disk).faults }
     {
-        self.bank.into_disk()
+        (self.shared, self.bank)
     }
 
     /// Whether events may be taken.
