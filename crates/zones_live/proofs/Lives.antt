@@ -3,7 +3,7 @@ use Rattle.std.proofs.Common.{◌≡◌, ◌≤◌, ◌<◌, ◌⊎◌, ◌++◌
 use Rattle.std.specs.Prelude.{◌≢◌, IfSome, slice_index_or}
 use Rattle.zn_io.proofs.Moments.{joined, weaker}
 use Rattle.zn_io.specs.Disk.{Leaves, View}
-use Rattle.zn_io.specs.Streams.{TakesFront}
+use Rattle.zn_io.specs.Streams.{Rose, TakesFront}
 use Rattle.brand_hooks.specs.Brands.{Tabled}
 use Rattle.commit_journal.specs.declared.records.Commit.{Commit}
 use Rattle.daemon_threads.specs.Sessions.{HoldsSome, LeavesChanges, Lives, is_settled}
@@ -22,7 +22,7 @@ use Rattle.zone_machine.specs.declared.faults.StepFault.TheVariants.{DiskFault, 
 use Rattle.zones_run.specs.Complaints.{complaint_output, complaint_status, complaint_text}
 use Rattle.zones_run.specs.Output.{Output}
 use Rattle.zones_run.specs.Recording.{KeepsStore}
-use Rattle.zones_run.specs.Run.{HasFront, TellsLine, TellsText, fault_status, run_fault_of}
+use Rattle.zones_run.specs.Run.{HasFront, TellsLine, TellsText, disk_fault_line, fault_status, memory_line, run_fault_of}
 use Rattle.zones_run.specs.Statuses.{status_disk_fault, status_grammar, status_limit, status_no_memory, status_read_fault}
 use Rattle.zones_run.specs.declared.outcome.Complaint.{Complaint}
 use Rattle.zones_run.specs.declared.fault.RunFault.{RunFault}
@@ -33,7 +33,7 @@ use Rattle.zones_run.proofs.Telling.{text_nothing}
 use Rattle.zones_live.proofs.Declares.{changes-append, keeps-more}
 use Rattle.zones_live.proofs.Written.{front-none}
 use Rattle.zones_live.specs.Declaring.{Declared}
-use Rattle.zones_live.specs.Living.{IsDone, LivesOn, LivesOnSome, RunsOn, WroteComplaint, WrotePart, WroteRecord, ending_output}
+use Rattle.zones_live.specs.Living.{IsDone, LivesOn, LivesOnSome, RunsOn, TellsFaults, WroteComplaint, WrotePart, WroteRecord, ending_output}
 use Rattle.zones_live.specs.Records.{record_text, told_record}
 use Rattle.zones_live.specs.Sorting.{declared_in, typed_in}
 
@@ -256,6 +256,24 @@ one-word f (x ∷ y ∷ words) a h k first = absurd (omega (arith, k))
 pub status-either : (fault : RunFault) (status : ℕ) → (fault ≡ No_memory) ⊎ (fault ≡ Disk) → status ≡ fault_status fault → (status ≡ status_no_memory) ⊎ (status ≡ status_disk_fault)
 status-either fault status (inl is) told = inl (told ∙ ap fault_status is)
 status-either fault status (inr is) told = inr (told ∙ ap fault_status is)
+
+pub status-reading : (fault : ReadFault) (status : ℕ) → status ≡ fault_status (run_fault_of fault) → (status ≡ status_read_fault) ⊎ (status ≡ status_no_memory)
+status-reading No_room status told = inr told
+status-reading Failed status told = inl told
+
+module _ (status out_before out_now : ℕ) (told tells : Option (List ℕ)) (before now : ℕ) where
+  -- what a fault is told as since an earlier moment
+  pub faults-later : (u v w : View) → u.faults ≤ v.faults → TellsFaults status out_before out_now told tells before now v w → TellsFaults status out_before out_now told tells before now u w
+  faults-later u v w later f = record { write = f.write; disk = λ is. let rose = f.disk is in omega (arith, later, rose); disk_line = f.disk_line; memory_line = f.memory_line }
+
+  -- before sessions ran
+  pub faults-failed : (fault : RunFault) (v w : View) → (status ≡ status_no_memory) ⊎ (status ≡ status_disk_fault) → (fault ≡ Disk → Rose v.faults w.faults) → (status ≡ status_disk_fault → (fault ≡ Disk) × TakesFront told tells before now disk_fault_line)
+      → (status ≡ status_no_memory → (fault ≡ No_memory) × TakesFront told tells before now memory_line) → TellsFaults status out_before out_now told tells before now v w
+  faults-failed fault v w either rose disk memory = record { write = λ is. absurd (grind (arith, is, either)); disk = λ is. rose (disk is).0; disk_line = λ is. (disk is).1; memory_line = λ is. (memory is).1 }
+
+  -- and of reading
+  pub faults-read : (v w : View) → (status ≡ status_read_fault) ⊎ (status ≡ status_no_memory) → (status ≡ status_no_memory → TakesFront told tells before now memory_line) → TellsFaults status out_before out_now told tells before now v w
+  faults-read v w either memory = record { write = λ is. absurd (grind (arith, is, either)); disk = λ is. absurd (grind (arith, is, either)); disk_line = λ is. absurd (grind (arith, is, either)); memory_line = memory }
 
 -- the status of a fault of reading
 pub status-read : (fault : ReadFault) (status : ℕ) → status ≡ fault_status (run_fault_of fault) → (status ≡ status_read_fault) ⊎ ((status ≡ status_no_memory) ⊎ (status ≡ status_disk_fault))

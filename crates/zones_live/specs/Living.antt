@@ -1,7 +1,7 @@
 -- What a run of live sessions comes to, over the store of some commits and a whole input.
 use Rattle.std.specs.Prelude.{◌≡◌, ◌≢◌, ◌⊎◌, ◌∷◌, [], ℕ, Bool, true, false, Err, IfSome, List, Option, codes}
 use Rattle.zn_io.specs.Disk.{View}
-use Rattle.zn_io.specs.Streams.{TakesFront}
+use Rattle.zn_io.specs.Streams.{Rose, TakesFront}
 use Rattle.brand_hooks.specs.Brands.{Tabled}
 use Rattle.commit_journal.specs.Store.{OpensStore}
 use Rattle.commit_journal.specs.declared.fault.StoreFault.{StoreFault}
@@ -20,7 +20,7 @@ use Rattle.zones_live.specs.Sorting.{declared_in, typed_in}
 use Rattle.zones_run.specs.Complaints.{complaint_output, complaint_text}
 use Rattle.zones_run.specs.Output.{Output, written}
 use Rattle.zones_run.specs.Recording.{KeepsStore}
-use Rattle.zones_run.specs.Run.{HasFront, TellsLine, TellsText}
+use Rattle.zones_run.specs.Run.{HasFront, TellsLine, TellsText, disk_fault_line, memory_line}
 use Rattle.zones_run.specs.Statuses.{status_disk_fault, status_done, status_grammar, status_limit, status_no_memory, status_not_a_store, status_read_fault, status_refused, status_usage, status_write_fault}
 use Rattle.zones_run.specs.declared.outcome.Complaint.TheVariants.{Grammar, Limit, NotAStore}
 
@@ -58,6 +58,13 @@ pub record WrotePart (settled : Bool) (brands : List Tabled) (R : List Commit) (
   pub part : (entries ≡ []) ⊎ IsRunPartial brands R declared scripts entries
   pub text : HasFront held holds (record_text entries)
   pub left : IsStoreOf v R → LeavesChanges settled (opening brands R) entries v w
+
+-- a fault is told only where one came: by its status, and by its line on standard error
+pub record TellsFaults (status : ℕ) (out_before out_now : ℕ) (told tells : Option (List ℕ)) (before now : ℕ) (v w : View) : Type 0 where
+  pub write : status ≡ status_write_fault → Rose out_before out_now ⊎ Rose before now
+  pub disk : status ≡ status_disk_fault → Rose v.faults w.faults
+  pub disk_line : status ≡ status_disk_fault → TakesFront told tells before now disk_fault_line
+  pub memory_line : status ≡ status_no_memory → TakesFront told tells before now memory_line
 
 -- what is declared and typed was run, by the status
 pub record RunsOn (brands : List Tabled) (R : List Commit) (declared : List Declaration) (scripts : Scripts) (status : ℕ) (held holds told tells : Option (List ℕ)) (before now : ℕ) (v w : View) : Type 0 where

@@ -13,7 +13,7 @@ ghost use Rattle.zone_machine.specs.Code.Openings.{StandsFor};
 ghost use Rattle.zone_machine.specs.Machine.{opening};
 ghost use Rattle.zone_machine.specs.Machine.Images.{IsStoreOf};
 ghost use Rattle.zones_live.specs.Declaring.{Declared};
-ghost use Rattle.zones_live.specs.Living.{FoundNone, IsDone, IsForm, LivesOn, LivesOnSome, LivesOverSome, RunsNothing, RunsOn};
+ghost use Rattle.zones_live.specs.Living.{FoundNone, IsDone, IsForm, LivesOn, LivesOnSome, LivesOverSome, RunsNothing, RunsOn, TellsFaults};
 ghost use Rattle.zones_live.specs.Sorting.{declared_in, typed_in};
 ghost use Rattle.zones_run.specs.Fixed.{usage_text};
 ghost use Rattle.zones_run.specs.Run.{IsStatus, disk_fault_line, memory_line, read_fault_line};
@@ -75,10 +75,7 @@ fn run_declared<
     ensures statuses { IsDone result.0 ⊎ ((result.0 ≡ NO_MEMORY) ⊎ (result.0 ≡ DISK_FAULT)) }
     ensures runs { (brands : List Tabled) (R : List Commit) (what : List Declaration) → Declared (opening brands R) what [] declared.items (λ T. StandsFor T machine.entry) →
         RunsOn brands R what (scripts_of scripts.items) result.0 (K.holds out.old) (K.holds out.new) (E.holds err.old) (E.holds err.new) (E.faults err.old) (E.faults err.new) (D.view machine.entry.bank.disk) (D.view result.1) }
-    ensures write_fault { result.0 ≡ WRITE_FAULT → Rose (K.faults out.old) (K.faults out.new) ⊎ Rose (E.faults err.old) (E.faults err.new) }
-    ensures disk_fault { result.0 ≡ DISK_FAULT → Rose (D.view machine.entry.bank.disk).faults (D.view result.1).faults }
-    ensures disk_line { result.0 ≡ DISK_FAULT → TakesFront (E.holds err.old) (E.holds err.new) (E.faults err.old) (E.faults err.new) disk_fault_line }
-    ensures memory_line { result.0 ≡ NO_MEMORY → TakesFront (E.holds err.old) (E.holds err.new) (E.faults err.old) (E.faults err.new) memory_line }
+    ensures faults { TellsFaults result.0 (K.faults out.old) (K.faults out.new) (E.holds err.old) (E.holds err.new) (E.faults err.old) (E.faults err.new) (D.view machine.entry.bank.disk) (D.view result.1) }
 {
     let Live {
         entries,
@@ -113,10 +110,7 @@ fn run_on_machine<
     ensures statuses { IsDone result.0 ⊎ ((result.0 ≡ NO_MEMORY) ⊎ (result.0 ≡ DISK_FAULT)) }
     ensures runs { (brands : List Tabled) (R : List Commit) → StandsFor (opening brands R) machine.entry →
         RunsOn brands R sorted.declared.items (scripts_of sorted.scripts.items) result.0 (K.holds out.old) (K.holds out.new) (E.holds err.old) (E.holds err.new) (E.faults err.old) (E.faults err.new) (D.view machine.entry.bank.disk) (D.view result.1) }
-    ensures write_fault { result.0 ≡ WRITE_FAULT → Rose (K.faults out.old) (K.faults out.new) ⊎ Rose (E.faults err.old) (E.faults err.new) }
-    ensures disk_fault { result.0 ≡ DISK_FAULT → Rose (D.view machine.entry.bank.disk).faults (D.view result.1).faults }
-    ensures disk_line { result.0 ≡ DISK_FAULT → TakesFront (E.holds err.old) (E.holds err.new) (E.faults err.old) (E.faults err.new) disk_fault_line }
-    ensures memory_line { result.0 ≡ NO_MEMORY → TakesFront (E.holds err.old) (E.holds err.new) (E.faults err.old) (E.faults err.new) memory_line }
+    ensures faults { TellsFaults result.0 (K.faults out.old) (K.faults out.new) (E.holds err.old) (E.holds err.new) (E.faults err.old) (E.faults err.new) (D.view machine.entry.bank.disk) (D.view result.1) }
 {
     let mut machine = machine;
     let mut entries = Vec::new(alloc);
@@ -150,10 +144,7 @@ fn run_events<
     ensures statuses { IsDone result.0 ⊎ ((result.0 ≡ NO_MEMORY) ⊎ (result.0 ≡ DISK_FAULT)) }
     ensures runs { (brands : List Tabled) (R : List Commit) → StandsFor (opening brands R) machine.entry →
         RunsOn brands R (declared_in events.items) (typed_in events.items) result.0 (K.holds out.old) (K.holds out.new) (E.holds err.old) (E.holds err.new) (E.faults err.old) (E.faults err.new) (D.view machine.entry.bank.disk) (D.view result.1) }
-    ensures write_fault { result.0 ≡ WRITE_FAULT → Rose (K.faults out.old) (K.faults out.new) ⊎ Rose (E.faults err.old) (E.faults err.new) }
-    ensures disk_fault { result.0 ≡ DISK_FAULT → Rose (D.view machine.entry.bank.disk).faults (D.view result.1).faults }
-    ensures disk_line { result.0 ≡ DISK_FAULT → TakesFront (E.holds err.old) (E.holds err.new) (E.faults err.old) (E.faults err.new) disk_fault_line }
-    ensures memory_line { result.0 ≡ NO_MEMORY → TakesFront (E.holds err.old) (E.holds err.new) (E.faults err.old) (E.faults err.new) memory_line }
+    ensures faults { TellsFaults result.0 (K.faults out.old) (K.faults out.new) (E.holds err.old) (E.holds err.new) (E.faults err.old) (E.faults err.new) (D.view machine.entry.bank.disk) (D.view result.1) }
 {
     match sort(alloc, events) {
         Ok(sorted) => run_on_machine(rt, alloc, machine, gate, sorted, out, err),
@@ -189,10 +180,7 @@ fn run_input<
         LivesOnSome brands R (S.left src.old) result.0 (K.holds out.old) (K.holds out.new) (E.holds err.old) (E.holds err.new) (E.faults err.old) (E.faults err.new) (D.view machine.entry.bank.disk) (D.view result.1) }
     ensures read_fault { result.0 ≡ READ_FAULT → Rose (S.faults src.old) (S.faults src.new) }
     ensures read_line { result.0 ≡ READ_FAULT → TakesFront (E.holds err.old) (E.holds err.new) (E.faults err.old) (E.faults err.new) read_fault_line }
-    ensures write_fault { result.0 ≡ WRITE_FAULT → Rose (K.faults out.old) (K.faults out.new) ⊎ Rose (E.faults err.old) (E.faults err.new) }
-    ensures disk_fault { result.0 ≡ DISK_FAULT → Rose (D.view machine.entry.bank.disk).faults (D.view result.1).faults }
-    ensures disk_line { result.0 ≡ DISK_FAULT → TakesFront (E.holds err.old) (E.holds err.new) (E.faults err.old) (E.faults err.new) disk_fault_line }
-    ensures memory_line { result.0 ≡ NO_MEMORY → TakesFront (E.holds err.old) (E.holds err.new) (E.faults err.old) (E.faults err.new) memory_line }
+    ensures faults { TellsFaults result.0 (K.faults out.old) (K.faults out.new) (E.holds err.old) (E.holds err.new) (E.faults err.old) (E.faults err.new) (D.view machine.entry.bank.disk) (D.view result.1) }
 {
     let mut events = Vec::new(alloc);
     match read_lines(alloc, src, &mut events) {
@@ -239,10 +227,7 @@ fn run_on_store<
     ensures nothing { RunsNothing result.0 → K.holds out.new ≡ K.holds out.old }
     ensures read_fault { result.0 ≡ READ_FAULT → Rose (S.faults src.old) (S.faults src.new) }
     ensures read_line { result.0 ≡ READ_FAULT → TakesFront (E.holds err.old) (E.holds err.new) (E.faults err.old) (E.faults err.new) read_fault_line }
-    ensures write_fault { result.0 ≡ WRITE_FAULT → Rose (K.faults out.old) (K.faults out.new) ⊎ Rose (E.faults err.old) (E.faults err.new) }
-    ensures disk_fault { result.0 ≡ DISK_FAULT → Rose (D.view disk).faults (D.view result.1).faults }
-    ensures disk_line { result.0 ≡ DISK_FAULT → TakesFront (E.holds err.old) (E.holds err.new) (E.faults err.old) (E.faults err.new) disk_fault_line }
-    ensures memory_line { result.0 ≡ NO_MEMORY → TakesFront (E.holds err.old) (E.holds err.new) (E.faults err.old) (E.faults err.new) memory_line }
+    ensures faults { TellsFaults result.0 (K.faults out.old) (K.faults out.new) (E.holds err.old) (E.holds err.new) (E.faults err.old) (E.faults err.new) (D.view disk) (D.view result.1) }
 {
     match open(alloc, disk, brands) {
         Ok(machine) => run_input(rt, alloc, machine, gate, src, out, err),

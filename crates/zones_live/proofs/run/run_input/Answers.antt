@@ -4,7 +4,7 @@ use Rattle.zone_machine.specs.Machine.{opening}
 use Rattle.zones_live.specs.Living.{ending_output}
 use Rattle.zones_run.specs.Run.{fault_status}
 use Rattle.zones_run.specs.declared.outcome.Complaint.TheVariants.{Grammar, Limit}
-use Rattle.zones_live.proofs.Lives.{lives-failed, lives-run, lives-told, some-input, some-said, status-read}
+use Rattle.zones_live.proofs.Lives.{faults-read, lives-failed, lives-run, lives-told, some-input, some-said, status-read, status-reading}
 use Rattle.zones_live.proofs.run.run_input.Goals as goal
 
 pub returns-in-Ok-End-clause-lives : goal.returns-in-Ok-End-clause-lives
@@ -50,3 +50,8 @@ returns-in-Err-clause-lives g c = λ brands R stands.
       runs = lives-failed brands R (some-input bytes) c.fail.result (g.K.Sink.holds c.args.out.now) (g.E.Sink.holds c.args.err.now) (g.E.Sink.holds c.fail.new.err) (g.E.Sink.faults c.args.err.now) (g.E.Sink.faults c.fail.new.err) v v (λ k. k) (λ is. c.hand_back-in-Err.ensures.kept (opening brands R) stands is.keeps)
           (status-read c.in-Err.fault c.fail.result (c.fail.ensures.status ∙ ap fault_status c.from.ensures));
     })
+
+pub returns-in-Err-clause-faults : goal.returns-in-Err-clause-faults
+returns-in-Err-clause-faults g c =
+    let v = g.D.Disk.view c.args.machine.bank.disk in
+    rw c.hand_back-in-Err.ensures.same (faults-read c.fail.result (g.K.Sink.faults c.args.out.now) (g.K.Sink.faults c.args.out.now) (g.E.Sink.holds c.args.err.now) (g.E.Sink.holds c.fail.new.err) (g.E.Sink.faults c.args.err.now) (g.E.Sink.faults c.fail.new.err) v v (status-reading c.in-Err.fault c.fail.result (c.fail.ensures.status ∙ ap fault_status c.from.ensures)) (λ is. (c.fail.ensures.memory is).1))

@@ -1,7 +1,7 @@
 use Rattle.std.proofs.Common.{arith, inl, inr, refl, rules}
 use Rattle.brand_hooks.specs.Brands.{tables_of}
 use Rattle.live_input.specs.Input.{input_of}
-use Rattle.zones_live.proofs.Lives.{if-always, lives-failed, lives-known, some-later}
+use Rattle.zones_live.proofs.Lives.{faults-later, if-always, lives-failed, lives-known, some-later}
 use Rattle.zones_live.proofs.Opened.{neither}
 use Rattle.zones_run.proofs.Opened.{opens_refused}
 use Rattle.zones_live.proofs.run.run_on_store.Goals as goal
@@ -61,3 +61,8 @@ returns-in-Err-clause-store g c = λ is keeps. record {
   found = opens_refused c.in-Err.fault (g.D.Disk.view c.args.disk) c.in-Err.ensures.refuses (search rules) (search rules) keeps;
   line = c.tell_ending.ensures.line (λ m. grind (arith, is, m));
 }
+
+pub returns-in-Ok-clause-faults : goal.returns-in-Ok-clause-faults
+returns-in-Ok-clause-faults g c =
+    let view = g.D.Disk.view in
+    faults-later c.run_input.result.0 (g.K.Sink.faults c.args.out.now) (g.K.Sink.faults c.run_input.new.out) (g.E.Sink.holds c.args.err.now) (g.E.Sink.holds c.run_input.new.err) (g.E.Sink.faults c.args.err.now) (g.E.Sink.faults c.run_input.new.err) (view c.args.disk) (view c.in-Ok.machine.bank.disk) (view c.run_input.result.1) c.in-Ok.ensures.passes.faults c.run_input.ensures.faults
