@@ -69,6 +69,7 @@ impl<D: Disk, N: Names> SharedPart<D, N> {
         ensures bank { result.1 ≡ self.bank }
         ensures passes { Passes N.view (D.view self.bank.disk) }
         ensures rose { self.bank.sound ≡ false → Rose N.view.faults (D.view self.bank.disk).faults }
+        ensures usable { IsUsable N.view (D.view self.bank.disk) N.brands self.shared self.bank }
     {
         (self.shared, self.bank)
     }

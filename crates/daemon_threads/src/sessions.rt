@@ -102,6 +102,7 @@ fn unlisted<'b, D: Disk, F, N: Names>(
     ensures stands { (S : State) → StandTogether S (put_all kept.1.items) kept.0.shared kept.0.bank.records → StandsFor S result.machine }
     ensures ended { result.ended ≡ Some StepFault.Memory }
     ensures passes { Passes N.view (D.view kept.0.bank.disk) }
+    ensures usable { IsUsable N.view (D.view result.machine.bank.disk) N.brands result.machine.parts.shared result.machine.bank }
 {
     let (part, cells) = kept;
     let (shared, bank) = part.into_parts();
@@ -127,6 +128,7 @@ fn listed<'b, D: Disk + Drop + Send, F, N: Names + Send>(
     ensures stands { (S : State) → StandTogether S (put_all (map back_cell lived.entry.cells.items)) lived.entry.shared.shared lived.entry.shared.bank.records → StandsFor S result.machine }
     ensures ended { result.ended ≡ ended_by lived.entry.shared.bank.sound (is_some lived.entry.ended) }
     ensures passes { Passes N.view (D.view lived.entry.shared.bank.disk) }
+    ensures usable { IsUsable N.view (D.view result.machine.bank.disk) N.brands result.machine.parts.shared result.machine.bank }
     ensures rose { lived.entry.shared.bank.sound ≡ false → Rose N.view.faults (D.view lived.entry.shared.bank.disk).faults }
 {
     let Lived {
@@ -185,6 +187,8 @@ fn run_picked<
     ensures stands { (s : Past) → N.starts s → result.machine.bank.sound ≡ true → StandsFor (after (state_of N.brands s) result.entries.items) result.machine }
     ensures sound { (result.machine.bank.sound ≡ false → result.ended ≡ Some StepFault.DiskFault) × (result.ended ≡ Some StepFault.DiskFault → result.machine.bank.sound ≡ false) }
     ensures brands { result.machine.brands ≡ brands.entry }
+    ensures asks { AsksBrands F.Fn result.machine }
+    ensures ready { result.machine.bank.sound ≡ true → MayGoOn D.view result.machine }
     ensures only { IfSome result.ended (λ fault. (fault ≡ StepFault.Memory) ⊎ (fault ≡ StepFault.DiskFault)) }
     ensures disk { result.ended ≡ Some StepFault.DiskFault → Rose N.view.faults (D.view result.machine.bank.disk).faults }
     ensures passes { Passes N.view (D.view result.machine.bank.disk) }
@@ -231,6 +235,8 @@ fn run_apart<
     ensures stands { (S : State) → IsReached S → StandApart S parted.entry → result.machine.bank.sound ≡ true → StandsFor (after S result.entries.items) result.machine }
     ensures sound { (result.machine.bank.sound ≡ false → result.ended ≡ Some StepFault.DiskFault) × (result.ended ≡ Some StepFault.DiskFault → result.machine.bank.sound ≡ false) }
     ensures brands { result.machine.brands ≡ parted.entry.brands }
+    ensures asks { AsksBrands F.Fn result.machine }
+    ensures ready { result.machine.bank.sound ≡ true → MayGoOn D.view result.machine }
     ensures only { IfSome result.ended (λ fault. (fault ≡ StepFault.Memory) ⊎ (fault ≡ StepFault.DiskFault)) }
     ensures disk { result.ended ≡ Some StepFault.DiskFault → Rose (D.view parted.entry.bank.disk).faults (D.view result.machine.bank.disk).faults }
     ensures passes { Passes (D.view parted.entry.bank.disk) (D.view result.machine.bank.disk) }
@@ -299,6 +305,8 @@ pub fn run_sessions<
     ensures stands { (S : State) → IsReached S → StandsFor S machine.entry → result.machine.bank.sound ≡ true → StandsFor (after S result.entries.items) result.machine }
     ensures sound { (result.machine.bank.sound ≡ false → result.ended ≡ Some StepFault.DiskFault) × (result.ended ≡ Some StepFault.DiskFault → result.machine.bank.sound ≡ false) }
     ensures brands { result.machine.brands ≡ machine.entry.brands }
+    ensures asks { AsksBrands F.Fn result.machine }
+    ensures ready { result.machine.bank.sound ≡ true → MayGoOn D.view result.machine }
     ensures only { IfSome result.ended (λ fault. (fault ≡ StepFault.Memory) ⊎ (fault ≡ StepFault.DiskFault)) }
     ensures disk { result.ended ≡ Some StepFault.DiskFault → Rose (D.view machine.entry.bank.disk).faults (D.view result.machine.bank.disk).faults }
     ensures passes { Passes (D.view machine.entry.bank.disk) (D.view result.machine.bank.disk) }

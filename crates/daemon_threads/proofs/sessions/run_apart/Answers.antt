@@ -1,5 +1,6 @@
 use Rattle.std.proofs.Common.{◌≡◌, ap, arith, length, map, refl, subst, suc, sym, true, ◌∙◌}
 use Rattle.brand_hooks.specs.Brands.{tables_of}
+use Rattle.brand_hooks.specs.Hooks.{AllFollow}
 use Rattle.zn_base.specs.Names.{Name}
 use Rattle.zone_cases.specs.State.{State}
 use Rattle.zone_cases.specs.declared.cell.Cell.{Cell}
@@ -116,3 +117,17 @@ returns-in-Err-clause-stands g c = λ S reached stands sound.
 
 pub returns-in-Err-clause-passes : goal.returns-in-Err-clause-passes
 returns-in-Err-clause-passes g c = passes-same g.D.Disk.view c.args.parted.bank.disk c.unbegun-in-Err.result.machine.bank.disk (ap (λ m. m.bank.disk) c.unbegun-in-Err.ensures.machine ∙ ap (λ b. b.disk) c.whole-in-Err.ensures.bank)
+
+pub returns-then-len-ge-ZONES_MAX-clause-asks : goal.returns-then-len-ge-ZONES_MAX-clause-asks
+returns-then-len-ge-ZONES_MAX-clause-asks g c =
+    let brands = ap (λ m. m.brands) c.unbegun.ensures.machine ∙ c.whole.ensures.brands in (
+      subst (λ b. AllFollow g.F.Fn b.now) (sym brands) c.requires.asks.0,
+      ap (λ m. m.parts.shared.brands) c.unbegun.ensures.machine ∙ (ap (λ s. s.brands) c.whole.ensures.shared ∙ (c.requires.asks.1 ∙ ap (λ b. tables_of b.now) (sym brands))),
+    )
+
+pub returns-in-Err-clause-asks : goal.returns-in-Err-clause-asks
+returns-in-Err-clause-asks g c =
+    let brands = ap (λ m. m.brands) c.unbegun-in-Err.ensures.machine ∙ c.whole-in-Err.ensures.brands in (
+      subst (λ b. AllFollow g.F.Fn b.now) (sym brands) c.requires.asks.0,
+      ap (λ m. m.parts.shared.brands) c.unbegun-in-Err.ensures.machine ∙ (ap (λ s. s.brands) c.whole-in-Err.ensures.shared ∙ (c.requires.asks.1 ∙ ap (λ b. tables_of b.now) (sym brands))),
+    )

@@ -1,5 +1,7 @@
 use Rattle.std.proofs.Common.{◌≡◌, ◌+◌, ap, length, subst, sym, ◌∙◌}
 use Rattle.std.specs.Prelude.{is_some, true}
+use Rattle.brand_hooks.specs.Brands.{tables_of}
+use Rattle.brand_hooks.specs.Hooks.{AllFollow}
 use Rattle.zone_machine.specs.Code.Openings.{StandsFor}
 use Rattle.zone_machine.specs.Code.Records.{Passes}
 use Rattle.zone_machine.specs.Machine.Histories.{after}
@@ -80,3 +82,9 @@ returns-clause-disk g c = λ is. absurd (memory-other (sym c.unlisted.ensures.en
 
 pub returns-clause-passes : goal.returns-clause-passes
 returns-clause-passes g c = subst (λ b. Passes g.N.Names.view (g.D.Disk.view b.disk)) (sym c.unlisted.ensures.bank) c.unlisted.ensures.passes
+
+pub returns-in-Ok-clause-asks : goal.returns-in-Ok-clause-asks
+returns-in-Ok-clause-asks g c = (subst (λ b. AllFollow g.F.Fn b.now) (sym c.listed.ensures.brands) c.requires.set.follow, c.listed.ensures.usable.brands_are ∙ sym c.requires.set.brands_are ∙ ap (λ b. tables_of b.now) (sym c.listed.ensures.brands))
+
+pub returns-clause-asks : goal.returns-clause-asks
+returns-clause-asks g c = (subst (λ b. AllFollow g.F.Fn b.now) (sym c.unlisted.ensures.brands) c.requires.set.follow, c.unlisted.ensures.usable.brands_are ∙ sym c.requires.set.brands_are ∙ ap (λ b. tables_of b.now) (sym c.unlisted.ensures.brands))

@@ -98,3 +98,17 @@ returns-clause-stands g c = λ S reached stands sound.
 
 pub returns-clause-brands : goal.returns-clause-brands
 returns-clause-brands g c = c.run_apart.ensures.brands ∙ (c.part.ensures.brands ∙ c.name_all.ensures.same.brands)
+
+pub returns-then-is_err-clause-asks : goal.returns-then-is_err-clause-asks
+returns-then-is_err-clause-asks g c =
+    let brands = ap (λ m. m.brands) c.unbegun.ensures.machine ∙ c.name_all.ensures.same.brands in (
+      subst (λ b. AllFollow g.F.Fn b.now) (sym brands) c.requires.asks.0,
+      ap (λ m. m.parts.shared.brands) c.unbegun.ensures.machine ∙ (ap (λ s. s.brands) c.name_all.ensures.same.shared ∙ (c.requires.asks.1 ∙ ap (λ b. tables_of b.now) (sym brands))),
+    )
+
+pub returns-in_default-clause-asks : goal.returns-in_default-clause-asks
+returns-in_default-clause-asks g c =
+    let brands = ap (λ m. m.brands) c.unbegun-in_default.ensures.machine ∙ c.name_all.ensures.same.brands in (
+      subst (λ b. AllFollow g.F.Fn b.now) (sym brands) c.requires.asks.0,
+      ap (λ m. m.parts.shared.brands) c.unbegun-in_default.ensures.machine ∙ (ap (λ s. s.brands) c.name_all.ensures.same.shared ∙ (c.requires.asks.1 ∙ ap (λ b. tables_of b.now) (sym brands))),
+    )
