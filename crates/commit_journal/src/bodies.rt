@@ -1,18 +1,17 @@
 //! The body of one record of a store, written.
-ghost use Rattle.std.specs.Prelude.{◌≡◌, ◌<◌, ◌^◌, ◌++◌, IfOk, IfSome, OnOk, codes, option_map};
+ghost use Rattle.std.specs.Prelude.{◌≡◌, ◌<◌, ◌^◌, ◌++◌, ◌+◌, ◌%◌, IfOk, IfSome, OnOk, codes, option_map};
 ghost use Rattle.uuid_text.specs.Text.{uuid_text, IsUuid};
 ghost use Rattle.zone_config.specs.Export.{export_text};
 ghost use Rattle.zone_config.specs.Sound.{IsSound};
 ghost use Rattle.commit_journal.specs.Bodies.{IsCommit, IsRecord, IsStorable, padded, record_text, stored_text, told};
 ghost use Rattle.commit_journal.specs.Store.{change_text};
 
-use crate::Record;
 use crate::sizes::body_length;
+use crate::{Record, StoredConfig};
 use std::alloc::{AllocError, Global};
 use uuid::Uuid;
 use uuid_text::push_uuid;
 use zn_base::ZoneName;
-use zone_config::{ZoneConfig, push_export};
 
 fn push_told(out: &mut Vec<u8>, word: &[u8], value: &[u8]) -> Result<(), AllocError>
     ensures { OnOk result (out.new.items ≡ out.old.items ++ told word.now value.now) }
@@ -34,17 +33,39 @@ fn push_uuid_line(out: &mut Vec<u8>, uuid: Uuid) -> Result<(), AllocError>
     Ok(())
 }
 
-// A number in so many digits, with leading zeros.
-#[tactic(auto, using(crate::proofs::Parts::padded_none, crate::proofs::Parts::padded_more))]
-fn push_padded(out: &mut Vec<u8>, digits: u32, number: u32) -> Result<(), AllocError>
-    ensures { OnOk result (out.new.items ≡ out.old.items ++ padded digits number) }
+// The last digit of a number.
+fn digit(number: u32) -> u8
+    ensures { result ≡ 48 + number % 10 }
 {
-    if digits == 0 {
-        return Ok(());
-    }
-    push_padded(out, digits - 1, number / 10)?;
-    out.push(b'0' + (number % 10) as u8)?;
-    Ok(())
+    b'0' + (number % 10) as u8
+}
+
+// A number in ten digits, with leading zeros.
+#[tactic(auto, unfolding(crate::specs::Bodies::padded))]
+fn push_padded(out: &mut Vec<u8>, number: u32) -> Result<(), AllocError>
+    ensures { OnOk result (out.new.items ≡ out.old.items ++ padded 10 number) }
+{
+    let n8 = number / 10;
+    let n7 = n8 / 10;
+    let n6 = n7 / 10;
+    let n5 = n6 / 10;
+    let n4 = n5 / 10;
+    let n3 = n4 / 10;
+    let n2 = n3 / 10;
+    let n1 = n2 / 10;
+    let n0 = n1 / 10;
+    out.extend_from_slice(&[
+        digit(n0),
+        digit(n1),
+        digit(n2),
+        digit(n3),
+        digit(n4),
+        digit(n5),
+        digit(n6),
+        digit(n7),
+        digit(n8),
+        digit(number),
+    ])
 }
 
 fn push_revision(out: &mut Vec<u8>, revision: u32) -> Result<(), AllocError>
@@ -52,18 +73,16 @@ fn push_revision(out: &mut Vec<u8>, revision: u32) -> Result<(), AllocError>
     ensures fits { revision < 2 ^ 32 }
 {
     out.extend_from_slice(b"revision ")?;
-    push_padded(out, 10, revision)?;
+    push_padded(out, revision)?;
     out.push(b'\n')?;
     Ok(())
 }
 
-fn push_config(out: &mut Vec<u8>, config: &ZoneConfig) -> Result<(), AllocError>
+fn push_config(out: &mut Vec<u8>, config: &StoredConfig) -> Result<(), AllocError>
     ensures text { OnOk result (out.new.items ≡ out.old.items ++ export_text config.now) }
     ensures sound { IsSound config.now }
 {
-    // The clauses of `contents` say that the configuration is sound.
-    let _contents = config.contents();
-    push_export(out, config)
+    out.extend_from_slice(config.text())
 }
 
 #[tactic(auto, unfolding(crate::specs::Bodies::record_text))]

@@ -11,6 +11,7 @@ mod replay;
 mod rows;
 mod sizes;
 mod store;
+mod stored_config;
 mod uuids;
 
 pub use fault::StoreFault;
@@ -19,4 +20,5 @@ pub use records::{Commit, Record, Row};
 pub use rows::Zones;
 pub use sizes::{body_length, fits, record_length};
 pub use store::{Store, append_record, record_count, reopen};
+pub use stored_config::StoredConfig;
 pub use uuids::uuid_of;

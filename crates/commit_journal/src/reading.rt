@@ -15,12 +15,12 @@ ghost use Rattle.commit_journal.specs.Store.{change_text};
 
 use crate::bodies::body_of;
 use crate::sizes::BODY_MAX;
-use crate::{Commit, Record};
+use crate::{Commit, Record, StoredConfig};
 use export_read::read_export;
 use std::alloc::{AllocError, Global};
 use uuid_text::read_uuid;
 use zn_base::{ZoneName, ZoneState, split_at_byte};
-use zone_config::{ConfigFault, ZoneConfig};
+use zone_config::ConfigFault;
 
 // What a line says, and what follows it.
 #[derive(Clone, Copy)]
@@ -82,11 +82,11 @@ fn revision_of(digits: &[u8]) -> Option<u32>
     }
 }
 
-fn read_config(alloc: Global, text: &[u8]) -> Result<Option<ZoneConfig>, AllocError>
+fn read_config(alloc: Global, text: &[u8]) -> Result<Option<StoredConfig>, AllocError>
     ensures { (c : Contents) → IsSound c → text.now ≡ export_text c → IfOk result (λ config. config ≡ Some c) }
 {
     match read_export(alloc, text) {
-        Ok(config) => Ok(Some(config)),
+        Ok(config) => Ok(Some(StoredConfig::new(alloc, config)?)),
         Err(ConfigFault::Memory) => Err(AllocError),
         Err(_) => Ok(None),
     }

@@ -3,12 +3,12 @@ ghost use Rattle.std.specs.Prelude.{◌≡◌, ◌≤◌, IfOk, IfSome, IsTrue, 
 ghost use Rattle.zn_base.specs.States.{is_stored};
 ghost use Rattle.commit_journal.specs.Bodies.{IsStorable};
 
-use std::alloc::{AllocError, Global};
+use crate::StoredConfig;
+use std::alloc::AllocError;
 use std::marker::Model;
 use std::ops::Deref;
 use uuid::Uuid;
 use zn_base::{ZoneName, ZoneState};
-use zone_config::ZoneConfig;
 
 /// What is stored of a zone. Its state is configured, incomplete or installed, and its configuration has a
 /// zonepath.
@@ -17,7 +17,7 @@ pub struct Record {
     pub uuid: Uuid,
     /// The number of the record that gave the zone its configuration, from 1.
     pub revision: u32,
-    pub config: ZoneConfig,
+    pub config: StoredConfig,
 }
 
 // It goes in one step, so that a function that holds one has one step for it at each of its exits.
@@ -33,19 +33,16 @@ impl Drop for Record {
 }
 
 impl Record {
-    /// An equal record.
-    pub fn copy(&self, alloc: Global) -> Result<Record, AllocError>
+    /// An equal record, which shares the configuration.
+    pub fn copy(&self) -> Result<Record, AllocError>
         ensures { IfOk result (λ row. row ≡ self.now) }
     {
-        match self.config.copy(alloc) {
-            Ok(config) => Ok(Record {
-                state: self.state,
-                uuid: self.uuid,
-                revision: self.revision,
-                config,
-            }),
-            Err(_) => Err(AllocError),
-        }
+        Ok(Record {
+            state: self.state,
+            uuid: self.uuid,
+            revision: self.revision,
+            config: self.config.share()?,
+        })
     }
 }
 
@@ -93,31 +90,28 @@ impl Row {
         Row { stored }
     }
 
-    /// An equal one.
-    pub fn copy(&self, alloc: Global) -> Result<Row, AllocError>
+    /// An equal one, which shares the configuration.
+    pub fn copy(&self) -> Result<Row, AllocError>
         ensures { IfOk result (λ row. row ≡ self.now) }
     {
         Ok(Row {
-            stored: self.stored.copy(alloc)?,
+            stored: self.stored.copy()?,
         })
     }
 
-    /// An equal one, but for the state, which is another of the stored ones.
-    pub fn in_state(&self, alloc: Global, to: ZoneState) -> Result<Row, AllocError>
+    /// An equal one, but for the state, which is another of the stored ones. It shares the configuration.
+    pub fn in_state(&self, to: ZoneState) -> Result<Row, AllocError>
         requires { IsTrue (is_stored to) }
         ensures { IfOk result (λ row. row ≡ record self.now { state = to }) }
     {
-        match self.stored.config.copy(alloc) {
-            Ok(config) => Ok(Row {
-                stored: Record {
-                    state: to,
-                    uuid: self.stored.uuid,
-                    revision: self.stored.revision,
-                    config,
-                },
-            }),
-            Err(_) => Err(AllocError),
-        }
+        Ok(Row {
+            stored: Record {
+                state: to,
+                uuid: self.stored.uuid,
+                revision: self.stored.revision,
+                config: self.stored.config.share()?,
+            },
+        })
     }
 
     /// The record has a number, from 1 on, as its revision.

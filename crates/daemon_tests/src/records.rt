@@ -32,7 +32,7 @@ idle
 
 fn exported(alloc: Global, zone: &Zone) -> Result<Vec<u8>, Fail> {
     match &zone.row {
-        Some(row) => Ok(export(alloc, &row.config)?),
+        Some(row) => Ok(export(alloc, row.config.as_config())?),
         None => Ok(Vec::new(alloc)),
     }
 }

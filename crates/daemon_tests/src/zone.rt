@@ -10,7 +10,7 @@ use crate::printer::push_turn;
 use brand_hooks::{
     Brand, BrandFault, BrandTables, Brands, Change, ChangeKind, HookAnswer, HookTable,
 };
-use commit_journal::{Record, Row, uuid_of};
+use commit_journal::{Record, Row, StoredConfig, uuid_of};
 use datalink_table::{Claim, ClaimCell, ClaimKind, ClaimShared};
 use export_read::read_export;
 use kernel_objects::{KernelCell, KernelShared, Running};
@@ -114,7 +114,7 @@ fn row_of(
         state,
         uuid: uuid_of(name, 1),
         revision: 1,
-        config: read_export(alloc, text)?,
+        config: StoredConfig::new(alloc, read_export(alloc, text)?)?,
     }))
 }
 
@@ -188,7 +188,7 @@ impl Zone {
 
     /// The configuration of an export text is stored, as another session would commit it.
     pub fn commit(&mut self, alloc: Global, text: &[u8]) -> Result<(), Fail> {
-        let config = read_export(alloc, text)?;
+        let config = StoredConfig::new(alloc, read_export(alloc, text)?)?;
         self.serial = self.serial.saturating_add(1);
         if let Some(row) = &self.row {
             self.row = in_form(Record {

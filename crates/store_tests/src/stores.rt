@@ -1,5 +1,5 @@
 //! Stores on disks in memory: their bytes, what is left after stops, and a store that another program wrote.
-use commit_journal::{Record, Row, Store, StoreFault};
+use commit_journal::{Record, Row, Store, StoreFault, StoredConfig};
 use export_read::read_export;
 use std::alloc::{AllocError, Global};
 use std::process::Abort;
@@ -57,7 +57,7 @@ fn row_of_web(alloc: Global, revision: u32, config: &[u8]) -> Result<Record, Fai
         state: ZoneState::Configured,
         uuid: Uuid::try_parse_ascii(b"8a2e61b6-8ea3-5b49-9719-c91d461d9a87")?,
         revision,
-        config: read_export(alloc, config)?,
+        config: StoredConfig::new(alloc, read_export(alloc, config)?)?,
     })
 }
 

@@ -1,5 +1,6 @@
 -- What the code's values stand for, and what it does to them.
 pub mod Queues
+pub mod Job_configs
 pub mod Desks
 pub mod Cases
 pub mod Rooms

@@ -8,12 +8,12 @@ ghost use Rattle.zoneadmd_steps.specs.Code.Desks.{as_desk, as_job, as_outcome};
 ghost use Rattle.zoneadmd_steps.specs.Plans.{made_after};
 
 use crate::cases::{JobCase, TurnCase};
+use crate::job_config::JobConfig;
 use crate::plan_steps::Plan;
 use crate::queued::QueuedRequest;
 use crate::requests::{Failure, Request, Step};
 use std::alloc::{AllocError, Global};
 use zn_base::ZoneState;
-use zone_config::ZoneConfig;
 
 /// How many requests wait on a desk at most.
 pub(crate) const REQUESTS_MAX: usize = 8;
@@ -29,7 +29,7 @@ pub struct Job {
     /// The place of the zone's brand among the brands, as the request last began.
     pub(crate) brand: Option<usize>,
     /// The configuration as the request last began. A halt keeps none.
-    pub(crate) config: ZoneConfig,
+    pub(crate) config: JobConfig,
     /// The whole plan, and the place of the next step in it. A step that a failure undoes is taken out once it is done.
     pub(crate) steps: Plan,
     pub(crate) at: usize,

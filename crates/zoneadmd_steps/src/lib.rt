@@ -11,6 +11,7 @@ mod cases;
 mod checks;
 mod configs;
 mod desks;
+mod job_config;
 mod local_cases;
 mod objects;
 mod plan_steps;

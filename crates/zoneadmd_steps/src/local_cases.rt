@@ -162,9 +162,9 @@ fn step_case(
         Step::Hook(change) => Ok(Some(hooked(next, *change, answer))),
         Step::Copy(part) => Ok(Some(passed(next, Step::Copy(*part)))),
         Step::Erase(part) => Ok(Some(passed(next, Step::Erase(*part)))),
-        Step::Limits => Ok(Some(set_limits(alloc, next, &job.config)?)),
-        Step::Root => Ok(Some(mount_root(alloc, next, &job.config, mounts)?)),
-        Step::Mounted(dir) => Ok(Some(mount_fs(alloc, next, &job.config, dir, mounts)?)),
+        Step::Limits => Ok(Some(set_limits(alloc, next, job.config.as_config())?)),
+        Step::Root => Ok(Some(mount_root(alloc, next, job.config.as_config(), mounts)?)),
+        Step::Mounted(dir) => Ok(Some(mount_fs(alloc, next, job.config.as_config(), dir, mounts)?)),
         _ => Ok(None),
     }
 }

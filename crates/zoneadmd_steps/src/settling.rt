@@ -15,13 +15,13 @@ ghost use Rattle.zoneadmd_steps.specs.Turns.{active_after};
 
 use crate::cases::{JobCase, TurnCase};
 use crate::desks::{Desk, Job};
+use crate::job_config::JobConfig;
 use crate::objects::changes::{Came, ObjectEdit};
 use crate::queued::QueuedRequest;
 use crate::requests::{Failure, Outcome, Request, RequestKind, Step, TurnReply};
 use commit_journal::Row;
 use std::alloc::Global;
 use zn_base::{ZoneName, ZoneState};
-use zone_config::blank;
 use zone_pools::{Grant, number_in};
 
 /// A record that is stored, and the name of the zone whose it is.
@@ -236,7 +236,7 @@ fn begin_halt(alloc: Global, desk: &mut Desk, brand: Option<usize>) -> TurnWork
         ticket,
         request: Request::Halt,
         brand,
-        config: blank(alloc),
+        config: JobConfig::blank(alloc),
         steps: queued.into_halt_plan(),
         at: 0,
         place: 1,

@@ -35,7 +35,7 @@ use crate::local_cases::{changed, passed};
 use crate::objects::changes::{Came, ObjectEdit};
 use crate::objects::{Objects, System};
 use crate::requests::{Failure, Request, Step};
-use commit_journal::{Record, Row};
+use commit_journal::{Record, Row, StoredConfig};
 use config_terms::ConfigFault;
 use datalink_table::Claim;
 use kernel_objects::{KernelCell, KernelShared};
@@ -44,8 +44,7 @@ use std::snapshot::Snapshot;
 use zn_base::{AbsPath, Listing, Text, Value, ZoneName, ZoneState};
 use zone_config::{Contents, ZoneConfig};
 
-/// An equal configuration.
-pub(crate) fn copy_config(alloc: Global, config: &ZoneConfig) -> Result<ZoneConfig, AllocError>
+fn copy_config(alloc: Global, config: &ZoneConfig) -> Result<ZoneConfig, AllocError>
     ensures { IfOk result (λ copy. copy ≡ config.now) }
 {
     match config.copy(alloc) {
@@ -69,7 +68,7 @@ fn store_state(
     ensures free { IfOk result (λ c. (ms : List entries.MountEntry) (cs : List claim_types.Claim) → IsFreeFor (job_objects c) ms cs) }
     ensures named { IfOk result (IsNamedJobCase zone.now) }
 {
-    let stored = Box::new(alloc, row.in_state(alloc, to)?)?;
+    let stored = Box::new(alloc, row.in_state(to)?)?;
     let owner = zone.copy(alloc)?;
     Ok(JobCase::Ask(Came::Record(stored, owner), next))
 }
@@ -138,7 +137,7 @@ fn is_other(config: &ZoneConfig, path: &[u8]) -> bool
 }
 
 // The record with another configuration.
-fn with_config(row: &Row, config: ZoneConfig) -> Row
+fn with_config(row: &Row, config: StoredConfig) -> Row
     requires { IsSome config.zonepath }
     ensures { result ≡ record row.now { config = config } }
 {
@@ -160,7 +159,7 @@ fn store_moved(
     next: usize,
     row: &Row,
     path: &Text,
-    config: ZoneConfig,
+    config: StoredConfig,
 ) -> Result<JobCase, AllocError>
     requires { with_zonepath path.now row.now.config ≡ Ok config }
     ensures decides { IfOk result (λ c. (d : desks.Desk) (j : job_types.Job) → record_config d (as_job j) (drop next j.steps) path.now row.now (Ok config) ≡ job_turn d j c) }
@@ -168,7 +167,7 @@ fn store_moved(
     ensures free { IfOk result (λ c. (ms : List entries.MountEntry) (cs : List claim_types.Claim) → IsFreeFor (job_objects c) ms cs) }
     ensures named { IfOk result (IsNamedJobCase zone.now) }
 {
-    let is_new = is_other(&row.config, path.bytes());
+    let is_new = is_other(row.config.as_config(), path.bytes());
     let owner = zone.copy(alloc)?;
     let moved = Box::new(alloc, with_config(row, config))?;
     Ok(JobCase::Ask(Came::Moved(moved, owner, is_new), next))
@@ -187,8 +186,11 @@ fn store_path(
     ensures free { IfOk result (λ c. (ms : List entries.MountEntry) (cs : List claim_types.Claim) → IsFreeFor (job_objects c) ms cs) }
     ensures named { IfOk result (IsNamedJobCase zone.now) }
 {
-    match with_zonepath(alloc, &row.config, path.copy(alloc)?)? {
-        Ok(config) => store_moved(alloc, zone, next, row, path, config),
+    match with_zonepath(alloc, row.config.as_config(), path.copy(alloc)?)? {
+        Ok(config) => {
+            let config = StoredConfig::new(alloc, config)?;
+            store_moved(alloc, zone, next, row, path, config)
+        }
         Err(fault) => Ok(too_large(row.config.contents(), path.bytes(), fault)),
     }
 }
@@ -283,7 +285,7 @@ fn bootargs_of(alloc: Global, job: &Job) -> Result<Text, AllocError>
     ensures { IfOk result (λ text. text ≡ bootargs_of job.now.request job.now.config) }
 {
     match &job.request {
-        Request::Boot(args) => args_or(alloc, args, &job.config),
+        Request::Boot(args) => args_or(alloc, args, job.config.as_config()),
         _ => job.config.bootargs.copy(alloc),
     }
 }
@@ -358,7 +360,7 @@ fn object_case(
     match planned {
         Step::Source(source) => look_at_source(alloc, next, source),
         Step::Zid(_) => Ok(JobCase::Ask(Came::Id, next)),
-        Step::Devices(_) => give_devices(alloc, next, &job.config, system.kernel),
+        Step::Devices(_) => give_devices(alloc, next, job.config.as_config(), system.kernel),
         Step::Claimed(item) => claim(alloc, next, item),
         Step::State(to) => Ok(passed(next, Step::State(*to))),
         Step::Init(_) => boot(alloc, job, next, objects.kernel),

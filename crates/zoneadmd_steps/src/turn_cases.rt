@@ -24,13 +24,14 @@ use crate::ahead::{Ahead, find_ahead};
 use crate::cases::{JobCase, TurnCase};
 use crate::checks::refusal;
 use crate::desks::{Desk, Job};
+use crate::job_config::JobConfig;
 use crate::local_cases::{latest, local_case};
 use crate::objects::changes::ObjectEdit;
 use crate::objects::{Objects, System};
 use crate::plans::{may_begin, plan};
 use crate::queued::QueuedRequest;
 use crate::requests::{Failure, Outcome, Request, RequestKind, Step};
-use crate::shared_cases::{copy_config, release, step_case};
+use crate::shared_cases::{release, step_case};
 use brand_hooks::{BrandTables, HookAnswer};
 use commit_journal::Row;
 use std::alloc::{AllocError, Global};
@@ -48,8 +49,8 @@ fn new_job(
 ) -> Result<Box<Job>, AllocError>
     ensures { IfOk result (λ job. as_job job.value ≡ record { ticket = ticket; request = request; brand = place_of row.now.config.brand brands.now; config = row.now.config; done = no_progress; stage = Goes (plan request state row.now.config) }) }
 {
-    let config = copy_config(alloc, &row.config)?;
-    let steps = plan(alloc, &request, state, &config)?;
+    let config = JobConfig::stored(row.config.share()?);
+    let steps = plan(alloc, &request, state, row.config.as_config())?;
     let job = Job {
         ticket,
         request,
@@ -77,7 +78,7 @@ fn begin(
     requires { is_halt request ≡ false }
     ensures { IfOk result (λ r. (d : desks.Desk) → started brands.now d ticket request state row.now (refusal brands.now (kind_of request) state row.now.config) ≡ begun_or d ticket r) }
 {
-    match refusal(alloc, brands, request.kind(), state, &row.config)? {
+    match refusal(alloc, brands, request.kind(), state, row.config.as_config())? {
         Some(outcome) => Ok(Err(outcome)),
         None => Ok(Ok(new_job(alloc, brands, ticket, request, state, row)?)),
     }

@@ -23,7 +23,7 @@ use crate::session::doings::Doing;
 use crate::session::held::{HeldConfig, HeldEditor};
 use crate::session::judging::{Judged, delete_refusal, judge};
 use brand_hooks::BrandTables;
-use commit_journal::{Record, Row};
+use commit_journal::{Record, Row, StoredConfig};
 use std::alloc::{AllocError, Global};
 use uuid::Uuid;
 use zn_base::{Bytes, Listing, ZoneName, ZoneState};
@@ -155,7 +155,7 @@ fn done_case(
 }
 
 // The record of a new zone, but for its number.
-fn new_row(config: ZoneConfig) -> Row
+fn new_row(config: StoredConfig) -> Row
     requires { IsSome config.zonepath }
     ensures { (z : Name) (told : List (List ℕ)) (c : Committer) → base_by c config ≡ config → records z None config told (as_typist c) ≡ made Novelty.Zone z result told c }
 {
@@ -169,7 +169,7 @@ fn new_row(config: ZoneConfig) -> Row
 }
 
 // The record of a zone that is stored, with another configuration, but for its number.
-fn changed_row(row: &Row, config: ZoneConfig) -> Row
+fn changed_row(row: &Row, config: StoredConfig) -> Row
     requires { IsSome config.zonepath }
     ensures { (z : Name) (told : List (List ℕ)) (c : Committer) → base_by c config ≡ config → records z (Some row.now) config told (as_typist c) ≡ made (novelty_of (Some row.now) config) z result told c }
 {
@@ -183,7 +183,7 @@ fn changed_row(row: &Row, config: ZoneConfig) -> Row
     })
 }
 
-fn committed_row(row: Option<&Row>, config: ZoneConfig) -> Row
+fn committed_row(row: Option<&Row>, config: StoredConfig) -> Row
     requires { IsSome config.zonepath }
     ensures { (z : Name) (told : List (List ℕ)) (c : Committer) → base_by c config ≡ config → records z (option_map (λ r. r.now) row.entry) config told (as_typist c) ≡ made (novelty_of (option_map (λ r. r.now) row.entry) config) z result told c }
 {
@@ -212,6 +212,7 @@ fn committed_case(
     ensures named { IfOk result (IsNamedCase zone.now) }
     ensures free { IfOk result MountsNothing }
 {
+    let config = StoredConfig::new(alloc, config)?;
     let row = Box::new(alloc, committed_row(row, config))?;
     let committed = Committed {
         row,

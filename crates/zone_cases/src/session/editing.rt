@@ -57,7 +57,7 @@ fn stored_in(row: Option<&Row>) -> Option<Stored<'_>>
 {
     let stored = row?.record();
     Some(Stored {
-        config: &stored.config,
+        config: stored.config.as_config(),
         revision: stored.revision,
     })
 }

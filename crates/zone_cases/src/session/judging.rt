@@ -56,7 +56,7 @@ fn judge_over(row: &Row, desk: &Desk, config: &ZoneConfig) -> Judged
     ensures decides { (z : Name) (told : List (List ℕ)) (t : Typist) → commit_over z (as_desk desk.now) (Some row.now) config.now told t ≡ judged_decision result z (Some row.now) (Some config.now) told t }
     ensures novelty { IsOfNovelty result (Some row.now) config.now }
 {
-    if same_contents(config, &row.record().config) {
+    if same_contents(config, row.record().config.as_config()) {
         return Judged::Same;
     }
     let keeps_path = keeps_path(row, config);

@@ -87,7 +87,7 @@ pub(crate) fn verify_case(
     let Some(row) = row else {
         return Ok(refused(Refusal::NoZone));
     };
-    match config_refusal(alloc, &row.config, brands)? {
+    match config_refusal(alloc, row.config.as_config(), brands)? {
         Some(refusal) => Ok(refused(refusal)),
         None => Ok(Case::Says(Head::Ok)),
     }

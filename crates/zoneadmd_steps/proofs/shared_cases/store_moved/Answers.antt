@@ -2,6 +2,7 @@ use Rattle.std.proofs.Common.{◌∙◌, [], ◌∷◌, Some, not, bytes_eq, ap,
 use Rattle.std.specs.Prelude.{if◌then◌else◌}
 use Rattle.commit_journal.specs.declared.records.Record.{Record}
 use Rattle.config_terms.specs.Fields.{path_text}
+use Rattle.zone_config.specs.declared.terms.Contents.{Contents}
 use Rattle.zone_pools.specs.Asked.{A_path}
 use Rattle.zoneadmd_steps.proofs.Zonepaths.{asked_path, path_shown}
 use Rattle.zoneadmd_steps.specs.Arrivals.{A_record, record_asked}
@@ -16,7 +17,7 @@ returns-clause-decides c =
     let own = c.args.row.now in
     let is_new = c.is_other-is_new.result in
     let value = c.in_ok-moved.ensures.ok ∙ c.with_config.ensures in
-    let other = c.is_other-is_new.ensures ∙ ap (λ p. not (bytes_eq p (path_text c.deref.result.now.config.zonepath))) c.bytes.ensures.bytes ∙ ap (λ (r : Record). not (bytes_eq c.args.path.now (path_text r.config.zonepath))) c.deref.ensures in
+    let other = c.is_other-is_new.ensures ∙ ap (λ p. not (bytes_eq p (path_text c.as_config.result.now.zonepath))) c.bytes.ensures.bytes ∙ ap (λ (own : Contents). not (bytes_eq c.args.path.now (path_text own.zonepath))) c.as_config.ensures ∙ ap (λ (r : Record). not (bytes_eq c.args.path.now (path_text r.config.zonepath))) c.deref.ensures in
     let asked = asked_path c.args.path.now own.config c.args.config is_new (record_asked (λ n. Some (moved_record c.args.config own n))) other (path_shown c.args.path.now own.config c.args.config c.requires) in
     λ d j.
     ap (λ asked. asking d (as_job j) (drop c.args.next j.steps) (A_record (λ n. Some (moved_record c.args.config own n))) asked [] (λ n. Moved)) asked
