@@ -198,7 +198,7 @@ fn committed_case(
     alloc: Global,
     zone: &ZoneName,
     row: Option<&Row>,
-    config: ZoneConfig,
+    config: StoredConfig,
     novelty: Novelty,
     told: Listing<Bytes>,
     committer: Committer,
@@ -212,7 +212,6 @@ fn committed_case(
     ensures named { IfOk result (IsNamedCase zone.now) }
     ensures free { IfOk result MountsNothing }
 {
-    let config = StoredConfig::new(alloc, config)?;
     let row = Box::new(alloc, committed_row(row, config))?;
     let committed = Committed {
         row,
@@ -253,15 +252,15 @@ fn committer(
     Ok(Committer::GoesOn(seat, HeldConfig::copy_of(alloc, config)?))
 }
 
-// The configuration that is open, where one is.
-fn open_config(alloc: Global, editor: &HeldEditor) -> Result<Option<ZoneConfig>, AllocError>
+// The configuration that is open, where one is, as it is to be stored.
+fn open_config(alloc: Global, editor: &HeldEditor) -> Result<Option<StoredConfig>, AllocError>
     ensures { IfOk result (λ config. config ≡ config_of editor.now.opened) }
 {
     let Some(config) = editor.config() else {
         return Ok(None);
     };
     match config.copy(alloc) {
-        Ok(config) => Ok(Some(config)),
+        Ok(config) => Ok(Some(StoredConfig::new(alloc, config)?)),
         Err(_) => Err(AllocError),
     }
 }
@@ -284,7 +283,7 @@ fn session_record(
 {
     match open_config(alloc, &editor)? {
         Some(config) => {
-            let committer = committer(alloc, zone, editor, &config, leaves)?;
+            let committer = committer(alloc, zone, editor, config.as_config(), leaves)?;
             committed_case(alloc, zone, row, config, novelty, told, committer)
         }
         None => unreachable!(),
@@ -307,7 +306,10 @@ fn alone_record(
     ensures free { IfOk result MountsNothing }
 {
     match editor.into_config() {
-        Some(config) => committed_case(alloc, zone, row, config, novelty, told, Committer::Alone),
+        Some(config) => {
+            let config = StoredConfig::new(alloc, config)?;
+            committed_case(alloc, zone, row, config, novelty, told, Committer::Alone)
+        }
         None => unreachable!(),
     }
 }
