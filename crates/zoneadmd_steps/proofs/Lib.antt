@@ -12,3 +12,4 @@ pub mod Halting
 pub mod Telling
 pub mod Storing
 pub mod Recording
+pub mod Byte_order

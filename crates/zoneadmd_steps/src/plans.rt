@@ -1,6 +1,9 @@
 //! The plans of zoneadm(8)'s requests.
 ghost use Rattle.std.specs.Prelude.{◌≡◌, ◌≤◌, ◌++◌, ◌∷◌, [], IfOk, OnOk, drop, length, map, take};
+ghost use Rattle.std.specs.Cmp.Lexicographic.{slice_cmp};
 ghost use Rattle.std.specs.List.{filter_map};
+ghost use Rattle.std.specs.List.Sorted.{IsSorted};
+ghost use Rattle.std.specs.Ordering.{nat_cmp};
 ghost use Rattle.config_terms.specs.declared.terms.IpType as ip_types;
 ghost use Rattle.loopback_mounts.specs.Mounts.{precedes};
 ghost use Rattle.zone_pools.specs.Owned_lists.{put};
@@ -159,26 +162,21 @@ fn boot_part(alloc: Global) -> Result<Vec<Step>, AllocError>
 }
 
 // Whether a path precedes another in byte order.
-fn precedes(path: &[u8], other: &[u8]) -> bool
+fn precedes(path: &AbsPath, other: &AbsPath) -> bool
     ensures { result ≡ precedes path.now other.now }
 {
-    path.cmp(other).is_lt()
+    path.bytes().cmp(other.bytes()).is_lt()
 }
 
-// Where a directory goes among others in byte order.
+// Where a directory goes among others in byte order. The last one is looked at first, since file systems mostly come in order.
 fn place(dirs: &[AbsPath], dir: &AbsPath) -> usize
+    requires { IsSorted (slice_cmp nat_cmp) dirs.now }
     ensures bound { result ≤ length dirs.now }
     ensures put { put (λ other. precedes other dir.now) dir.now dirs.now ≡ take result dirs.now ++ dir.now ∷ drop result dirs.now }
 {
     match dirs {
-        [] => 0,
-        [first, rest @ ..] => {
-            if precedes(first.bytes(), dir.bytes()) {
-                1 + place(rest, dir)
-            } else {
-                0
-            }
-        }
+        [.., last] if !precedes(last, dir) => dirs.partition_point(|other| precedes(other, dir)),
+        _ => dirs.len(),
     }
 }
 
@@ -186,17 +184,13 @@ fn place(dirs: &[AbsPath], dir: &AbsPath) -> usize
 fn in_order(alloc: Global, fs: &[Fs]) -> Result<Vec<AbsPath>, AllocError>
     ensures { IfOk result (λ dirs. dirs.items ≡ in_order (filter_map (λ f. f.dir) fs.now)) }
 {
-    match fs {
-        [] => Ok(Vec::new(alloc)),
-        [first, rest @ ..] => {
-            let mut dirs = in_order(alloc, rest)?;
-            if let Some(dir) = &first.dir {
-                let at = place(&dirs, dir);
-                dirs.insert(at, dir.copy(alloc)?)?;
-            }
-            Ok(dirs)
+    let mut dirs = Vec::new(alloc);
+    for file_system in fs {
+        if let Some(dir) = &file_system.dir {
+            dirs.insert(place(&dirs, dir), dir.copy(alloc)?)?;
         }
     }
+    Ok(dirs)
 }
 
 // The steps that mount directories.
