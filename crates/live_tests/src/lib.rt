@@ -7,6 +7,8 @@ mod brands;
 #[cfg(test)]
 mod gates;
 #[cfg(test)]
+mod going_on;
+#[cfg(test)]
 mod hooks;
 #[cfg(test)]
 mod rows;

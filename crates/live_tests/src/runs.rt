@@ -72,7 +72,8 @@ const ROOM: Room = Room {
     written: 2_097_152,
 };
 
-fn disk_of(alloc: Global, given: &Given) -> Result<MemDisk, AllocError> {
+/// The disk of a run.
+pub fn disk_of(alloc: Global, given: &Given) -> Result<MemDisk, AllocError> {
     let bytes = given.disk.to_vec(alloc)?;
     if bytes.len() > 65_536 {
         return Err(AllocError);
