@@ -2,5 +2,4 @@
 pub mod Sorting
 pub mod Declaring
 pub mod Records
-pub mod Writing
 pub mod Living
