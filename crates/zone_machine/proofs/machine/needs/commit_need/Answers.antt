@@ -8,13 +8,13 @@ pub returns-in-Zone : goal.returns-in-Zone
 returns-in-Zone c =
     rw c.in-Zone.is
     (record-made c.record_length-size.result c.record-stored.result.now c.args.committed.now.row.value (c.record-stored.ensures.same ∙ c.deref.ensures) c.record_length-size.ensures.same
-    c.shown-path.result.now (c.shown-path.ensures.text ∙ ap (λ (k : Contents). path_text k.zonepath) c.deref-2.ensures) c.args.committed.now.owner)
+    c.shown-path.result.now (c.shown-path.ensures.text ∙ ap (λ (k : Contents). path_text k.zonepath) (c.deref-3.ensures ∙ c.deref-2.ensures)) c.args.committed.now.owner)
 
 pub returns-in-Path : goal.returns-in-Path
 returns-in-Path c =
     rw c.in-Path.is
     (record-moved c.record_length-size.result c.record-stored.result.now c.args.committed.now.row.value (c.record-stored.ensures.same ∙ c.deref.ensures) c.record_length-size.ensures.same
-    c.shown-path.result.now (c.shown-path.ensures.text ∙ ap (λ (k : Contents). path_text k.zonepath) c.deref-2.ensures))
+    c.shown-path.result.now (c.shown-path.ensures.text ∙ ap (λ (k : Contents). path_text k.zonepath) (c.deref-3.ensures ∙ c.deref-2.ensures)))
 
 pub returns-in-Nothing : goal.returns-in-Nothing
 returns-in-Nothing c =
