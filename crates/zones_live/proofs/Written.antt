@@ -1,13 +1,16 @@
--- What was written of a text, and what is left of it.
-use Rattle.std.proofs.Common.{◌≡◌, ◌<◌, ◌+◌, ◌++◌, ◌∷◌, ◌∙◌, [], ℕ, Err, List, Ok, Option, Result, append_assoc, ap, arith, drop, length, refl, suc, subst, sym, take, zero}
+-- What was written of a text, and what waits.
+use Rattle.std.proofs.Common.{◌≡◌, ◌≤◌, ◌<◌, ◌+◌, ◌++◌, ◌∷◌, ◌∙◌, [], ℕ, Err, List, Ok, Option, Result, append-nil, append_assoc, ap, arith, drop, length, refl, suc, sym, take, zero}
 use Rattle.std.specs.Prelude.{OnErr, OnOk, slice_index_or}
-use Rattle.std.specs.List.{flat_map}
 use Rattle.std.proofs.Math.Seq.{take-append-add}
 use Rattle.std.proofs.lemmas.Grind.{flat_map-append}
 use Rattle.std.proofs.lemmas.List.{flat_map_more, take-append-drop, take_all, take_more}
-use Rattle.zn_io.specs.Streams.{TakesFront, after_known}
+use Rattle.zn_io.specs.Streams.{after_known}
+use Rattle.trace_text.specs.Live.{entry_text}
+use Rattle.zone_cases.specs.declared.events.Entry.{Entry}
+use Rattle.zones_live.specs.Records.{record_text}
 use Rattle.zones_run.specs.Run.{HasFront}
 use Rattle.zones_run.proofs.Fronts.{after_known-append, after_known-nil}
+use Rattle.zones_live.specs.Writing.{Waits}
 
 -- a front of a text is one of a longer text
 take-more : (n : ℕ) (xs ys : List ℕ) → (k : ℕ) × (take n xs ≡ take k (xs ++ ys))
@@ -15,21 +18,31 @@ take-more zero xs ys = (0, refl)
 take-more (suc n) [] ys = (0, refl)
 take-more (suc n) (x ∷ xs) ys = let more = take-more n xs ys in (suc more.0, ap (λ l. x ∷ l) more.1)
 
-module _ {X : Type 0} (text : X → List ℕ) where
-  -- the text of one item more
-  text-next : (xs : List X) (i : ℕ) (x : X) → i < length xs → x ≡ slice_index_or xs i x → flat_map text (take (i + 1) xs) ≡ flat_map text (take i xs) ++ text x
-  text-next xs i x near is = ap (flat_map text) (take_more xs i x near ∙ ap (λ (y : X). take i xs ++ y ∷ []) (sym is)) ∙ sym (flat_map_more text [] (take i xs) x)
+record-append : (g h : List Entry) → record_text (g ++ h) ≡ record_text g ++ record_text h
+record-append g h = flat_map-append entry_text g h
 
-  text-cut : (n : ℕ) (xs : List X) → flat_map text xs ≡ flat_map text (take n xs) ++ flat_map text (drop n xs)
-  text-cut n xs = ap (flat_map text) (sym (take-append-drop n xs)) ∙ flat_map-append text (take n xs) (drop n xs)
+-- the text of one entry more
+pub record-next : (es : List Entry) (i : ℕ) (e : Entry) → i < length es → e ≡ slice_index_or es i e → record_text (take (i + 1) es) ≡ record_text (take i es) ++ entry_text e
+record-next es i e near is = ap record_text (take_more es i e near ∙ ap (λ (x : Entry). take i es ++ x ∷ []) (sym is)) ∙ sym (flat_map_more entry_text [] (take i es) e)
 
-  pub text-around : (xs : List X) (i : ℕ) (x : X) → i < length xs → x ≡ slice_index_or xs i x → flat_map text xs ≡ (flat_map text (take i xs) ++ text x) ++ flat_map text (drop (i + 1) xs)
-  text-around xs i x near is = text-cut (i + 1) xs ∙ ap (λ l. l ++ flat_map text (drop (i + 1) xs)) (text-next xs i x near is)
+pub record-whole : (es : List Entry) (i : ℕ) (e : Entry) → i < length es → e ≡ slice_index_or es i e → record_text es ≡ (record_text (take i es) ++ entry_text e) ++ record_text (drop (i + 1) es)
+record-whole es i e near is = ap record_text (sym (take-append-drop (i + 1) es)) ∙ record-append (take (i + 1) es) (drop (i + 1) es) ∙ ap (λ l. l ++ record_text (drop (i + 1) es)) (record-next es i e near is)
+
+pub record-all : (es : List Entry) (i : ℕ) → length es ≤ i → record_text (take i es) ≡ record_text es
+record-all es i all = ap record_text (take_all i es all)
 
 -- of each outcome
 pub on-err : {A E : Type 0} (r : Result A E) (P : Type 0) → P → OnErr r P
 on-err (Ok a) P holds = tt
 on-err (Err e) P holds = holds
+
+pub ok-lead : {A E : Type 0} (r : Result A E) (P Q : Type 0) → OnOk r P → (P → Q) → OnOk r Q
+ok-lead (Ok a) P Q holds lead = lead holds
+ok-lead (Err e) P Q holds lead = tt
+
+pub err-lead : {A E : Type 0} (r : Result A E) (P Q : Type 0) → OnErr r P → (P → Q) → OnErr r Q
+err-lead (Ok a) P Q holds lead = tt
+err-lead (Err e) P Q holds lead = lead holds
 
 module _ (held : Option (List ℕ)) where
   pub front-more : (holds : Option (List ℕ)) (text more : List ℕ) → HasFront held holds text → HasFront held holds (text ++ more)
@@ -43,43 +56,45 @@ module _ (held : Option (List ℕ)) where
   front-either (Ok a) holds text all front = front-all holds text all
   front-either (Err e) holds text all front = front
 
-  pub front-of : (holds : Option (List ℕ)) (before now : ℕ) (bytes text : List ℕ) → bytes ≡ text → TakesFront held holds before now bytes → HasFront held holds text
-  front-of holds before now bytes text is front = record { count = front.count; taken = front.taken ∙ ap (λ (l : List ℕ). after_known held (take front.count l)) is }
-
   pub front-none : (text : List ℕ) → HasFront held held text
   front-none text = record { count = 0; taken = sym (after_known-nil held) }
 
-  -- more of a text is written behind a part of it
-  written-on : (mid holds : Option (List ℕ)) (text more : List ℕ) → mid ≡ after_known held text → holds ≡ after_known mid more → holds ≡ after_known held (text ++ more)
-  written-on mid holds text more before is = is ∙ ap (λ known. after_known known more) before ∙ after_known-append held text more
+  -- nothing is written yet
+  pub waits-yet : (text : List ℕ) → Waits held held text text
+  waits-yet text = record { written = []; whole = refl; taken = sym (after_known-nil held) }
 
-  -- or a front of more
-  pub front-on : (mid holds : Option (List ℕ)) (text more : List ℕ) → mid ≡ after_known held text → HasFront mid holds more → HasFront held holds (text ++ more)
-  front-on mid holds text more before front = record {
-    count = length text + front.count;
-    taken = written-on mid holds text (take front.count more) before front.taken ∙ ap (after_known held) (sym (take-append-add text more front.count));
-  }
+  -- all is written
+  pub waits-none : (holds : Option (List ℕ)) (text : List ℕ) → holds ≡ after_known held text → Waits held holds [] text
+  waits-none holds text all = record { written = text; whole = sym (append-nil text); taken = all }
 
--- a text is written but for what is left of it
-pub record LeavesText (held holds : Option (List ℕ)) (left text : List ℕ) : Type 0 where
-  pub written : List ℕ
-  pub whole : text ≡ written ++ left
-  pub taken : holds ≡ after_known held written
+  module _ (mid : Option (List ℕ)) (waiting text : List ℕ) (a : Waits held mid waiting text) where
+    behind : (more : List ℕ) → text ++ more ≡ a.written ++ (waiting ++ more)
+    behind more = ap (λ l. l ++ more) a.whole ∙ append_assoc a.written waiting more
 
-module _ (held : Option (List ℕ)) where
-  -- what is left is cut in two
-  pub leaves-cut : {X : Type 0} (of : X → List ℕ) (mid : Option (List ℕ)) (text : List ℕ) (n : ℕ) (xs front back : List X) → front ≡ take n xs → back ≡ drop n xs → LeavesText held mid (flat_map of xs) text → LeavesText held mid (flat_map of front ++ flat_map of back) text
-  leaves-cut of mid text n xs front back front-is back-is a = rw front-is (rw back-is (subst (λ (l : List ℕ). LeavesText held mid l text) (text-cut of n xs) a))
+    taken-on : (holds : Option (List ℕ)) (bytes : List ℕ) → holds ≡ after_known mid bytes → holds ≡ after_known held (a.written ++ bytes)
+    taken-on holds bytes is = is ∙ ap (λ known. after_known known bytes) a.taken ∙ after_known-append held a.written bytes
 
-  module _ (mid : Option (List ℕ)) (part left text : List ℕ) (a : LeavesText held mid (part ++ left) text) where
-    -- a part more is written
-    pub leaves-less : (holds : Option (List ℕ)) → holds ≡ after_known mid part → LeavesText held holds left text
-    leaves-less holds is = record {
-      written = a.written ++ part;
-      whole = a.whole ∙ sym (append_assoc a.written part left);
-      taken = written-on held mid holds a.written part a.taken is;
+    -- more comes to wait behind what waits, and some of it is written
+    pub waits-on : (holds : Option (List ℕ)) (left more : List ℕ) → Waits mid holds left (waiting ++ more) → Waits held holds left (text ++ more)
+    waits-on holds left more b = record {
+      written = a.written ++ b.written;
+      whole = behind more ∙ ap (λ l. a.written ++ l) b.whole ∙ sym (append_assoc a.written b.written left);
+      taken = taken-on holds b.written b.taken;
     }
 
-    -- or a front of that part
-    pub leaves-front : (holds : Option (List ℕ)) → HasFront mid holds part → HasFront held holds text
-    leaves-front holds front = subst (HasFront held holds) (sym a.whole) (front-on held mid holds a.written (part ++ left) a.taken (front-more mid holds part left front))
+    -- or a front of both
+    pub front-on : (holds : Option (List ℕ)) (more : List ℕ) → HasFront mid holds (waiting ++ more) → HasFront held holds (text ++ more)
+    front-on holds more b = record {
+      count = length a.written + b.count;
+      taken = taken-on holds (take b.count (waiting ++ more)) b.taken ∙ ap (after_known held) (sym (take-append-add a.written (waiting ++ more) b.count) ∙ ap (take (length a.written + b.count)) (sym (behind more)));
+    }
+
+    -- all that waits is written
+    pub all-on : (holds : Option (List ℕ)) → holds ≡ after_known mid waiting → holds ≡ after_known held text
+    all-on holds is = taken-on holds waiting is ∙ ap (after_known held) (sym a.whole)
+
+    pub front-end : (holds : Option (List ℕ)) → HasFront mid holds waiting → HasFront held holds text
+    front-end holds b = record {
+      count = length a.written + b.count;
+      taken = taken-on holds (take b.count waiting) b.taken ∙ ap (after_known held) (sym (take-append-add a.written waiting b.count) ∙ ap (take (length a.written + b.count)) (sym a.whole));
+    }

@@ -2,4 +2,5 @@
 pub mod Sorting
 pub mod Declaring
 pub mod Records
+pub mod Writing
 pub mod Living

@@ -77,13 +77,12 @@ fn run_declared<
         RunsOn brands R what (scripts_of scripts.items) result.0 (K.holds out.old) (K.holds out.new) (E.holds err.old) (E.holds err.new) (E.faults err.old) (E.faults err.new) (D.view machine.entry.bank.disk) (D.view result.1) }
     ensures faults { TellsFaults result.0 (K.faults out.old) (K.faults out.new) (E.holds err.old) (E.holds err.new) (E.faults err.old) (E.faults err.new) (D.view machine.entry.bank.disk) (D.view result.1) }
 {
-    let threads = scripts.len().max(1);
     let Live {
         entries,
         machine,
         ended,
     } = run_sessions(rt, alloc, machine, gate, scripts);
-    let status = tell_live(rt, alloc, out, err, declared, entries, ended, threads);
+    let status = tell_live(alloc, out, err, declared, entries, ended);
     (status, machine.into_disk())
 }
 

@@ -1,5 +1,5 @@
 //! How a run of live sessions is told: its record, and the line and the status that it ends with.
-ghost use Rattle.std.specs.Prelude.{◌≡◌, ◌≢◌, ◌⊎◌, ◌++◌, ◌<◌, [], IfOk, IfSome, None, Some};
+ghost use Rattle.std.specs.Prelude.{◌≡◌, ◌≢◌, ◌⊎◌, ◌++◌, [], IfOk, IfSome, None, Some};
 ghost use Rattle.zn_io.specs.Streams.{Rose, TakesFront};
 ghost use Rattle.zones_live.specs.Living.{IsDone};
 ghost use Rattle.zones_live.specs.Records.{record_text, told_record, told_refused};
@@ -8,12 +8,9 @@ ghost use Rattle.zones_run.specs.Run.{HasFront, IsDecided, TellsLine, TellsText,
 
 use crate::writing::{first_refused, write_record};
 use std::alloc::{AllocError, Global};
-use std::thread::Threads;
-use text_shares::fill_with;
 use zn_io::Sink;
-use zone_cases::{Body, Entry, Event, Head, Reply, Subject};
+use zone_cases::Entry;
 use zone_machine::StepFault;
-use zone_pools::Grant;
 use zones_run::{
     Complaint, DISK_FAULT, DONE, NO_MEMORY, RunFault, WRITE_FAULT, complain, fail, tell,
 };
@@ -48,15 +45,7 @@ fn tell_refused<E: Sink>(alloc: Global, err: &mut E, refused: Option<u64>) -> u8
 }
 
 // A whole record is written, and its first refused entry told.
-fn tell_whole<R: Threads + Sync, K: Sink, E: Sink>(
-    rt: &R,
-    alloc: Global,
-    out: &mut K,
-    err: &mut E,
-    entries: &[Entry],
-    threads: usize,
-) -> u8
-    requires { 0 < threads }
+fn tell_whole<K: Sink, E: Sink>(alloc: Global, out: &mut K, err: &mut E, entries: &[Entry]) -> u8
     ensures statuses { IsDone result ⊎ (result ≡ NO_MEMORY) }
     ensures text { TellsText (told_record entries.now) result (K.holds out.old) (K.holds out.new) }
     ensures line { TellsLine (told_record entries.now).err result (E.holds err.old) (E.holds err.new) (E.faults err.old) (E.faults err.new) }
@@ -64,29 +53,26 @@ fn tell_whole<R: Threads + Sync, K: Sink, E: Sink>(
     ensures write_fault { result ≡ WRITE_FAULT → Rose (K.faults out.old) (K.faults out.new) ⊎ Rose (E.faults err.old) (E.faults err.new) }
     ensures memory { result ≡ NO_MEMORY → TakesFront (E.holds err.old) (E.holds err.new) (E.faults err.old) (E.faults err.new) memory_line }
 {
-    match write_record(rt, alloc, out, entries, threads) {
+    match write_record(alloc, out, entries) {
         Ok(()) => tell_refused(alloc, err, first_refused(entries)),
         Err(fault) => fail(err, fault),
     }
 }
 
 // A part of a record is written, as far as it can be, and what ended it told.
-fn tell_part<R: Threads + Sync, K: Sink, E: Sink>(
-    rt: &R,
+fn tell_part<K: Sink, E: Sink>(
     alloc: Global,
     out: &mut K,
     err: &mut E,
     entries: &[Entry],
-    threads: usize,
     fault: RunFault,
 ) -> u8
-    requires { 0 < threads }
     ensures status { result ≡ fault_status fault }
     ensures front { HasFront (K.holds out.old) (K.holds out.new) (record_text entries.now) }
     ensures disk { result ≡ DISK_FAULT → TakesFront (E.holds err.old) (E.holds err.new) (E.faults err.old) (E.faults err.new) disk_fault_line }
     ensures memory { result ≡ NO_MEMORY → TakesFront (E.holds err.old) (E.holds err.new) (E.faults err.old) (E.faults err.new) memory_line }
 {
-    let _ = write_record(rt, alloc, out, entries, threads);
+    let _ = write_record(alloc, out, entries);
     fail(err, fault)
 }
 
@@ -116,41 +102,16 @@ fn joined(declared: Vec<Entry>, lived: Vec<Entry>) -> Result<Vec<Entry>, AllocEr
     Ok(entries)
 }
 
-// An entry that holds no memory.
-fn blank_entry() -> Entry {
-    Entry {
-        event: Event::Restart,
-        subject: Subject::Whole,
-        grant: Grant::Nothing,
-        reply: Reply {
-            head: Head::Ok,
-            body: Body::Nothing,
-        },
-    }
-}
-
-// Lets entries go, by so many threads at most: each is dropped where a blank one is put in its place.
-fn let_go<R: Threads + Sync>(rt: &R, entries: Vec<Entry>, threads: usize)
-    requires { 0 < threads }
-{
-    let mut entries = entries;
-    fill_with(rt, &mut entries, threads, &|| blank_entry());
-}
-
-/// Writes the record of what was declared and of what sessions left, and tells how the run ended. So many threads at most make the
-/// record's text, and then let the entries go. Where memory runs out for the list of both, nothing is written, and a fault of the disk
-/// is told before that.
-pub(crate) fn tell_live<R: Threads + Sync, K: Sink, E: Sink>(
-    rt: &R,
+/// Writes the record of what was declared and of what sessions left, and tells how the run ended. Where memory runs out for the list
+/// of both, nothing is written, and a fault of the disk is told before that.
+pub(crate) fn tell_live<K: Sink, E: Sink>(
     alloc: Global,
     out: &mut K,
     err: &mut E,
     declared: Vec<Entry>,
     lived: Vec<Entry>,
     ended: Option<StepFault>,
-    threads: usize,
 ) -> u8
-    requires threads { 0 < threads }
     requires only { IfSome ended (λ fault. (fault ≡ StepFault.Memory) ⊎ (fault ≡ StepFault.DiskFault)) }
     ensures statuses { IsDone result ⊎ ((result ≡ NO_MEMORY) ⊎ (result ≡ DISK_FAULT)) }
     ensures whole { IsDone result → ended ≡ None }
@@ -164,14 +125,10 @@ pub(crate) fn tell_live<R: Threads + Sync, K: Sink, E: Sink>(
     ensures memory { result ≡ NO_MEMORY → TakesFront (E.holds err.old) (E.holds err.new) (E.faults err.old) (E.faults err.new) memory_line }
 {
     match joined(declared, lived) {
-        Ok(entries) => {
-            let status = match ended {
-                None => tell_whole(rt, alloc, out, err, &entries, threads),
-                Some(fault) => tell_part(rt, alloc, out, err, &entries, threads, run_fault(fault)),
-            };
-            let_go(rt, entries, threads);
-            status
-        }
+        Ok(entries) => match ended {
+            None => tell_whole(alloc, out, err, &entries),
+            Some(fault) => tell_part(alloc, out, err, &entries, run_fault(fault)),
+        },
         Err(AllocError) => match ended {
             None => fail(err, RunFault::Memory),
             Some(fault) => fail(err, run_fault(fault)),

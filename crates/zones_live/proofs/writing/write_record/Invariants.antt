@@ -1,14 +1,11 @@
-use Rattle.std.proofs.Common.{◌≤◌, length}
+use Rattle.std.proofs.Common.{◌≤◌, take}
 use Rattle.zones_live.specs.Records.{record_text}
-use Rattle.zones_live.proofs.Written.{LeavesText}
+use Rattle.zones_live.specs.Writing.{Waits}
 use Rattle.zones_live.proofs.writing.write_record.Given as goal
 
--- all but the text of the rest is written
-abbrev pub invariant-loop-rest : goal.invariant-loop-rest
-invariant-loop-rest g l = record {
-  left : LeavesText (g.K.Sink.holds l.fn.out) (g.K.Sink.holds l.out) (record_text l.rest) (record_text l.entries);
+-- the texts of the entries so far are written, or wait
+abbrev pub invariant-loop-entry : goal.invariant-loop-entry
+invariant-loop-entry g l = record {
+  waits : Waits (g.K.Sink.holds l.fn.out) (g.K.Sink.holds l.out) l.waiting.items (record_text (take l.entry-index l.entries));
   later : g.K.Sink.faults l.fn.out ≤ g.K.Sink.faults l.out;
 }
-
-abbrev pub decreases-loop-rest : goal.decreases-loop-rest
-decreases-loop-rest g l = length l.rest
