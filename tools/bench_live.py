@@ -21,10 +21,11 @@ ROUNDS_OF_A_ZONE = 480
 
 
 def lines_of(zone, mounts):
-    made = "zonecfg -z %s create -b; set zonepath=/zones/%s; set brand=ipkg" % (zone, zone)
-    for number in range(mounts or 0):
-        made += "; add fs; set dir=/m%d; set special=/usr/m%d; set type=lofs; end" % (number, number)
-    yield made
+    yield "zonecfg -z %s create -b; set zonepath=/zones/%s; set brand=ipkg" % (zone, zone)
+    # No line holds more than so many.
+    for first in range(0, mounts or 0, 50):
+        added = ["add fs; set dir=/m%d; set special=/usr/m%d; set type=lofs; end" % (it, it) for it in range(first, min(mounts, first + 50))]
+        yield "zonecfg -z %s %s" % (zone, "; ".join(added))
     if mounts is not None:
         yield "zoneadm -z %s install" % zone
     for _ in range(ROUNDS_OF_A_ZONE):
