@@ -119,7 +119,7 @@ fn a_reboot_ends_where_the_limit_set_is_none_then(rt: HostRuntime) -> Result<(),
 
 fn check_incomplete<R: Abort + AllocGlobal>(rt: &R, zone: &mut Zone) -> Result<(), Fail> {
     halt_part(rt, zone, WITH_USR)?;
-    zone.put_state(rt.alloc(), ZoneState::Incomplete)?;
+    zone.put_state(ZoneState::Incomplete)?;
     check_turns(rt, zone, 20, "finished 2: 81 incomplete\nidle\n")?;
     check_has(rt, zone, "stored incomplete 2 /zones/web\n")
 }

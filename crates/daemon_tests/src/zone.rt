@@ -510,11 +510,11 @@ impl Zone {
     }
 
     /// What is stored of the zone is in another state from now on.
-    pub fn put_state(&mut self, alloc: Global, state: ZoneState) -> Result<(), AllocError> {
+    pub fn put_state(&mut self, state: ZoneState) -> Result<(), AllocError> {
         if let Some(row) = &self.row
             && state.is_stored()
         {
-            self.row = Some(row.in_state(alloc, state)?);
+            self.row = Some(row.in_state(state)?);
         }
         Ok(())
     }
