@@ -53,7 +53,8 @@ fn boots_what_sessions_installed(rt: HostRuntime) -> Result<(), Fail> {
         mut machine,
         ended,
     } = run_sessions(&rt, alloc, machine, &OpenGate, scripts);
-    assert!(rt; ended.is_none() && machine.sound());
+    assert!(rt; ended.is_none());
+    assert!(rt; machine.sound());
     let event = Event::Session {
         number: 1,
         text: Text::read(alloc, b"zoneadm -z web boot")?,
