@@ -12,6 +12,7 @@ use std::alloc::{AllocError, Global};
 use uuid::Uuid;
 use uuid_text::push_uuid;
 use zn_base::ZoneName;
+use zone_disk::Body;
 
 fn push_told(out: &mut Vec<u8>, word: &[u8], value: &[u8]) -> Result<(), AllocError>
     ensures { OnOk result (out.new.items ≡ out.old.items ++ told word.now value.now) }
@@ -112,12 +113,12 @@ pub(crate) fn body_of(
     alloc: Global,
     zone: &ZoneName,
     stored: Option<&Record>,
-) -> Result<Vec<u8>, AllocError>
-    ensures text { IfOk result (λ body. body.items ≡ change_text zone.now (option_map (λ row. row.now) stored.entry)) }
+) -> Result<Body, AllocError>
+    ensures text { IfOk result (λ body. body ≡ change_text zone.now (option_map (λ row. row.now) stored.entry)) }
     ensures commit { OnOk result (IfSome stored.entry (λ row. IsStorable row.now) → IsCommit (record { zone = zone.now; stored = option_map (λ row. row.now) stored.entry })) }
 {
-    let mut body = Vec::with_capacity(alloc, body_length(zone, stored))?;
+    let mut body = Body::begun(alloc, body_length(zone, stored))?;
     push_told(&mut body, b"zone", zone.bytes())?;
     push_stored(&mut body, stored)?;
-    Ok(body)
+    Body::ended(body)
 }

@@ -164,7 +164,7 @@ fn is_body(alloc: Global, commit: &Commit, body: &[u8]) -> Result<bool, AllocErr
         return Ok(false);
     }
     let text = body_of(alloc, &commit.zone, commit.stored.as_ref())?;
-    Ok(text.as_slice() == body)
+    Ok(text.bytes() == body)
 }
 
 /// What a body says, `None` where it says nothing. A body is read with some leniency and compared with the

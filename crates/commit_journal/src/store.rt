@@ -20,7 +20,7 @@ use std::alloc::{AllocError, Global};
 use std::marker::Model;
 use zn_base::ZoneName;
 use zn_io::Disk;
-use zone_disk::{BANK_BYTES, Bank, BankFault};
+use zone_disk::{BANK_BYTES, Bank, BankFault, Body};
 use zone_pools::ZONES_MAX;
 
 /// The stored zones in the order of their creation, and the disk with the records that leave them. Contracts
@@ -103,16 +103,16 @@ fn prepared(alloc: Global, zones: &mut Zones, name: &ZoneName) -> Result<ZoneNam
 }
 
 // Appends a body for which there is room.
-fn append<D: Disk>(bank: &mut Bank<D>, alloc: Global, body: &[u8]) -> Result<(), StoreFault>
+fn append<D: Disk>(bank: &mut Bank<D>, body: Body) -> Result<(), StoreFault>
     requires sound { bank.old.sound ≡ true }
-    requires room { IsTrue (has_room bank.old.used body.now) }
+    requires room { IsTrue (has_room bank.old.used body) }
     requires settled { (D.view bank.old.disk).Keeps → (image : List ℕ) → (D.view bank.old.disk).Now image → Stands image bank.old.records }
-    ensures records { OnOk result (bank.new.records ≡ bank.old.records ++ body.now ∷ []) }
+    ensures records { OnOk result (bank.new.records ≡ bank.old.records ++ body ∷ []) }
     ensures same { OnErr result (bank.new.records ≡ bank.old.records) }
     ensures sound { OnOk result (bank.new.sound ≡ true) }
     ensures settled { bank.new.sound ≡ true → (D.view bank.new.disk).Keeps → (image : List ℕ) → (D.view bank.new.disk).Now image → Stands image bank.new.records }
-    ensures any_moment { (D.view bank.old.disk).Keeps → Leaves (D.view bank.old.disk) (D.view bank.new.disk) (IsOneMore bank.old.records body.now) }
-    ensures either { (D.view bank.old.disk).Keeps → (image : List ℕ) → (D.view bank.new.disk).Now image → IsOneMore bank.old.records body.now image }
+    ensures any_moment { (D.view bank.old.disk).Keeps → Leaves (D.view bank.old.disk) (D.view bank.new.disk) (IsOneMore bank.old.records body) }
+    ensures either { (D.view bank.old.disk).Keeps → (image : List ℕ) → (D.view bank.new.disk).Now image → IsOneMore bank.old.records body image }
     ensures memory_same { IsErrOf result StoreFault.Memory → bank.new ≡ bank.old }
     ensures fault { IsErrOf result StoreFault.DiskFault → Rose (D.view bank.old.disk).faults (D.view bank.new.disk).faults }
     ensures unsound { IsErrOf result StoreFault.DiskFault ↔ (bank.new.sound ≡ false) }
@@ -120,7 +120,7 @@ fn append<D: Disk>(bank: &mut Bank<D>, alloc: Global, body: &[u8]) -> Result<(),
     ensures model { (D.view bank.old.disk).Keeps ↔ (D.view bank.new.disk).Keeps }
     ensures faults { (D.view bank.old.disk).faults ≤ (D.view bank.new.disk).faults }
 {
-    Ok(bank.append(alloc, body)?)
+    Ok(bank.append(body)?)
 }
 
 /// Writes the record of a zone to the disk, or its removal, for which there is room: what is stored of it from then on. It is on
@@ -159,7 +159,7 @@ pub fn append_record<D: Disk>(
     ensures faults { (D.view bank.old.disk).faults ≤ (D.view bank.new.disk).faults }
 {
     let body = body_of(alloc, name, record_in(row))?;
-    append(bank, alloc, &body)?;
+    append(bank, body)?;
     Ok(())
 }
 

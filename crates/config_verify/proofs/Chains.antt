@@ -26,6 +26,22 @@ passes {a} {b} {x} {answer} h found = record { answers = passes_in a b x answer 
 pub alone : {a : List Flaw} {answer : Result (Unit {0}) Flaw} → Finds a answer → Finds (a ++ []) answer
 alone {a} h = rw append-nil h
 
+both_none : (a b : List Flaw) → a ++ b ≡ [] → (a ≡ []) × (b ≡ [])
+both_none [] b h = (refl, h)
+both_none (flaw ∷ a) b h = absurd (cc)
+
+-- the one flaw that there may be between others
+pub brand_alone : {b : List Flaw} {answer : Result (Unit {0}) Flaw} (a c : List Flaw) → a ++ c ≡ [] → Finds b answer → Finds (a ++ (b ++ c)) answer
+brand_alone {b} {answer} a c h found = let both = both_none a c h in rw (both.0, both.1) (alone found)
+
+none_in : (flaws : List Flaw) (x : Unit {0}) → first flaws ≡ Ok x → flaws ≡ []
+none_in [] x h = refl
+none_in (flaw ∷ flaws) x h = absurd (cc)
+
+-- where Ok is found there is none
+pub none_found : {flaws : List Flaw} {x : Unit {0}} → Finds flaws (Ok x) → flaws ≡ []
+none_found {flaws} {x} h = none_in flaws x h.answers
+
 -- the flaws from a place of a list on
 pub each_at : {A : Type 0} (flaws : List A → A → List Flaw) (xs : List A) (place : ℕ) (d : A) → place < length xs
     → each_behind flaws (take place xs) (drop place xs) ≡ flaws (take place xs) (get_or xs place d) ++ each_behind flaws (take (place + 1) xs) (drop (place + 1) xs)

@@ -110,19 +110,28 @@ abbrev pub joined : List (List Flaw) → List Flaw
 joined [] = []
 joined (flaws ∷ groups) = flaws ++ joined groups
 
--- all flaws: of the zonepath, the brand, and each resource by its kind
-unfoldable pub flaws : List (List ℕ) → Contents → List Flaw
-flaws brands c =
+-- the flaws of resources, by their kinds
+abbrev pub resource_flaws : Contents → List Flaw
+resource_flaws c =
     joined (
-    unless (is_some c.zonepath) NoZonepath
-    ∷ unless (list_any (bytes_eq c.brand) brands) (UnknownBrand c.brand)
-    ∷ each_behind flaws_of_fs [] c.fs
+    each_behind flaws_of_fs [] c.fs
     ∷ each_behind (flaws_of_net c.ip) [] c.net
     ∷ flat_map flaws_of_device c.device
     ∷ flat_map flaws_of_rctl c.rctl
     ∷ flat_map flaws_of_attr c.attr
     ∷ flat_map flaws_of_dataset c.dataset
     ∷ [])
+
+-- all flaws: of the zonepath, the brand, and each resource by its kind
+unfoldable pub flaws : List (List ℕ) → Contents → List Flaw
+flaws brands c =
+    unless (is_some c.zonepath) NoZonepath
+    ++ (unless (list_any (bytes_eq c.brand) brands) (UnknownBrand c.brand)
+    ++ resource_flaws c)
+
+-- those that no list of brands changes
+abbrev pub other_flaws : Contents → List Flaw
+other_flaws c = unless (is_some c.zonepath) NoZonepath ++ resource_flaws c
 
 -- the first of some flaws, where there is one
 abbrev pub first : List Flaw → Result (Unit {0}) Flaw

@@ -7,7 +7,7 @@ mod flaw;
 mod resources;
 mod values;
 
-pub use config::{matches, verify};
+pub use config::{matches, verify, verify_brand, verify_but_brand};
 pub use flaw::Flaw;
 pub use resources::claimed;
 pub use values::is_plain_address;

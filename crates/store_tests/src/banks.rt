@@ -3,7 +3,7 @@ use std::alloc::{AllocError, Global};
 use std::process::Abort;
 use std::test::Fail;
 use zn_io::{Fill, MemDisk, Room};
-use zone_disk::{BANK_BYTES, Bank, BankFault};
+use zone_disk::{BANK_BYTES, Bank, BankFault, Body};
 
 const BODIES: [&[u8]; 3] = [b"one", b"", b"three"];
 
@@ -45,7 +45,10 @@ fn run(alloc: Global, disk: MemDisk) -> (usize, Option<BankFault>, MemDisk) {
     let mut fault = None;
     for body in BODIES {
         if bank.sound() {
-            fault = bank.append(alloc, body).err();
+            fault = match Body::of(alloc, body) {
+                Ok(body) => bank.append(body).err(),
+                Err(_) => Some(BankFault::Memory),
+            };
         }
     }
     (bank.records().len(), fault, bank.into_disk())

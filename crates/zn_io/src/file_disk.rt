@@ -31,12 +31,21 @@ impl<'a, R: Files<File = File>> FileDisk<'a, R> {
         }
     }
 
+    // The first call's work, which each later one steps over.
+    #[inline(never)]
+    fn open_first(&mut self) -> io::Result<()>
+        ensures { self.new.faults ≡ self.old.faults }
+    {
+        self.file = Some(open_file(self.files, self.name)?);
+        Ok(())
+    }
+
     // Opens the file at the first call.
     fn open(&mut self) -> io::Result<()>
         ensures { self.new.faults ≡ self.old.faults }
     {
         if self.file.is_none() {
-            self.file = Some(open_file(self.files, self.name)?);
+            self.open_first()?;
         }
         Ok(())
     }

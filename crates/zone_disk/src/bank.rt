@@ -8,7 +8,7 @@ ghost use Rattle.zone_disk.specs.Bank.{IsSettled, IsBeforeOrAfter, KeepsMeaning,
 use crate::format::prepare;
 use crate::read::{Records, read_all};
 use crate::{BankFault, Body};
-use std::alloc::{AllocError, Global};
+use std::alloc::Global;
 use std::marker::Model;
 use zn_io::{Disk, Failed, put_durably};
 
@@ -69,18 +69,6 @@ fn push(bodies: &mut Vec<Body>, body: Body)
     bodies.push(body).unwrap();
 }
 
-// A copy of a body, with a place among the bodies for one more.
-fn prepared(alloc: Global, bodies: &mut Vec<Body>, body: &[u8]) -> Result<Body, AllocError>
-    requires { length body.now < 2 ^ 32 }
-    ensures same { bodies.new.items ≡ bodies.old.items }
-    ensures room { OnOk result (length bodies.new.items < vec_capacity bodies.new) }
-    ensures body { IfOk result (λ kept. kept ≡ body.now) }
-{
-    let kept = Body::copied(alloc, body)?;
-    bodies.reserve(1)?;
-    Ok(kept)
-}
-
 // Puts a body after the closed gate, and then opens the gate.
 fn put_body<D: Disk>(disk: &mut D, used: u32, body: &Body) -> Result<(), Failed>
     requires { used + 5 + length body.now ≤ BANK_BYTES }
@@ -95,11 +83,12 @@ fn put_body<D: Disk>(disk: &mut D, used: u32, body: &Body) -> Result<(), Failed>
 }
 
 // There is no room after the closed gate for a length, a body and the next gate.
-fn is_full(used: u32, body: &[u8]) -> bool
+fn is_full(used: u32, body: &Body) -> bool
     requires { used ≤ BANK_BYTES }
     ensures { IsTrue result ↔ (BANK_BYTES < used + 5 + length body.now) }
 {
-    body.len() > BANK_BYTES || used as usize + 5 + body.len() > BANK_BYTES
+    let length = body.bytes().len();
+    length > BANK_BYTES || used as usize + 5 + length > BANK_BYTES
 }
 
 impl<D: Disk> Bank<D> {
@@ -145,17 +134,17 @@ impl<D: Disk> Bank<D> {
     /// Appends a body: it is on the disk before this answers. A crash at any moment meanwhile leaves the
     /// bodies from before, or these and the new one. After `DiskFault` the bank isn't sound, and the disk
     /// is to be opened again; after every other fault the bank is as it was.
-    pub fn append(&mut self, alloc: Global, body: &[u8]) -> Result<(), BankFault>
+    pub fn append(&mut self, body: Body) -> Result<(), BankFault>
         requires { self.old.sound ≡ true }
-        ensures records { OnOk result (self.new.records ≡ self.old.records ++ body.now ∷ []) }
-        ensures used { OnOk result (self.new.used ≡ self.old.used + 5 + length body.now) }
+        ensures records { OnOk result (self.new.records ≡ self.old.records ++ body ∷ []) }
+        ensures used { OnOk result (self.new.used ≡ self.old.used + 5 + length body) }
         ensures sound { OnOk result (self.new.sound ≡ true) }
 
-        ensures any_moment { (D.view self.old.disk).Keeps → Leaves (D.view self.old.disk) (D.view self.new.disk) (IsBeforeOrAfter self.old.records body.now) }
-        ensures lasts { (D.view self.old.disk).Keeps → OnOk result ((image : List ℕ) → (D.view self.new.disk).Now image → Stands image (self.old.records ++ body.now ∷ [])) }
-        ensures either { (D.view self.old.disk).Keeps → (image : List ℕ) → (D.view self.new.disk).Now image → IsBeforeOrAfter self.old.records body.now image }
+        ensures any_moment { (D.view self.old.disk).Keeps → Leaves (D.view self.old.disk) (D.view self.new.disk) (IsBeforeOrAfter self.old.records body) }
+        ensures lasts { (D.view self.old.disk).Keeps → OnOk result ((image : List ℕ) → (D.view self.new.disk).Now image → Stands image (self.old.records ++ body ∷ [])) }
+        ensures either { (D.view self.old.disk).Keeps → (image : List ℕ) → (D.view self.new.disk).Now image → IsBeforeOrAfter self.old.records body image }
 
-        ensures full { IsErrOf result BankFault.BankFull ↔ (BANK_BYTES < self.old.used + 5 + length body.now) }
+        ensures full { IsErrOf result BankFault.BankFull ↔ (BANK_BYTES < self.old.used + 5 + length body) }
         ensures full_same { IsErrOf result BankFault.BankFull → self.new ≡ self.old }
         ensures memory_same { IsErrOf result BankFault.Memory → self.new ≡ self.old }
         ensures fault { IsErrOf result BankFault.DiskFault → Rose (D.view self.old.disk).faults (D.view self.new.disk).faults }
@@ -166,14 +155,14 @@ impl<D: Disk> Bank<D> {
         ensures model { (D.view self.old.disk).Keeps ↔ (D.view self.new.disk).Keeps }
         ensures faults { (D.view self.old.disk).faults ≤ (D.view self.new.disk).faults }
     {
-        if is_full(self.used, body) {
+        if is_full(self.used, &body) {
             return Err(BankFault::BankFull);
         }
-        let kept = prepared(alloc, &mut self.records, body)?;
+        self.records.reserve(1)?;
         self.sound = false;
-        put_body(&mut self.disk, self.used, &kept)?;
-        self.used += 5 + body.len() as u32;
-        push(&mut self.records, kept);
+        put_body(&mut self.disk, self.used, &body)?;
+        self.used += 5 + body.bytes().len() as u32;
+        push(&mut self.records, body);
         self.sound = true;
         Ok(())
     }

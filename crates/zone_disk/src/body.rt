@@ -1,5 +1,5 @@
 //! Bodies, kept as they stand on the disk.
-ghost use Rattle.std.specs.Prelude.{◌≡◌, ◌<◌, ◌^◌, IfOk, length};
+ghost use Rattle.std.specs.Prelude.{◌≡◌, ◌<◌, ◌^◌, ◌++◌, ◌-◌, IfOk, drop, length};
 ghost use Rattle.zone_disk.specs.Bank.{framed};
 ghost use Rattle.zone_disk.specs.Image.{four};
 
@@ -36,17 +36,6 @@ fn four(length: usize) -> [u8; 4]
     ]
 }
 
-fn frame(alloc: Global, body: &[u8]) -> Result<Vec<u8>, AllocError>
-    requires { length body.now < 2 ^ 32 }
-    ensures { IfOk result (λ bytes. bytes.items ≡ framed body.now) }
-{
-    let mut bytes = Vec::with_capacity(alloc, body.len() + 5)?;
-    bytes.extend_from_slice(&four(body.len()))?;
-    bytes.extend_from_slice(body)?;
-    bytes.push(0)?;
-    Ok(bytes)
-}
-
 impl Body {
     /// The bytes.
     pub fn bytes(&self) -> &[u8]
@@ -62,12 +51,33 @@ impl Body {
         &self.bytes
     }
 
-    pub(crate) fn copied(alloc: Global, bytes: &[u8]) -> Result<Body, AllocError>
+    /// Begins a body of so many bytes, which are to be put behind what stands in the buffer. There is room for them and for what ends it.
+    pub fn begun(alloc: Global, length: usize) -> Result<Vec<u8>, AllocError>
+        requires { length < 2 ^ 32 }
+        ensures { IfOk result (λ bytes. bytes.items ≡ four length) }
+    {
+        let mut bytes = Vec::with_capacity(alloc, length + 5)?;
+        bytes.extend_from_slice(&four(length))?;
+        Ok(bytes)
+    }
+
+    /// The body that was begun in a buffer, all of whose bytes have been put there.
+    pub fn ended(bytes: Vec<u8>) -> Result<Body, AllocError>
+        requires { bytes.items ≡ four (length bytes.items - 4) ++ drop 4 bytes.items }
+        ensures { IfOk result (λ body. body ≡ drop 4 bytes.items) }
+    {
+        let mut bytes = bytes;
+        bytes.push(0)?;
+        Ok(Body { bytes })
+    }
+
+    /// The body of these bytes.
+    pub fn of(alloc: Global, bytes: &[u8]) -> Result<Body, AllocError>
         requires { length bytes.now < 2 ^ 32 }
         ensures { IfOk result (λ body. body ≡ bytes.now) }
     {
-        Ok(Body {
-            bytes: frame(alloc, bytes)?,
-        })
+        let mut framed = Body::begun(alloc, bytes.len())?;
+        framed.extend_from_slice(bytes)?;
+        Body::ended(framed)
     }
 }

@@ -84,7 +84,7 @@ fn take_records(alloc: Global, bytes: &[u8], bodies: &mut Vec<Body>) -> Result<u
             Some(both) => both,
             None => return Ok(bytes.len() - rest.len()),
         };
-        bodies.push(Body::copied(alloc, body)?)?;
+        bodies.push(Body::of(alloc, body)?)?;
         rest = next;
     }
     Ok(bytes.len() - rest.len())

@@ -10,16 +10,15 @@ use Rattle.zone_disk.proofs.bank.Bank.append.Goals as goal
 pub put_body-requires : goal.put_body-requires
 put_body-requires g c =
     let i = c.self.inside in
-    let fits : i.used + 5 + length c.args.body.now ≤ BANK_BYTES = not_full c.is_full.result i.used (length c.args.body.now) c.is_full.ensures c.if-is_full.false in
-    omega (arith, fits, ap length c.in_ok-kept.ensures.body)
+    let fits : i.used + 5 + length c.args.body ≤ BANK_BYTES = not_full c.is_full.result i.used (length c.args.body) c.is_full.ensures c.if-is_full.false in
+    omega (arith, fits)
 
 pub returns-in_err-put_body-clause-any_moment : goal.returns-in_err-put_body-clause-any_moment
 returns-in_err-put_body-clause-any_moment g c =
     let i = c.self.inside in
     let sound : i.sound ≡ true = ap (λ (a : Account g.row.D.Denot). a.sound) c.self.view_is ∙ c.requires in
-    subst (λ (a : Account g.row.D.Denot). (g.D.Disk.view a.disk).Keeps → Leaves (g.D.Disk.view a.disk) (g.D.Disk.view c.put_body.new.disk) (IsBeforeOrAfter a.records c.args.body.now)) c.self.view_is
-    (λ keeps. subst (λ (b : List ℕ). Leaves (g.D.Disk.view i.disk) (g.D.Disk.view c.put_body.new.disk) (IsBeforeOrAfter i.records.items b)) c.in_ok-kept.ensures.body
-    (c.put_body.ensures.any_moment keeps i.records.items (c.self.invariant.settled sound keeps) c.self.invariant.counted))
+    subst (λ (a : Account g.row.D.Denot). (g.D.Disk.view a.disk).Keeps → Leaves (g.D.Disk.view a.disk) (g.D.Disk.view c.put_body.new.disk) (IsBeforeOrAfter a.records c.args.body)) c.self.view_is
+    (λ keeps. (c.put_body.ensures.any_moment keeps i.records.items (c.self.invariant.settled sound keeps) c.self.invariant.counted))
 
 pub returns-in_err-put_body-clause-either : goal.returns-in_err-put_body-clause-either
 returns-in_err-put_body-clause-either g c keeps =
@@ -29,9 +28,8 @@ pub returns-clause-any_moment : goal.returns-clause-any_moment
 returns-clause-any_moment g c =
     let i = c.self.inside in
     let sound : i.sound ≡ true = ap (λ (a : Account g.row.D.Denot). a.sound) c.self.view_is ∙ c.requires in
-    subst (λ (a : Account g.row.D.Denot). (g.D.Disk.view a.disk).Keeps → Leaves (g.D.Disk.view a.disk) (g.D.Disk.view c.put_body.new.disk) (IsBeforeOrAfter a.records c.args.body.now)) c.self.view_is
-    (λ keeps. subst (λ (b : List ℕ). Leaves (g.D.Disk.view i.disk) (g.D.Disk.view c.put_body.new.disk) (IsBeforeOrAfter i.records.items b)) c.in_ok-kept.ensures.body
-    (c.put_body.ensures.any_moment keeps i.records.items (c.self.invariant.settled sound keeps) c.self.invariant.counted))
+    subst (λ (a : Account g.row.D.Denot). (g.D.Disk.view a.disk).Keeps → Leaves (g.D.Disk.view a.disk) (g.D.Disk.view c.put_body.new.disk) (IsBeforeOrAfter a.records c.args.body)) c.self.view_is
+    (λ keeps. (c.put_body.ensures.any_moment keeps i.records.items (c.self.invariant.settled sound keeps) c.self.invariant.counted))
 
 pub returns-clause-either : goal.returns-clause-either
 returns-clause-either g c keeps = at_end _ _ _ (g.met.D.Disk.sound c.put_body.new.disk) (returns-clause-any_moment g c keeps)
@@ -40,17 +38,15 @@ pub returns-clause-lasts : goal.returns-clause-lasts
 returns-clause-lasts g c =
     let i = c.self.inside in
     let sound : i.sound ≡ true = ap (λ (a : Account g.row.D.Denot). a.sound) c.self.view_is ∙ c.requires in
-    subst (λ (a : Account g.row.D.Denot). (g.D.Disk.view a.disk).Keeps → (image : List ℕ) → (g.D.Disk.view c.put_body.new.disk).Now image → Stands image (a.records ++ c.args.body.now ∷ [])) c.self.view_is
-    (λ keeps. settled_stands (g.D.Disk.view c.put_body.new.disk) (i.records.items ++ c.args.body.now ∷ [])
-    (subst (λ (b : List ℕ). IsSettled (g.D.Disk.view c.put_body.new.disk) (i.records.items ++ b ∷ [])) c.in_ok-kept.ensures.body
-    (c.in_ok-put_body.ensures.settled keeps i.records.items (c.self.invariant.settled sound keeps) c.self.invariant.counted)))
+    subst (λ (a : Account g.row.D.Denot). (g.D.Disk.view a.disk).Keeps → (image : List ℕ) → (g.D.Disk.view c.put_body.new.disk).Now image → Stands image (a.records ++ c.args.body ∷ [])) c.self.view_is
+    (λ keeps. settled_stands (g.D.Disk.view c.put_body.new.disk) (i.records.items ++ c.args.body ∷ [])
+    ((c.in_ok-put_body.ensures.settled keeps i.records.items (c.self.invariant.settled sound keeps) c.self.invariant.counted)))
 
 pub invariant_of-self-2 : goal.invariant_of-self-2
 invariant_of-self-2 g c =
     let i = c.self.inside in
     let sound : i.sound ≡ true = ap (λ (a : Account g.row.D.Denot). a.sound) c.self.view_is ∙ c.requires in
-    let fits : i.used + 5 + length c.args.body.now ≤ BANK_BYTES = not_full c.is_full.result i.used (length c.args.body.now) c.is_full.ensures c.if-is_full.false in
-    let items : c.push.new.bodies.items ≡ i.records.items ++ c.args.body.now ∷ [] = search rules in
-    kept_more (g.D.Disk.view c.put_body.new.disk) i.records.items c.push.new.bodies.items i.used c.args.body.now c.self.invariant.counted fits items
-    (λ now. let keeps = c.put_body.ensures.model.1 now in subst (λ (b : List ℕ). IsSettled (g.D.Disk.view c.put_body.new.disk) (i.records.items ++ b ∷ [])) c.in_ok-kept.ensures.body
-    (c.in_ok-put_body.ensures.settled keeps i.records.items (c.self.invariant.settled sound keeps) c.self.invariant.counted))
+    let fits : i.used + 5 + length c.args.body ≤ BANK_BYTES = not_full c.is_full.result i.used (length c.args.body) c.is_full.ensures c.if-is_full.false in
+    let items : c.push.new.bodies.items ≡ i.records.items ++ c.args.body ∷ [] = search rules in
+    rw c.bytes.ensures (kept_more (g.D.Disk.view c.put_body.new.disk) i.records.items c.push.new.bodies.items i.used c.args.body c.self.invariant.counted fits items
+    (λ now. let keeps = c.put_body.ensures.model.1 now in (c.in_ok-put_body.ensures.settled keeps i.records.items (c.self.invariant.settled sound keeps) c.self.invariant.counted)))
