@@ -8,7 +8,7 @@ use Rattle.std.specs.List.Sorted.{IsPartitionedBy, IsPartitionPoint, IsSorted}
 use Rattle.std.specs.Ordering.{is_eq, is_lt, nat_cmp, ordering_reverse}
 use Rattle.std.specs.declared.cmp.Ordering.{Ordering}
 use Rattle.std.specs.declared.cmp.Ordering.TheVariants.{Less, Equal, Greater}
-use Rattle.std.proofs.lemmas.Bool.{and_from, and_parts, false≢true, not-true, true_from_ne_false}
+use Rattle.std.proofs.lemmas.Bool.{and_from, and_parts, false_from_ne_true, false≢true, not-true, true_from_ne_false}
 use Rattle.std.proofs.lemmas.Cmp.{nat_list_cmp_total}
 use Rattle.std.proofs.lemmas.List.{get_or_default}
 use Rattle.std.proofs.lemmas.List.Sorted.{ranks_by, sorted_far}
@@ -129,12 +129,25 @@ put_at p a (x ∷ xs) (suc i) within point =
     rw (point.0 zero x (omega arith) (omega arith))
     (ap (λ ys. x ∷ ys) (put_at p a xs i (omega arith) (λ k d low high. point.0 (suc k) d (omega arith) (omega arith), λ k d low high. point.1 (suc k) d (omega arith) (omega arith))))
 
--- which all do where the last one does
-pub put_last : (dir : List ℕ) (xs : List (List ℕ)) (last : List ℕ) → 0 < length xs → IsSorted (slice_cmp nat_cmp) xs → last ≡ get_or xs (length xs - 1) last → precedes last dir ≡ true
-    → put (before dir) dir xs ≡ take (length xs) xs ++ dir ∷ drop (length xs) xs
-put_last dir xs last some sorted is h = put_at (before dir) dir xs (length xs) (omega arith) (all_before, λ k d low high. absurd (omega arith))
+-- those up to one that precedes it do
+all_before : (dir : List ℕ) (xs : List (List ℕ)) (i : ℕ) (x : List ℕ) → i < length xs → IsSorted (slice_cmp nat_cmp) xs → x ≡ get_or xs i x → precedes x dir ≡ true
+    → (k : ℕ) (d : List ℕ) → 0 ≤ k → k < i + 1 → precedes (get_or xs k d) dir ≡ true
+all_before dir xs i x inside sorted is h k d low high =
+    let here = subst (λ y. precedes y dir ≡ true) (is ∙ get_or_default xs i x d inside) h in
+    parted dir xs sorted k i d (omega arith) inside here
+
+-- behind the last of all
+pub put_last : (dir : List ℕ) (xs : List (List ℕ)) (i : ℕ) (x : List ℕ) → i + 1 ≡ length xs → IsSorted (slice_cmp nat_cmp) xs → x ≡ get_or xs i x → precedes x dir ≡ true
+    → put (before dir) dir xs ≡ take (i + 1) xs ++ dir ∷ drop (i + 1) xs
+put_last dir xs i x last sorted is h =
+    put_at (before dir) dir xs (i + 1) (omega (arith, last)) (all_before dir xs i x (omega (arith, last)) sorted is h, λ k d low high. absurd (omega (arith, last, low, high)))
+
+-- or between two of them
+pub put_between : (dir : List ℕ) (xs : List (List ℕ)) (i : ℕ) (x y : List ℕ) → i + 1 < length xs → IsSorted (slice_cmp nat_cmp) xs → x ≡ get_or xs i x → y ≡ get_or xs (i + 1) y
+    → precedes x dir ≡ true → precedes y dir ≡ false → put (before dir) dir xs ≡ take (i + 1) xs ++ dir ∷ drop (i + 1) xs
+put_between dir xs i x y inside sorted is next h k =
+    put_at (before dir) dir xs (i + 1) (omega (arith, inside)) (all_before dir xs i x (omega (arith, inside)) sorted is h, none_behind)
   where
-    all_before : (k : ℕ) (d : List ℕ) → 0 ≤ k → k < length xs → precedes (get_or xs k d) dir ≡ true
-    all_before k d low high =
-        let here = subst (λ x. precedes x dir ≡ true) (is ∙ get_or_default xs (length xs - 1) last d (omega arith)) h in
-        parted dir xs sorted k (length xs - 1) d (omega arith) (omega arith) here
+    none_behind : (j : ℕ) (d : List ℕ) → i + 1 ≤ j → j < length xs → precedes (get_or xs j d) dir ≡ false
+    none_behind j d low high = false_from_ne_true (precedes (get_or xs j d) dir) (λ e.
+        false≢true (sym k ∙ subst (λ z. precedes z dir ≡ true) (sym (next ∙ get_or_default xs (i + 1) y d inside)) (parted dir xs sorted (i + 1) j d low high e)))

@@ -1,6 +1,6 @@
 //! What is checked as a request begins.
 ghost use Rattle.std.specs.Prelude.{◌≡◌, IfOk};
-ghost use Rattle.config_verify.specs.Flaws.{first, flaws};
+ghost use Rattle.config_verify.specs.Flaws.{first, flaws, Finds};
 ghost use Rattle.priv_sets.specs.Limit as limit_sets;
 ghost use Rattle.zoneadmd_steps.specs.Plans.{is_limited, is_verified, refusal, unlimited, unverified};
 ghost use Rattle.brand_hooks.specs.Brands.{tabled_names};
@@ -8,21 +8,33 @@ ghost use Rattle.brand_hooks.specs.Brands.{tabled_names};
 use crate::plans::{is_limited, is_verified, may_begin};
 use crate::requests::{Outcome, RequestKind};
 use brand_hooks::BrandTables;
-use config_verify::{Flaw, verify};
+use commit_journal::StoredConfig;
+use config_verify::{Flaw, verify, verify_brand};
 use priv_sets::limit_of;
 use std::alloc::{AllocError, Global};
-use zn_base::ZoneState;
+use zn_base::{Text, ZoneState};
 use zone_config::ZoneConfig;
+
+// What `verify` finds in a configuration that is stored. Where it is known to have no other flaw, its brand alone is looked at.
+fn verify_stored(alloc: Global, config: &StoredConfig, brands: &[Text]) -> Result<(), Flaw>
+    ensures { Finds (flaws brands.now config.now) result }
+{
+    if config.is_verified() {
+        verify_brand(alloc, config.as_config(), brands)
+    } else {
+        verify(alloc, config.as_config(), brands)
+    }
+}
 
 // The configuration's first flaw.
 fn unverified(
     alloc: Global,
     brands: &BrandTables,
-    config: &ZoneConfig,
+    config: &StoredConfig,
 ) -> Result<Option<Outcome>, AllocError>
     ensures { IfOk result (λ o. o ≡ unverified (first (flaws (tabled_names brands.now) config.now))) }
 {
-    match verify(alloc, config, brands.names()) {
+    match verify_stored(alloc, config, brands.names()) {
         Ok(()) => Ok(None),
         Err(Flaw::Memory) => Err(AllocError),
         Err(flaw) => Ok(Some(Outcome::NotVerified(flaw))),
@@ -45,7 +57,7 @@ pub(crate) fn refusal(
     brands: &BrandTables,
     kind: RequestKind,
     state: ZoneState,
-    config: &ZoneConfig,
+    config: &StoredConfig,
 ) -> Result<Option<Outcome>, AllocError>
     ensures { IfOk result (λ o. o ≡ refusal brands.now kind state config.now) }
 {
@@ -58,7 +70,7 @@ pub(crate) fn refusal(
         }
     }
     if is_limited(kind, state) {
-        Ok(unlimited(config))
+        Ok(unlimited(config.as_config()))
     } else {
         Ok(None)
     }

@@ -1,5 +1,5 @@
 //! The plans of zoneadm(8)'s requests.
-ghost use Rattle.std.specs.Prelude.{◌≡◌, ◌≤◌, ◌++◌, ◌∷◌, [], IfOk, OnOk, drop, length, map, take};
+ghost use Rattle.std.specs.Prelude.{◌≡◌, ◌<◌, ◌≤◌, ◌+◌, ◌++◌, ◌∷◌, [], IfOk, OnOk, drop, length, map, take, true};
 ghost use Rattle.std.specs.Cmp.Lexicographic.{slice_cmp};
 ghost use Rattle.std.specs.List.{filter_map};
 ghost use Rattle.std.specs.List.Sorted.{IsSorted};
@@ -168,15 +168,29 @@ fn precedes(path: &AbsPath, other: &AbsPath) -> bool
     path.bytes().cmp(other.bytes()).is_lt()
 }
 
-// Where a directory goes among others in byte order. The last one is looked at first, since file systems mostly come in order.
-fn place(dirs: &[AbsPath], dir: &AbsPath) -> usize
+// Whether a directory goes right behind one of others in byte order.
+fn goes_behind(dirs: &[AbsPath], at: usize, dir: &AbsPath) -> bool
+    requires { IsSorted (slice_cmp nat_cmp) dirs.now }
+    ensures inside { result ≡ true → at < length dirs.now }
+    ensures put { result ≡ true → put (λ other. precedes other dir.now) dir.now dirs.now ≡ take (at + 1) dirs.now ++ dir.now ∷ drop (at + 1) dirs.now }
+{
+    if at >= dirs.len() || !precedes(&dirs[at], dir) {
+        return false;
+    }
+    at + 1 == dirs.len() || !precedes(&dirs[at + 1], dir)
+}
+
+// Where a directory goes among others in byte order. Behind the one that was put there last is looked at first, since file systems
+// mostly come in order.
+fn place(dirs: &[AbsPath], latest: usize, dir: &AbsPath) -> usize
     requires { IsSorted (slice_cmp nat_cmp) dirs.now }
     ensures bound { result ≤ length dirs.now }
     ensures put { put (λ other. precedes other dir.now) dir.now dirs.now ≡ take result dirs.now ++ dir.now ∷ drop result dirs.now }
 {
-    match dirs {
-        [.., last] if !precedes(last, dir) => dirs.partition_point(|other| precedes(other, dir)),
-        _ => dirs.len(),
+    if goes_behind(dirs, latest, dir) {
+        latest + 1
+    } else {
+        dirs.partition_point(|other| precedes(other, dir))
     }
 }
 
@@ -185,23 +199,21 @@ fn in_order(alloc: Global, fs: &[Fs]) -> Result<Vec<AbsPath>, AllocError>
     ensures { IfOk result (λ dirs. dirs.items ≡ in_order (filter_map (λ f. f.dir) fs.now)) }
 {
     let mut dirs = Vec::new(alloc);
+    let mut at = 0;
     for file_system in fs {
         if let Some(dir) = &file_system.dir {
-            dirs.insert(place(&dirs, dir), dir.copy(alloc)?)?;
+            at = place(&dirs, at, dir);
+            dirs.insert(at, dir.copy(alloc)?)?;
         }
     }
     Ok(dirs)
 }
 
 // The steps that mount directories.
-fn mounts(alloc: Global, dirs: &[AbsPath]) -> Result<Vec<Step>, AllocError>
-    ensures { IfOk result (λ steps. steps.items ≡ map Step.Mounted dirs.now) }
+fn mounts(alloc: Global, dirs: Vec<AbsPath>) -> Result<Vec<Step>, AllocError>
+    ensures { IfOk result (λ steps. steps.items ≡ map Step.Mounted dirs.items) }
 {
-    let mut steps = Vec::new(alloc);
-    for dir in dirs {
-        steps.push(Step::Mounted(dir.copy(alloc)?))?;
-    }
-    Ok(steps)
+    dirs.into_iter().map(Step::Mounted).collect(alloc)
 }
 
 // The steps that claim datasets.
@@ -259,7 +271,7 @@ fn ready_part(alloc: Global, config: &ZoneConfig) -> Result<Vec<Step>, AllocErro
         Step::Root,
     ]?;
     let dirs = in_order(alloc, config.fs.as_slice())?;
-    steps.append(&mut mounts(alloc, &dirs)?)?;
+    steps.append(&mut mounts(alloc, dirs)?)?;
     steps.append(&mut dataset_claims(alloc, config.dataset.as_slice())?)?;
     steps.append(&mut net_claims(alloc, config.ip, config.net.as_slice())?)?;
     steps.push(Step::State(ZoneState::Ready))?;

@@ -78,7 +78,7 @@ fn begin(
     requires { is_halt request ≡ false }
     ensures { IfOk result (λ r. (d : desks.Desk) → started brands.now d ticket request state row.now (refusal brands.now (kind_of request) state row.now.config) ≡ begun_or d ticket r) }
 {
-    match refusal(alloc, brands, request.kind(), state, row.config.as_config())? {
+    match refusal(alloc, brands, request.kind(), state, &row.config)? {
         Some(outcome) => Ok(Err(outcome)),
         None => Ok(Ok(new_job(alloc, brands, ticket, request, state, row)?)),
     }
