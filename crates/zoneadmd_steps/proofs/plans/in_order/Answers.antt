@@ -8,8 +8,8 @@ use Rattle.std.proofs.lemmas.List.Elements.{filter_map-append}
 use Rattle.zoneadmd_steps.proofs.Byte_order.{in_order_more, in_order_sorted}
 use Rattle.zoneadmd_steps.proofs.plans.in_order.Goals as goal
 
-pub place-requires : goal.place-requires
-place-requires c =
+pub place-at-requires : goal.place-at-requires
+place-at-requires c =
     let so_far = filter_map (λ f. f.dir) (take c.loop-file_system.file_system-index c.args.fs.now) in
     subst (IsSorted (slice_cmp nat_cmp)) (sym (c.deref.ensures.value ∙ c.loop-file_system.invariant)) (in_order_sorted so_far)
 
