@@ -21,6 +21,7 @@ pub mod Freeing
 pub mod Common_laws
 pub mod Local_laws
 pub mod Local_doing
+mod At_once
 pub mod Pools_laws
 pub mod Indexing
 pub mod Listing_laws

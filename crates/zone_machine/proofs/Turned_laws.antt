@@ -10,9 +10,18 @@ use Rattle.zone_pools.specs.declared.grant.Pool.TheVariants.{Store}
 use Rattle.zone_machine.proofs.Acts_laws.{own-acts}
 use Rattle.zone_machine.proofs.Own_worlds.{view-world}
 use Rattle.zoneadmd_steps.specs.Arrivals.{Arrival, Comes, New_process, New_record, arrived}
-use Rattle.zone_machine.specs.Code.Works.{Works, rest_of, turned_act, work_act}
+use Rattle.zone_machine.specs.Code.Works.{EndsNoProcess, Works, arrival_by, endings, rest_of, turned_act, work_act}
+use Rattle.zone_machine.specs.declared.machine.work.Ending.{Ending}
+use Rattle.zone_machine.specs.declared.machine.work.Ending.TheVariants.{Ticket}
+use Rattle.zone_machine.specs.declared.machine.work.Storing.{Storing}
+use Rattle.zone_machine.specs.declared.machine.work.Storing.TheVariants as storing
+use Rattle.zone_cases.specs.declared.cases.ConsoleEdit.TheVariants as console
+use Rattle.zoneadmd_steps.specs.Code.Cases.{object_edits}
+use Rattle.zoneadmd_steps.specs.declared.requests.Gone.{Gone}
+use Rattle.zoneadmd_steps.specs.declared.requests.TurnReply.{TurnReply}
+use Rattle.zoneadmd_steps.specs.declared.settling.Stored.{Stored}
 use Rattle.zone_machine.specs.declared.machine.work.Work.{Work}
-use Rattle.zoneadmd_steps.specs.Code.Works.{rest_of_turn, turn_work}
+use Rattle.zoneadmd_steps.specs.Code.Works.{arrival_of, gone_by, rest_of_turn, turn_work, with_gone}
 use Rattle.zoneadmd_steps.specs.declared.settling.TurnWork.{TurnWork}
 use Rattle.zone_cases.specs.State.Decisions.{Act, act_of, acts_world, after_came_world, effects, says, sweeps, turned}
 use Rattle.zoneadmd_steps.specs.Desks.{Desk}
@@ -102,3 +111,45 @@ settled_turn d g w desk h = ap rest_of (act-turned d g) ∙ ap turned_act h
 
 pub works_same : (n : Option ℕ) (a : Act) (v : World) (d : Desk) (w : Work) → a ≡ work_act w d → Works n a v d w
 works_same n a v d w h = record { came = sym (ap (λ (a : Act). a.came) h); reply = sym (ap (λ (a : Act). a.effect.reply) h); world = sym (ap (λ (a : Act). acts_world n a v) h) }
+
+-- the work of a turn, as any work
+abbrev storing_of : Option Stored → Storing
+storing_of None = storing.Nothing
+storing_of (Some s) = storing.Row s
+
+abbrev ending_of : Option ℕ → Option Ending
+ending_of None = None
+ending_of (Some ticket) = Some (Ticket ticket)
+
+abbrev pub as_work : TurnWork → Work
+as_work w = record { stored = storing_of w.stored; objects = w.objects; sits = None; console = console.Nothing; ended = ending_of w.ended; reply = says (Told w.reply) }
+
+arrival-storing : (s : Option Stored) → arrival_by (storing_of s) ≡ arrival_of s
+arrival-storing None = refl
+arrival-storing (Some s) = refl
+
+ticket-ends : (ended : Option ℕ) → endings (ending_of ended) ≡ sweeps ended
+ticket-ends None = refl
+ticket-ends (Some ticket) = refl
+
+pub ends_no_process : (ended : Option ℕ) → EndsNoProcess (ending_of ended)
+ends_no_process None = tt
+ends_no_process (Some ticket) = tt
+
+turned_work : (w : TurnWork) (d : Desk) → work_act (as_work w) d ≡ turned_act (turn_work w d)
+turned_work w d = λ i. record {
+  came = arrival-storing w.stored i;
+  effect = record { edits = map Of_objects (object_edits w.objects) ++ (Set_desk d ∷ ticket-ends w.ended i); reply = says (Told (with_gone (gone_by w.objects) w.reply)) };
+}
+
+-- and does what the turn decides
+pub turn_works : (n : Option ℕ) (decided : decisions.Decision Comes Turned) (g : Grant) (v : World) (d : Desk) (w : TurnWork) → rest_of_turn (decisions.act_of arrived decided g) ≡ turn_work w d
+    → Works n (rest_of (act_of (effects turned decided) g)) v d (as_work w)
+turn_works n decided g v d w h = works_same n _ v d (as_work w) (settled_turn decided g w d h ∙ sym (turned_work w d))
+
+-- what it tells, once it is known what went as the last
+pub turn_told : (decided seen : decisions.Decision Comes Turned) (d : Desk) (w : TurnWork) (gone : Gone) (told : TurnReply) → told ≡ with_gone gone w.reply → gone ≡ gone_by w.objects
+    → rest_of_turn (decisions.act_of arrived decided Nothing) ≡ turn_work w d → decided ≡ seen → says (Told told) ≡ (act_of (effects turned seen) Nothing).effect.reply
+turn_told decided seen d w gone told is goes h same =
+    ap (λ r. says (Told r)) (is ∙ ap (λ g. with_gone g w.reply) goes)
+    ∙ (sym (ap (λ (a : Act). a.effect.reply) (settled_turn decided Nothing w d h)) ∙ ap (λ (c : decisions.Decision Comes Turned). (act_of (effects turned c) Nothing).effect.reply) same)

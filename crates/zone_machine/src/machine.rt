@@ -7,7 +7,7 @@ ghost use Rattle.brand_hooks.specs.Hooks.{AllFollow};
 ghost use Rattle.commit_journal.specs.Store.{OpensStore};
 ghost use Rattle.commit_journal.specs.declared.records.Commit.{Commit};
 ghost use Rattle.zone_machine.specs.Code.Cells.{Stands};
-ghost use Rattle.zone_machine.specs.Code.Decided.{AsksBrands, IsHeard, MayGoOn, entry_by, turn_records};
+ghost use Rattle.zone_machine.specs.Code.Decided.{AsksBrands, IsForeseen, IsHeard, MayGoOn, entry_by, turn_records};
 ghost use Rattle.zone_machine.specs.Code.Openings.{Begins, BeginsAgain, StandsFor};
 ghost use Rattle.zone_machine.specs.Code.Records.{GoesUnder, Passes};
 ghost use Rattle.zone_machine.specs.Code.Restarts.{BankLeftAny, BeginsAgainAfter, IsAllowedStepOf, IsFittingStepOf, IsStepUnderOf, KeepsBodiesOf, LeavesAny, LosesStore};
@@ -69,6 +69,8 @@ pub struct Foreseen {
     pub hook: HookAnswer,
     /// Whether that step changes what is stored of the zone. It then stores a record, unless that is denied or fails.
     pub records: bool,
+    // Where the cell of a turn's zone stands, if it has one.
+    pub(crate) place: Option<usize>,
 }
 
 /// The machine of all zones over the records on a disk, and the brands whose hooks it asks. Contracts say what its parts
@@ -181,15 +183,19 @@ impl<'b, D: Disk, F: Fn(&Change) -> HookAnswer> Machine<'b, D, F> {
     /// What is known of an event before it is answered. It takes no memory.
     pub fn foresee(&self, event: &Event) -> Foreseen
         requires { AsksBrands F.Fn self.now }
-        ensures hook { IsHeard self.now.parts event.now result.hook }
+        ensures foreseen { IsForeseen self.now.parts event.now result }
         ensures records { result.records ≡ turn_records self.now.parts event.now }
     {
-        let (asked, records) = self.parts.ahead(event);
+        let (place, asked, records) = self.parts.ahead(event);
         let hook = match asked {
             Some((brand, change)) => self.brands.answer(brand, &change),
             None => HookAnswer::Proceed,
         };
-        Foreseen { hook, records }
+        Foreseen {
+            hook,
+            records,
+            place,
+        }
     }
 
     /// Whose an event is: of a session the zone in which it waits for a ticket or which it edits, else the zone that the
@@ -261,23 +267,23 @@ impl<'b, D: Disk, F: Fn(&Change) -> HookAnswer> Machine<'b, D, F> {
         ensures left { IfErr result (λ fault. BankLeftAny may_record event.now fault self.old.bank self.new.bank (D.view self.old.bank.disk) (D.view self.new.bank.disk) self.new.parts.shared) }
         ensures asks { AsksBrands F.Fn self.new }
     {
-        let hook = self.foresee(event).hook;
-        self.answer_heard(alloc, event, stated, hook, may_record)
+        let foreseen = self.foresee(event);
+        self.answer_foreseen(alloc, event, stated, foreseen, may_record)
     }
 
-    /// The same of an event that was foreseen: the brand of a turn's zone answers `hook`. Whoever has replies that wait can write
-    /// them first where a record is foreseen, so that the event isn't decided twice.
-    pub fn answer_heard(
+    /// The same of an event that was foreseen. Whoever has replies that wait can write them first where a record is foreseen, so
+    /// that the event isn't decided twice.
+    pub fn answer_foreseen(
         &mut self,
         alloc: Global,
         event: &Event,
         stated: Option<Grant>,
-        hook: HookAnswer,
+        foreseen: Foreseen,
         may_record: bool,
     ) -> Result<Answer, StepFault>
         requires asks { AsksBrands F.Fn self.old }
         requires ready { MayGoOn D.view self.old }
-        requires hook { IsHeard self.old.parts event.now hook }
+        requires foreseen { IsForeseen self.old.parts event.now foreseen }
         ensures ok { IfOk result (λ answer. IsStepUnderOf D.view stated self.old event.now (entry_by event.now answer) self.new) }
         ensures fits { OnOk result (FitsIn stated self.old.parts event.now) }
         ensures again { OnOk result (BeginsAgainAfter event.now self.old self.new) }
@@ -294,7 +300,7 @@ impl<'b, D: Disk, F: Fn(&Change) -> HookAnswer> Machine<'b, D, F> {
             return self.answer_restart(alloc, stated, may_record);
         }
         self.parts
-            .answer(&mut self.bank, alloc, event, stated, hook, may_record)
+            .answer(&mut self.bank, alloc, event, stated, foreseen, may_record)
     }
 
     /// An event is answered under a stated grant, where it fits, as when a recorded trace is run again. Where it doesn't fit or

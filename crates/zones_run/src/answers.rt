@@ -3,7 +3,7 @@ ghost use Rattle.std.specs.Prelude.{◌≡◌, ◌≢◌, ◌<◌, ◌≤◌, �
 ghost use Rattle.zn_io.specs.Streams.{Rose, after_known};
 ghost use Rattle.zone_cases.specs.Events.{is_restart};
 ghost use Rattle.zone_cases.specs.State.{State};
-ghost use Rattle.zone_machine.specs.Code.Decided.{AsksBrands, IsHeard, MayGoOn, entry_by, own_subject, subject_by};
+ghost use Rattle.zone_machine.specs.Code.Decided.{AsksBrands, IsForeseen, MayGoOn, entry_by, own_subject, subject_by};
 ghost use Rattle.zone_machine.specs.Code.Openings.{StandsFor};
 ghost use Rattle.zone_machine.specs.Code.Records.{Passes};
 ghost use Rattle.zone_machine.specs.Machine.Histories.{concerns};
@@ -20,7 +20,7 @@ use trace_text::{push_answer, push_given};
 use zn_base::ZoneName;
 use zn_io::{Disk, Sink, write_all};
 use zone_cases::{Answer, Event, Head, Subject, Whose};
-use zone_machine::{Machine, StepFault};
+use zone_machine::{Foreseen, Machine, StepFault};
 use zoneadmd_steps::{Outcome, TurnReply};
 
 // How many bytes of replies may wait before they are written.
@@ -79,12 +79,12 @@ fn answer_recording<D: Disk, F: Fn(&Change) -> HookAnswer>(
     alloc: Global,
     machine: &mut Machine<'_, D, F>,
     due: &Due,
-    hook: HookAnswer,
+    foreseen: Foreseen,
 ) -> Result<Answer, Stop>
     requires stays { is_restart due.now.event ≡ false }
     requires asks { AsksBrands F.Fn machine.old }
     requires ready { MayGoOn D.view machine.old }
-    requires hook { IsHeard machine.old.parts due.now.event hook }
+    requires foreseen { IsForeseen machine.old.parts due.now.event foreseen }
     ensures steps { IfOk result (λ answer. (S : State) → StandsFor S machine.old → Steps S due.now answer (λ T. StandsFor T machine.new) (D.view machine.old.bank.disk) (D.view machine.new.bank.disk)) }
     ensures kept { IfErr result (λ stop. (S : State) → StandsFor S machine.old → Stops stop (machine.new.bank ≡ machine.old.bank) S (Ok (Some due.now)) (D.view machine.old.bank.disk) (D.view machine.new.bank.disk)) }
     ensures only { IfErr result (λ stop. (stop ≡ Stop.Fault RunFault.Memory) ⊎ ((stop ≡ Stop.Fault RunFault.Disk) ⊎ (stop ≡ Stop.BadGrant))) }
@@ -94,7 +94,7 @@ fn answer_recording<D: Disk, F: Fn(&Change) -> HookAnswer>(
     ensures passes { Passes (D.view machine.old.bank.disk) (D.view machine.new.bank.disk) }
     ensures asks { AsksBrands F.Fn machine.new }
 {
-    match machine.answer_heard(alloc, &due.event, due.stated, hook, true) {
+    match machine.answer_foreseen(alloc, &due.event, due.stated, foreseen, true) {
         Ok(answer) => Ok(answer),
         Err(StepFault::Memory) => Err(Stop::Fault(RunFault::Memory)),
         Err(StepFault::DiskFault) => Err(Stop::Fault(RunFault::Disk)),
@@ -108,14 +108,14 @@ fn write_and_answer<D: Disk, F: Fn(&Change) -> HookAnswer, K: Sink>(
     alloc: Global,
     machine: &mut Machine<'_, D, F>,
     due: &Due,
-    hook: HookAnswer,
+    foreseen: Foreseen,
     waiting: &mut Vec<u8>,
     out: &mut K,
 ) -> Result<Answer, Stop>
     requires stays { is_restart due.now.event ≡ false }
     requires asks { AsksBrands F.Fn machine.old }
     requires ready { MayGoOn D.view machine.old }
-    requires hook { IsHeard machine.old.parts due.now.event hook }
+    requires foreseen { IsForeseen machine.old.parts due.now.event foreseen }
     ensures steps { IfOk result (λ answer. (S : State) → StandsFor S machine.old → Steps S due.now answer (λ T. StandsFor T machine.new) (D.view machine.old.bank.disk) (D.view machine.new.bank.disk)) }
     ensures kept { IfErr result (λ stop. (S : State) → StandsFor S machine.old → Stops stop (machine.new.bank ≡ machine.old.bank) S (Ok (Some due.now)) (D.view machine.old.bank.disk) (D.view machine.new.bank.disk)) }
     ensures may { IfErr result (λ stop. MayStop stop (D.view machine.old.bank.disk)) }
@@ -131,7 +131,7 @@ fn write_and_answer<D: Disk, F: Fn(&Change) -> HookAnswer, K: Sink>(
     ensures asks { AsksBrands F.Fn machine.new }
 {
     match write_waiting(waiting, out) {
-        Ok(()) => answer_recording(alloc, machine, due, hook),
+        Ok(()) => answer_recording(alloc, machine, due, foreseen),
         Err(fault) => Err(Stop::Fault(fault)),
     }
 }
@@ -164,15 +164,15 @@ fn answer_after_waiting<D: Disk, F: Fn(&Change) -> HookAnswer, K: Sink>(
 {
     let foreseen = machine.foresee(&due.event);
     if foreseen.records && !waiting.is_empty() {
-        return write_and_answer(alloc, machine, due, foreseen.hook, waiting, out);
+        return write_and_answer(alloc, machine, due, foreseen, waiting, out);
     }
     let may_record = waiting.is_empty();
-    match machine.answer_heard(alloc, &due.event, due.stated, foreseen.hook, may_record) {
+    match machine.answer_foreseen(alloc, &due.event, due.stated, foreseen, may_record) {
         Ok(answer) => Ok(answer),
         Err(StepFault::WouldRecord) => match write_waiting(waiting, out) {
             Ok(()) => {
-                let hook = machine.foresee(&due.event).hook;
-                answer_recording(alloc, machine, due, hook)
+                let foreseen = machine.foresee(&due.event);
+                answer_recording(alloc, machine, due, foreseen)
             }
             Err(fault) => Err(Stop::Fault(fault)),
         },

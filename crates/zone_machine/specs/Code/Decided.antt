@@ -20,6 +20,7 @@ use Rattle.brand_hooks.specs.Brands.{tables_of}
 use Rattle.brand_hooks.specs.Hooks.{AllFollow}
 use Rattle.brand_hooks.specs.declared.change.Change.{Change}
 use Rattle.brand_hooks.specs.declared.table.HookAnswer.{HookAnswer}
+use Rattle.zone_machine.specs.declared.machine.Foreseen.{Foreseen}
 use Rattle.zone_machine.specs.declared.machine.Machine.{Machine}
 use Rattle.zone_machine.specs.Code.Records.{IsReady}
 use Rattle.zn_io.specs.Disk.{View as Disk_view}
@@ -34,6 +35,16 @@ pub record IsCellAt (p : Parts) (at : ℕ) (z : Name) : Type 0 where
   pub index : index_of_by (bytes_eq z) p.cells ≡ Some at
   pub value : slice_get (values p.cells) at ≡ cell_at z p
   pub unique : IsUnique bytes_eq p.cells
+
+-- where z's cell stands, if z has one
+abbrev pub IsPlaced : Parts → Name → Option ℕ → Type 0
+IsPlaced t z None = cell_at z t ≡ None
+IsPlaced t z (Some at) = IsCellAt t at z
+
+-- the same of a turn's zone; of any other event nothing is told
+abbrev pub IsPlacedTurn : Parts → Event → Option ℕ → Type 0
+IsPlacedTurn t (Turn z) place = IsPlaced t z place
+IsPlacedTurn t _ place = Unit {0}
 
 -- the entry of an event, by what it is granted and the reply
 abbrev pub entry_of : Subject → Event → Grant → Reply → Entry
@@ -75,6 +86,11 @@ cell_records (Some c) = records_next (cell_objects c) (as_desk c.desk).job
 abbrev pub turn_records : Parts → Event → Bool
 turn_records t (Turn z) = cell_records (cell_at z t)
 turn_records t _ = false
+
+-- what was foreseen of an event
+pub record IsForeseen (t : Parts) (e : Event) (f : Foreseen) : Type 0 where
+  pub place : IsPlacedTurn t e f.place
+  pub hook : IsHeard t e f.hook
 
 -- the machine asks brands whose hooks follow their tables, and its parts know these
 abbrev pub AsksBrands : {D F : Type 0} → Shared F (Bor Change × Unit {0}) HookAnswer → Machine D F → Type 0

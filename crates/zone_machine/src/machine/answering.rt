@@ -1,7 +1,7 @@
 //! An event is answered that isn't a restart: it is found whose it is, and what is its subject's part of the machine answers.
 ghost use Rattle.std.specs.Prelude.{◌≡◌, ◌<◌, IfErr, IfOk, None, OnOk, false, true};
 ghost use Rattle.zone_machine.specs.Code.Reads.{IsRightRead, decide_read, global_read, is_turn, is_turn_read, subject_in};
-ghost use Rattle.zone_machine.specs.Code.Decided.{IsHeard, entry_by, entry_of, own_subject};
+ghost use Rattle.zone_machine.specs.Code.Decided.{IsForeseen, IsHeard, IsPlaced, entry_by, entry_of, own_subject};
 ghost use Rattle.zone_machine.specs.Code.Records.{BankLeft, GoesUnder, IsReady, KeepsBodies, NeedsNoDisk, Passes};
 ghost use Rattle.zone_machine.specs.Code.Steps.{IsStepUnder, Leaves};
 ghost use Rattle.zone_machine.specs.Machine.{decide, global_reply};
@@ -12,6 +12,7 @@ ghost use Rattle.zone_cases.specs.declared.events.Subject.TheVariants as subject
 ghost use Rattle.zone_cases.specs.declared.events.Subject.TheVariants.{Zone};
 
 use crate::faults::StepFault;
+use crate::machine::Foreseen;
 use crate::machine::parts::Parts;
 use crate::machine::reads::{Read, read_event, subject};
 use brand_hooks::HookAnswer;
@@ -156,8 +157,60 @@ impl Parts {
         })
     }
 
-    /// An event that is lent is answered, where it isn't a restart, under the grant that the pools give it, or under one that is
-    /// stated, where it fits; of a turn the brand answered `hook`.
+    // A turn is answered that was foreseen.
+    fn answer_turn<D: Disk>(
+        &mut self,
+        bank: &mut Bank<D>,
+        alloc: Global,
+        event: &Event,
+        zone: &ZoneName,
+        stated: Option<Grant>,
+        foreseen: Foreseen,
+        may_record: bool,
+    ) -> Result<Answer, StepFault>
+        requires turn { event.now ≡ Event.Turn zone.now }
+        requires place { IsPlaced self.old zone.now foreseen.place }
+        requires hook { IsHeard self.old event.now foreseen.hook }
+        requires ready { IsReady (D.view bank.old.disk) bank.old self.old.shared }
+        ensures ok { IfOk result (λ answer. IsStepUnder stated self.old event.now (entry_by event.now answer) self.new) }
+        ensures fault { IfErr result (λ fault. Leaves fault stated self.old event.now self.new) }
+        ensures ready { OnOk result (IsReady (D.view bank.new.disk) bank.new self.new.shared) }
+        ensures goes { GoesUnder stated self.old event.now bank.old.records (D.view bank.old.disk) (D.view bank.new.disk) }
+        ensures bodies { OnOk result (KeepsBodies stated self.old event.now bank.old.records bank.new.records) }
+        ensures passes { Passes (D.view bank.old.disk) (D.view bank.new.disk) }
+        ensures left { IfErr result (λ fault. BankLeft may_record fault bank.old bank.new (D.view bank.old.disk) (D.view bank.new.disk) self.new.shared) }
+        ensures brands { self.new.shared.brands ≡ self.old.shared.brands }
+    {
+        let (grant, reply) = match foreseen.place {
+            Some(at) => self.turn_at(
+                bank,
+                alloc,
+                event,
+                zone,
+                at,
+                stated,
+                foreseen.hook,
+                may_record,
+            )?,
+            None => self.answer_new(
+                bank,
+                alloc,
+                event,
+                Read::Turn(zone),
+                zone,
+                stated,
+                may_record,
+            )?,
+        };
+        Ok(Answer {
+            whose: Whose::Own,
+            grant,
+            reply,
+        })
+    }
+
+    /// An event that is lent and was foreseen is answered, where it isn't a restart, under the grant that the pools give it, or
+    /// under one that is stated, where it fits.
     #[tactic(auto, unfolding(crate::specs::Machine::decide))]
     pub(crate) fn answer<D: Disk>(
         &mut self,
@@ -165,11 +218,11 @@ impl Parts {
         alloc: Global,
         event: &Event,
         stated: Option<Grant>,
-        hook: HookAnswer,
+        foreseen: Foreseen,
         may_record: bool,
     ) -> Result<Answer, StepFault>
         requires stays { is_restart event.now ≡ false }
-        requires hook { IsHeard self.old event.now hook }
+        requires foreseen { IsForeseen self.old event.now foreseen }
         requires ready { IsReady (D.view bank.old.disk) bank.old self.old.shared }
         ensures ok { IfOk result (λ answer. IsStepUnder stated self.old event.now (entry_by event.now answer) self.new) }
         ensures fault { IfErr result (λ fault. Leaves fault stated self.old event.now self.new) }
@@ -182,17 +235,10 @@ impl Parts {
     {
         match event {
             Event::Session { .. } => {
-                self.answer_line(bank, alloc, event, stated, hook, may_record)
+                self.answer_line(bank, alloc, event, stated, foreseen.hook, may_record)
             },
-            Event::Turn { zone } => self.answer_own(
-                bank,
-                alloc,
-                event,
-                Read::Turn(zone),
-                zone,
-                stated,
-                hook,
-                may_record,
+            Event::Turn { zone } => self.answer_turn(
+                bank, alloc, event, zone, stated, foreseen, may_record,
             ),
             Event::Process { zone, pid, call } => self.answer_own(
                 bank,
@@ -201,7 +247,7 @@ impl Parts {
                 Read::Process(zone, *pid, call),
                 zone,
                 stated,
-                hook,
+                foreseen.hook,
                 may_record,
             ),
             Event::System(_) => self.answer_system(alloc, event, stated),

@@ -5,9 +5,9 @@ ghost use Rattle.std.specs.Option.{option_map};
 ghost use Rattle.loopback_mounts.specs.Mounts.{last_of, unmounted};
 ghost use Rattle.zoneadmd_steps.specs.Code.Works.{gone_by};
 ghost use Rattle.zone_pools.specs.Decisions.{Just};
-ghost use Rattle.zone_cases.specs.Code.Cases.{IsCaseOf, decision_of, objects_of};
 ghost use Rattle.zoneadmd_steps.specs.Code.Cases.{IsFreeFor, IsTurnOf, is_last, object_edits, turn_decision_of, turn_objects};
-ghost use Rattle.zone_machine.specs.Code.Rooms.{HasRoomFor, HasRoomToChange};
+ghost use Rattle.zone_machine.specs.Code.Rooms.{HasRoomToChange};
+ghost use Rattle.zoneadmd_steps.specs.Code.Rooms.{HasTurnRoom};
 ghost use Rattle.zoneadmd_steps.specs.Objects.{devices_after, ids_of, ids_after, mounts_after};
 ghost use Rattle.zone_cases.specs.State.Decisions.{act_of, effects, turned};
 ghost use Rattle.zoneadmd_steps.specs.Local.{is_of_own};
@@ -16,19 +16,22 @@ ghost use Rattle.zoneadmd_steps.specs.Turns.{Turned, local_turn};
 ghost use Rattle.zone_cases.specs.Code.Cells.{IsHeardIn, Outside, cell_objects};
 ghost use Rattle.zoneadmd_steps.specs.Code.Desks.{as_desk};
 
-use crate::machine::rooms::{room_for_objects, room_on_desk};
-use crate::machine::settling::settle;
+use crate::machine::rooms::room_to_turn;
 use brand_hooks::HookAnswer;
 use loopback_mounts::MountCell;
 use std::alloc::{AllocError, Global};
 use std::snapshot::Snapshot;
 use zn_base::{AbsPath, ZoneName};
-use zone_cases::{Case, Cell, Entry, Event, Reply, Subject};
+use zone_cases::{Body, Case, Cell, Entry, Event, Head, Reply, Subject};
 use zone_pools::Grant;
-use zoneadmd_steps::{Gone, ObjectEdit, TurnCase, local_case};
+use zoneadmd_steps::{Gone, ObjectEdit, TurnCase, local_case, settle_turn};
 
-// What the next turn comes to, where that is local. The brand answers `hook` where it is asked.
-fn next_local(alloc: Global, cell: &Cell, hook: HookAnswer) -> Result<Option<TurnCase>, AllocError>
+/// What the next turn comes to, where that is local. The brand answers `hook` where it is asked.
+pub(crate) fn next_local(
+    alloc: Global,
+    cell: &Cell,
+    hook: HookAnswer,
+) -> Result<Option<TurnCase>, AllocError>
     ensures some { IfOk result (λ o. IfSome o (λ c. (out : Outside) → IsHeardIn out.brands cell.now hook
         → IsSomeAnd (local_turn out.brands (cell_objects cell.now) (as_desk cell.now.desk)) (λ t. Just t ≡ turn_decision_of cell.now.desk c))) }
     ensures none { IfOk result (λ o. o ≡ None → HasNoNext cell.now hook) }
@@ -114,22 +117,22 @@ fn change_own(alloc: Global, cell: &mut Cell, edit: ObjectEdit) -> Gone
     }
 }
 
-// Room for what a case does to the cell. Nothing is changed by it, whether or not memory runs out.
-fn room_for(cell: &mut Cell, case: &Case) -> Result<(), AllocError>
-    requires of { IsCaseOf cell.old.desk case.now }
-    requires free { IsFreeFor (objects_of case.now) cell.old.mounts.list cell.old.claims.claims }
+// Room for what a turn does to the cell. Nothing is changed by it, whether or not memory runs out.
+fn room_for(cell: &mut Cell, case: &TurnCase) -> Result<(), AllocError>
+    requires of { IsTurnOf cell.old.desk case.now }
+    requires free { IsFreeFor (turn_objects case.now) cell.old.mounts.list cell.old.claims.claims }
     ensures same { IsAsItWas cell.old cell.new }
-    ensures seen { decision_of cell.new.desk case.now ≡ decision_of cell.old.desk case.now }
-    ensures of { IsCaseOf cell.new.desk case.now }
-    ensures objects { OnOk result (HasRoomToChange (objects_of case.now) cell.new) }
-    ensures desk { OnOk result (HasRoomFor cell.new.desk case.now) }
+    ensures seen { turn_decision_of cell.new.desk case.now ≡ turn_decision_of cell.old.desk case.now }
+    ensures of { IsTurnOf cell.new.desk case.now }
+    ensures objects { OnOk result (HasRoomToChange (turn_objects case.now) cell.new) }
+    ensures desk { OnOk result (HasTurnRoom cell.new.desk case.now) }
 {
-    room_for_objects(cell, case)?;
-    room_on_desk(&mut cell.desk, case)
+    room_to_turn(cell, case)?;
+    cell.desk.reserve_turn(case)
 }
 
-// A local turn is done.
-fn do_local(alloc: Global, cell: &mut Cell, case: TurnCase) -> Result<Reply, AllocError>
+/// A local turn is done.
+pub(crate) fn do_local(alloc: Global, cell: &mut Cell, case: TurnCase) -> Result<Reply, AllocError>
     requires of { IsTurnOf cell.old.desk case }
     requires own { list_all is_of_own (object_edits (turn_objects case)) ≡ true }
     requires free { IsFreeFor (turn_objects case) cell.old.mounts.list cell.old.claims.claims }
@@ -137,17 +140,19 @@ fn do_local(alloc: Global, cell: &mut Cell, case: TurnCase) -> Result<Reply, All
     ensures done { IfOk result (λ reply. (t : Turned) → effects turned (turn_decision_of cell.old.desk case) ≡ effects turned (Just t) → After t cell.old cell.new) }
     ensures memory { OnErr result (IsAsItWas cell.old cell.new) }
 {
-    let case = Case::Turn(case);
     match room_for(cell, &case) {
         Ok(()) => {}
         Err(fault) => {
-            case.let_go();
+            Case::Turn(case).let_go();
             return Err(fault);
         }
     }
-    let work = settle(alloc, &mut cell.desk, case, Grant::Nothing);
+    let work = settle_turn(alloc, &mut cell.desk, case, Grant::Nothing);
     let gone = change_own(alloc, cell, work.objects);
-    Ok(work.reply.with_gone(gone))
+    Ok(Reply {
+        head: Head::Turned(work.reply.with_gone(gone)),
+        body: Body::Nothing,
+    })
 }
 
 // A turn of a zone, and the zone whose it is.

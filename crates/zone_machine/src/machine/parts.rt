@@ -3,7 +3,7 @@ ghost use Rattle.std.specs.Prelude.{◌≡◌, ◌<◌, IfOk, IsOkUnless, List, 
 ghost use Rattle.zone_machine.specs.Code.Cells.{Stands, cell_at, outside_in, row_in};
 ghost use Rattle.zone_cases.specs.Code.Cells.{world_or_empty};
 ghost use Rattle.zone_machine.specs.Code.Reads.{IsRightRead, decide_read, is_turn, is_turn_read, subject_in};
-ghost use Rattle.zone_machine.specs.Code.Decided.{IsHeard, IsNextHook, turn_records};
+ghost use Rattle.zone_machine.specs.Code.Decided.{IsCellAt, IsHeard, IsNextHook, IsPlacedTurn, turn_records};
 ghost use Rattle.commit_journal.specs.Stored.{stored};
 ghost use Rattle.commit_journal.specs.Zones.{rows_of};
 ghost use Rattle.commit_journal.specs.declared.records.Commit.{Commit};
@@ -66,19 +66,36 @@ impl Parts {
         self.shared.restart(alloc, rows, serial, used);
     }
 
-    /// What is next for the daemon of a turn's zone: the place of the brand and the change of which it is asked, if it is, and
-    /// whether the step changes what is stored of the zone.
-    pub(crate) fn ahead(&self, event: &Event) -> (Option<(Option<usize>, Change)>, bool)
-        ensures hook { IsNextHook self.now event.now result.0 }
-        ensures records { result.1 ≡ turn_records self.now event.now }
+    // What is next for the daemon of a zone whose cell stands at an index.
+    fn ahead_at(&self, zone: &ZoneName, at: usize) -> (Option<(Option<usize>, Change)>, bool)
+        requires { IsCellAt self.now at zone.now }
+        ensures hook { IsNextHook self.now (Event.Turn zone.now) result.0 }
+        ensures records { result.1 ≡ turn_records self.now (Event.Turn zone.now) }
+    {
+        let cell = &self.cells[at];
+        (cell.next_hook(), cell.records_next())
+    }
+
+    /// What is next for the daemon of a turn's zone: where the zone's cell stands, if it has one, the place of the brand and the
+    /// change of which it is asked, if it is, and whether the step changes what is stored of the zone.
+    pub(crate) fn ahead(
+        &self,
+        event: &Event,
+    ) -> (Option<usize>, Option<(Option<usize>, Change)>, bool)
+        ensures place { IsPlacedTurn self.now event.now result.0 }
+        ensures hook { IsNextHook self.now event.now result.1 }
+        ensures records { result.2 ≡ turn_records self.now event.now }
     {
         match event {
-            Event::Turn { zone } => match self.cells.get(zone) {
-                Some(cell) => (cell.next_hook(), cell.records_next()),
-                None => (None, false),
+            Event::Turn { zone } => match self.cells.get_index_of(zone) {
+                Some(at) => {
+                    let (hook, records) = self.ahead_at(zone, at);
+                    (Some(at), hook, records)
+                }
+                None => (None, None, false),
             },
             Event::Session { .. } | Event::Process { .. } | Event::System(_) | Event::Restart => (
-                None, false,
+                None, None, false,
             ),
         }
     }

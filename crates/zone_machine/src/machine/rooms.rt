@@ -70,8 +70,8 @@ fn room_to_change(cell: &mut Cell, edit: &ObjectEdit) -> Result<(), AllocError>
     }
 }
 
-// Room for what a turn does to the zone's objects.
-fn room_to_turn(cell: &mut Cell, case: &TurnCase) -> Result<(), AllocError>
+/// Room for what a turn does to the zone's objects.
+pub(crate) fn room_to_turn(cell: &mut Cell, case: &TurnCase) -> Result<(), AllocError>
     requires { IsFreeFor (turn_objects case.now) cell.old.mounts.list cell.old.claims.claims }
     ensures mounts { cell.new.mounts.list ≡ cell.old.mounts.list }
     ensures same { cell.new ≡ record cell.old { mounts = cell.new.mounts } }

@@ -18,6 +18,7 @@ ghost use Rattle.zone_cases.specs.declared.events.Subject.TheVariants.{Zone};
 ghost use Rattle.zone_cases.specs.declared.cell.Cell as cell_types;
 
 use crate::faults::StepFault;
+use crate::machine::local_turns::{do_local, next_local};
 use crate::machine::parts::Parts;
 use crate::machine::reads::Read;
 use crate::machine::steps::{granted_case, perform_case};
@@ -133,6 +134,42 @@ impl Parts {
         Ok((grant, reply))
     }
 
+    // A turn of a zone is answered whose cell stands at an index: where it is local and no grant is stated, on the cell alone.
+    pub(crate) fn turn_at<D: Disk>(
+        &mut self,
+        bank: &mut Bank<D>,
+        alloc: Global,
+        event: &Event,
+        zone: &ZoneName,
+        at: usize,
+        stated: Option<Grant>,
+        hook: HookAnswer,
+        may_record: bool,
+    ) -> Result<(Grant, Reply), StepFault>
+        requires turn { event.now ≡ Event.Turn zone.now }
+        requires hook { IsHeard self.old event.now hook }
+        requires at { IsCellAt self.old at zone.now }
+        requires ready { IsReady (D.view bank.old.disk) bank.old self.old.shared }
+        ensures ok { IfOk result (λ r. IsStepUnder stated self.old event.now (entry_of (Zone zone.now) event.now r.0 r.1) self.new) }
+        ensures fault { IfErr result (λ fault. Leaves fault stated self.old event.now self.new) }
+        ensures ready { OnOk result (IsReady (D.view bank.new.disk) bank.new self.new.shared) }
+        ensures goes { GoesUnder stated self.old event.now bank.old.records (D.view bank.old.disk) (D.view bank.new.disk) }
+        ensures bodies { OnOk result (KeepsBodies stated self.old event.now bank.old.records bank.new.records) }
+        ensures passes { Passes (D.view bank.old.disk) (D.view bank.new.disk) }
+        ensures left { IfErr result (λ fault. BankLeft may_record fault bank.old bank.new (D.view bank.old.disk) (D.view bank.new.disk) self.new.shared) }
+        ensures brands { self.new.shared.brands ≡ self.old.shared.brands }
+    {
+        if stated.is_none() {
+            if let Some(case) = next_local(alloc, &self.cells[at], hook)? {
+                let reply = do_local(alloc, &mut self.cells[at], case)?;
+                self.shared.started = true;
+                return Ok((Grant::Nothing, reply));
+            }
+        }
+        let read = Read::Turn(zone);
+        self.answer_at(bank, alloc, event, read, zone, at, stated, hook, may_record)
+    }
+
     // A case of a zone is done that has no cell.
     fn do_new<D: Disk>(
         &mut self,
@@ -187,7 +224,7 @@ impl Parts {
 
     // An event of a zone is answered that has no cell.
     #[inline(never)]
-    fn answer_new<D: Disk>(
+    pub(crate) fn answer_new<D: Disk>(
         &mut self,
         bank: &mut Bank<D>,
         alloc: Global,

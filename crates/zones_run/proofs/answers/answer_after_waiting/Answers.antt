@@ -9,7 +9,7 @@ use Rattle.zones_run.proofs.answers.answer_after_waiting.Goals as goal
 pub returns-in-Ok-write_waiting-clause-steps : goal.returns-in-Ok-write_waiting-clause-steps
 returns-in-Ok-write_waiting-clause-steps g c =
     let old = c.args.machine.now in
-    let mid = c.answer_heard.new.self in
+    let mid = c.answer_foreseen.new.self in
     let last = c.answer_recording.new.machine in
     let fault = c.in-Err-WouldRecord in
     let d = c.args.due.now in
@@ -21,7 +21,7 @@ returns-in-Ok-write_waiting-clause-steps g c =
 pub returns-in-Ok-write_waiting-clause-kept : goal.returns-in-Ok-write_waiting-clause-kept
 returns-in-Ok-write_waiting-clause-kept g c =
     let old = c.args.machine.now in
-    let mid = c.answer_heard.new.self in
+    let mid = c.answer_foreseen.new.self in
     let last = c.answer_recording.new.machine in
     let fault = c.in-Err-WouldRecord in
     let d = c.args.due.now in
@@ -33,7 +33,7 @@ returns-in-Ok-write_waiting-clause-kept g c =
 pub returns-in-Ok-clause-steps : goal.returns-in-Ok-clause-steps
 returns-in-Ok-clause-steps g c = λ S stands.
     let old = c.args.machine.now in
-    let new = c.answer_heard.new.self in
+    let new = c.answer_foreseen.new.self in
     let d = c.args.due.now in
     let v = g.D.Disk.view old.bank.disk in
     let finds = finds_other d.event v old.bank.records S c.requires.stays in
