@@ -181,6 +181,7 @@ impl<'b, D: Disk, F: Fn(&Change) -> HookAnswer> Machine<'b, D, F> {
     }
 
     /// What is known of an event before it is answered. It takes no memory.
+    #[inline(always)]
     pub fn foresee(&self, event: &Event) -> Foreseen
         requires { AsksBrands F.Fn self.now }
         ensures foreseen { IsForeseen self.now.parts event.now result }
@@ -273,6 +274,7 @@ impl<'b, D: Disk, F: Fn(&Change) -> HookAnswer> Machine<'b, D, F> {
 
     /// The same of an event that was foreseen. Whoever has replies that wait can write them first where a record is foreseen, so
     /// that the event isn't decided twice.
+    #[inline(always)]
     pub fn answer_foreseen(
         &mut self,
         alloc: Global,

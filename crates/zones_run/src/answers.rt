@@ -138,6 +138,7 @@ fn write_and_answer<D: Disk, F: Fn(&Change) -> HookAnswer, K: Sink>(
 
 // An event that is no restart is answered. Where it stores a record, the replies that wait are written first: at a daemon's
 // step that changes what is stored before the event is looked at, else once it is found that it would store one.
+#[inline(always)]
 fn answer_after_waiting<D: Disk, F: Fn(&Change) -> HookAnswer, K: Sink>(
     alloc: Global,
     machine: &mut Machine<'_, D, F>,
@@ -232,6 +233,7 @@ fn push_kept(
 }
 
 // Of a script's event the reply or the mark is told.
+#[inline(always)]
 fn push_turned(
     telling: Telling,
     event: &Event,
@@ -246,6 +248,7 @@ fn push_turned(
     }
 }
 
+#[inline(always)]
 fn push_told(
     mode: &Mode,
     event: &Event,
@@ -262,6 +265,7 @@ fn push_told(
 }
 
 // Puts what is told of an event after what waits. `text` is room for it.
+#[inline(always)]
 pub fn put_told(
     mode: &Mode,
     event: &Event,
@@ -278,6 +282,7 @@ pub fn put_told(
 }
 
 // One event that is no restart is answered, and what is told of it waits to be written. `text` is room for that.
+#[inline(always)]
 pub fn answer<D: Disk, F: Fn(&Change) -> HookAnswer, K: Sink>(
     alloc: Global,
     mode: &Mode,

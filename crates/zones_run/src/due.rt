@@ -18,6 +18,7 @@ pub struct Due {
 }
 
 // A line that states a grant.
+#[inline(always)]
 fn read_stated(alloc: Global, line: &[u8], started: bool) -> Result<Option<Due>, LineFault>
     requires { length line.now ≤ 4200 }
     ensures { AnswersUnless LineFault.Memory (said_by Mode.Stated started line.now) result }
@@ -33,6 +34,7 @@ fn read_stated(alloc: Global, line: &[u8], started: bool) -> Result<Option<Due>,
 }
 
 // A line that states none.
+#[inline(always)]
 fn read_unstated(alloc: Global, line: &[u8], started: bool) -> Result<Option<Due>, LineFault>
     requires { length line.now ≤ 4200 }
     ensures { AnswersUnless LineFault.Memory (due_said (event_of started line.now)) result }
@@ -48,6 +50,7 @@ fn read_unstated(alloc: Global, line: &[u8], started: bool) -> Result<Option<Due
 }
 
 /// What a line says that may be an event, by whether one that counts has come.
+#[inline(always)]
 pub fn read_due(
     alloc: Global,
     mode: &Mode,

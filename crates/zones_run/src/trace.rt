@@ -97,6 +97,7 @@ fn restart<D: Disk, F: Fn(&Change) -> HookAnswer, K: Sink>(
 }
 
 // One event is answered, and what is told of it waits to be written.
+#[inline(always)]
 fn take_event<D: Disk, F: Fn(&Change) -> HookAnswer, K: Sink>(
     alloc: Global,
     mode: &Mode,
@@ -127,6 +128,7 @@ fn take_event<D: Disk, F: Fn(&Change) -> HookAnswer, K: Sink>(
 }
 
 // One line: its event, if it is one, is answered, and the number of the first refused line is reported.
+#[inline(always)]
 fn take_line<D: Disk, F: Fn(&Change) -> HookAnswer, K: Sink>(
     alloc: Global,
     mode: &Mode,

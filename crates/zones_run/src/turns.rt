@@ -46,6 +46,7 @@ pub struct Taken {
 }
 
 // The ticket that an event was answered, where a session typed it.
+#[inline(always)]
 fn ticket_of(event: &Event, head: &Head) -> Option<u32>
     ensures { result ≡ ticket_by event.now head.now }
 {
@@ -56,6 +57,7 @@ fn ticket_of(event: &Event, head: &Head) -> Option<u32>
 }
 
 // The zone that was found to be an event's.
+#[inline(always)]
 fn zone_of(whose: Whose) -> Option<ZoneName>
     ensures { result ≡ zone_by whose }
 {
@@ -66,6 +68,7 @@ fn zone_of(whose: Whose) -> Option<ZoneName>
 }
 
 #[tactic(auto, using(crate::proofs::Putting::opened_parts))]
+#[inline(always)]
 fn find_opened(event: &Event, answer: Answer) -> Option<Opened>
     ensures { result ≡ opened (entry_by event.now answer) }
 {
@@ -76,6 +79,7 @@ fn find_opened(event: &Event, answer: Answer) -> Option<Opened>
 }
 
 // The first refused line, once a line of this number was answered.
+#[inline(always)]
 fn refused_by(refused: Option<u64>, number: u64, head: &Head) -> Option<u64>
     ensures { result ≡ refused_with refused number head.now }
 {
@@ -87,6 +91,7 @@ fn refused_by(refused: Option<u64>, number: u64, head: &Head) -> Option<u64>
 }
 
 /// What a line comes to whose event was answered.
+#[inline(always)]
 pub fn taken_from(refused: Option<u64>, number: u64, event: &Event, answer: Answer) -> Taken
     ensures { result ≡ taken_by refused number (entry_by event.now answer) }
 {

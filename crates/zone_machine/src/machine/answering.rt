@@ -158,6 +158,8 @@ impl Parts {
     }
 
     // A turn is answered that was foreseen.
+    #[tactic(auto, unfolding(crate::specs::Machine::decide))]
+    #[inline(always)]
     fn answer_turn<D: Disk>(
         &mut self,
         bank: &mut Bank<D>,
@@ -212,6 +214,7 @@ impl Parts {
     /// An event that is lent and was foreseen is answered, where it isn't a restart, under the grant that the pools give it, or
     /// under one that is stated, where it fits.
     #[tactic(auto, unfolding(crate::specs::Machine::decide))]
+    #[inline(always)]
     pub(crate) fn answer<D: Disk>(
         &mut self,
         bank: &mut Bank<D>,

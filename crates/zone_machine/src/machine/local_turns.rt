@@ -27,6 +27,7 @@ use zone_pools::Grant;
 use zoneadmd_steps::{Gone, ObjectEdit, TurnCase, local_case, settle_turn};
 
 /// What the next turn comes to, where that is local. The brand answers `hook` where it is asked.
+#[inline(always)]
 pub(crate) fn next_local(
     alloc: Global,
     cell: &Cell,
@@ -55,6 +56,7 @@ fn take_last(mounts: &mut MountCell, dir: Snapshot<AbsPath>) -> Gone
 }
 
 // What becomes of the zone's mounts, devices and limits, where nothing goes as the last.
+#[inline(always)]
 fn edit_own(alloc: Global, cell: &mut Cell, edit: ObjectEdit)
     requires others { is_last edit ≡ false }
     requires own { list_all is_of_own (object_edits edit) ≡ true }
@@ -98,6 +100,7 @@ fn edit_own(alloc: Global, cell: &mut Cell, edit: ObjectEdit)
 }
 
 // What becomes of the zone's mounts, devices and limits, and what goes as the last.
+#[inline(always)]
 fn change_own(alloc: Global, cell: &mut Cell, edit: ObjectEdit) -> Gone
     requires own { list_all is_of_own (object_edits edit) ≡ true }
     requires room { HasRoomToChange edit cell.old }
@@ -118,6 +121,7 @@ fn change_own(alloc: Global, cell: &mut Cell, edit: ObjectEdit) -> Gone
 }
 
 // Room for what a turn does to the cell. Nothing is changed by it, whether or not memory runs out.
+#[inline(always)]
 fn room_for(cell: &mut Cell, case: &TurnCase) -> Result<(), AllocError>
     requires of { IsTurnOf cell.old.desk case.now }
     requires free { IsFreeFor (turn_objects case.now) cell.old.mounts.list cell.old.claims.claims }
@@ -132,6 +136,7 @@ fn room_for(cell: &mut Cell, case: &TurnCase) -> Result<(), AllocError>
 }
 
 /// A local turn is done.
+#[inline(always)]
 pub(crate) fn do_local(alloc: Global, cell: &mut Cell, case: TurnCase) -> Result<Reply, AllocError>
     requires of { IsTurnOf cell.old.desk case }
     requires own { list_all is_of_own (object_edits (turn_objects case)) ≡ true }

@@ -67,6 +67,7 @@ impl Parts {
     }
 
     // What is next for the daemon of a zone whose cell stands at an index.
+    #[inline(always)]
     fn ahead_at(&self, zone: &ZoneName, at: usize) -> (Option<(Option<usize>, Change)>, bool)
         requires { IsCellAt self.now at zone.now }
         ensures hook { IsNextHook self.now (Event.Turn zone.now) result.0 }
@@ -78,6 +79,7 @@ impl Parts {
 
     /// What is next for the daemon of a turn's zone: where the zone's cell stands, if it has one, the place of the brand and the
     /// change of which it is asked, if it is, and whether the step changes what is stored of the zone.
+    #[inline(always)]
     pub(crate) fn ahead(
         &self,
         event: &Event,

@@ -135,6 +135,8 @@ impl Parts {
     }
 
     // A turn of a zone is answered whose cell stands at an index: where it is local and no grant is stated, on the cell alone.
+    #[tactic(auto, unfolding(crate::specs::Machine::decide))]
+    #[inline(always)]
     pub(crate) fn turn_at<D: Disk>(
         &mut self,
         bank: &mut Bank<D>,
