@@ -43,28 +43,28 @@ use zn_io::Disk;
 use zone_cases::{Cell, Entry};
 use zone_disk::Bank;
 use zone_machine::{Machine, Parted, Shared, StepFault};
-use zone_threads::{Gate, Lived, run_scripts};
+use zone_threads::{Gate, History, Lived, run_scripts};
 
 // There are fewer zones in places than this.
 const ZONES_MAX: usize = 4_294_967_290;
 
-/// What sessions leave: the entries in the order of the one history, the machine, and what ended them, if something did.
+/// What sessions leave: the entries, which are taken in the order of the one history, the machine, and what ended them, if something did.
 #[derive(Drop)]
 pub struct Live<'b, D: Disk, F> {
-    pub entries: Vec<Entry>,
+    pub entries: History<Entry>,
     pub machine: Machine<'b, D, F>,
     pub ended: Option<StepFault>,
 }
 
 // What sessions leave where memory ran out before they began.
 fn unbegun<'b, D: Disk, F>(alloc: Global, machine: Machine<'b, D, F>) -> Live<'b, D, F>
-    ensures entries { result.entries.items ≡ [] }
+    ensures entries { result.entries ≡ [] }
     ensures machine { result.machine ≡ machine.entry }
     ensures ended { result.ended ≡ Some StepFault.Memory }
     ensures sound { IsSound (D.view machine.entry.bank.disk) }
 {
     Live {
-        entries: Vec::new(alloc),
+        entries: History::empty(alloc),
         machine,
         ended: Some(StepFault::Memory),
     }
@@ -96,7 +96,7 @@ fn unlisted<'b, D: Disk, F, N: Names>(
     brands: &'b Brands<F>,
 ) -> Live<'b, D, F>
     requires room { (room.entries ≡ []) × (vec_len kept.1 ≤ spare room) }
-    ensures entries { result.entries.items ≡ [] }
+    ensures entries { result.entries ≡ [] }
     ensures bank { result.machine.bank ≡ kept.0.bank }
     ensures brands { result.machine.brands ≡ brands.entry }
     ensures stands { (S : State) → StandTogether S (put_all kept.1.items) kept.0.shared kept.0.bank.records → StandsFor S result.machine }
@@ -122,7 +122,7 @@ fn listed<'b, D: Disk + Drop + Send, F, N: Names + Send>(
     brands: &'b Brands<F>,
 ) -> Live<'b, D, F>
     requires room { (room.entries ≡ []) × (vec_len lived.cells ≤ spare room) }
-    ensures entries { result.entries.items ≡ lived.entry.entries.items }
+    ensures entries { result.entries ≡ lived.entry.entries }
     ensures bank { result.machine.bank ≡ lived.entry.shared.bank }
     ensures brands { result.machine.brands ≡ brands.entry }
     ensures stands { (S : State) → StandTogether S (put_all (map back_cell lived.entry.cells.items)) lived.entry.shared.shared lived.entry.shared.bank.records → StandsFor S result.machine }
@@ -183,8 +183,8 @@ fn run_picked<
     requires others { (n : ℕ) → All (λ x. x.session ≢ n) scripts.now → N.lines n ≡ [] }
     requires short { (n : ℕ) → length (N.lines n) < 2 ^ 64 }
     requires none { (N.lines 0 ≡ []) × (N.lines no_session ≡ []) }
-    ensures lives { (s : Past) → N.starts s → Lives result.ended (state_of N.brands s) N.lines result.entries.items N.view (D.view result.machine.bank.disk) }
-    ensures stands { (s : Past) → N.starts s → result.machine.bank.sound ≡ true → StandsFor (after (state_of N.brands s) result.entries.items) result.machine }
+    ensures lives { (s : Past) → N.starts s → Lives result.ended (state_of N.brands s) N.lines result.entries N.view (D.view result.machine.bank.disk) }
+    ensures stands { (s : Past) → N.starts s → result.machine.bank.sound ≡ true → StandsFor (after (state_of N.brands s) result.entries) result.machine }
     ensures sound { (result.machine.bank.sound ≡ false → result.ended ≡ Some StepFault.DiskFault) × (result.ended ≡ Some StepFault.DiskFault → result.machine.bank.sound ≡ false) }
     ensures brands { result.machine.brands ≡ brands.entry }
     ensures asks { AsksBrands F.Fn result.machine }
@@ -231,8 +231,8 @@ fn run_apart<
     requires asks { AllFollow F.Fn parted.brands.now × (parted.shared.brands ≡ tables_of parted.brands.now) }
     requires ready { IsReady (D.view parted.bank.disk) parted.bank parted.shared }
     requires scripts { All (IsScript (script_lines scripts.now)) scripts.now }
-    ensures lives { (S : State) → IsReached S → StandApart S parted.entry → Lives result.ended S (script_lines scripts.now) result.entries.items (D.view parted.entry.bank.disk) (D.view result.machine.bank.disk) }
-    ensures stands { (S : State) → IsReached S → StandApart S parted.entry → result.machine.bank.sound ≡ true → StandsFor (after S result.entries.items) result.machine }
+    ensures lives { (S : State) → IsReached S → StandApart S parted.entry → Lives result.ended S (script_lines scripts.now) result.entries (D.view parted.entry.bank.disk) (D.view result.machine.bank.disk) }
+    ensures stands { (S : State) → IsReached S → StandApart S parted.entry → result.machine.bank.sound ≡ true → StandsFor (after S result.entries) result.machine }
     ensures sound { (result.machine.bank.sound ≡ false → result.ended ≡ Some StepFault.DiskFault) × (result.ended ≡ Some StepFault.DiskFault → result.machine.bank.sound ≡ false) }
     ensures brands { result.machine.brands ≡ parted.entry.brands }
     ensures asks { AsksBrands F.Fn result.machine }
@@ -301,8 +301,8 @@ pub fn run_sessions<
     requires sessions { All (λ s. (s.session ≢ 0) × (s.session < 65)) scripts.items }
     requires asks { AsksBrands F.Fn machine }
     requires ready { MayGoOn D.view machine }
-    ensures lives { (S : State) → IsReached S → StandsFor S machine.entry → Lives result.ended S (scripts_of scripts.items) result.entries.items (D.view machine.entry.bank.disk) (D.view result.machine.bank.disk) }
-    ensures stands { (S : State) → IsReached S → StandsFor S machine.entry → result.machine.bank.sound ≡ true → StandsFor (after S result.entries.items) result.machine }
+    ensures lives { (S : State) → IsReached S → StandsFor S machine.entry → Lives result.ended S (scripts_of scripts.items) result.entries (D.view machine.entry.bank.disk) (D.view result.machine.bank.disk) }
+    ensures stands { (S : State) → IsReached S → StandsFor S machine.entry → result.machine.bank.sound ≡ true → StandsFor (after S result.entries) result.machine }
     ensures sound { (result.machine.bank.sound ≡ false → result.ended ≡ Some StepFault.DiskFault) × (result.ended ≡ Some StepFault.DiskFault → result.machine.bank.sound ≡ false) }
     ensures brands { result.machine.brands ≡ machine.entry.brands }
     ensures asks { AsksBrands F.Fn result.machine }

@@ -7,7 +7,7 @@ ghost use Rattle.threads_tests.specs.Runs.{Numbered};
 ghost use Rattle.threads_tests.specs.Toys.{toy};
 
 use crate::starts::{Fresh, Lines};
-use crate::toy::{Cell, Line, Pool, Toy};
+use crate::toy::{Cell, Entry, Line, Pool, Toy};
 use std::alloc::{AllocError, Global};
 use std::marker::Brand;
 use std::sync::Wait;
@@ -15,7 +15,7 @@ use std::sync::atomic::{AtomicU64, Ordering};
 use std::test::*;
 use std::thread;
 use std::thread::Threads;
-use zone_threads::{Ending, Gate, Lived, Script, run_scripts};
+use zone_threads::{Ending, Gate, History, Lived, Script, run_scripts};
 
 // A gate at which nobody waits.
 #[derive(Drop)]
@@ -236,25 +236,47 @@ fn run_all<R: Threads + Wait + Sync, G: Gate + Sync>(
     run_toy(rt, alloc, &toy, gate, zones, all, scripts)
 }
 
-// How many lines were done.
-fn lines_done(lived: &Lived<Toy>) -> u64 {
-    let mut lines: u64 = 0;
-    for entry in lived.entries.iter() {
+// How many entries are of lines, how many of turns, and how many of those of turns in the zone 2.
+#[derive(Clone, Copy, Debug, PartialEq, Eq, Drop)]
+struct Counted {
+    lines: u64,
+    turns: u64,
+    turns_in_2: u64,
+}
+
+// Takes all entries, and counts them.
+fn count_all(entries: &mut History<Entry>) -> Counted
+    ensures { entries.new ≡ [] }
+{
+    let mut counted = Counted {
+        lines: 0,
+        turns: 0,
+        turns_in_2: 0,
+    };
+    while let Some(entry) = entries.next() {
         if entry.told.session != 0 {
-            lines = lines.saturating_add(1);
+            counted.lines = counted.lines.saturating_add(1);
+        } else {
+            counted.turns = counted.turns.saturating_add(1);
+            if entry.place == 2 {
+                counted.turns_in_2 = counted.turns_in_2.saturating_add(1);
+            }
         }
     }
-    lines
+    counted
 }
 
 #[test]
 fn one_session(rt: HostRuntime) -> Result<(), Fail> {
     let alloc = rt.alloc();
     let scripts = scripts(alloc, &[true], 1, 30, 3)?;
-    let lived = run_all(&rt, alloc, &Open, 3, 1000, &scripts)?;
+    let mut lived = run_all(&rt, alloc, &Open, 3, 1000, &scripts)?;
     assert!(rt; lived.ended.is_none());
     // 30 lines, and five turns for each of ten tickets.
-    assert_eq!(rt; lived.entries.len(), 80);
+    let counted = count_all(&mut lived.entries);
+    assert_eq!(rt; counted.lines, 30);
+    assert_eq!(rt; counted.turns, 50);
+    assert!(rt; lived.entries.next().is_none());
     assert_eq!(rt; lived.cells.len(), 3);
     assert_eq!(rt; lived.shared.drawn, 30);
     Ok(())
@@ -264,9 +286,9 @@ fn one_session(rt: HostRuntime) -> Result<(), Fail> {
 fn four_sessions(rt: HostRuntime) -> Result<(), Fail> {
     let alloc = rt.alloc();
     let scripts = scripts(alloc, &[true, false, true, false], 1, 60, 4)?;
-    let lived = run_all(&rt, alloc, &Open, 4, 1000, &scripts)?;
+    let mut lived = run_all(&rt, alloc, &Open, 4, 1000, &scripts)?;
     assert!(rt; lived.ended.is_none());
-    assert_eq!(rt; lines_done(&lived), 240);
+    assert_eq!(rt; count_all(&mut lived.entries).lines, 240);
     assert_eq!(rt; lived.shared.drawn, 240);
     Ok(())
 }
@@ -275,9 +297,9 @@ fn four_sessions(rt: HostRuntime) -> Result<(), Fail> {
 fn a_fault_in_the_middle(rt: HostRuntime) -> Result<(), Fail> {
     let alloc = rt.alloc();
     let scripts = scripts(alloc, &[true, true, true], 1, 60, 4)?;
-    let lived = run_all(&rt, alloc, &Open, 4, 50, &scripts)?;
+    let mut lived = run_all(&rt, alloc, &Open, 4, 50, &scripts)?;
     assert!(rt; matches!(lived.ended, Some(Ending::Fault(_))));
-    assert_eq!(rt; lines_done(&lived), 50);
+    assert_eq!(rt; count_all(&mut lived.entries).lines, 50);
     assert_eq!(rt; lived.shared.drawn, 50);
     let mut marked: u64 = 0;
     for back in lived.cells.iter() {
@@ -294,9 +316,9 @@ fn a_fault_in_the_middle(rt: HostRuntime) -> Result<(), Fail> {
 fn no_such_zone(rt: HostRuntime) -> Result<(), Fail> {
     let alloc = rt.alloc();
     let scripts = scripts(alloc, &[true], 1, 30, 3)?;
-    let lived = run_all(&rt, alloc, &Open, 2, 1000, &scripts)?;
+    let mut lived = run_all(&rt, alloc, &Open, 2, 1000, &scripts)?;
     assert!(rt; matches!(lived.ended, Some(Ending::Memory)));
-    assert_eq!(rt; lines_done(&lived), 2);
+    assert_eq!(rt; count_all(&mut lived.entries).lines, 2);
     Ok(())
 }
 
@@ -345,16 +367,11 @@ fn no_turn_after_a_fault(rt: HostRuntime) -> Result<(), Fail> {
         saw: AtomicU64::new(0),
     };
     // The first line of each is all that the pool has.
-    let lived = run_toy(&rt, alloc, &toy, &gate, 4, 3, &scripts)?;
+    let mut lived = run_toy(&rt, alloc, &toy, &gate, 4, 3, &scripts)?;
     assert!(rt; matches!(lived.ended, Some(Ending::Fault(_))));
     assert_eq!(rt; gate.saw.load(Ordering::SeqCst), 1);
-    assert_eq!(rt; lines_done(&lived), 3);
-    let mut turns: u64 = 0;
-    for entry in lived.entries.iter() {
-        if entry.place == 2 && entry.told.session == 0 {
-            turns = turns.saturating_add(1);
-        }
-    }
-    assert_eq!(rt; turns, 0);
+    let counted = count_all(&mut lived.entries);
+    assert_eq!(rt; counted.lines, 3);
+    assert_eq!(rt; counted.turns_in_2, 0);
     Ok(())
 }

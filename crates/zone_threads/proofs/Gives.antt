@@ -1,5 +1,5 @@
 -- What a zone keeps over a local turn and a give.
-use Rattle.std.proofs.Common.{◌≡◌, ℕ, Bool, true, false, List, [], ◌∷◌, ◌++◌, ◌+◌, ◌<◌, ◌≤◌, length, take, drop, sym, refl, ap, ◌∙◌, subst, arith, length-append}
+use Rattle.std.proofs.Common.{◌≡◌, ℕ, Bool, true, false, List, [], ◌∷◌, ◌++◌, ◌≤◌, length, take, drop, sym, refl, ap, ◌∙◌, subst, arith, length-append}
 use Rattle.std.specs.List.{All}
 use Rattle.std.proofs.lemmas.List.Elements.{All-append, All-cons, All-nil}
 use Rattle.std.proofs.lemmas.List.{drop-append-le, take-append-drop, take-append-le}
@@ -13,7 +13,6 @@ use Rattle.zone_threads.specs.Machines.{Definitions, IsTurnOf, Turned}
 use Rattle.zone_threads.specs.Notes.{dones, has_mark, note_by, notes_of}
 use Rattle.zone_threads.specs.Zones.{IsZone, left_by}
 use Rattle.zone_threads.specs.declared.notes.Note.{Note}
-use Rattle.zone_threads.specs.declared.part.TheConstants.{LOCALS_MAX}
 use Rattle.zone_threads.proofs.Bools.{both}
 use Rattle.zone_threads.proofs.Histories.{folded_append, right_append}
 use Rattle.zone_threads.proofs.Telling.{dones_append, dones_notes, dones_own, mark_behind, mark_notes, own_free}
@@ -24,15 +23,14 @@ module _ {State Cell Shared Line Entry Heard : Type 0} (D : Definitions State Ce
 
 module _ {State Cell Shared Line Entry Heard : Type 0} (D : Definitions State Cell Shared Line Entry Heard) (starts : State → Type 0) (turn : TableId) (p given : ℕ) (cell : Cell) (log : List Entry) (marked : Bool) (holder : Holder (Note Entry)) (z : IsZone D starts turn p cell log given marked holder) where
   -- a local turn goes on the log
-  pub turned : (cell' : Cell) (log' : List Entry) (e : Entry) → marked ≡ false → length log < given + LOCALS_MAX → log' ≡ log ++ e ∷ [] → IsTurnOf D p e → ((w : D.World) → D.cell_of cell w → Turned D p cell' e w) → IsZone D starts turn p cell' log' given marked holder
-  turned cell' log' e free few more is turns =
+  pub turned : (cell' : Cell) (log' : List Entry) (e : Entry) → marked ≡ false → log' ≡ log ++ e ∷ [] → IsTurnOf D p e → ((w : D.World) → D.cell_of cell w → Turned D p cell' e w) → IsZone D starts turn p cell' log' given marked holder
+  turned cell' log' e free more is turns =
       let near = z.near in
       let front : take given log' ≡ take given log = ap (take given) more ∙ take-append-le given log (e ∷ []) near in
       let back : drop given log' ≡ drop given log ++ e ∷ [] = ap (drop given) more ∙ drop-append-le given log (e ∷ []) near in
       let within : given ≤ length log' = (let a = ap length more in let b = length-append log (e ∷ []) in omega arith) in
       record {
         near = within;
-        few = (let a = ap length more in let b = length-append log (e ∷ []) in omega arith);
         mine = subst (All (λ (x : Entry). D.by x ≡ p)) (sym back) (All-append (λ (x : Entry). D.by x ≡ p) (drop given log) (e ∷ []) z.mine (All-cons (λ (x : Entry). D.by x ≡ p) e [] is.by (All-nil (λ (x : Entry). D.by x ≡ p))));
         logged = λ start from.
             let old = z.logged start from in
@@ -52,7 +50,6 @@ module _ {State Cell Shared Line Entry Heard : Type 0} (D : Definitions State Ce
   pub kept : (cell' : Cell) → ((w : D.World) → D.cell_of cell w → D.cell_of cell' w) → IsZone D starts turn p cell' log given marked holder
   kept cell' same = record {
     near = z.near;
-    few = z.few;
     mine = z.mine;
     logged = λ start from. let old = z.logged start from in record { within = old.within; locals = old.locals; stands = λ free. same (left_by D start p log) (old.stands free) };
     seated = z.seated;
@@ -86,7 +83,6 @@ module _ {State Cell Shared Line Entry Heard : Type 0} (D : Definitions State Ce
       let none : drop given' log' ≡ [] = ap (λ k. drop k log') all ∙ drop-length log' in
       record {
         near = omega arith;
-        few = omega arith;
         mine = subst (All (λ (x : Entry). D.by x ≡ p)) (sym none) (All-nil (λ (x : Entry). D.by x ≡ p));
         logged = λ start from. record {
           within = omega arith;

@@ -3,8 +3,7 @@ pub mod Endings
 pub mod Gathering
 pub mod Gives
 pub mod Histories
-pub mod Merging
-pub mod Rooms
+pub mod Joining
 pub mod Telling
 pub mod Steps
 pub mod Words

@@ -11,8 +11,8 @@ use Rattle.zone_threads.specs.Notes.{dones, has_mark}
 use Rattle.zone_threads.specs.Records.{Middle, Stands, StandsFrom}
 use Rattle.zone_threads.specs.Scripts.{beginning, fresh, noted}
 use Rattle.zone_threads.specs.Zones.{Logged}
+use Rattle.zone_threads.specs.declared.history.Tail.{Tail}
 use Rattle.zone_threads.specs.declared.notes.Note.{Note}
-use Rattle.zone_threads.specs.declared.part.TheConstants.{LOCALS_MAX}
 use Rattle.zone_threads.specs.declared.tally.Progress.{Progress}
 use Rattle.zone_threads.specs.declared.run.Script.{Script}
 use Rattle.zone_threads.specs.declared.zone.Back.{Back}
@@ -65,6 +65,9 @@ module _ {Cell Entry : Type 0} where
   abbrev pub back : Log Cell Entry → Back Cell
   back l = record { place = l.place; cell = l.cell; marked = l.marked }
 
+  abbrev pub tail : Log Cell Entry → Tail Entry
+  tail l = record { place = l.place; entries = l.entries }
+
   -- what a zone's pass told is what its log gave, and that it is marked, if it is
   pub record IsKeptOf (k : ℕ × List (Note Entry)) (l : Log Cell Entry) : Type 0 where
     pub place : k.0 ≡ l.place
@@ -89,19 +92,11 @@ module _ {Cell Entry : Type 0} where
   log_of [] p = []
   log_of (l ∷ ls) p = if l.place == p then l.entries.items else log_of ls p
 
-  -- of a history these entries are done, and the rest has these places and is what the logs have left
-  pub record Merges (by : Entry → ℕ) (done : List Entry) (places : List ℕ) (logs : List (Log Cell Entry)) (h : List Entry) : Type 0 where
-    pub rest : List Entry
-    pub whole : done ++ rest ≡ h
-    pub order : map by rest ≡ places
-    pub each : (p : ℕ) → own by p rest ≡ log_of logs p
-
 module _ {State Cell Shared Line Entry Heard : Type 0} (D : Definitions State Cell Shared Line Entry Heard) where
-  -- what a zone left: the entries that it didn't give are few, of its place, and local ones, and unless it is marked the cell stands for
-  -- the world that the log leaves
+  -- what a zone left: the entries that it didn't give are of its place, and local ones, and unless it is marked the cell stands for the
+  -- world that the log leaves
   pub record IsLeft (starts : State → Type 0) (l : Log Cell Entry) : Type 0 where
     pub near : l.given ≤ length l.entries.items
-    pub few : length l.entries.items ≤ l.given + LOCALS_MAX
     pub mine : All (λ (e : Entry). D.by e ≡ l.place) (rest l)
     pub logged : (start : State) → starts start → Logged D start l.place l.cell l.entries.items l.given l.marked
 

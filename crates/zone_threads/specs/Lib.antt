@@ -3,6 +3,7 @@ pub mod Machines
 pub mod Scripts
 pub mod Notes
 pub mod Records
+pub mod Joined
 pub mod Zones
 pub mod Ends
 pub mod Words

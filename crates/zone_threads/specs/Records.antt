@@ -1,23 +1,16 @@
 -- What the part that goes round stands for.
-use Rattle.std.specs.Prelude.{◌≡◌, ℕ, ◌+◌, ◌*◌, ◌≤◌, true, false, List, [], ◌∷◌, ◌++◌, length, map, replicate}
+use Rattle.std.specs.Prelude.{◌≡◌, ℕ, ◌+◌, ◌≤◌, true, false, List, [], ◌∷◌, ◌++◌, length, map, replicate}
 use Rattle.zone_threads.specs.Folds.{folded, all_right}
 use Rattle.zone_threads.specs.Machines.{Definitions}
 use Rattle.zone_threads.specs.Notes.{dones, has_mark}
 use Rattle.zone_threads.specs.Scripts.{TallyOf, beginning, may, noted}
 use Rattle.zone_threads.specs.declared.notes.Note.{Note}
-use Rattle.zone_threads.specs.declared.part.TheConstants.{LOCALS_MAX}
 use Rattle.zone_threads.specs.declared.tally.Progress.{Progress}
 
 -- the places, one for each entry, of runs of entries
 abbrev pub spread : List (ℕ × ℕ) → List ℕ
 spread [] = []
 spread (r ∷ rs) = replicate r.1 r.0 ++ spread rs
-
--- beside so many entries, of these runs, there is room for more entries and more runs
-pub record HasRoom (more_entries more_runs entries room : ℕ) (rs : List (ℕ × ℕ)) (order : ℕ) : Type 0 where
-  pub counted : length (spread rs) ≡ entries
-  pub for_entries : entries + more_entries ≤ room
-  pub for_runs : length rs + more_runs ≤ order
 
 module _ {State Cell Shared Line Entry Heard : Type 0} (D : Definitions State Cell Shared Line Entry Heard) where
   -- a legal history that keeps to the scripts, and what is common after it
@@ -42,10 +35,10 @@ module _ {State Cell Shared Line Entry Heard : Type 0} (D : Definitions State Ce
     pub stands : StandsFrom starts scripts m ts rs (dones ns)
     pub free : D.is_sound m ≡ true → has_mark ns ≡ false
 
-  -- what the part stands for: what passes told; it has room for what so many zones may have at the end that they didn't give; and until a
-  -- zone told something, what zones share is as it was at first
-  pub record IsPart (starts : State → Type 0) (scripts : ℕ → List Line) (first : Shared → Type 0) (zones : ℕ) (m : Shared) (ts : List Progress) (many entries room : ℕ) (rs : List (ℕ × ℕ)) (order : ℕ) (ns : List (Note Entry)) : Type 0 where
+  -- what the part stands for: what passes told; it has room for a run more of each of so many zones; and until a zone told something, what
+  -- zones share is as it was at first
+  pub record IsPart (starts : State → Type 0) (scripts : ℕ → List Line) (first : Shared → Type 0) (zones : ℕ) (m : Shared) (ts : List Progress) (many : ℕ) (rs : List (ℕ × ℕ)) (order : ℕ) (ns : List (Note Entry)) : Type 0 where
     pub tells : Tells starts scripts m ts rs ns
     pub counts : many ≡ zones
-    pub has_room : HasRoom (zones * LOCALS_MAX) zones entries room rs order
+    pub has_room : length rs + zones ≤ order
     pub untouched : ns ≡ [] → first m

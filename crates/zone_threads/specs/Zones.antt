@@ -1,5 +1,5 @@
 -- What a zone under its lock keeps.
-use Rattle.std.specs.Prelude.{◌≡◌, ◌≢◌, Err, None, Ok, Option, Result, Some, ℕ, ◌+◌, ◌≤◌, Bool, true, false, List, length, take, drop}
+use Rattle.std.specs.Prelude.{◌≡◌, ◌≢◌, Err, None, Ok, Option, Result, Some, ℕ, ◌≤◌, Bool, true, false, List, length, take, drop}
 use Rattle.atomic_table.specs.Seated.{TableId}
 use Rattle.std.specs.List.{All}
 use Rattle.zone_turn.specs.Passes.{Holder, is_idle}
@@ -8,7 +8,6 @@ use Rattle.zone_threads.specs.Machines.{Definitions}
 use Rattle.zone_threads.specs.Notes.{dones, has_mark}
 use Rattle.zone_threads.specs.Scripts.{TallyOf, may, noted}
 use Rattle.zone_threads.specs.declared.notes.Note.{Note}
-use Rattle.zone_threads.specs.declared.part.TheConstants.{LOCALS_MAX}
 use Rattle.zone_threads.specs.declared.tally.Progress.{Progress}
 use Rattle.zone_threads.specs.declared.step.Job.{Job}
 use Rattle.zone_threads.specs.declared.step.Job.TheVariants as jobs
@@ -37,10 +36,9 @@ module _ {State Cell Shared Line Entry Heard : Type 0} (D : Definitions State Ce
     pub locals : all_right (D.is_local p) D.world_one (left_by start p (take given log)) (drop given log) ≡ true
     pub stands : marked ≡ false → D.cell_of cell (left_by start p log)
 
-  -- so it is from each of some states on, and the entries since the last give are few, and of its place
+  -- so it is from each of some states on, and the entries since the last give are of its place
   pub record IsZone (starts : State → Type 0) (turn : TableId) (p : ℕ) (cell : Cell) (log : List Entry) (given : ℕ) (marked : Bool) (holder : Holder (Note Entry)) : Type 0 where
     pub near : given ≤ length log
-    pub few : length log ≤ given + LOCALS_MAX
     pub mine : All (λ (e : Entry). D.by e ≡ p) (drop given log)
     pub logged : (start : State) → starts start → Logged start p cell log given marked
     pub seated : Seated turn p (take given log) marked holder

@@ -6,11 +6,10 @@ ghost use Rattle.zone_turn.specs.declared.limits.TheConstants.{PASSES_OUT_MAX};
 ghost use Rattle.zone_turn.specs.declared.views.Role.TheVariants.{First};
 ghost use Rattle.zone_threads.specs.Ends.{Closed, Ended, Gathered, IsLeft, IsOpening, IsScript, roster};
 ghost use Rattle.zone_threads.specs.Notes.{dones, has_mark};
-ghost use Rattle.zone_threads.specs.Records.{HasRoom};
 
 use crate::gate::Gate;
 use crate::machine::Machine;
-use crate::part::{LOCALS_MAX, Outset, Part, Place, Start};
+use crate::part::{Outset, Part, Place, Start};
 use crate::run::{Script, work};
 use crate::step::note_log;
 use crate::zone::{Log, Zone};
@@ -133,7 +132,7 @@ fn finish<M: Machine, J: Start<M>, N: Outset<M::Shared>, K: Place>(
     requires zones { vec_len zones ≡ N.zones }
     requires room { (logs.old.items ≡ []) × (vec_len zones ≤ vec_capacity logs.old) }
     ensures closed { Closed M.machine J.starts J.scripts N.zones result.shared result.tally.items result.order.items logs.new.items }
-    ensures room { HasRoom (N.zones * LOCALS_MAX) N.zones result.entries (vec_capacity result.room) result.order.items (vec_capacity result.order) }
+    ensures room { length result.order.items + N.zones ≤ vec_capacity result.order }
 {
     gather(&turn, &mut first, zones, logs);
     turn.close(first)
@@ -146,9 +145,8 @@ fn note_logs<M: Machine, J: Start<M>, N: Outset<M::Shared>>(
     logs: &[Log<M::Cell, M::Entry>],
 )
     requires closed { Closed M.machine J.starts J.scripts N.zones part.old.shared part.old.tally.items part.old.order.items logs.now }
-    requires room { HasRoom (N.zones * LOCALS_MAX) N.zones part.old.entries (vec_capacity part.old.room) part.old.order.items (vec_capacity part.old.order) }
-    ensures ended { Ended M.machine J.starts J.scripts N.zones part.new.shared part.new.tally.items part.new.order.items logs.now }
-    ensures room { HasRoom 0 0 part.new.entries (vec_capacity part.new.room) part.new.order.items (vec_capacity part.new.order) }
+    requires room { length part.old.order.items + N.zones ≤ vec_capacity part.old.order }
+    ensures { Ended M.machine J.starts J.scripts N.zones part.new.shared part.new.tally.items part.new.order.items logs.now }
 {
     for log in logs {
         note_log(machine, part, log);
@@ -240,8 +238,7 @@ pub(crate) fn worked<
     requires scripts { All (IsScript J.scripts) scripts.now }
     requires zones { length cells.items ≡ N.zones }
     requires room { (length cells.items < PASSES_OUT_MAX) × (vec_len zones ≡ 0) × (length cells.items ≤ vec_capacity zones) × (logs.old.items ≡ []) × (length cells.items ≤ vec_capacity logs.old) }
-    ensures ended { Ended M.machine J.starts J.scripts N.zones result.shared result.tally.items result.order.items logs.new.items }
-    ensures room { HasRoom 0 0 result.entries (vec_capacity result.room) result.order.items (vec_capacity result.order) }
+    ensures { Ended M.machine J.starts J.scripts N.zones result.shared result.tally.items result.order.items logs.new.items }
 {
     deal(alloc, &turn, &mut first, cells, &mut zones);
     let is_over = AtomicBool::new(false);

@@ -4,9 +4,9 @@
 
 mod end;
 mod gate;
+mod history;
 mod live;
 mod machine;
-mod merge;
 mod notes;
 mod part;
 mod run;
@@ -15,6 +15,7 @@ mod tally;
 mod zone;
 
 pub use gate::Gate;
+pub use history::History;
 pub use live::{Ending, Lived, run_scripts};
 pub use machine::{Machine, Said, Stop, Told, Zoned};
 pub use notes::Note;

@@ -3,18 +3,17 @@ ghost use Rattle.std.specs.Prelude.{◌≡◌, ◌≢◌, ◌<◌, ◌≤◌, �
 ghost use Rattle.std.specs.List.{All};
 ghost use Rattle.zone_turn.specs.Passes.{first_view};
 ghost use Rattle.zone_turn.specs.declared.limits.TheConstants.{PASSES_OUT_MAX};
-ghost use Rattle.zone_threads.specs.Ends.{AreAll, AreFree, Ended, Finished, HasAll, IsBack, IsOpening, IsScript, Over, back};
+ghost use Rattle.zone_threads.specs.Ends.{AreAll, AreFree, Ended, Finished, HasAll, IsBack, IsOpening, IsScript, Over, back, tail};
 ghost use Rattle.zone_threads.specs.Folds.{folded};
-ghost use Rattle.zone_threads.specs.Records.{HasRoom};
 ghost use Rattle.zone_threads.specs.Scripts.{TallyOf, beginning};
 ghost use Rattle.zone_threads.specs.Words.{IsPartial, IsRecord};
 ghost use Rattle.zone_threads.specs.declared.live.Ending.TheVariants.{Fault};
 
 use crate::end::worked;
 use crate::gate::Gate;
+use crate::history::{History, Tail};
 use crate::machine::{Machine, Zoned};
-use crate::merge::merged;
-use crate::part::{LOCALS_MAX, Outset, Part, Place, Start};
+use crate::part::{Outset, Part, Place, Start};
 use crate::run::Script;
 use crate::step::progress_of;
 use crate::tally::{Progress, SESSIONS};
@@ -38,7 +37,7 @@ pub enum Ending<F: Drop> {
 /// some were not.
 #[derive(Drop)]
 pub struct Lived<M: Zoned> {
-    pub entries: Vec<M::Entry>,
+    pub entries: History<M::Entry>,
     pub shared: M::Shared,
     pub cells: Vec<Back<M::Cell>>,
     pub ended: Option<Ending<M::Fault>>,
@@ -87,38 +86,52 @@ fn fresh_tally(alloc: Global) -> Result<Vec<Progress>, AllocError>
     Ok(tally)
 }
 
-// The cells of the logs.
-fn put_cells<C: Drop, E: Drop>(logs: Vec<Log<C, E>>, cells: &mut Vec<Back<C>>)
-    requires room { (cells.old.items ≡ []) × (vec_len logs ≤ vec_capacity cells.old) }
-    ensures { cells.new.items ≡ map back logs.items }
+// The cells of the logs, and their entries.
+fn put_apart<C: Drop, E: Drop>(
+    logs: Vec<Log<C, E>>,
+    cells: &mut Vec<Back<C>>,
+    tails: &mut Vec<Tail<E>>,
+)
+    requires cells { (cells.old.items ≡ []) × (vec_len logs ≤ vec_capacity cells.old) }
+    requires tails { (tails.old.items ≡ []) × (vec_len logs ≤ vec_capacity tails.old) }
+    ensures cells { cells.new.items ≡ map back logs.items }
+    ensures tails { tails.new.items ≡ map tail logs.items }
 {
     for log in logs {
+        let Log {
+            place,
+            entries,
+            given: _,
+            cell,
+            marked,
+        } = log;
         cells.push_reserved(Back {
-            place: log.place,
-            cell: log.cell,
-            marked: log.marked,
+            place,
+            cell,
+            marked,
         });
+        tails.push_reserved(Tail { place, entries });
     }
 }
 
-// Joins the logs into one list. It takes no memory.
-fn joined<M: Machine, J: Start<M>, N: Outset<M::Shared>>(
+// What the logs leave. It takes no memory.
+fn what_is_left<M: Machine, J: Start<M>, N: Outset<M::Shared>>(
     part: Part<M, J, N>,
-    mut logs: Vec<Log<M::Cell, M::Entry>>,
+    logs: Vec<Log<M::Cell, M::Entry>>,
     mut cells: Vec<Back<M::Cell>>,
+    mut tails: Vec<Tail<M::Entry>>,
     scripts: &[Script<M::Line>],
 ) -> Lived<M>
     requires ended { Ended M.machine J.starts J.scripts N.zones part.shared part.tally.items part.order.items logs.items }
-    requires entries { HasRoom 0 0 part.entries (vec_capacity part.room) part.order.items (vec_capacity part.order) }
-    requires room { (cells.items ≡ []) × (vec_len logs ≤ vec_capacity cells) }
-    ensures over { Over M.machine J.starts J.scripts N.zones result.shared result.entries.items result.cells.items }
-    ensures finished { (start : M.State) → J.starts start → result.ended ≡ None → All (λ x. HasAll M.machine result.entries.items x.session (length x.lines.items)) scripts.now }
+    requires cells { (cells.items ≡ []) × (vec_len logs ≤ vec_capacity cells) }
+    requires tails { (tails.items ≡ []) × (vec_len logs ≤ vec_capacity tails) }
+    ensures over { Over M.machine J.starts J.scripts N.zones result.shared result.entries result.cells.items }
+    ensures finished { (start : M.State) → J.starts start → result.ended ≡ None → All (λ x. HasAll M.machine result.entries x.session (length x.lines.items)) scripts.now }
 {
     let is_finished = all_done(&part.tally, scripts);
-    let entries = merged(part.room, &part.order, &mut logs);
-    put_cells(logs, &mut cells);
+    put_apart(logs, &mut cells, &mut tails);
     Lived {
-        entries,
+        entries: History::of_logs(part.order, tails),
         shared: part.shared,
         cells,
         ended: ending_of(part.ended, is_finished),
@@ -144,6 +157,7 @@ fn placed<
     scripts: &[Script<M::Line>],
     mut logs: Vec<Log<M::Cell, M::Entry>>,
     backs: Vec<Back<M::Cell>>,
+    tails: Vec<Tail<M::Entry>>,
 ) -> Result<Lived<M>, (M::Shared, Vec<M::Cell>)>
     requires ready { M.ready machine.now }
     requires turn { (turn ≡ K.turn) × (first.turn ≡ K.turn) × (first.knows ≡ first_view) }
@@ -152,8 +166,9 @@ fn placed<
     requires zones { length cells.items ≡ N.zones }
     requires few { length cells.items < PASSES_OUT_MAX }
     requires room { (logs.items ≡ []) × (length cells.items ≤ vec_capacity logs) × (backs.items ≡ []) × (length cells.items ≤ vec_capacity backs) }
-    ensures over { IfOk result (λ r. Over M.machine J.starts J.scripts N.zones r.shared r.entries.items r.cells.items) }
-    ensures finished { IfOk result (λ r. (start : M.State) → J.starts start → r.ended ≡ None → All (λ x. HasAll M.machine r.entries.items x.session (length x.lines.items)) scripts.now) }
+    requires tails { (tails.items ≡ []) × (length cells.items ≤ vec_capacity tails) }
+    ensures over { IfOk result (λ r. Over M.machine J.starts J.scripts N.zones r.shared r.entries r.cells.items) }
+    ensures finished { IfOk result (λ r. (start : M.State) → J.starts start → r.ended ≡ None → All (λ x. HasAll M.machine r.entries x.session (length x.lines.items)) scripts.now) }
     ensures memory { IfErr result (λ m. N.shared m.0 × (m.1.items ≡ cells.items)) }
 {
     let Ok(zones) = Vec::with_capacity(alloc, cells.len()) else {
@@ -162,11 +177,10 @@ fn placed<
     let part = worked::<M, J, N, K, R, G>(
         rt, alloc, machine, gate, turn, first, cells, scripts, zones, &mut logs,
     );
-    Ok(joined(part, logs, backs, scripts))
+    Ok(what_is_left(part, logs, backs, tails, scripts))
 }
 
-// Makes the turn. The lists that are wanted at the end are taken before, and so is the room for what zones may have then that they
-// didn't give.
+// Makes the turn. The lists that are wanted at the end are taken before, and so is the room for a run more of each zone.
 fn started<
     M: Machine + Send + Sync,
     J: Start<M> + Send + Sync,
@@ -188,8 +202,8 @@ fn started<
     requires scripts { All (IsScript J.scripts) scripts.now }
     requires few { length cells.items < PASSES_OUT_MAX }
     requires outset { (length cells.items ≡ N.zones) × ((m : M.Shared) → m ≡ shared → N.shared m) }
-    ensures over { IfOk result (λ r. Over M.machine J.starts J.scripts N.zones r.shared r.entries.items r.cells.items) }
-    ensures finished { IfOk result (λ r. (start : M.State) → J.starts start → r.ended ≡ None → All (λ x. HasAll M.machine r.entries.items x.session (length x.lines.items)) scripts.now) }
+    ensures over { IfOk result (λ r. Over M.machine J.starts J.scripts N.zones r.shared r.entries r.cells.items) }
+    ensures finished { IfOk result (λ r. (start : M.State) → J.starts start → r.ended ≡ None → All (λ x. HasAll M.machine r.entries x.session (length x.lines.items)) scripts.now) }
     ensures memory { IfErr result (λ m. N.shared m.0 × (m.1.items ≡ cells.items)) }
 {
     let zones = cells.len();
@@ -205,7 +219,7 @@ fn started<
     let Ok(order) = Vec::with_capacity(alloc, zones) else {
         return Err((shared, cells));
     };
-    let Ok(room) = Vec::with_capacity(alloc, zones * LOCALS_MAX) else {
+    let Ok(tails) = Vec::with_capacity(alloc, zones) else {
         return Err((shared, cells));
     };
     let part: Part<M, J, N> = Part {
@@ -213,14 +227,12 @@ fn started<
         tally,
         order,
         ended: None,
-        room,
-        entries: 0,
         zones,
         of: PhantomData,
     };
     match Turn::new(alloc, part) {
         Ok((turn, first)) => placed::<M, J, N, Brand, R, G>(
-            rt, alloc, machine, gate, turn, first, cells, scripts, logs, backs,
+            rt, alloc, machine, gate, turn, first, cells, scripts, logs, backs, tails,
         ),
         Err((_, part)) => Err((part.shared, cells)),
     }
@@ -250,10 +262,10 @@ pub fn run_scripts<
     requires scripts { All (IsScript J.scripts) scripts.now }
     requires others { (s : ℕ) → All (λ x. x.session ≢ s) scripts.now → J.scripts s ≡ [] }
     requires few { (length cells.items < PASSES_OUT_MAX) × ((s : ℕ) → length (J.scripts s) < 2 ^ 64) }
-    ensures partial { IfOk result (λ r. (start : M.State) → J.starts start → IsPartial M.machine start J.scripts r.entries.items) }
-    ensures record { IfOk result (λ r. (start : M.State) → J.starts start → r.ended ≡ None → IsRecord M.machine start J.scripts r.entries.items) }
-    ensures shared { IfOk result (λ r. (start : M.State) → J.starts start → M.machine.shared_of r.shared (M.machine.common (folded M.machine.one start r.entries.items))) }
-    ensures cells { IfOk result (λ r. (start : M.State) → J.starts start → All (IsBack M.machine start r.entries.items) r.cells.items) }
+    ensures partial { IfOk result (λ r. (start : M.State) → J.starts start → IsPartial M.machine start J.scripts r.entries) }
+    ensures record { IfOk result (λ r. (start : M.State) → J.starts start → r.ended ≡ None → IsRecord M.machine start J.scripts r.entries) }
+    ensures shared { IfOk result (λ r. (start : M.State) → J.starts start → M.machine.shared_of r.shared (M.machine.common (folded M.machine.one start r.entries))) }
+    ensures cells { IfOk result (λ r. (start : M.State) → J.starts start → All (IsBack M.machine start r.entries) r.cells.items) }
     ensures there { IfOk result (λ r. AreAll (length cells.items) r.cells.items) }
     ensures sound { IfOk result (λ r. M.machine.is_sound r.shared ≡ true → AreFree r.cells.items) }
     ensures memory { IfErr result (λ m. (m.0 ≡ shared) × (m.1.items ≡ cells.items)) }

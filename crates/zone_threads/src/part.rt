@@ -1,6 +1,5 @@
 //! The part that goes round.
-ghost use Rattle.std.specs.Prelude.{◌≡◌, ◌+◌, ◌*◌, ◌≤◌, OnOk, vec_capacity};
-ghost use Rattle.zone_threads.specs.Records.{HasRoom};
+ghost use Rattle.std.specs.Prelude.{◌≡◌, ◌+◌, ◌≤◌, OnOk, length, vec_capacity};
 
 use crate::machine::Zoned;
 use crate::notes::Note;
@@ -46,9 +45,6 @@ impl Place for Brand {
     ghost use Rattle.std.specs.Prelude.{[]};
 }
 
-/// How many local entries a zone has at most that it hasn't given.
-pub(crate) const LOCALS_MAX: usize = 64;
-
 /// What zones share, how far each session is, the places of the entries in their order, as runs of one place, and the fault that
 /// ended all, if one did.
 #[derive(Drop)]
@@ -58,10 +54,7 @@ pub struct Part<M: Zoned, J: Start<M>, N: Outset<M::Shared>> {
     /// It has room for a run more of each zone.
     pub order: Vec<(u32, u64)>,
     pub ended: Option<M::Fault>,
-    /// All entries are joined in it at the end. It has room for them, and for all that zones may have then that they didn't give.
-    pub room: Vec<M::Entry>,
-    /// How many entries there are, and how many zones.
-    pub entries: usize,
+    /// How many zones there are.
     pub zones: usize,
     pub of: PhantomData<(J, N)>,
 }
@@ -73,24 +66,21 @@ impl<M: Zoned, J: Start<M>, N: Outset<M::Shared>> Storied for Part<M, J, N> {
 
     type Entry = Note<M::Entry>;
 
-    ghost stands_for = { λ p ns. IsPart M.machine J.starts J.scripts N.shared N.zones p.shared p.tally.items p.zones p.entries (vec_capacity p.room) p.order.items (vec_capacity p.order) ns };
+    ghost stands_for = { λ p ns. IsPart M.machine J.starts J.scripts N.shared N.zones p.shared p.tally.items p.zones p.order.items (vec_capacity p.order) ns };
 
     ghost belongs_to = { λ n. note_by M.machine.by n };
 }
 
 impl<M: Zoned, J: Start<M>, N: Outset<M::Shared>> Part<M, J, N> {
-    /// Takes room for an event of a zone that has so many entries to give, beside the room for the end.
-    pub(crate) fn make_room(&mut self, more: usize) -> Result<(), AllocError>
-        requires few { more ≤ LOCALS_MAX }
+    /// Takes room for the run of an event, beside the one of each zone at the end.
+    pub(crate) fn make_room(&mut self) -> Result<(), AllocError>
         requires zones { self.old.zones ≡ N.zones }
-        requires room { HasRoom (N.zones * LOCALS_MAX) N.zones self.old.entries (vec_capacity self.old.room) self.old.order.items (vec_capacity self.old.order) }
-        ensures same { self.new ≡ record self.old { order = self.new.order; room = self.new.room } }
+        requires room { length self.old.order.items + N.zones ≤ vec_capacity self.old.order }
+        ensures same { self.new ≡ record self.old { order = self.new.order } }
         ensures order { self.new.order.items ≡ self.old.order.items }
-        ensures kept { HasRoom (N.zones * LOCALS_MAX) N.zones self.new.entries (vec_capacity self.new.room) self.new.order.items (vec_capacity self.new.order) }
-        ensures room { OnOk result (HasRoom (more + 1 + N.zones * LOCALS_MAX) (1 + N.zones) self.new.entries (vec_capacity self.new.room) self.new.order.items (vec_capacity self.new.order)) }
+        ensures kept { length self.new.order.items + N.zones ≤ vec_capacity self.new.order }
+        ensures room { OnOk result (length self.new.order.items + 1 + N.zones ≤ vec_capacity self.new.order) }
     {
-        let later = self.zones * LOCALS_MAX;
-        self.room.reserve(self.entries + later + more + 1)?;
         self.order.reserve(self.zones + 1)
     }
 }

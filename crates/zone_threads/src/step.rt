@@ -3,12 +3,12 @@ ghost use Rattle.std.specs.Prelude.{◌≡◌, ◌≢◌, ◌+◌, ◌-◌, ◌*
 ghost use Rattle.std.specs.List.{All};
 ghost use Rattle.zone_turn.specs.Histories.{own};
 ghost use Rattle.zone_threads.specs.Machines.{Unfinished};
-ghost use Rattle.zone_threads.specs.Records.{HasRoom, Stands};
+ghost use Rattle.zone_threads.specs.Records.{Stands};
 ghost use Rattle.zone_threads.specs.Scripts.{fresh};
 ghost use Rattle.zone_threads.specs.Zones.{Does, IsAsk, IsJob, Logged, left_by, where_at};
 
 use crate::machine::{Machine, Stop, Told};
-use crate::part::{LOCALS_MAX, Outset, Part, Start};
+use crate::part::{Outset, Part, Start};
 use crate::tally::{Progress, note, note_all, note_rest};
 use crate::zone::Log;
 
@@ -97,7 +97,7 @@ fn try_turn<M: Machine, J: Start<M>, N: Outset<M::Shared>>(
     ensures tally { OnErr result (part.new.tally ≡ part.old.tally) }
     ensures same { OnErr result (Unfinished M.machine place cell.old part.old.shared cell.new part.new.shared) }
     ensures order { part.new.order ≡ part.old.order }
-    ensures room { (part.new.room ≡ part.old.room) × (part.new.entries ≡ part.old.entries) × (part.new.zones ≡ part.old.zones) }
+    ensures zones { part.new.zones ≡ part.old.zones }
     ensures wide { length part.new.tally.items ≡ length part.old.tally.items }
 {
     if !machine.is_busy(cell, &part.shared) {
@@ -145,7 +145,7 @@ fn try_line<M: Machine, J: Start<M>, N: Outset<M::Shared>>(
     ensures tally { OnErr result (part.new.tally ≡ part.old.tally) }
     ensures same { OnErr result (Unfinished M.machine place cell.old part.old.shared cell.new part.new.shared) }
     ensures order { part.new.order ≡ part.old.order }
-    ensures room { (part.new.room ≡ part.old.room) × (part.new.entries ≡ part.old.entries) × (part.new.zones ≡ part.old.zones) }
+    ensures zones { part.new.zones ≡ part.old.zones }
     ensures wide { length part.new.tally.items ≡ length part.old.tally.items }
 {
     let done = progress_of(&part.tally, session)?;
@@ -185,7 +185,7 @@ fn attempt<M: Machine, J: Start<M>, N: Outset<M::Shared>>(
     ensures tally { OnErr result (part.new.tally ≡ part.old.tally) }
     ensures same { OnErr result (Unfinished M.machine place cell.old part.old.shared cell.new part.new.shared) }
     ensures order { part.new.order ≡ part.old.order }
-    ensures room { (part.new.room ≡ part.old.room) × (part.new.entries ≡ part.old.entries) × (part.new.zones ≡ part.old.zones) }
+    ensures zones { part.new.zones ≡ part.old.zones }
     ensures wide { length part.new.tally.items ≡ length part.old.tally.items }
 {
     match job {
@@ -205,12 +205,11 @@ fn put_run<M: Machine, J: Start<M>, N: Outset<M::Shared>>(
     place: u32,
     many: usize,
 )
-    requires room { HasRoom many 1 part.old.entries (vec_capacity part.old.room) part.old.order.items (vec_capacity part.old.order) }
+    requires room { length part.old.order.items < vec_capacity part.old.order }
     ensures order { part.new.order.items ≡ part.old.order.items ++ (place, many) ∷ [] }
-    ensures room { (m r : ℕ) → HasRoom (many + m) (1 + r) part.old.entries (vec_capacity part.old.room) part.old.order.items (vec_capacity part.old.order) → HasRoom m r part.new.entries (vec_capacity part.new.room) part.new.order.items (vec_capacity part.new.order) }
-    ensures same { part.new ≡ record part.old { order = part.new.order; entries = part.new.entries } }
+    ensures capacity { vec_capacity part.new.order ≡ vec_capacity part.old.order }
+    ensures same { part.new ≡ record part.old { order = part.new.order } }
 {
-    part.entries += many;
     part.order.push_reserved((place, many as u64));
 }
 
@@ -231,13 +230,13 @@ pub(crate) fn act<M: Machine, J: Start<M>, N: Outset<M::Shared>>(
     requires few { length part.old.tally.items ≤ 65 }
     requires job { IsJob M.machine J.scripts session lines.now cell.old job }
     requires given { given ≤ vec_len log.old }
-    requires room { (vec_len log.old < vec_capacity log.old) × HasRoom (vec_len log.old - given + 1 + N.zones * LOCALS_MAX) (1 + N.zones) part.old.entries (vec_capacity part.old.room) part.old.order.items (vec_capacity part.old.order) }
+    requires room { (vec_len log.old < vec_capacity log.old) × (length part.old.order.items + 1 + N.zones ≤ vec_capacity part.old.order) }
     ensures grown { (new : List M.Entry) × (log.new.items ≡ log.old.items ++ new) }
     ensures mine { All (λ e. M.machine.by e ≡ place) (drop given log.old.items) → All (λ e. M.machine.by e ≡ place) (drop given log.new.items) }
     ensures stands { (start : M.State) (h : List M.Entry) → Stands M.machine start J.scripts part.old.shared part.old.tally.items part.old.order.items h → own M.machine.by place h ≡ take given log.old.items → Logged M.machine start place cell.old log.old.items given marked.old
         → Stands M.machine start J.scripts part.new.shared part.new.tally.items part.new.order.items (h ++ drop given log.new.items) × All (λ e. M.machine.by e ≡ place) (drop given log.new.items) × (marked.new ≡ false → M.machine.cell_of cell.new (left_by M.machine start place log.new.items)) }
     ensures wide { length part.new.tally.items ≡ length part.old.tally.items }
-    ensures room { (part.new.zones ≡ part.old.zones) × HasRoom (N.zones * LOCALS_MAX) N.zones part.new.entries (vec_capacity part.new.room) part.new.order.items (vec_capacity part.new.order) }
+    ensures room { (part.new.zones ≡ part.old.zones) × (length part.new.order.items + N.zones ≤ vec_capacity part.new.order) }
     ensures marks { M.machine.is_sound part.new.shared ≡ true → (M.machine.is_sound part.old.shared ≡ true) × (marked.new ≡ marked.old) }
 {
     note_all(machine, &mut part.tally, place, &log[given..]);
@@ -270,10 +269,10 @@ pub(crate) fn note_log<M: Machine, J: Start<M>, N: Outset<M::Shared>>(
 )
     requires few { length part.old.tally.items ≤ 65 }
     requires given { log.now.given ≤ length log.now.entries.items }
-    requires room { HasRoom (length log.now.entries.items - log.now.given) 1 part.old.entries (vec_capacity part.old.room) part.old.order.items (vec_capacity part.old.order) }
+    requires room { length part.old.order.items < vec_capacity part.old.order }
     ensures stands { (start : M.State) (h : List M.Entry) → Stands M.machine start J.scripts part.old.shared part.old.tally.items part.old.order.items h → own M.machine.by log.now.place h ≡ take log.now.given log.now.entries.items → Logged M.machine start log.now.place log.now.cell log.now.entries.items log.now.given log.now.marked
         → Stands M.machine start J.scripts part.new.shared part.new.tally.items part.new.order.items (h ++ drop log.now.given log.now.entries.items) }
-    ensures room { (m r : ℕ) → HasRoom (length log.now.entries.items - log.now.given + m) (1 + r) part.old.entries (vec_capacity part.old.room) part.old.order.items (vec_capacity part.old.order) → HasRoom m r part.new.entries (vec_capacity part.new.room) part.new.order.items (vec_capacity part.new.order) }
+    ensures room { (length part.new.order.items ≡ length part.old.order.items + 1) × (vec_capacity part.new.order ≡ vec_capacity part.old.order) }
     ensures wide { length part.new.tally.items ≡ length part.old.tally.items }
     ensures shared { part.new.shared ≡ part.old.shared }
 {

@@ -11,7 +11,7 @@ ghost use Rattle.zone_threads.specs.declared.notes.Note.{Note};
 
 use crate::machine::{Machine, Told, Zoned};
 use crate::notes::Note;
-use crate::part::{LOCALS_MAX, Outset, Part, Place, Start};
+use crate::part::{Outset, Part, Place, Start};
 use crate::step::{Ask, Outcome, act, job_of};
 use std::alloc::{AllocError, Global};
 use std::collections::VecDeque;
@@ -81,13 +81,12 @@ impl<M: Machine, J: Start<M>, N: Outset<M::Shared>, K: Place> Zone<M, J, N, K> {
         }
     }
 
-    /// The next turn of the zone's daemon, where it is local, under the zone's lock alone. There is none where it has many entries that
-    /// it hasn't given. Room is taken for an entry behind it, too.
+    /// The next turn of the zone's daemon, where it is local, under the zone's lock alone. Room is taken for an entry behind it, too.
     pub(crate) fn local(&mut self, machine: &M) -> Result<Option<Told>, AllocError>
         requires ready { M.ready machine.now }
         ensures place { self.new.0 ≡ self.old.0 }
     {
-        if self.marked || self.log.len() - self.given >= LOCALS_MAX {
+        if self.marked {
             return Ok(None);
         }
         self.log.reserve(2)?;
@@ -120,7 +119,7 @@ fn give_notes<M: Machine, J: Start<M>, N: Outset<M::Shared>, B: Batch<Note<M::En
 )
     requires turn { pass.old.turn ≡ turn.now }
     requires picked { B.entries ≡ notes_of _place _done.now _marked }
-    requires out { (gives : ℕ) × (ns : List (Note M.Entry)) × (pass.old.knows.stage ≡ Out gives ns) × IsPart M.machine J.starts J.scripts N.shared N.zones part.shared part.tally.items part.zones part.entries (vec_capacity part.room) part.order.items (vec_capacity part.order) (ns ++ notes_of _place _done.now _marked) }
+    requires out { (gives : ℕ) × (ns : List (Note M.Entry)) × (pass.old.knows.stage ≡ Out gives ns) × IsPart M.machine J.starts J.scripts N.shared N.zones part.shared part.tally.items part.zones part.order.items (vec_capacity part.order) (ns ++ notes_of _place _done.now _marked) }
     requires own { (pass.old.knows.number ≡ _place) × All (λ e. M.machine.by e ≡ _place) _done.now }
     ensures turn { pass.new.turn ≡ pass.old.turn }
     ensures idle { pass.new.knows ≡ idle_with (pass.old.knows.list ++ notes_of _place _done.now _marked) pass.old.knows }
@@ -152,7 +151,7 @@ impl<M: Machine, J: Start<M>, N: Outset<M::Shared>, K: Place> Zone<M, J, N, K> {
         }
         let job = job_of(machine, &self.cell, ask);
         let mut part = turn.take(rt, &mut self.pass);
-        if part.make_room(self.log.len() - self.given).is_err() {
+        if part.make_room().is_err() {
             // Nothing is given.
             is_over.store(true, Ordering::SeqCst);
             turn.give_picked::<Brand>(&mut self.pass, part);

@@ -1,16 +1,16 @@
 -- What was written of a text, and what waits.
-use Rattle.std.proofs.Common.{◌≡◌, ◌≤◌, ◌<◌, ◌+◌, ◌++◌, ◌∷◌, ◌∙◌, [], ℕ, Err, List, Ok, Option, Result, append-nil, append_assoc, ap, arith, drop, length, refl, suc, sym, take, zero}
-use Rattle.std.specs.Prelude.{OnErr, OnOk, slice_index_or}
+use Rattle.std.proofs.Common.{◌≡◌, ◌≤◌, ◌+◌, ◌++◌, ◌∷◌, ◌∙◌, [], ℕ, Bool, Err, List, None, Ok, Option, Result, Some, append-nil, append_assoc, ap, arith, false, length, refl, subst, suc, sym, take, true, zero}
+use Rattle.std.specs.Prelude.{OnErr, OnOk}
 use Rattle.std.proofs.Math.Seq.{take-append-add}
-use Rattle.std.proofs.lemmas.Grind.{flat_map-append}
-use Rattle.std.proofs.lemmas.List.{flat_map_more, take-append-drop, take_all, take_more}
+use Rattle.std.proofs.lemmas.List.{take_all}
 use Rattle.zn_io.specs.Streams.{after_known}
 use Rattle.trace_text.specs.Live.{entry_text}
 use Rattle.zone_cases.specs.declared.events.Entry.{Entry}
-use Rattle.zones_live.specs.Records.{record_text}
+use Rattle.zones_live.specs.Records.{first_refused, record_text, refused_at, refused_from}
 use Rattle.zones_run.specs.Run.{HasFront}
+use Rattle.zones_run.specs.Tracing.{is_refusal}
 use Rattle.zones_run.proofs.Fronts.{after_known-append, after_known-nil}
-use Rattle.zones_live.specs.Writing.{Waits}
+use Rattle.zones_live.specs.Writing.{IsTold, Waits}
 
 -- a front of a text is one of a longer text
 take-more : (n : ℕ) (xs ys : List ℕ) → (k : ℕ) × (take n xs ≡ take k (xs ++ ys))
@@ -18,18 +18,9 @@ take-more zero xs ys = (0, refl)
 take-more (suc n) [] ys = (0, refl)
 take-more (suc n) (x ∷ xs) ys = let more = take-more n xs ys in (suc more.0, ap (λ l. x ∷ l) more.1)
 
-record-append : (g h : List Entry) → record_text (g ++ h) ≡ record_text g ++ record_text h
-record-append g h = flat_map-append entry_text g h
-
 -- the text of one entry more
-pub record-next : (es : List Entry) (i : ℕ) (e : Entry) → i < length es → e ≡ slice_index_or es i e → record_text (take (i + 1) es) ≡ record_text (take i es) ++ entry_text e
-record-next es i e near is = ap record_text (take_more es i e near ∙ ap (λ (x : Entry). take i es ++ x ∷ []) (sym is)) ∙ sym (flat_map_more entry_text [] (take i es) e)
-
-pub record-whole : (es : List Entry) (i : ℕ) (e : Entry) → i < length es → e ≡ slice_index_or es i e → record_text es ≡ (record_text (take i es) ++ entry_text e) ++ record_text (drop (i + 1) es)
-record-whole es i e near is = ap record_text (sym (take-append-drop (i + 1) es)) ∙ record-append (take (i + 1) es) (drop (i + 1) es) ∙ ap (λ l. l ++ record_text (drop (i + 1) es)) (record-next es i e near is)
-
-pub record-all : (es : List Entry) (i : ℕ) → length es ≤ i → record_text (take i es) ≡ record_text es
-record-all es i all = ap record_text (take_all i es all)
+record-one : (e : Entry) (h : List Entry) → record_text (e ∷ h) ≡ entry_text e ++ record_text h
+record-one e h = refl
 
 -- of each outcome
 pub on-err : {A E : Type 0} (r : Result A E) (P : Type 0) → P → OnErr r P
@@ -98,3 +89,52 @@ module _ (held : Option (List ℕ)) where
       count = length a.written + b.count;
       taken = taken-on holds (take b.count waiting) b.taken ∙ ap (after_known held) (sym (take-append-add a.written waiting b.count) ∙ ap (take (length a.written + b.count)) (sym a.whole));
     }
+
+-- the first refused one, where one comes behind others
+refused-next : (refused : Option ℕ) (n : ℕ) (e : Entry) (h : List Entry) → refused_from refused n (e ∷ h) ≡ refused_from (refused_at refused n e) (n + 1) h
+refused-next None n e h = here (is_refusal e.reply.head) refl
+  where
+    here : (b : Bool) → is_refusal e.reply.head ≡ b → refused_from None n (e ∷ h) ≡ refused_from (refused_at None n e) (n + 1) h
+    here true is = rw is refl
+    here false is = rw is refl
+refused-next (Some k) n e h = refl
+
+refused-end : (refused : Option ℕ) (n : ℕ) → refused_from refused n [] ≡ refused
+refused-end None n = refl
+refused-end (Some k) n = refl
+
+-- nothing is told yet
+pub told-none : (held : Option (List ℕ)) (all : List Entry) → IsTold held held [] 0 None all all
+told-none held all = record { text = []; waits = waits-yet held []; whole = refl; first = refl }
+
+module _ (held mid : Option (List ℕ)) (waiting : List ℕ) (count : ℕ) (refused : Option ℕ) (all : List Entry) where
+  -- one entry more is told
+  pub told-next : (holds : Option (List ℕ)) (left : List ℕ) (count' : ℕ) (refused' : Option ℕ) (e : Entry) (rest : List Entry) → Waits mid holds left (waiting ++ entry_text e) → count' ≡ count + 1 → refused' ≡ refused_at refused (count + 1) e → IsTold held mid waiting count refused all (e ∷ rest) → IsTold held holds left count' refused' all rest
+  told-next holds left count' refused' e rest more next noted t = record {
+    text = t.text ++ entry_text e;
+    waits = waits-on held mid waiting t.text t.waits holds left (entry_text e) more;
+    whole = t.whole ∙ (ap (λ l. t.text ++ l) (record-one e rest) ∙ sym (append_assoc t.text (entry_text e) (record_text rest)));
+    first = t.first ∙ (refused-next refused (count + 1) e rest ∙ (λ i. refused_from (sym noted i) (sym next i + 1) rest));
+  }
+
+  -- it can't be, and a front of its text was taken
+  pub told-front : (holds : Option (List ℕ)) (e : Entry) (rest : List Entry) → HasFront mid holds (waiting ++ entry_text e) → IsTold held mid waiting count refused all (e ∷ rest) → HasFront held holds (record_text all)
+  told-front holds e rest front t =
+      subst (HasFront held holds) (append_assoc t.text (entry_text e) (record_text rest) ∙ (ap (λ l. t.text ++ l) (sym (record-one e rest)) ∙ sym t.whole)) (front-more held holds (t.text ++ entry_text e) (record_text rest) (front-on held mid waiting t.text t.waits holds (entry_text e) front))
+
+  -- what was written is a front
+  pub told-so : (rest : List Entry) → IsTold held mid waiting count refused all rest → HasFront held mid (record_text all)
+  told-so rest t = subst (HasFront held mid) (sym t.whole) (front-on held mid waiting t.text t.waits mid (record_text rest) (front-none mid (waiting ++ record_text rest)))
+
+  module _ (t : IsTold held mid waiting count refused all []) where
+    told-text : t.text ≡ record_text all
+    told-text = sym (t.whole ∙ append-nil t.text)
+
+    pub told-all : (holds : Option (List ℕ)) → holds ≡ after_known mid waiting → holds ≡ after_known held (record_text all)
+    told-all holds is = all-on held mid waiting t.text t.waits holds is ∙ ap (after_known held) told-text
+
+    pub told-end : (holds : Option (List ℕ)) → HasFront mid holds waiting → HasFront held holds (record_text all)
+    told-end holds front = subst (HasFront held holds) told-text (front-end held mid waiting t.text t.waits holds front)
+
+    pub told-refused : refused ≡ first_refused 1 all
+    told-refused = sym (t.first ∙ refused-end refused (count + 1))

@@ -16,6 +16,16 @@ abbrev pub first_refused : ℕ → List Entry → Option ℕ
 first_refused n [] = None
 first_refused n (e ∷ h) = if is_refusal e.reply.head then Some n else first_refused (n + 1) h
 
+-- the number of the first refused one, where an entry of this number comes behind others
+abbrev pub refused_at : Option ℕ → ℕ → Entry → Option ℕ
+refused_at None n e = if is_refusal e.reply.head then Some n else None
+refused_at (Some k) n e = Some k
+
+-- and where these do, from this number on
+abbrev pub refused_from : Option ℕ → ℕ → List Entry → Option ℕ
+refused_from None n h = first_refused n h
+refused_from (Some k) n h = Some k
+
 abbrev pub told_refused : List ℕ → Option ℕ → Output
 told_refused text None = written text
 told_refused text (Some number) = record (complaint_output (FirstRefusedEntry number)) { out = text }

@@ -4,6 +4,7 @@
 
 mod declaring;
 mod opening;
+mod record;
 mod run;
 mod sorting;
 mod telling;

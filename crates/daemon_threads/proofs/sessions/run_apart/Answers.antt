@@ -20,14 +20,14 @@ pub returns-then-len-ge-ZONES_MAX-clause-lives : goal.returns-then-len-ge-ZONES_
 returns-then-len-ge-ZONES_MAX-clause-lives g c = λ S reached stands.
     let p = c.args.parted in
     let u = c.unbegun in
-    lives-unbegun g.D.Disk.view S (script_lines c.args.scripts.now) u.result.ended u.result.entries.items p.bank.disk u.result.machine.bank.disk u.ensures.ended u.ensures.entries
+    lives-unbegun g.D.Disk.view S (script_lines c.args.scripts.now) u.result.ended u.result.entries p.bank.disk u.result.machine.bank.disk u.ensures.ended u.ensures.entries
     (ap (λ m. m.bank.disk) u.ensures.machine ∙ ap (λ b. b.disk) c.whole.ensures.bank) c.disk_is_sound.ensures (λ keeps. ready-holds S p.bank p.shared (g.D.Disk.view p.bank.disk) stands.bodies stands.shared c.requires.ready keeps)
 
 pub returns-then-len-ge-ZONES_MAX-clause-stands : goal.returns-then-len-ge-ZONES_MAX-clause-stands
 returns-then-len-ge-ZONES_MAX-clause-stands g c = λ S reached stands sound.
     let u = c.unbegun in
     let apart = stands in
-    stands-none S c.whole.result u.result.machine u.result.entries.items u.ensures.entries u.ensures.machine ((c.whole.ensures.stands S).0 apart)
+    stands-none S c.whole.result u.result.machine u.result.entries u.ensures.entries u.ensures.machine ((c.whole.ensures.stands S).0 apart)
 
 pub returns-then-len-ge-ZONES_MAX-clause-sound : goal.returns-then-len-ge-ZONES_MAX-clause-sound
 returns-then-len-ge-ZONES_MAX-clause-sound g c =
@@ -88,7 +88,7 @@ returns-in-Ok-clause-lives g c = λ S reached stands.
     let live = c.run_picked.result in
     let same : S.brands ≡ brands = ap (λ k. k.brands) stands.shared ∙ c.requires.asks.1 in
     let differ : all_differ (names_of p.cells.entries) ≡ true = differ-all (names_of p.cells.entries) c.deal.ensures.unique in
-    subst (λ (T : State). Lives live.ended T (script_lines c.args.scripts.now) live.entries.items (g.D.Disk.view p.bank.disk) (g.D.Disk.view live.machine.bank.disk)) (past-is S reached brands same)
+    subst (λ (T : State). Lives live.ended T (script_lines c.args.scripts.now) live.entries (g.D.Disk.view p.bank.disk) (g.D.Disk.view live.machine.bank.disk)) (past-is S reached brands same)
     (c.run_picked.ensures.lives (past-of S reached) (begun-from S p c.in-Ok.dealt brands reached c.in-Ok.ensures.dealt differ stands same))
 
 pub returns-in-Ok-clause-stands : goal.returns-in-Ok-clause-stands
@@ -98,14 +98,14 @@ returns-in-Ok-clause-stands g c = λ S reached stands sound.
     let live = c.run_picked.result in
     let same : S.brands ≡ brands = ap (λ k. k.brands) stands.shared ∙ c.requires.asks.1 in
     let differ : all_differ (names_of p.cells.entries) ≡ true = differ-all (names_of p.cells.entries) c.deal.ensures.unique in
-    subst (λ (T : State). StandsFor (after T live.entries.items) live.machine) (past-is S reached brands same)
+    subst (λ (T : State). StandsFor (after T live.entries) live.machine) (past-is S reached brands same)
     (c.run_picked.ensures.stands (past-of S reached) (begun-from S p c.in-Ok.dealt brands reached c.in-Ok.ensures.dealt differ stands same) sound)
 
 pub returns-in-Err-clause-lives : goal.returns-in-Err-clause-lives
 returns-in-Err-clause-lives g c = λ S reached stands.
     let p = c.args.parted in
     let u = c.unbegun-in-Err in
-    lives-unbegun g.D.Disk.view S (script_lines c.args.scripts.now) u.result.ended u.result.entries.items p.bank.disk u.result.machine.bank.disk u.ensures.ended u.ensures.entries
+    lives-unbegun g.D.Disk.view S (script_lines c.args.scripts.now) u.result.ended u.result.entries p.bank.disk u.result.machine.bank.disk u.ensures.ended u.ensures.entries
     (ap (λ m. m.bank.disk) u.ensures.machine ∙ ap (λ b. b.disk) c.whole-in-Err.ensures.bank) c.disk_is_sound.ensures (λ keeps. ready-holds S p.bank p.shared (g.D.Disk.view p.bank.disk) stands.bodies stands.shared c.requires.ready keeps)
 
 pub returns-in-Err-clause-stands : goal.returns-in-Err-clause-stands
@@ -113,7 +113,7 @@ returns-in-Err-clause-stands g c = λ S reached stands sound.
     let u = c.unbegun-in-Err in
     let p = c.args.parted in
     let apart = subst (λ k. StandApart S (record { cells = k; shared = p.shared; bank = p.bank; brands = p.brands })) (sym c.in-Err.ensures.err) stands in
-    stands-none S c.whole-in-Err.result u.result.machine u.result.entries.items u.ensures.entries u.ensures.machine ((c.whole-in-Err.ensures.stands S).0 apart)
+    stands-none S c.whole-in-Err.result u.result.machine u.result.entries u.ensures.entries u.ensures.machine ((c.whole-in-Err.ensures.stands S).0 apart)
 
 pub returns-in-Err-clause-passes : goal.returns-in-Err-clause-passes
 returns-in-Err-clause-passes g c = passes-same g.D.Disk.view c.args.parted.bank.disk c.unbegun-in-Err.result.machine.bank.disk (ap (λ m. m.bank.disk) c.unbegun-in-Err.ensures.machine ∙ ap (λ b. b.disk) c.whole-in-Err.ensures.bank)

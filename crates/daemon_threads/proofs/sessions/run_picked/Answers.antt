@@ -23,9 +23,9 @@ pub returns-in-Ok-clause-lives : goal.returns-in-Ok-clause-lives
 returns-in-Ok-clause-lives g c = λ s from.
     let lived = c.in-Ok.lived in
     let live = c.listed.result in
-    lives-as g.D.Disk.view (state_of g.N.Names.brands s) g.N.Names.lines g.N.Names.view live.ended (ended_by lived.shared.bank.sound (is_some lived.ended)) live.entries.items lived.entries.items live.machine.bank.disk lived.shared.bank.disk
+    lives-as g.D.Disk.view (state_of g.N.Names.brands s) g.N.Names.lines g.N.Names.view live.ended (ended_by lived.shared.bank.sound (is_some lived.ended)) live.entries lived.entries live.machine.bank.disk lived.shared.bank.disk
     c.listed.ensures.ended c.listed.ensures.entries (ap (λ b. b.disk) c.listed.ensures.bank)
-    (lives-listed g.D.Disk.view g.N.Names.view g.N.Names.zones g.N.Names.brands g.N.Names.lines c.requires.none.0 c.requires.none.1 s (c.requires.begun s from).stored lived.entries.items lived.shared lived.ended
+    (lives-listed g.D.Disk.view g.N.Names.view g.N.Names.zones g.N.Names.brands g.N.Names.lines c.requires.none.0 c.requires.none.1 s (c.requires.begun s from).stored lived.entries lived.shared lived.ended
     (c.in-Ok.ensures.partial s from) (c.in-Ok.ensures.record s from) (c.in-Ok.ensures.shared s from))
 
 pub returns-in-Ok-clause-stands : goal.returns-in-Ok-clause-stands
@@ -36,8 +36,8 @@ returns-in-Ok-clause-stands g c = λ s from sound.
     let all : AreAll (length g.N.Names.zones + 1) lived.cells.items = subst (λ n. AreAll n lived.cells.items) c.requires.places c.in-Ok.ensures.there in
     let usable : lived.shared.bank.sound ≡ true = ap (λ b. b.sound) (sym c.listed.ensures.bank) ∙ sound in
     subst (λ h. StandsFor (after S h) live.machine) (sym c.listed.ensures.entries)
-    (c.listed.ensures.stands (after S lived.entries.items)
-    (after-entries g.D.Disk.view g.N.Names.view g.N.Names.zones g.N.Names.brands c.args.dealt c.args.shared c.args.bank s (c.requires.begun s from) lived.entries.items lived.shared lived.cells.items all (c.in-Ok.ensures.sound usable) usable
+    (c.listed.ensures.stands (after S lived.entries)
+    (after-entries g.D.Disk.view g.N.Names.view g.N.Names.zones g.N.Names.brands c.args.dealt c.args.shared c.args.bank s (c.requires.begun s from) lived.entries lived.shared lived.cells.items all (c.in-Ok.ensures.sound usable) usable
     (c.in-Ok.ensures.partial s from).legal (c.in-Ok.ensures.cells s from) (c.in-Ok.ensures.shared s from)))
 
 pub returns-in-Ok-clause-sound : goal.returns-in-Ok-clause-sound
@@ -58,7 +58,7 @@ pub returns-clause-lives : goal.returns-clause-lives
 returns-clause-lives g c = λ s from.
     let u = c.unlisted in
     let same : u.result.machine.bank ≡ c.args.bank = u.ensures.bank ∙ ap (λ m. m.bank) (c.in-Err.ensures.memory.0 ∙ c.new-part.ensures) in
-    lives-none g.D.Disk.view (state_of g.N.Names.brands s) g.N.Names.lines g.N.Names.view s.stored u.result.ended u.result.entries.items c.args.bank.disk u.result.machine.bank.disk u.ensures.ended u.ensures.entries (ap (λ b. b.disk) same)
+    lives-none g.D.Disk.view (state_of g.N.Names.brands s) g.N.Names.lines g.N.Names.view s.stored u.result.ended u.result.entries c.args.bank.disk u.result.machine.bank.disk u.ensures.ended u.ensures.entries (ap (λ b. b.disk) same)
     (c.requires.begun s from).stored (c.requires.disk s from)
 
 pub returns-clause-stands : goal.returns-clause-stands
@@ -69,7 +69,7 @@ returns-clause-stands g c = λ s from sound.
     let part : kept.0 ≡ record { shared = c.args.shared; shown = c.args.dealt.shown; bank = c.args.bank } = c.in-Err.ensures.memory.0 ∙ c.new-part.ensures in
     let before = before-entries g.D.Disk.view g.N.Names.view g.N.Names.zones g.N.Names.brands c.args.dealt c.args.shared c.args.bank s (c.requires.begun s from) c.requires.places in
     let together : StandTogether S (put_all kept.1.items) kept.0.shared kept.0.bank.records = subst (λ (T : Type 0). T) (λ i. StandTogether S (put_all (sym c.in-Err.ensures.memory.1 i)) (sym part i).shared (sym part i).bank.records) before in
-    stands-none S u.result.machine u.result.machine u.result.entries.items u.ensures.entries (λ i. u.result.machine) (u.ensures.stands S together)
+    stands-none S u.result.machine u.result.machine u.result.entries u.ensures.entries (λ i. u.result.machine) (u.ensures.stands S together)
 
 pub returns-clause-sound : goal.returns-clause-sound
 returns-clause-sound g c =

@@ -13,7 +13,7 @@ returns-then-is_err-clause-lives g c = λ S reached stands.
     let m = c.args.machine in
     let u = c.unbegun in
     let same = c.name_all.ensures.same in
-    lives-unbegun g.D.Disk.view S (scripts_of c.args.scripts.items) u.result.ended u.result.entries.items m.bank.disk u.result.machine.bank.disk u.ensures.ended u.ensures.entries
+    lives-unbegun g.D.Disk.view S (scripts_of c.args.scripts.items) u.result.ended u.result.entries m.bank.disk u.result.machine.bank.disk u.ensures.ended u.ensures.entries
     (ap (λ n. n.bank.disk) u.ensures.machine ∙ ap (λ b. b.disk) same.bank) (subst (λ b. IsSound (g.D.Disk.view b.disk)) same.bank u.ensures.sound)
     (λ keeps. ready-holds S m.bank m.parts.shared (g.D.Disk.view m.bank.disk) stands.bodies stands.parts.shared c.requires.ready keeps)
 
@@ -21,7 +21,7 @@ pub returns-then-is_err-clause-stands : goal.returns-then-is_err-clause-stands
 returns-then-is_err-clause-stands g c = λ S reached stands sound.
     let u = c.unbegun in
     let same = c.name_all.ensures.same in
-    stands-none S c.name_all.new.machine u.result.machine u.result.entries.items u.ensures.entries u.ensures.machine (record { parts = (same.parts S).0 stands.parts; bodies = stands.bodies ∙ ap (λ b. b.records) (sym same.bank) })
+    stands-none S c.name_all.new.machine u.result.machine u.result.entries u.ensures.entries u.ensures.machine (record { parts = (same.parts S).0 stands.parts; bodies = stands.bodies ∙ ap (λ b. b.records) (sym same.bank) })
 
 pub returns-then-is_err-clause-sound : goal.returns-then-is_err-clause-sound
 returns-then-is_err-clause-sound g c =
@@ -45,7 +45,7 @@ returns-in_default-clause-lives g c = λ S reached stands.
     let m = c.args.machine in
     let u = c.unbegun-in_default in
     let same = c.name_all.ensures.same in
-    lives-unbegun g.D.Disk.view S (scripts_of c.args.scripts.items) u.result.ended u.result.entries.items m.bank.disk u.result.machine.bank.disk u.ensures.ended u.ensures.entries
+    lives-unbegun g.D.Disk.view S (scripts_of c.args.scripts.items) u.result.ended u.result.entries m.bank.disk u.result.machine.bank.disk u.ensures.ended u.ensures.entries
     (ap (λ n. n.bank.disk) u.ensures.machine ∙ ap (λ b. b.disk) same.bank) (subst (λ b. IsSound (g.D.Disk.view b.disk)) same.bank u.ensures.sound)
     (λ keeps. ready-holds S m.bank m.parts.shared (g.D.Disk.view m.bank.disk) stands.bodies stands.parts.shared c.requires.ready keeps)
 
@@ -53,7 +53,7 @@ pub returns-in_default-clause-stands : goal.returns-in_default-clause-stands
 returns-in_default-clause-stands g c = λ S reached stands sound.
     let u = c.unbegun-in_default in
     let same = c.name_all.ensures.same in
-    stands-none S c.name_all.new.machine u.result.machine u.result.entries.items u.ensures.entries u.ensures.machine (record { parts = (same.parts S).0 stands.parts; bodies = stands.bodies ∙ ap (λ b. b.records) (sym same.bank) })
+    stands-none S c.name_all.new.machine u.result.machine u.result.entries u.ensures.entries u.ensures.machine (record { parts = (same.parts S).0 stands.parts; bodies = stands.bodies ∙ ap (λ b. b.records) (sym same.bank) })
 
 pub returns-in_default-clause-sound : goal.returns-in_default-clause-sound
 returns-in_default-clause-sound g c =
@@ -87,7 +87,7 @@ pub returns-clause-lives : goal.returns-clause-lives
 returns-clause-lives g c = λ S reached stands.
     let same = c.name_all.ensures.same in
     let apart = (c.part.ensures.stands S).0 (record { parts = (same.parts S).0 stands.parts; bodies = stands.bodies ∙ ap (λ b. b.records) (sym same.bank) }) in
-    lives-moved g.D.Disk.view S c.args.scripts.items _ c.run_apart.result.ended c.run_apart.result.entries.items c.args.machine.bank.disk c.part.result.bank.disk c.run_apart.result.machine.bank.disk (search rules) (ap (λ b. b.disk) (c.part.ensures.bank ∙ same.bank))
+    lives-moved g.D.Disk.view S c.args.scripts.items _ c.run_apart.result.ended c.run_apart.result.entries c.args.machine.bank.disk c.part.result.bank.disk c.run_apart.result.machine.bank.disk (search rules) (ap (λ b. b.disk) (c.part.ensures.bank ∙ same.bank))
     (c.run_apart.ensures.lives S reached apart)
 
 pub returns-clause-stands : goal.returns-clause-stands

@@ -1,8 +1,5 @@
-use Rattle.std.proofs.Common.{rules, ◌+◌, ◌-◌, ◌*◌, ◌<◌, ◌≤◌, ◌∙◌, arith, length, subst, sym}
-use Rattle.zone_threads.specs.Ends.{IsLeft}
-use Rattle.zone_threads.specs.declared.part.TheConstants.{LOCALS_MAX}
+use Rattle.std.proofs.Common.{rules, ◌<◌, ◌∙◌, arith, length}
 use Rattle.zone_threads.proofs.Endings.{noted_all, noted_log}
-use Rattle.zone_threads.proofs.Rooms.{less_room}
 use Rattle.zone_threads.proofs.end.note_logs.Goals as goal
 
 pub note_log-requires-clause-few : goal.note_log-requires-clause-few
@@ -20,19 +17,16 @@ loop-log-preserved g c =
     let new = c.note_log.new.part in
     let near : i < length logs = search rules in
     let count = c.requires.closed.count in
-    let left : IsLeft D g.J.Start.starts log = subst (IsLeft D g.J.Start.starts) (sym c.log-item.is) (c.requires.closed.left i log near) in
-    let few = left.few in
-    let needs = (length log.entries.items - log.given) + (zones - (i + 1)) * LOCALS_MAX in
-    let less : needs ≤ (zones - i) * LOCALS_MAX = omega arith in
+    let same = c.note_log.ensures.room in
     record {
       noted = λ C. noted_log D g.J.Start.starts g.J.Start.scripts zones first.shared first.tally.items first.order.items logs C i log old.shared new.shared old.tally.items new.tally.items old.order.items new.order.items near c.log-item.is
           (c.loop-log.invariant.noted C) c.note_log.ensures.stands c.note_log.ensures.wide;
       shared = c.note_log.ensures.shared ∙ c.loop-log.invariant.shared;
-      room = c.note_log.ensures.room ((zones - (i + 1)) * LOCALS_MAX) (zones - (i + 1)) (less_room needs ((zones - i) * LOCALS_MAX) (1 + (zones - (i + 1))) (zones - i) old.entries old.room.cap old.order.items old.order.cap less (omega arith) c.loop-log.invariant.room);
+      room = (let was = c.loop-log.invariant.room in let more = same.0 in let still = same.1 in omega arith);
     }
 
-pub returns-clause-ended : goal.returns-clause-ended
-returns-clause-ended g c =
+pub returns : goal.returns
+returns g c =
     let first = c.args.part.now in
     let new = c.loop-log.part in
     noted_all g.M.Zoned.machine g.J.Start.starts g.J.Start.scripts g.N.Outset.zones first.shared first.tally.items first.order.items c.args.logs.now c.requires.closed g.met.M.Machine.laws

@@ -5,12 +5,12 @@ use Rattle.zone_threads.proofs.live.run_scripts.Goals as goal
 
 pub returns-clause-partial : goal.returns-clause-partial
 returns-clause-partial g c =
-    IfOk-weaker c.started.result _ _ (λ r over s from. partial g.M.Zoned.machine s g.J.Start.scripts r.shared r.entries.items (over.middle s from) c.requires.few.1) c.started.ensures.over
+    IfOk-weaker c.started.result _ _ (λ r over s from. partial g.M.Zoned.machine s g.J.Start.scripts r.shared r.entries (over.middle s from) c.requires.few.1) c.started.ensures.over
 
 pub returns-clause-record : goal.returns-clause-record
 returns-clause-record g c = IfOk-weaker c.started.result _ _
-    (λ r both s from none. whole g.M.Zoned.machine s g.J.Start.scripts r.shared r.entries.items (both.0.middle s from) c.requires.few.1
-    (λ n. or_none (each_done g.M.Zoned.machine g.J.Start.scripts r.entries.items c.args.scripts.now c.requires.scripts (both.1 s from none) n) (c.requires.others n)))
+    (λ r both s from none. whole g.M.Zoned.machine s g.J.Start.scripts r.shared r.entries (both.0.middle s from) c.requires.few.1
+    (λ n. or_none (each_done g.M.Zoned.machine g.J.Start.scripts r.entries c.args.scripts.now c.requires.scripts (both.1 s from none) n) (c.requires.others n)))
     (both_ok c.started.result _ _ c.started.ensures.over c.started.ensures.finished)
 
 pub returns-clause-shared : goal.returns-clause-shared

@@ -1,8 +1,6 @@
-use Rattle.std.proofs.Common.{◌≡◌, ◌+◌, ◌*◌, ◌≤◌, ◌++◌, ◌∷◌, ◌-◌, [], ap, arith, drop, false, rules, subst, sym, true, vec_len, ◌∙◌}
+use Rattle.std.proofs.Common.{◌≡◌, ◌++◌, ◌∷◌, ◌-◌, [], ap, drop, false, rules, subst, sym, true, ◌∙◌}
 use Rattle.zone_threads.specs.Records.{Stands}
-use Rattle.zone_threads.specs.declared.part.TheConstants.{LOCALS_MAX}
 use Rattle.zone_threads.proofs.Bools.{apart}
-use Rattle.zone_threads.proofs.Rooms.{less_room, same_room}
 use Rattle.zone_threads.proofs.Steps.{added, kept_shared, left_shared, mine_more, noted_rest, quiet, quiet_cell}
 use Rattle.zone_threads.proofs.step.act.Goals.{else-not-is_sound-2, then-not-is_sound-2}
 use Rattle.zone_threads.proofs.step.act.Goals as goal
@@ -62,45 +60,3 @@ returns-after-not-is_sound-2-clause-stands g c start h stands mine logged =
 
 pub returns-in-Ok-clause-mine : goal.returns-in-Ok-clause-mine
 returns-in-Ok-clause-mine g c = mine_more g.M.Zoned.machine c.args.place c.args.given c.args.log.now.items c.push_reserved.new.self.items c.in-Ok.entry (search rules) c.push_reserved.ensures.items c.in-Ok.ensures.mine
-
-pub returns-then-marked-clause-room : goal.returns-then-marked-clause-room
-returns-then-marked-clause-room g c =
-    let part = c.args.part.now in
-    let zones = g.N.Outset.zones in
-    let needs = (c.len.result - c.args.given) + zones * LOCALS_MAX in
-    let all = (vec_len c.args.log.now - c.args.given) + 1 + zones * LOCALS_MAX in
-    let many : c.len.result ≡ vec_len c.args.log.now = search rules in
-    let less : needs ≤ all = omega arith in (
-      ap (λ p. p.zones) c.put_run.ensures.same,
-      c.put_run.ensures.room (zones * LOCALS_MAX) zones (less_room needs all (1 + zones) (1 + zones) part.entries part.room.cap part.order.items part.order.cap less (omega arith) c.requires.room.1),
-    )
-
-pub returns-in-Ok-clause-room : goal.returns-in-Ok-clause-room
-returns-in-Ok-clause-room g c =
-    let part = c.args.part.now in
-    let mid = c.attempt.new.part in
-    let zones = g.N.Outset.zones in
-    let needs = (c.len-in-Ok.result - c.args.given) + zones * LOCALS_MAX in
-    let all = (vec_len c.args.log.now - c.args.given) + 1 + zones * LOCALS_MAX in
-    let many : c.len-in-Ok.result ≡ vec_len c.args.log.now + 1 = search rules in
-    let less : needs ≤ all = (let near = c.requires.given in omega arith) in
-    let same = c.attempt.ensures.room in
-    let here = same_room all (1 + zones) part.entries mid.entries part.room.cap mid.room.cap part.order.items mid.order.items part.order.cap mid.order.cap same.1 (ap (λ v. v.cap) same.0) (ap (λ v. v.items) c.attempt.ensures.order) (ap (λ v. v.cap) c.attempt.ensures.order) c.requires.room.1 in (
-      ap (λ p. p.zones) c.put_run-in-Ok.ensures.same ∙ same.2,
-      c.put_run-in-Ok.ensures.room (zones * LOCALS_MAX) zones (less_room needs all (1 + zones) (1 + zones) mid.entries mid.room.cap mid.order.items mid.order.cap less (omega arith) here),
-    )
-
-pub returns-after-not-is_sound-2-clause-room : goal.returns-after-not-is_sound-2-clause-room
-returns-after-not-is_sound-2-clause-room g c =
-    let part = c.args.part.now in
-    let mid = c.attempt.new.part in
-    let zones = g.N.Outset.zones in
-    let needs = (c.len-in-Err.result - c.args.given) + zones * LOCALS_MAX in
-    let all = (vec_len c.args.log.now - c.args.given) + 1 + zones * LOCALS_MAX in
-    let many : c.len-in-Err.result ≡ vec_len c.args.log.now = search rules in
-    let less : needs ≤ all = omega arith in
-    let same = c.attempt.ensures.room in
-    let here = same_room all (1 + zones) part.entries mid.entries part.room.cap mid.room.cap part.order.items mid.order.items part.order.cap mid.order.cap same.1 (ap (λ v. v.cap) same.0) (ap (λ v. v.items) c.attempt.ensures.order) (ap (λ v. v.cap) c.attempt.ensures.order) c.requires.room.1 in (
-      ap (λ p. p.zones) c.put_run-in-Err.ensures.same ∙ same.2,
-      c.put_run-in-Err.ensures.room (zones * LOCALS_MAX) zones (less_room needs all (1 + zones) (1 + zones) mid.entries mid.room.cap mid.order.items mid.order.cap less (omega arith) here),
-    )

@@ -1,5 +1,5 @@
-use Rattle.std.proofs.Common.{rules, ◌≡◌, ◌-◌, ◌+◌, ◌++◌, ap, drop, length, subst, sym}
-use Rattle.zone_threads.specs.Records.{HasRoom, Stands}
+use Rattle.std.proofs.Common.{rules, ◌-◌, ◌++◌, ap, drop, subst, sym}
+use Rattle.zone_threads.specs.Records.{Stands}
 use Rattle.zone_threads.proofs.Steps.{kept_shared, quiet}
 use Rattle.zone_threads.proofs.step.note_log.Goals as goal
 
@@ -15,10 +15,3 @@ returns-clause-stands g c start h stands mine logged =
     let q = quiet D g.met.M.Machine.laws start g.J.Start.scripts log.place log.given items log.cell log.marked old.shared old.tally.items c.note_rest.new.tally.items old.order.items h
     stands mine logged c.note_rest.ensures.each c.note_rest.ensures.len new.shared new.order.items (c.len.result - log.given) kept (search rules) c.put_run.ensures.order in
     subst (λ ts. Stands D start g.J.Start.scripts new.shared ts new.order.items (h ++ drop log.given items)) (sym (ap (λ p. p.tally.items) c.put_run.ensures.same)) q.0
-
-pub returns-clause-room : goal.returns-clause-room
-returns-clause-room g c m r has =
-    let old = c.args.part.now in
-    let log = c.args.log.now in
-    let many : c.len.result ≡ length log.entries.items = search rules in
-    c.put_run.ensures.room m r (subst (λ n. HasRoom (n - log.given + m) (1 + r) old.entries old.room.cap old.order.items old.order.cap) (sym many) has)

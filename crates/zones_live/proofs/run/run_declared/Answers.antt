@@ -13,7 +13,7 @@ returns-clause-runs g c = λ brands R what d.
     let told = c.tell_live-status in
     let e = told.ensures in
     let S = after (opening brands R) d.first in
-    rw c.into_disk.ensures (runs-of brands R what (scripts_of c.args.scripts.items) told.result (g.K.Sink.holds c.args.out.now) (g.K.Sink.holds told.new.out) (g.E.Sink.holds c.args.err.now) (g.E.Sink.holds told.new.err) (g.E.Sink.faults c.args.err.now) (g.E.Sink.faults told.new.err) c.args.declared.items ran.result.entries.items ran.result.ended (λ T. StandsFor T c.args.machine) (view c.args.machine.bank.disk) (view ran.result.machine.bank.disk) d
+    rw c.into_disk.ensures (runs-of brands R what (scripts_of c.args.scripts.items) told.result (g.K.Sink.holds c.args.out.now) (g.K.Sink.holds told.new.out) (g.E.Sink.holds c.args.err.now) (g.E.Sink.holds told.new.err) (g.E.Sink.faults c.args.err.now) (g.E.Sink.faults told.new.err) c.args.declared.items ran.result.entries ran.result.ended (λ T. StandsFor T c.args.machine) (view c.args.machine.bank.disk) (view ran.result.machine.bank.disk) d
     (ran.ensures.lives S (record { brands = brands; commits = R; past = d.first; there = refl }) d.stood) ran.ensures.only e.statuses e.whole e.text e.line e.front e.disk e.settled)
 
 pub returns-clause-faults : goal.returns-clause-faults

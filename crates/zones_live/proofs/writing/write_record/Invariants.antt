@@ -1,11 +1,13 @@
-use Rattle.std.proofs.Common.{◌≤◌, take}
-use Rattle.zones_live.specs.Records.{record_text}
-use Rattle.zones_live.specs.Writing.{Waits}
+use Rattle.std.proofs.Common.{◌≤◌, length}
+use Rattle.zones_live.specs.Writing.{IsTold}
 use Rattle.zones_live.proofs.writing.write_record.Given as goal
 
--- the texts of the entries so far are written, or wait
+-- what was taken is told
 abbrev pub invariant-loop-entry : goal.invariant-loop-entry
 invariant-loop-entry g l = record {
-  waits : Waits (g.K.Sink.holds l.fn.out) (g.K.Sink.holds l.out) l.waiting.items (record_text (take l.entry-index l.entries));
+  told : IsTold (g.K.Sink.holds l.fn.out) (g.K.Sink.holds l.out) l.progress.waiting.items l.progress.taken l.progress.refused l.fn.entries l.entries;
   later : g.K.Sink.faults l.fn.out ≤ g.K.Sink.faults l.out;
 }
+
+abbrev pub decreases-loop-entry : goal.decreases-loop-entry
+decreases-loop-entry g l = length l.entries

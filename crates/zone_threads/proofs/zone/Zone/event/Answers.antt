@@ -17,7 +17,7 @@ give_picked-requires-clause-out g c =
       out.1,
       out.0,
       ap (λ v. v.stage) out.2.out,
-      subst (λ l. IsPart D g.J.Start.starts g.J.Start.scripts g.N.Outset.shared g.N.Outset.zones room.shared room.tally.items room.zones room.entries room.room.cap room.order.items room.order.cap l) (sym (append_none out.0)) (record {
+      subst (λ l. IsPart D g.J.Start.starts g.J.Start.scripts g.N.Outset.shared g.N.Outset.zones room.shared room.tally.items room.zones room.order.items room.order.cap l) (sym (append_none out.0)) (record {
         tells = tells_same D g.J.Start.starts g.J.Start.scripts part.shared room.shared part.tally.items room.tally.items part.order.items room.order.items out.0 (ap (λ p. p.shared) c.make_room.ensures.same) (ap (λ p. p.tally.items) c.make_room.ensures.same) c.make_room.ensures.order out.2.history.tells;
         counts = ap (λ p. p.zones) c.make_room.ensures.same ∙ out.2.history.counts;
         has_room = c.make_room.ensures.kept;

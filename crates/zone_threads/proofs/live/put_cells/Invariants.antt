@@ -1,6 +1,0 @@
-use Rattle.std.proofs.Common.{◌≡◌, map, vec_capacity}
-use Rattle.zone_threads.specs.Ends.{back}
-use Rattle.zone_threads.proofs.live.put_cells.Given as goal
-
-abbrev pub invariant-loop-log : goal.invariant-loop-log
-invariant-loop-log g l = (l.cells.items ≡ map back l.yielded) × (vec_capacity l.cells ≡ vec_capacity l.initial.cells)
