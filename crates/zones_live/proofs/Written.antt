@@ -1,5 +1,5 @@
 -- What was written of a text, and what waits.
-use Rattle.std.proofs.Common.{◌≡◌, ◌≤◌, ◌+◌, ◌++◌, ◌∷◌, ◌∙◌, [], ℕ, Bool, Err, List, None, Ok, Option, Result, Some, append-nil, append_assoc, ap, arith, false, length, refl, subst, suc, sym, take, true, zero}
+use Rattle.std.proofs.Common.{◌≡◌, ◌≤◌, ◌+◌, ◌++◌, ◌∷◌, ◌∙◌, [], ℕ, Bool, Err, List, None, Ok, Option, Result, Some, append-nil, append_assoc, ap, arith, false, if◌then◌else◌, length, refl, subst, suc, sym, take, true, zero}
 use Rattle.std.specs.Prelude.{OnErr, OnOk}
 use Rattle.std.proofs.Math.Seq.{take-append-add}
 use Rattle.std.proofs.lemmas.List.{take_all}
@@ -92,11 +92,11 @@ module _ (held : Option (List ℕ)) where
 
 -- the first refused one, where one comes behind others
 refused-next : (refused : Option ℕ) (n : ℕ) (e : Entry) (h : List Entry) → refused_from refused n (e ∷ h) ≡ refused_from (refused_at refused n e) (n + 1) h
-refused-next None n e h = here (is_refusal e.reply.head) refl
+refused-next None n e h = here (is_refusal e.reply.head)
   where
-    here : (b : Bool) → is_refusal e.reply.head ≡ b → refused_from None n (e ∷ h) ≡ refused_from (refused_at None n e) (n + 1) h
-    here true is = rw is refl
-    here false is = rw is refl
+    here : (b : Bool) → (if b then Some n else first_refused (n + 1) h) ≡ refused_from (if b then Some n else None) (n + 1) h
+    here true = refl
+    here false = refl
 refused-next (Some k) n e h = refl
 
 refused-end : (refused : Option ℕ) (n : ℕ) → refused_from refused n [] ≡ refused
