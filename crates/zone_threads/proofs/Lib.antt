@@ -5,5 +5,6 @@ pub mod Gives
 pub mod Histories
 pub mod Joining
 pub mod Telling
+pub mod Silence
 pub mod Steps
 pub mod Words

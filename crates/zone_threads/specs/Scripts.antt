@@ -1,5 +1,6 @@
 -- How far each session is, and which entry may come next.
 use Rattle.std.specs.Prelude.{◌≡◌, ℕ, ◌+◌, ◌%◌, ◌<◌, ◌==◌, ◌&&◌, not, Bool, true, false, List, length, slice_index_or, slice_get, Option, Some, None, is_some, if◌then◌else◌}
+use Rattle.zone_threads.specs.Folds.{folded}
 use Rattle.zone_threads.specs.Machines.{Definitions}
 use Rattle.zone_threads.specs.declared.machine.Said.{Said}
 use Rattle.zone_threads.specs.declared.machine.Said.TheVariants as says
@@ -65,6 +66,10 @@ module _ {State Cell Shared Line Entry Heard : Type 0} (D : Definitions State Ce
 
   abbrev pub noted : (ℕ → Progress) → Entry → ℕ → Progress
   noted t e s = progress_one s (t s) (D.by e) (D.told e)
+
+  -- entries that change nothing of how far sessions are, however far they are
+  abbrev pub IsSilent : List Entry → Type 0
+  IsSilent es = (t : ℕ → Progress) → folded noted t es ≡ t
 
   abbrev pub is_line_at : Option Line → Entry → Bool
   is_line_at None e = false

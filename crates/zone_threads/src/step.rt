@@ -4,12 +4,12 @@ ghost use Rattle.std.specs.List.{All};
 ghost use Rattle.zone_turn.specs.Histories.{own};
 ghost use Rattle.zone_threads.specs.Machines.{Unfinished};
 ghost use Rattle.zone_threads.specs.Records.{Stands};
-ghost use Rattle.zone_threads.specs.Scripts.{fresh};
+ghost use Rattle.zone_threads.specs.Scripts.{IsSilent, fresh};
 ghost use Rattle.zone_threads.specs.Zones.{Does, IsAsk, IsJob, Logged, left_by, where_at};
 
 use crate::machine::{Machine, Stop, Told};
 use crate::part::{Outset, Part, Start};
-use crate::tally::{Progress, note, note_all, note_rest};
+use crate::tally::{Progress, are_silent, note, note_rest, note_some};
 use crate::zone::Log;
 
 /// What is asked of a zone, for a session.
@@ -213,7 +213,15 @@ fn put_run<M: Machine, J: Start<M>, N: Outset<M::Shared>>(
     part.order.push_reserved((place, many as u64));
 }
 
-/// Notes the local entries, tries the job, and puts an entry that comes on the log.
+/// Whether none of what a zone did and didn't give changes how far a session is.
+pub(crate) fn is_rest_silent<M: Machine>(machine: &M, log: &Vec<M::Entry>, given: usize) -> bool
+    requires { given ≤ vec_len log.now }
+    ensures { result ≡ true → IsSilent M.machine (drop given log.now.items) }
+{
+    are_silent(machine, &log[given..])
+}
+
+/// Notes the local entries, which may be known to be silent, tries the job, and puts an entry that comes on the log.
 pub(crate) fn act<M: Machine, J: Start<M>, N: Outset<M::Shared>>(
     machine: &M,
     place: u32,
@@ -225,10 +233,12 @@ pub(crate) fn act<M: Machine, J: Start<M>, N: Outset<M::Shared>>(
     session: u8,
     lines: &[M::Line],
     job: Job<M::Heard>,
+    silent: bool,
 ) -> Result<Told, Outcome>
     requires ready { M.ready machine.now }
     requires few { length part.old.tally.items ≤ 65 }
     requires job { IsJob M.machine J.scripts session lines.now cell.old job }
+    requires silent { silent ≡ true → IsSilent M.machine (drop given log.old.items) }
     requires given { given ≤ vec_len log.old }
     requires room { (vec_len log.old < vec_capacity log.old) × (length part.old.order.items + 1 + N.zones ≤ vec_capacity part.old.order) }
     ensures grown { (new : List M.Entry) × (log.new.items ≡ log.old.items ++ new) }
@@ -239,7 +249,7 @@ pub(crate) fn act<M: Machine, J: Start<M>, N: Outset<M::Shared>>(
     ensures room { (part.new.zones ≡ part.old.zones) × (length part.new.order.items + N.zones ≤ vec_capacity part.new.order) }
     ensures marks { M.machine.is_sound part.new.shared ≡ true → (M.machine.is_sound part.old.shared ≡ true) × (marked.new ≡ marked.old) }
 {
-    note_all(machine, &mut part.tally, place, &log[given..]);
+    note_some(machine, &mut part.tally, place, &log[given..], silent);
     if *marked || part.ended.is_some() || !machine.is_sound(&part.shared) {
         put_run(part, place, log.len() - given);
         return Err(Outcome::Ended);

@@ -1,8 +1,8 @@
 //! How far each session is.
-ghost use Rattle.std.specs.Prelude.{◌≡◌, ◌≢◌, ◌<◌, ◌≤◌, ℕ, drop, false, length, slice_index_or};
+ghost use Rattle.std.specs.Prelude.{◌≡◌, ◌≢◌, ◌<◌, ◌≤◌, ℕ, drop, false, length, slice_index_or, true};
 ghost use Rattle.std.specs.List.{All};
 ghost use Rattle.zone_threads.specs.Folds.{folded};
-ghost use Rattle.zone_threads.specs.Scripts.{TallyOf, after_turn, answers, ends_ticket, fresh, noted, progress_one, ticket_of};
+ghost use Rattle.zone_threads.specs.Scripts.{IsSilent, TallyOf, after_turn, answers, ends_ticket, fresh, noted, progress_one, ticket_of};
 
 use crate::machine::{Machine, Said, Told};
 use std::collections::VecDeque;
@@ -138,19 +138,51 @@ pub(crate) fn note(tally: &mut Vec<Progress>, place: u32, told: Told)
     }
 }
 
-/// Notes entries of the zone of a place, in their order.
-pub(crate) fn note_all<M: Machine>(
-    machine: &M,
-    tally: &mut Vec<Progress>,
-    place: u32,
-    entries: &[M::Entry],
-)
+// Notes entries of the zone of a place, in their order.
+fn note_all<M: Machine>(machine: &M, tally: &mut Vec<Progress>, place: u32, entries: &[M::Entry])
     requires { length tally.old.items ≤ 65 }
     ensures len { length tally.new.items ≡ length tally.old.items }
     ensures each { (t : ℕ → Progress) → All (λ e. M.machine.by e ≡ place) entries.now → TallyOf tally.old.items t → TallyOf tally.new.items (folded (noted M.machine) t entries.now) }
 {
     for entry in entries {
         note(tally, place, machine.told(entry));
+    }
+}
+
+// Whether an entry that tells this changes nothing of how far sessions are: a turn that answers no ticket.
+fn is_silent(told: Told) -> bool
+    ensures { result ≡ true → (s p : ℕ) (t : Progress) → progress_one s t p told ≡ t }
+{
+    told.session == 0 && !may_answer(told.said)
+}
+
+/// Whether none of some entries changes how far a session is.
+pub(crate) fn are_silent<M: Machine>(machine: &M, entries: &[M::Entry]) -> bool
+    ensures { result ≡ true → IsSilent M.machine entries.now }
+{
+    for entry in entries {
+        if !is_silent(machine.told(entry)) {
+            return false;
+        }
+    }
+    true
+}
+
+/// Notes entries of the zone of a place, in their order, unless none of them changes how far a session is.
+pub(crate) fn note_some<M: Machine>(
+    machine: &M,
+    tally: &mut Vec<Progress>,
+    place: u32,
+    entries: &[M::Entry],
+    silent: bool,
+)
+    requires few { length tally.old.items ≤ 65 }
+    requires silent { silent ≡ true → IsSilent M.machine entries.now }
+    ensures len { length tally.new.items ≡ length tally.old.items }
+    ensures each { (t : ℕ → Progress) → All (λ e. M.machine.by e ≡ place) entries.now → TallyOf tally.old.items t → TallyOf tally.new.items (folded (noted M.machine) t entries.now) }
+{
+    if !silent {
+        note_all(machine, tally, place, entries);
     }
 }
 

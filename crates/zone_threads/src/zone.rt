@@ -12,7 +12,7 @@ ghost use Rattle.zone_threads.specs.declared.notes.Note.{Note};
 use crate::machine::{Machine, Told, Zoned};
 use crate::notes::Note;
 use crate::part::{Outset, Part, Place, Start};
-use crate::step::{Ask, Outcome, act, job_of};
+use crate::step::{Ask, Outcome, act, is_rest_silent, job_of};
 use std::alloc::{AllocError, Global};
 use std::collections::VecDeque;
 use std::marker::{Brand, Model, PhantomData};
@@ -150,6 +150,7 @@ impl<M: Machine, J: Start<M>, N: Outset<M::Shared>, K: Place> Zone<M, J, N, K> {
             return Err(Outcome::Ended);
         }
         let job = job_of(machine, &self.cell, ask);
+        let silent = is_rest_silent(machine, &self.log, self.given);
         let mut part = turn.take(rt, &mut self.pass);
         if part.make_room().is_err() {
             // Nothing is given.
@@ -168,6 +169,7 @@ impl<M: Machine, J: Start<M>, N: Outset<M::Shared>, K: Place> Zone<M, J, N, K> {
             session,
             lines,
             job,
+            silent,
         );
         mark_over(is_over, done);
         give_notes::<M, J, N, Brand>(
